@@ -5,7 +5,8 @@ use Rattle.std.proofs.lemmas.Bool.Decides.{nat_tests}
 use Rattle.std.proofs.Math.Nat.{mul-le-mul_right}
 use Rattle.bbm_rule.specs.Bits.{bit, AreSameBits, IsBlank}
 use Rattle.bbm_rule.specs.Plane.{turned}
-use Rattle.bbm_rule.specs.Rows.{cell_at, mate, AreSameCells, HasWindow, SetsPlace, SetsWindow, TurnsRun, TurnsRows}
+use Rattle.bbm_rule.specs.Rows.{cell_at, mate, AreSameCells, HasWindow, FillsRun, SetsPlace, SetsWindow, TurnsRun}
+use Rattle.bbm_rule.specs.Rows.{TurnsRows}
 use Rattle.bbm_rule.specs.Marks.{IsUnmarked, MarksOne}
 use Rattle.bbm_rule.specs.Bands.{AreCalm}
 use Rattle.bbm_rule.proofs.BitLemmas.{by_lt_or_le, by_eq_or_not, bit-or, bit-zero}
@@ -244,6 +245,35 @@ odd_set s r u v value first second old new whole wide sets marked calm i l free 
     apart other q low high e = by_lt_or_le i ((v + 1) / 2)
         (λ before. let h = place_after s i (v + 1) (omega arith) in absurd (omega arith))
         (λ le. let h = place_before s i (v + 2) (omega (arith, other)) in absurd (omega arith))
+
+-- ---- cells of a row that are filled
+
+-- the pairs of the even partition stay, but for that of the row
+pub even_fill : (s r u v n : ℕ) (first second old new : List ℕ) → s % 2 ≡ 0 → u + 1 + n < s →
+    FillsRun (s * (v + 1) + (u + 1)) n old new → MarksOne (v / 2) first second → AreCalm (s + 1) s r first old →
+    AreCalm (s + 1) s r second new
+even_fill s r u v n first second old new whole wide fills marked calm i l free =
+    let was = marked i free in
+    pair_kept (s + 1 + 2 * (i * s)) s old new whole (same was.1) (calm i l was.0)
+  where
+    same : i ≢ v / 2 → (q : ℕ) → s + 1 + 2 * (i * s) ≤ q → q < s + 1 + 2 * (i * s) + 2 * s →
+        cell_at new q ≡ cell_at old q
+    same other q low high = by_lt_or_le i (v / 2)
+        (λ before. let h = place_after s i v (omega arith) in fills.before q (omega arith))
+        (λ le. let h = place_before s i (v + 1) (omega (arith, other)) in fills.after q (omega arith))
+
+-- and so do those of the odd partition
+pub odd_fill : (s r u v n : ℕ) (first second old new : List ℕ) → s % 2 ≡ 0 → u + 1 + n < s →
+    FillsRun (s * (v + 1) + (u + 1)) n old new → MarksOne ((v + 1) / 2) first second → AreCalm 0 s r first old →
+    AreCalm 0 s r second new
+odd_fill s r u v n first second old new whole wide fills marked calm i l free =
+    let was = marked i free in
+    pair_kept (0 + 2 * (i * s)) s old new whole (same was.1) (calm i l was.0)
+  where
+    same : i ≢ (v + 1) / 2 → (q : ℕ) → 0 + 2 * (i * s) ≤ q → q < 0 + 2 * (i * s) + 2 * s → cell_at new q ≡ cell_at old q
+    same other q low high = by_lt_or_le i ((v + 1) / 2)
+        (λ before. let h = place_after s i (v + 1) (omega arith) in fills.before q (omega arith))
+        (λ le. let h = place_before s i (v + 2) (omega (arith, other)) in fills.after q (omega arith))
 
 -- ---- no live cell
 pub none_calm : (p s r : ℕ) (marks words : List ℕ) → ((q : ℕ) → cell_at words q ≡ false) → AreCalm p s r marks words

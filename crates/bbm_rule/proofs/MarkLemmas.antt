@@ -42,33 +42,50 @@ none_in_word marks at u e l h = rest_bit marks at u l h ∙ ap (λ n. bit n (u -
 bit_one : (n j : ℕ) → bit_at n j ≡ 1 → bit n j ≡ true
 bit_one n j e = rw (bit-is n j, e) refl
 
+-- the first set bit of a word that is not zero, from a bit on
+record FirstBit (word k : ℕ) : Type 0 where
+  within : k + trailing_zeros w64 (word / 2 ^ k) < 64
+  one : bit (word / 2 ^ k) (trailing_zeros w64 (word / 2 ^ k)) ≡ true
+  none : (j : ℕ) → j < trailing_zeros w64 (word / 2 ^ k) → bit (word / 2 ^ k) j ≡ false
+
+first_bit : (word k : ℕ) → word / 2 ^ k ≢ 0 → word < 2 ^ 64 → FirstBit word k
+first_bit word k some small = record {
+  within = within;
+  one = bit_one (word / 2 ^ k) _ found.1;
+  none = λ j l. bit_none (word / 2 ^ k) j (found.2 j l);
+}
+  where
+    le_lt : {a b c : ℕ} → a ≤ b → b < c → a < c
+    le_lt p q = omega arith
+
+    found : (trailing_zeros w64 (word / 2 ^ k) < 64) × (bit_at (word / 2 ^ k) (trailing_zeros w64 (word / 2 ^ k)) ≡ 1)
+        × ((j : ℕ) → j < trailing_zeros w64 (word / 2 ^ k) → bit_at (word / 2 ^ k) j ≡ 0)
+    found = bit_at-trailing_zeros w64 (word / 2 ^ k) (omega arith) (le_lt (div-le_self word (2 ^ k)) small)
+
+    within : k + trailing_zeros w64 (word / 2 ^ k) < 64
+    within = by_lt_or_le (k + trailing_zeros w64 (word / 2 ^ k)) 64 (λ y. y)
+        (λ past. absurd (false≢true (sym (bit_above word 64 _ small past)
+        ∙ (sym (bit-shr word k (trailing_zeros w64 (word / 2 ^ k))) ∙ bit_one (word / 2 ^ k) _ found.1))))
+
 -- nor before the first set bit of one that is not
 pub none_before : (marks : List ℕ) (at u : ℕ) → get_or marks (at / 64) 0 / 2 ^ (at % 64) ≢ 0 →
     get_or marks (at / 64) 0 < 2 ^ 64 →
     at ≤ u → u < at + trailing_zeros w64 (get_or marks (at / 64) 0 / 2 ^ (at % 64)) → IsUnmarked marks u
 none_before marks at u some small l h =
-    rest_bit marks at u l within ∙ bit_none _ (u - at) (found.2 (u - at) (omega arith))
+    let first = first_bit (get_or marks (at / 64) 0) (at % 64) some small in
+    rest_bit marks at u l (omega (arith, first.within)) ∙ first.none (u - at) (omega arith)
+
+-- that bit is marked
+pub first_marked : (marks : List ℕ) (at : ℕ) → get_or marks (at / 64) 0 / 2 ^ (at % 64) ≢ 0 →
+    get_or marks (at / 64) 0 < 2 ^ 64 →
+    cell_at marks (at + trailing_zeros w64 (get_or marks (at / 64) 0 / 2 ^ (at % 64))) ≡ true
+first_marked marks at some small =
+    let first = first_bit (get_or marks (at / 64) 0) (at % 64) some small in
+    rest_bit marks at _ (omega arith) (omega (arith, first.within))
+    ∙ (ap (bit (get_or marks (at / 64) 0 / 2 ^ (at % 64))) (minus at _) ∙ first.one)
   where
-    word : ℕ
-    word = get_or marks (at / 64) 0
-
-    rest : ℕ
-    rest = word / 2 ^ (at % 64)
-
-    le_lt : {a b c : ℕ} → a ≤ b → b < c → a < c
-    le_lt p q = omega arith
-
-    found : (trailing_zeros w64 rest < 64) × (bit_at rest (trailing_zeros w64 rest) ≡ 1)
-        × ((j : ℕ) → j < trailing_zeros w64 rest → bit_at rest j ≡ 0)
-    found = bit_at-trailing_zeros w64 rest (omega arith) (le_lt (div-le_self word (2 ^ (at % 64))) small)
-
-    in_word : at % 64 + trailing_zeros w64 rest < 64
-    in_word = by_lt_or_le (at % 64 + trailing_zeros w64 rest) 64 (λ y. y)
-        (λ past. absurd (false≢true (sym (bit_above word 64 _ small past)
-        ∙ (sym (bit-shr word (at % 64) (trailing_zeros w64 rest)) ∙ bit_one rest _ found.1))))
-
-    within : u < 64 * (at / 64 + 1)
-    within = omega (arith, in_word)
+    minus : (a b : ℕ) → a + b - a ≡ b
+    minus a b = omega arith
 
 pub bit_ones : (b : ℕ) → b < 64 → bit 18446744073709551615 b ≡ true
 bit_ones b l = bit_one 18446744073709551615 b (bit_at_ones 64 b l)

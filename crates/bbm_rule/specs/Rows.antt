@@ -60,6 +60,12 @@ pub record SetsPlace (p : ℕ) (value : Bool) (old new : List ℕ) : Type 0 wher
   pub there : cell_at new p ≡ value
   pub elsewhere : (q : ℕ) → q ≢ p → cell_at new q ≡ cell_at old q
 
+-- only the n cells from place p on change, and are live then
+pub record FillsRun (p n : ℕ) (old new : List ℕ) : Type 0 where
+  pub there : (q : ℕ) → p ≤ q → q < p + n → cell_at new q ≡ true
+  pub before : (q : ℕ) → q < p → cell_at new q ≡ cell_at old q
+  pub after : (q : ℕ) → p + n ≤ q → cell_at new q ≡ cell_at old q
+
 -- the place of the cell at (x, y) in rows of s cells, with a margin of one cell
 abbrev pub place_in : ℕ → ℤ → ℤ → ℕ
 place_in s (pos x) (pos y) = s * (y + 1) + (x + 1)

@@ -3,7 +3,7 @@
 ghost use Rattle.std.specs.Prelude.{◌≡◌, ◌+◌, ◌*◌, ◌/◌, ◌<◌, ◌≤◌, ◌^◌, ◌%◌, ℕ, length, IsTrue, false, ℤ, pos, ◌≤ℤ◌, ◌<ℤ◌};
 ghost use Rattle.std.specs.Bool.{OnTrue};
 ghost use Rattle.bbm_rule.specs.Marks.{IsUnmarked};
-ghost use Rattle.bbm_rule.specs.Rows.{cell_at, SetsPlace, place_in, HasLiveMargin, HasDeadMargin, IsDeadMarginIn};
+ghost use Rattle.bbm_rule.specs.Rows.{cell_at, FillsRun, SetsPlace, place_in, HasLiveMargin, HasDeadMargin, IsDeadMarginIn};
 
 use crate::block::Cell;
 use crate::marks::next_marked;
@@ -49,6 +49,17 @@ pub(crate) fn put_cell(words: &mut [u64], place: usize, value: bool)
         words[at] |= mask;
     } else {
         words[at] &= !mask;
+    }
+}
+
+// makes the cells at `count` places live
+pub(crate) fn fill_cells(words: &mut [u64], first: usize, count: usize)
+    requires inside { first + count ≤ 64 * length words.old }
+    requires small { length words.old < 2 ^ 32 }
+    ensures { FillsRun first count words.old words.new }
+{
+    for place in first..first + count {
+        put_cell(words, place, true);
     }
 }
 

@@ -3,12 +3,13 @@
 //! A step passes over the pairs of rows that are known to stay: those that stayed when they were turned last, and in
 //! which no cell has changed since.
 
-ghost use Rattle.std.specs.Prelude.{◌≡◌, ◌≤◌, ◌%◌, ◌<◌, IsTrue, IfOk, OnOk, OnErr, false, pos, ℤ};
+ghost use Rattle.std.specs.Prelude.{◌≡◌, ◌≤◌, ◌%◌, ◌<◌, ◌+◌, ◌||◌, IsTrue, IfOk, OnOk, OnErr, true, false, pos, ℕ, ℤ};
+ghost use Rattle.bbm_rule.specs.Spans.{in_area};
 ghost use Rattle.bbm_rule.specs.Board.{Board, live, is_inside, HasSameSize, IsStep, Leaves, SetsCell};
 
 use crate::block::Cell;
-use crate::cells::{cell_bit, has_live_margin, place, put_cell, row_of};
-use crate::marks::mark;
+use crate::cells::{cell_bit, fill_cells, has_live_margin, place, put_cell, row_of};
+use crate::marks::{mark, next_marked};
 use crate::rows::{turn_all_aligned, turn_all_shifted};
 use std::alloc::{AllocError, Global};
 use std::marker::Model;
@@ -93,6 +94,20 @@ impl Grid {
         cell_bit(&self.words, place(self.stride, cell))
     }
 
+    /// Returns the first column from `from` on whose cell in row `y` is live, or `end` if all cells before `end` are
+    /// dead. Columns are counted from 0; `end` is at most the width.
+    pub fn next_live(&self, y: u32, from: u32, end: u32) -> u32
+        requires row { y < self.now.height }
+        requires columns { (from ≤ end) × (end ≤ self.now.width) }
+        ensures range { (from ≤ result) × (result ≤ end) }
+        ensures dead { (x : ℕ) → from ≤ x → x < result → live self.now (pos x) (pos y) ≡ false }
+        ensures live { result < end → live self.now (pos result) (pos y) ≡ true }
+    {
+        let first = 64 * self.stride * (y as usize + 1) + 1;
+        let place = next_marked(&self.words, first + from as usize, first + end as usize);
+        (place - first) as u32
+    }
+
     /// Makes `cell` live if `value` is true, and dead if not. It must be inside the grid.
     pub fn set(&mut self, cell: Cell, value: bool)
         requires { IsTrue (is_inside self.old cell.x cell.y) }
@@ -104,6 +119,20 @@ impl Grid {
         let row = row_of(cell);
         mark(&mut self.even_marks, row / 2);
         mark(&mut self.odd_marks, (row + 1) / 2);
+    }
+
+    /// Makes `width` cells of row `y` live, from column `x` on. They are inside the grid.
+    pub fn fill_row(&mut self, x: u32, y: u32, width: u32)
+        requires columns { x + width ≤ self.old.width }
+        requires row { y < self.old.height }
+        ensures cells { (u v : ℤ) →
+            live self.new u v ≡ (live self.old u v || in_area x y width 1 u v) }
+        ensures size { HasSameSize self.old self.new }
+    {
+        let first = 64 * self.stride * (y as usize + 1) + (x as usize + 1);
+        fill_cells(&mut self.words, first, width as usize);
+        mark(&mut self.even_marks, y as usize / 2);
+        mark(&mut self.odd_marks, (y as usize + 1) / 2);
     }
 
     /// Makes the step at time `t`: every block of that time's partition turns, also those that lie across the border.

@@ -1,14 +1,15 @@
 //! Marks on numbers: a bit for each.
 
-ghost use Rattle.std.specs.Prelude.{ℕ, ◌≡◌, ◌≢◌, ◌+◌, ◌*◌, ◌/◌, ◌^◌, ◌<◌, ◌≤◌, length, false};
+ghost use Rattle.std.specs.Prelude.{ℕ, ◌≡◌, ◌≢◌, ◌+◌, ◌*◌, ◌/◌, ◌^◌, ◌<◌, ◌≤◌, length, true, false};
 ghost use Rattle.bbm_rule.specs.Marks.{IsUnmarked, MarksOne};
 ghost use Rattle.bbm_rule.specs.Rows.{cell_at, SetsPlace};
 
-/// Returns the next number from `from` on that may have a mark, or `end` if there is none below it.
+/// Returns the first number from `from` on that has a mark, or `end` if there is none below it.
 pub fn next_marked(marks: &[u64], from: usize, end: usize) -> usize
     requires within { (from ≤ end) × (end ≤ 64 * length marks.now) × (end < 2 ^ 32) }
     ensures range { (from ≤ result) × (result ≤ end) }
     ensures passed { (u : ℕ) → from ≤ u → u < result → IsUnmarked marks.now u }
+    ensures marked { result < end → cell_at marks.now result ≡ true }
 {
     let mut at = from;
     'search: while at < end {

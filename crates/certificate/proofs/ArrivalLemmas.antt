@@ -12,7 +12,7 @@ use Rattle.std.proofs.lemmas.List.Folds.{list_all-append}
 use Rattle.std.proofs.lemmas.Option.{same_Some}
 use Rattle.circuit.specs.Gates.{Rule, Source, Fredkin, Cswap, Interact, Switch, Delay, Unswitch, Uninteract}
 use Rattle.circuit.specs.Meaning.{Circuit, Gate}
-use Rattle.certificate.specs.Arrivals.{AreOnTime, IsFirstTime, IsLastTime, MeetAt, TakesSteps, Tells, TellsOfDelay}
+use Rattle.certificate.specs.Arrivals.{IsFirstTime, IsLastTime, MeetAt, TakesSteps, Tells, TellsOfDelay}
 use Rattle.certificate.specs.Arrivals.{TellsOfMeeting}
 use Rattle.certificate.specs.Laws.{KeptIsOnTime, LinesTell}
 use Rattle.certificate.specs.Times.{agreed, all_stops, delay_by, delay_line, earlier, first_seen, gap_between}

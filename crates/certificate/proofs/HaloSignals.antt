@@ -1,6 +1,6 @@
 -- The signals of a halo's cells by the edge lines beside a module
-use Rattle.std.proofs.Common.{◌≡◌, ◌⊎◌, ℕ, zero, suc, ◌+◌, ◌<◌, ◌%◌, ◌==◌, ℤ, Bool, true, false, ◌&&◌, if◌then◌else◌}
-use Rattle.std.proofs.Common.{List, [], ◌∷◌, ◌++◌, map, Option, Some, None, Less, refl, sym, ap, ap₂, subst, ◌∙◌, inl}
+use Rattle.std.proofs.Common.{◌≡◌, ℕ, ◌<◌, ◌%◌, ◌==◌, ℤ, Bool, true, false, ◌&&◌, if◌then◌else◌}
+use Rattle.std.proofs.Common.{List, [], ◌∷◌, ◌++◌, Option, Some, None, Less, refl, sym, ap, ap₂, subst, ◌∙◌, inl}
 use Rattle.std.proofs.Common.{inr, arith}
 use Rattle.std.specs.Prelude.{slice_get, nat_lt, unwrap_or}
 use Rattle.std.specs.List.{filter, flat_map}
@@ -16,16 +16,16 @@ use Rattle.module_box.specs.declared.schedules.Event.{Event}
 use Rattle.module_box.specs.declared.schedules.AllTimes.{AllTimes}
 use Rattle.module_box.specs.declared.schedules.Signal.{Signal}
 use Rattle.module_box.specs.declared.schedules.Signal.TheVariants.{Zero}
-use Rattle.certificate_lines.specs.Entries.{Setting, ModuleLines, edges, halos}
+use Rattle.certificate_lines.specs.Entries.{Setting, ModuleLines, edges}
 use Rattle.certificate.specs.Jobs.{event_by, all_times_by, line_signal, line_signals}
 use Rattle.certificate.specs.Laws.{HaloIsEdgeBeside}
 use Rattle.certificate_lines.specs.Modules.{AreModules}
-use Rattle.certificate_lines.specs.Versions.{beside, in_order, line_order, with_halos}
+use Rattle.certificate_lines.specs.Versions.{beside, in_order, line_order}
 use Rattle.certificate_lines.specs.declared.certificate_line.Border.{Border}
 use Rattle.certificate.proofs.FullModules.{beside_in, edge_cell, edges_rising, full_halos, full_rises, in_beside}
 use Rattle.certificate.proofs.FullModules.{mapped_at, stands}
 use Rattle.certificate_lines.proofs.InList.{placed}
-use Rattle.certificate_lines.proofs.LineOrder.{In, Rises, filter_in, flat_in, in_filter, in_flat, in_ordered}
+use Rattle.certificate_lines.proofs.LineOrder.{In, filter_in, flat_in, in_filter, in_flat, in_ordered}
 use Rattle.certificate_lines.proofs.LineOrder.{ordered_in, pairs_filter, rising_same}
 use Rattle.certificate_lines.proofs.Lists.{some_is}
 use Rattle.bbm_rule.proofs.SameCells.{cell_same}

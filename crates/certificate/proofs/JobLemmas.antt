@@ -37,6 +37,14 @@ within_512 g m s is limits h =
     let bottom = inside.1 in
     (omega (arith, wide, right), omega (arith, high, bottom), sized.steps)
 
+-- where the box is, within the layout and within 512 cells
+pub within_layout : (g : Setting) (m : ModuleLines) (s : LayoutHeader) → s ≡ g.size → size_fault s ≡ None →
+    IsModule g m →
+    ((m.area.x + m.area.w ≤ g.size.w) × (m.area.x + m.area.w ≤ 512))
+    × ((m.area.y + m.area.h ≤ g.size.h) × (m.area.y + m.area.h ≤ 512))
+within_layout g m s is limits h =
+    let near = within_512 g m s is limits h in ((h.inside.right, near.0), (h.inside.bottom, near.1))
+
 -- the wires that edge and halo lines name are the module's
 pub edges_named : (g : Setting) (m : ModuleLines) (l : LocalNet) → l.circuit_wires ≡ known g.circuit m → IsModule g m →
     All (IsNamedLocal g.circuit l) (edges m)

@@ -1,13 +1,11 @@
 -- The indexes of a layout's cells, and the ports in a module's box.
 use Rattle.std.proofs.Common.{◌≡◌, ℕ, ◌+◌, ℤ, Bool, true, false, ◌||◌, if◌then◌else◌, List, [], ◌∷◌, ◌++◌, map, ◌<◌}
-use Rattle.std.proofs.Common.{◌≤◌, get_or, length, take, Option, Some, None, refl, sym, ap, ap₂, subst, ◌∙◌, arith}
+use Rattle.std.proofs.Common.{◌≤◌, get_or, length, Option, Some, None, refl, sym, ap, subst, ◌∙◌}
 use Rattle.std.specs.Prelude.{slice_get, IsTrue, IfSome}
 use Rattle.std.specs.List.{flat_map}
 use Rattle.std.specs.Prelude.{option_map}
 use Rattle.std.proofs.lemmas.List.Folds.{list_any-append}
-use Rattle.std.specs.List.{All}
-use Rattle.std.proofs.lemmas.List.{map-append, take_more}
-use Rattle.std.proofs.lemmas.List.Elements.{All-append, All-push}
+use Rattle.std.proofs.lemmas.List.Elements.{All-append}
 use Rattle.std.proofs.lemmas.Option.{slice_get-get_or, slice_get-map}
 use Rattle.bbm_rule.specs.Plane.{is_at}
 use Rattle.bbm_rule.specs.declared.block.Cell.{Cell}
@@ -23,8 +21,6 @@ use Rattle.pattern.proofs.InsideLemmas.{BeginsInside, size_sides, begins_inside,
 use Rattle.pattern.proofs.RunLemmas.{among}
 use Rattle.pattern.proofs.RectangleLemmas.{in_rectangle_cells}
 use Rattle.module_box.specs.Boxes.{in_box}
-use Rattle.module_box.specs.Tiling.{IsInside}
-use Rattle.module_box.specs.declared.boxes.Box2.{Box2}
 use Rattle.module_box.specs.declared.schedules.Signal.TheVariants.{One, Zero}
 use Rattle.certificate_lines.specs.Entries.{ModuleLines, known}
 use Rattle.certificate_lines.specs.Settings.{setting_of}
@@ -32,7 +28,9 @@ use Rattle.certificate_lines.specs.PortTables.{AreOnBoard, port_at}
 use Rattle.certificate.specs.Jobs.{named_wire, signal_of, start_signal, demand_elsewhere, end_demand}
 use Rattle.module_job.specs.declared.job.Demand.TheVariants as Demanded
 use Rattle.certificate_lines.specs.Modules.{HasPorts}
-use Rattle.certificate.specs.LayoutTablesView.{HasMirrorOrNothing, KnowsPorts, cells_of_others}
+use Rattle.bbm_rule.specs.Board.{live}
+use Rattle.certificate.specs.declared.layout_tables.LayoutTables.TheInside.{Inside}
+use Rattle.certificate.specs.LayoutTablesView.{AreLayoutTables, HasMirrorOrNothing, KnowsPorts, cells_of_others}
 use Rattle.certificate_lines.specs.Rules.{is_local}
 use Rattle.certificate_lines.proofs.BoxPlaces.{skipped}
 use Rattle.certificate_lines.proofs.Lists.{kept}
@@ -101,17 +99,6 @@ end_port c p x y a mirror h o port = rw (sym mirror, h, sym port) refl
 
 -- ---- one cell more
 
-pub pushed_cell : {A B : Type 0} (g : A → B) (f : Cell → B) (old new : List A) (a : A) (cells : List Cell) (i : ℕ)
-    (d : Cell) → i < length cells → new ≡ old ++ a ∷ [] →
-    map g old ≡ map f (take i cells) → g a ≡ f (get_or cells i d) → map g new ≡ map f (take (i + 1) cells)
-pushed_cell g f old new a cells i d lt pushed before here =
-    ap (map g) pushed ∙ map-append g old (a ∷ []) ∙ ap₂ (λ xs x. xs ++ x ∷ []) before here
-    ∙ sym (map-append f (take i cells) (get_or cells i d ∷ [])) ∙ ap (map f) (sym (take_more cells i d lt))
-
-pub pushed_all : {A : Type 0} (P : A → Type 0) (old new : List A) (a : A) → new ≡ old ++ a ∷ [] → All P old → P a →
-    All P new
-pushed_all P old new a pushed before here = subst (All P) (sym pushed) (All-push P old a before here)
-
 -- ---- a cell without ball, waste cell or port
 
 pub start_nothing : (c : Circuit) (p : Pattern) (x y : ℤ) → in_rectangles p.mirrors x y ≡ false →
@@ -122,6 +109,17 @@ pub end_nothing : (c : Circuit) (p : Pattern) (x y : ℤ) → in_rectangles p.mi
     HasMirrorOrNothing p x y → Demanded.Dead ≡ end_demand c p x y
 end_nothing c p x y mirror h =
     ap (demand_elsewhere c None) (sym h.wastes) ∙ end_port c p x y false (sym mirror) refl None (sym h.outs)
+
+-- the cells of a row that no grid has
+pub start_dead : (c : Circuit) (a : Inside) → AreLayoutTables a → (x y : ℤ) → live a.mirrors x y ≡ false →
+    live a.others x y ≡ false → start_signal c a.layout.now x y ≡ Zero
+start_dead c a are x y mirror other =
+    sym (start_nothing c a.layout.now x y (sym (are.mirrors x y) ∙ mirror) (are.others x y other))
+
+pub end_dead : (c : Circuit) (a : Inside) → AreLayoutTables a → (x y : ℤ) → live a.mirrors x y ≡ false →
+    live a.others x y ≡ false → end_demand c a.layout.now x y ≡ Demanded.Dead
+end_dead c a are x y mirror other =
+    sym (end_nothing c a.layout.now x y (sym (are.mirrors x y) ∙ mirror) (are.others x y other))
 
 pub start_mirror : (c : Circuit) (p : Pattern) (x y : ℤ) → in_rectangles p.mirrors x y ≡ true →
     One ≡ start_signal c p x y
@@ -218,14 +216,6 @@ mirrors_on_board p s is good cells are k d lt =
     ap (λ (t : LayoutHeader). in_layout t c.x c.y) is ∙ in_mirrors_inside p all c.x c.y among_them
 
 -- ---- the box of a module
-
-pub box_fits : (s : LayoutHeader) (b : Box2) → size_fault s ≡ None → IsInside s.w s.h b →
-    (b.x + b.w ≤ 512) × (b.y + b.h ≤ 512)
-box_fits s b limits inside =
-    let sides = size_sides s limits in
-    let wide = sides.0.most in let high = sides.1.most in
-    let right = inside.right in let bottom = inside.bottom in
-    (omega (arith, wide, right), omega (arith, high, bottom))
 
 -- the ports in the box, where the module's wires have these numbers in the circuit
 pub locals_have_ports : (lines : List CircuitLine) (p : Pattern) (m : ModuleLines) → HasPorts (setting_of lines p) m →

@@ -23,3 +23,4 @@ pub mod NearLines
 mod HashedLines
 mod PrintedLines
 pub mod JobPlaces
+pub mod CellRows

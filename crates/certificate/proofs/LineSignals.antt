@@ -1,22 +1,20 @@
 -- The signal of one line for its cell at its time
-use Rattle.std.proofs.Common.{◌≡◌, ◌⊎◌, ℕ, zero, suc, ◌+◌, ◌<◌, ◌==◌, ℤ, Bool, true, false, not, ◌&&◌, ◌||◌}
-use Rattle.std.proofs.Common.{if◌then◌else◌, List, [], ◌∷◌, ◌++◌, Option, Some, None, Ordering, Less, Equal, Greater}
+use Rattle.std.proofs.Common.{◌≡◌, ℕ, ◌+◌, ◌==◌, Bool, true, false, not, ◌&&◌, ◌||◌}
+use Rattle.std.proofs.Common.{List, [], ◌∷◌, ◌++◌, Option, Some, None, Ordering, Less, Greater}
 use Rattle.std.proofs.Common.{refl, sym, ap, ap₂, subst, ◌∙◌, inl, inr, arith}
 use Rattle.std.specs.Prelude.{unwrap_or}
 use Rattle.std.specs.List.{flat_map, list_all}
-use Rattle.std.specs.Ordering.{nat_cmp, int_eq, ordering_then}
+use Rattle.std.specs.Ordering.{nat_cmp, ordering_then}
 use Rattle.std.proofs.lemmas.Bool.{and_parts, cases_Bool, cond-true, cond-false, eqb-true, true≢false}
 use Rattle.bbm_rule.specs.Plane.{is_at}
 use Rattle.bbm_rule.specs.declared.block.Cell.{Cell}
 use Rattle.circuit.specs.Meaning.{Circuit}
 use Rattle.module_box.specs.Moments.{cell_cmp}
-use Rattle.module_box.specs.Schedules.{event_at, all_times_at, is_then, signal_at}
+use Rattle.module_box.specs.Schedules.{event_at, all_times_at, signal_at}
 use Rattle.module_box.specs.declared.schedules.Event.{Event}
 use Rattle.module_box.specs.declared.schedules.AllTimes.{AllTimes}
 use Rattle.module_box.specs.declared.schedules.Signal.{Signal}
 use Rattle.module_box.specs.declared.schedules.Signal.TheVariants.{Zero}
-use Rattle.module_box.proofs.Rising.{cell_total}
-use Rattle.std.proofs.lemmas.Cmp.{tied_itself, nat_cmp_total}
 use Rattle.certificate.specs.Jobs.{event_by, all_times_by, line_signal, line_signals}
 use Rattle.certificate_lines.specs.Modules.{AreUnstarred}
 use Rattle.certificate_lines.specs.Orders.{time_rank}
@@ -24,7 +22,7 @@ use Rattle.certificate_lines.specs.Rules.{is_star, is_starred, same_cell}
 use Rattle.certificate_lines.specs.Versions.{line_order}
 use Rattle.certificate_lines.specs.declared.certificate_line.Border.{Border}
 use Rattle.certificate.proofs.HaloSignals.{event_past, all_times_past}
-use Rattle.certificate_lines.proofs.LineOrder.{In, Rises, each_in, line_total, not_itself}
+use Rattle.certificate_lines.proofs.LineOrder.{In, Rises, each_in, not_itself}
 use Rattle.certificate_lines.proofs.Pairs.{Each, Pairs}
 use Rattle.bbm_rule.proofs.SameCells.{cell_itself, cell_same}
 

@@ -1,7 +1,6 @@
 -- Lines that are good are good without the halo lines
-use Rattle.std.proofs.Common.{◌≡◌, ℕ, ◌+◌, ◌<◌, ◌≤◌, Bool, true, false, not, ◌&&◌, ◌||◌, if◌then◌else◌, List, [], ◌∷◌}
+use Rattle.std.proofs.Common.{◌≡◌, ℕ, ◌≤◌, Bool, true, false, not, ◌&&◌, ◌||◌, if◌then◌else◌, List, [], ◌∷◌}
 use Rattle.std.proofs.Common.{◌++◌, map, length, Option, Some, None, option_map, refl, sym, ap, ap₂, subst, ◌∙◌, arith}
-use Rattle.std.proofs.Common.{append_assoc}
 use Rattle.std.specs.Prelude.{nat_le, nat_lt}
 use Rattle.std.specs.List.{filter, flat_map, fold, list_all, list_any}
 use Rattle.std.specs.Option.{option_to_list}
@@ -13,8 +12,8 @@ use Rattle.circuit.specs.Meaning.{Circuit, wire_of}
 use Rattle.module_box.specs.Boxes.{in_box, in_halo}
 use Rattle.module_box.specs.Locals.{local_wires}
 use Rattle.module_box.specs.declared.boxes.Box2.{Box2}
-use Rattle.certificate_lines.specs.Entries.{Setting, ModuleLines, add_line, areas, change_last, cut_in, cut_wires, cuts}
-use Rattle.certificate_lines.specs.Entries.{edge_in, edges, gates, halo_in, halos, known, last_of, modules_of}
+use Rattle.certificate_lines.specs.Entries.{Setting, ModuleLines, add_line, areas, change_last, cut_in, cuts}
+use Rattle.certificate_lines.specs.Entries.{edge_in, edges, gates, halos, known, last_of, modules_of}
 use Rattle.certificate_lines.specs.Entries.{last_module}
 use Rattle.certificate_lines.specs.Entries.{stop_in, stops, use_in, with_line}
 use Rattle.certificate.specs.Laws.{AreFaultlessLines, GoodWithoutHalos, IsSectionOf, SectionWithoutHalos}

@@ -1,15 +1,20 @@
 -- A circuit and a layout with tables of the layout's cells, and their view
 use Rattle.std.specs.Prelude.{◌≡◌, ◌++◌, ℕ, ℤ, List, None, false, map, IsTrue, IfSome}
-use Rattle.bbm_rule.specs.Board.{live}
+use Rattle.std.specs.List.{All}
+use Rattle.bbm_rule.specs.Board.{Board, live}
 use Rattle.bbm_rule.specs.declared.block.Cell.{Cell}
-use Rattle.circuit.specs.Meaning.{Circuit}
+use Rattle.circuit.specs.Meaning.{Circuit, wires}
 use Rattle.circuit.specs.declared.circuit_line.CircuitLine.{CircuitLine}
 use Rattle.pattern.specs.Layout.{Pattern, in_cells, in_rectangles}
 use Rattle.pattern.specs.declared.layout_line.Port.{Port}
 use Rattle.module_box.specs.Boxes.{in_box}
+use Rattle.module_box.specs.Locals.{LocalNet, circuit_wire}
 use Rattle.module_box.specs.declared.boxes.Box2.{Box2}
+use Rattle.module_job.specs.Signals.{IsBelow, IsDemandBelow, renumber_demand, renumber_signal}
 use Rattle.certificate_lines.specs.PortTables.{port_at}
 use Rattle.certificate_lines.specs.Rules.{is_local}
+use Rattle.certificate.specs.Jobs.{end_demand, start_signal}
+use Rattle.certificate.specs.declared.layout_tables.CellLists.{CellLists}
 use Rattle.certificate.specs.declared.layout_tables.LayoutTables.TheInside.{Inside}
 
 -- the lines of the circuit, and the layout
@@ -32,9 +37,15 @@ pub record HasMirrorOrNothing (p : Pattern) (x y : ℤ) : Type 0 where
   pub ins : port_at p.ins x y ≡ None
   pub outs : port_at p.outs x y ≡ None
 
+-- the grid is as wide and as high as the layout
+abbrev pub HasLayoutSize : Pattern → Board → Type 0
+HasLayoutSize p b = (b.width ≡ p.size.w) × (b.height ≡ p.size.h)
+
 -- The live cells of each grid are those of the mirrors, balls or wastes. If `others` is dead at a cell, the cell has
 -- nothing but mirrors. Each table is of the layout's ports.
 pub record AreLayoutTables (a : Inside) : Type 0 where
+  pub mirrors_size : HasLayoutSize a.layout.now a.mirrors
+  pub others_size : HasLayoutSize a.layout.now a.others
   pub mirrors : (x y : ℤ) → live a.mirrors x y ≡ in_rectangles a.layout.now.mirrors x y
   pub balls : (x y : ℤ) → live a.balls x y ≡ in_cells a.layout.now.balls x y
   pub wastes : (x y : ℤ) → live a.wastes x y ≡ in_cells a.layout.now.wastes x y
@@ -49,3 +60,14 @@ KnowsPort c local ports x y = IfSome (port_at ports x y) (λ name. IsTrue (is_lo
 -- and that of the port at each cell of the box
 abbrev pub KnowsPorts : Circuit → List ℕ → List Port → Box2 → Type 0
 KnowsPorts c local ports b = (x y : ℤ) → IsTrue (in_box b x y) → KnowsPort c local ports x y
+
+-- The lists get what the cells carry at time 0, and what they must be at the last time. The signals and demands
+-- name wires by the module's own numbers.
+pub record AddsCells (c : Circuit) (p : Pattern) (l : LocalNet) (cells : List Cell) (old new : CellLists) : Type 0 where
+  pub starts : map (renumber_signal (circuit_wire l)) new.starts.items
+      ≡ map (renumber_signal (circuit_wire l)) old.starts.items ++ map (λ d. start_signal c p d.x d.y) cells
+  pub starts_own : All (IsBelow (wires l.netlist)) old.starts.items → All (IsBelow (wires l.netlist)) new.starts.items
+  pub demands : map (renumber_demand (circuit_wire l)) new.demands.items
+      ≡ map (renumber_demand (circuit_wire l)) old.demands.items ++ map (λ d. end_demand c p d.x d.y) cells
+  pub demands_own : All (IsDemandBelow (wires l.netlist)) old.demands.items →
+      All (IsDemandBelow (wires l.netlist)) new.demands.items

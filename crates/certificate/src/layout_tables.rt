@@ -1,21 +1,21 @@
 //! The cells of a module: what they carry at time 0, and what they must be at the last time.
-ghost use Rattle.std.specs.Prelude.{◌≡◌, ◌+◌, ◌*◌, ◌<◌, ◌≤◌, ◌++◌, ℤ, false, true, None, Some, All, length, map, unwrap_or, slice_get, IsTrue, IfOk, OnOk};
+ghost use Rattle.std.specs.Prelude.{◌≡◌, ◌+◌, ◌*◌, ◌<◌, ◌≤◌, ◌++◌, [], ◌∷◌, ℕ, ℤ, pos, false, true, replicate, None, Some, All, length, map, unwrap_or, slice_get, IsTrue, IfOk, OnOk};
 ghost use Rattle.std.specs.List.{flat_map};
 ghost use Rattle.bbm_rule.specs.Board.{live};
 ghost use Rattle.circuit.specs.Bridge.{circuit_of};
 ghost use Rattle.circuit.specs.Meaning.{wire_of, wires};
-ghost use Rattle.pattern.specs.Layout.{rectangle_cells, in_cells, in_layout, in_rectangles};
+ghost use Rattle.pattern.specs.Layout.{row_cells, rectangle_cells, in_cells, in_layout, in_rectangles};
 ghost use Rattle.pattern.specs.Lines.{size_fault};
 ghost use Rattle.module_box.specs.Boxes.{in_box};
 ghost use Rattle.module_box.specs.Locals.{circuit_wire, is_among};
 ghost use Rattle.certificate.specs.Jobs.{end_demand, start_signal};
 ghost use Rattle.module_box.specs.Places.{place_in};
-ghost use Rattle.certificate.specs.LayoutTablesView.{HasMirrorOrNothing, KnowsPort, KnowsPorts, cells_of_others};
+ghost use Rattle.certificate.specs.LayoutTablesView.{AddsCells, HasLayoutSize, HasMirrorOrNothing, KnowsPort, KnowsPorts, cells_of_others};
 ghost use Rattle.certificate_lines.specs.Rules.{is_local};
 ghost use Rattle.module_job.specs.Signals.{IsBelow, IsDemandBelow, renumber_demand, renumber_signal};
 
 use bbm_rule::{Cell, Grid};
-use certificate_lines::{PortTable, cells_of_box, is_live, port_tables};
+use certificate_lines::{PortTable, is_live, port_tables};
 use circuit::{Circuit, WireNo};
 use module_box::{Box2, Locals, Signal};
 use module_job::Demand;
@@ -52,11 +52,55 @@ impl<'a> Model for LayoutTables<'a> {
     ghost invariant = { AreLayoutTables };
 }
 
+// What cells carry at time 0, and what they must be at the last time, one cell after the other.
+#[derive(Drop)]
+struct CellLists {
+    starts: Vec<Signal>,
+    demands: Vec<Demand>,
+}
+
+impl CellLists {
+    fn new(alloc: Global, count: usize) -> Result<CellLists, AllocError>
+        ensures starts { IfOk result (λ lists. lists.starts.items ≡ []) }
+        ensures demands { IfOk result (λ lists. lists.demands.items ≡ []) }
+    {
+        Ok(CellLists {
+            starts: Vec::with_capacity(alloc, count)?,
+            demands: Vec::with_capacity(alloc, count)?,
+        })
+    }
+
+    fn push(&mut self, start: Signal, demand: Demand) -> Result<(), AllocError>
+        ensures starts { OnOk result (self.new.starts.items ≡ self.old.starts.items ++ start ∷ []) }
+        ensures demands { OnOk result (self.new.demands.items
+            ≡ self.old.demands.items ++ demand ∷ []) }
+    {
+        self.starts.push(start)?;
+        self.demands.push(demand)?;
+        Ok(())
+    }
+
+    // Adds cells that are dead at time 0 and at the last time.
+    fn push_dead(&mut self, count: u32) -> Result<(), AllocError>
+        ensures starts { OnOk result (self.new.starts.items
+            ≡ self.old.starts.items ++ replicate count Signal.Zero) }
+        ensures demands { OnOk result (self.new.demands.items
+            ≡ self.old.demands.items ++ replicate count Demand.Dead) }
+    {
+        let starts = self.starts.len() + count as usize;
+        let demands = self.demands.len() + count as usize;
+        self.starts.resize(starts, Signal::Zero)?;
+        self.demands.resize(demands, Demand::Dead)?;
+        Ok(())
+    }
+}
+
 // A grid of the layout's size on which these cells are live.
 fn grid_of(alloc: Global, size: LayoutHeader, cells: &[Cell]) -> Result<Grid, AllocError>
     requires limits { size_fault size ≡ None }
     requires inside { All (λ c. in_layout size c.x c.y ≡ true) cells.now }
-    ensures { IfOk result (λ grid. (x y : ℤ) → live grid x y ≡ in_cells cells.now x y) }
+    ensures cells { IfOk result (λ grid. (x y : ℤ) → live grid x y ≡ in_cells cells.now x y) }
+    ensures size { IfOk result (λ grid. (grid.width ≡ size.w) × (grid.height ≡ size.h)) }
 {
     let mut grid = Grid::new(alloc, size.w, size.h)?;
     make_live(&mut grid, cells);
@@ -99,8 +143,9 @@ fn other_cells(alloc: Global, layout: &Layout) -> Result<Vec<Cell>, AllocError>
 
 // A grid on which the cells of balls, waste cells and ports are live.
 fn others_of(alloc: Global, layout: &Layout) -> Result<Grid, AllocError>
-    ensures { IfOk result (λ grid. (x y : ℤ) →
+    ensures cells { IfOk result (λ grid. (x y : ℤ) →
         live grid x y ≡ false → HasMirrorOrNothing layout.now x y) }
+    ensures size { IfOk result (HasLayoutSize layout.now) }
 {
     let size = layout.size();
     let cells = other_cells(alloc, layout)?;
@@ -112,6 +157,7 @@ fn others_of(alloc: Global, layout: &Layout) -> Result<Grid, AllocError>
 fn grids_of(alloc: Global, layout: &Layout) -> Result<(Grid, Grid, Grid), AllocError>
     ensures mirrors { IfOk result (λ grids. (x y : ℤ) →
         live grids.0 x y ≡ in_rectangles layout.now.mirrors x y) }
+    ensures mirrors_size { IfOk result (λ grids. HasLayoutSize layout.now grids.0) }
     ensures balls { IfOk result (λ grids. (x y : ℤ) →
         live grids.1 x y ≡ in_cells layout.now.balls x y) }
     ensures wastes { IfOk result (λ grids. (x y : ℤ) →
@@ -258,6 +304,59 @@ impl<'a> LayoutTables<'a> {
         (self.start_at(locals, cell), self.demand_at(locals, cell))
     }
 
+    // The first column from `from` on whose cell in row `y` the layout may name, or `end` if it names none before it.
+    fn next_named(&self, y: u32, from: u32, end: u32) -> u32
+        requires row { y < self.now.layout.size.h }
+        requires columns { (from ≤ end) × (end ≤ self.now.layout.size.w) }
+        ensures range { (from ≤ result) × (result ≤ end) }
+        ensures starts { (x : ℕ) → from ≤ x → x < result →
+            start_signal (circuit_of self.now.circuit) self.now.layout (pos x) (pos y)
+            ≡ Signal.Zero }
+        ensures demands { (x : ℕ) → from ≤ x → x < result →
+            end_demand (circuit_of self.now.circuit) self.now.layout (pos x) (pos y)
+            ≡ Demand.Dead }
+    {
+        let mirror = self.mirrors.next_live(y, from, end);
+        self.others.next_live(y, from, mirror)
+    }
+
+    // Adds what the cells of a row of a box carry and must be.
+    fn push_row(
+        &self,
+        locals: &Locals,
+        area: Box2,
+        y: u32,
+        lists: &mut CellLists,
+    ) -> Result<(), AllocError>
+        requires columns { (area.x + area.w ≤ self.now.layout.size.w) × (area.x + area.w ≤ 512) }
+        requires row { (area.y ≤ y) × (y < area.y + area.h) × (y < 512) }
+        requires rows { area.y + area.h ≤ self.now.layout.size.h }
+        requires ins { KnowsPorts (circuit_of self.now.circuit) locals.now.circuit_wires
+            self.now.layout.ins area }
+        requires outs { KnowsPorts (circuit_of self.now.circuit) locals.now.circuit_wires
+            self.now.layout.outs area }
+        ensures { OnOk result (AddsCells (circuit_of self.now.circuit) self.now.layout locals.now
+            (row_cells area.x area.w y) lists.old lists.new) }
+    {
+        let end = area.x + area.w;
+        let mut x = area.x;
+        'cells: while x < end {
+            let next = self.next_named(y, x, end);
+            lists.push_dead(next - x)?;
+            if next == end {
+                return Ok(());
+            }
+            let cell = Cell {
+                x: next as i32,
+                y: y as i32,
+            };
+            let (start, demand) = self.cell_at(locals, cell);
+            lists.push(start, demand)?;
+            x = next + 1;
+        }
+        Ok(())
+    }
+
     /// Returns what the cells of a box carry at time 0, and what they must be at the last time, row by row.
     ///
     /// The module knows the wires of the ports there.
@@ -267,8 +366,8 @@ impl<'a> LayoutTables<'a> {
         area: Box2,
         locals: &Locals,
     ) -> Result<(Vec<Signal>, Vec<Demand>), AllocError>
-        requires columns { area.x + area.w ≤ 512 }
-        requires rows { area.y + area.h ≤ 512 }
+        requires columns { (area.x + area.w ≤ self.now.layout.size.w) × (area.x + area.w ≤ 512) }
+        requires rows { (area.y + area.h ≤ self.now.layout.size.h) × (area.y + area.h ≤ 512) }
         requires ins { KnowsPorts (circuit_of self.now.circuit) locals.now.circuit_wires
             self.now.layout.ins area }
         requires outs { KnowsPorts (circuit_of self.now.circuit) locals.now.circuit_wires
@@ -288,14 +387,11 @@ impl<'a> LayoutTables<'a> {
             (unwrap_or (slice_get lists.1.items (place_in area x y)) Demand.Dead)
             ≡ end_demand (circuit_of self.now.circuit) self.now.layout x y) }
     {
-        let cells = cells_of_box(alloc, area)?;
-        let mut starts = Vec::with_capacity(alloc, cells.len())?;
-        let mut demands = Vec::with_capacity(alloc, cells.len())?;
-        for cell in cells.as_slice() {
-            let (start, demand) = self.cell_at(locals, *cell);
-            starts.push(start)?;
-            demands.push(demand)?;
+        let mut lists = CellLists::new(alloc, area.w as usize * area.h as usize)?;
+        'rows: for y in area.y..area.y + area.h {
+            self.push_row(locals, area, y, &mut lists)?;
         }
+        let CellLists { starts, demands } = lists;
         Ok((starts, demands))
     }
 }

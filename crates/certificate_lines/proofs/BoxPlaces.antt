@@ -99,18 +99,7 @@ pub cells_inside : (b : Box2) (k : ℕ) (c : Cell) → slice_get (box_cells b) k
 cells_inside b k c e = sym (in_box_cells b c.x c.y)
     ∙ any_at (λ (d : Cell). is_at d c.x c.y) (box_cells b) k c e (cell_itself c)
 
-pub item_inside : (b : Box2) (cells : List Cell) (k : ℕ) (d : Cell) → cells ≡ box_cells b → k < length cells →
-    in_box b (get_or cells k d).x (get_or cells k d).y ≡ true
-item_inside b cells k d are within =
-    cells_inside b k (get_or cells k d)
-    (ap (λ (l : List Cell). slice_get l k) (sym are) ∙ slice_get-get_or cells k d within)
-
 -- ---- a list with an element for each cell of a box
-
--- after the last cell of the list
-pub all_cells : {A B : Type 0} (g : A → B) (f : Cell → B) (b : Box2) (xs : List A) (cells : List Cell) (n : ℕ) →
-    n ≡ length cells → cells ≡ box_cells b → map g xs ≡ map f (take n cells) → map g xs ≡ map f (box_cells b)
-all_cells g f b xs cells n all are e = e ∙ ap (map f) (ap (λ (k : ℕ). take k cells) all ∙ take-length cells ∙ are)
 
 mapped_at : {A B : Type 0} (f : A → B) (xs : List A) (i : ℕ) (a : A) → slice_get xs i ≡ Some a →
     slice_get (map f xs) i ≡ Some (f a)

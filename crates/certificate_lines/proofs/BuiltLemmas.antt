@@ -2,22 +2,20 @@
 use Rattle.std.proofs.Common.{◌≡◌, ◌⊎◌, ℕ, ◌+◌, ◌-◌, ◌%◌, ◌<◌, ◌≤◌, ℤ, Bool, true, false, not, ◌&&◌, ◌||◌, List, []}
 use Rattle.std.proofs.Common.{◌∷◌, ◌++◌, length, Option, Some, None, refl, sym, ap, ap₂, subst, ◌∙◌, inl, inr, arith}
 use Rattle.std.specs.Prelude.{slice_get, nat_le, nat_lt}
-use Rattle.std.specs.List.{All, list_any, list_all}
+use Rattle.std.specs.List.{list_any, list_all}
 use Rattle.std.proofs.lemmas.Bool.{true≢false}
 use Rattle.std.proofs.lemmas.Bool.Decides.{nat_tests}
 use Rattle.std.proofs.lemmas.List.{length_push, map-append}
 use Rattle.std.proofs.lemmas.List.Elements.{All-nil}
 use Rattle.std.proofs.lemmas.List.Folds.{list_any-append}
 use Rattle.std.proofs.lemmas.Option.{slice_get_within}
-use Rattle.bbm_rule.specs.Board.{Board, live, HasSameSize, is_inside as is_on_board}
+use Rattle.bbm_rule.specs.Board.{Board, live, HasSameSize}
 use Rattle.section_text.specs.Codes.{code_where}
-use Rattle.pattern.specs.Lines.{cells_of, is_inside, size_fault}
-use Rattle.pattern.specs.declared.layout_line.LayoutLine.TheVariants.{Mirror}
+use Rattle.pattern.specs.Lines.{size_fault}
 use Rattle.pattern.proofs.InsideLemmas.{size_sides}
-use Rattle.pattern.proofs.TakenLemmas.{cells_on_board}
 use Rattle.bbm_rule.specs.declared.block.Cell.{Cell}
-use Rattle.pattern.specs.Layout.{in_cells}
 use Rattle.pattern.specs.declared.layout_line.LayoutHeader.{LayoutHeader}
+use Rattle.bbm_rule.specs.Spans.{in_area}
 use Rattle.module_box.specs.Boxes.{in_box, IsEven}
 use Rattle.module_box.specs.Tiling.{IsInside}
 use Rattle.module_box.specs.declared.boxes.Box2.{Box2}
@@ -111,42 +109,23 @@ good_module g ms before b e =
 
 -- ---- the cells of a box
 
-inside_both : (a b c d : ℕ) → a ≤ b → c ≤ d → (nat_le a b && nat_le c d) ≡ true
-inside_both a b c d h k = grind (arith, nat_tests)
-
 -- where its cells are
 pub record IsNear (s : LayoutHeader) (b : Box2) : Type 0 where
-  pub right : b.x + b.w ≤ 512
-  pub bottom : b.y + b.h ≤ 512
+  pub columns : (b.x + b.w ≤ s.w) × (b.x + b.w ≤ 512)
+  pub rows : (b.y + b.h ≤ s.h) × (b.y + b.h ≤ 512)
 
-pub box_near : (g : Setting) (count : ℕ) (before : Option ModuleLines) (b : Box2) → size_fault g.size ≡ None →
-    box_fault g count before b ≡ None → IsNear g.size b
-box_near g count before b sized e =
-    let s = size_sides g.size sized in
-    let at = (passes_alone g count before b e).box.inside in
-    record {
-      right = let w = s.0.most in let r = at.right in omega (arith, w, r);
-      bottom = let h = s.1.most in let r = at.bottom in omega (arith, h, r);
-    }
-
-pub box_on_board : (g : Setting) (count : ℕ) (before : Option ModuleLines) (b : Box2) (covered : Board)
-    (cells : List Cell) → box_fault g count before b ≡ None → covered.width ≡ g.size.w → covered.height ≡ g.size.h →
-    cells ≡ box_cells b
-    → All (λ c. is_on_board covered c.x c.y ≡ true) cells
-unfolding cells_of is_inside
-box_on_board g count before b covered cells e w h are =
-    let at = (passes_alone g count before b e).box.inside in
-    cells_on_board covered g.size w h (Mirror (record { x = b.x; y = b.y; w = b.w; h = b.h })) cells are
-    (inside_both (b.x + b.w) g.size.w (b.y + b.h) g.size.h at.right at.bottom)
+area_is : (b : Box2) (x y : ℤ) → in_area b.x b.y b.w b.h x y ≡ in_box b x y
+unfolding in_box
+area_is b x y = refl
 
 any_same : (p q : Cell → Bool) → ((c : Cell) → p c ≡ q c) → (cells : List Cell) → list_any p cells ≡ list_any q cells
 any_same p q same [] = refl
 any_same p q same (c ∷ cells) = ap₂ (λ a b. a || b) (same c) (any_same p q same cells)
 
-pub live_overlaps : (boxes : List Box2) (b : Box2) (covered : Board) (cells : List Cell) → cells ≡ box_cells b →
-    ((x y : ℤ) → live covered x y ≡ in_boxes boxes x y) → list_any (λ c. live covered c.x c.y) cells ≡ overlaps boxes b
-live_overlaps boxes b covered cells are same =
-    ap (list_any (λ c. live covered c.x c.y)) are ∙ any_same _ _ (λ c. same c.x c.y) (box_cells b)
+pub live_overlaps : (boxes : List Box2) (b : Box2) (covered : Board) →
+    ((x y : ℤ) → live covered x y ≡ in_boxes boxes x y) →
+    list_any (λ c. live covered c.x c.y) (box_cells b) ≡ overlaps boxes b
+live_overlaps boxes b covered same = any_same _ _ (λ c. same c.x c.y) (box_cells b)
 
 all_same : (p q : Cell → Bool) → ((c : Cell) → p c ≡ q c) → (cells : List Cell) → list_all p cells ≡ list_all q cells
 all_same p q same [] = refl
@@ -309,16 +288,16 @@ module _ (g : Setting) (ms : List ModuleLines) where
     ported = ported_push b sound.ported good.complete;
   }
 
-  pub module_built : (b : Box2) (old new : Board) (counts : List Counts) (cells : List Cell) →
-      AreBuilt g ms old counts → IsGoodModule g ms (last_of ms) b → cells ≡ box_cells b
-      → ((x y : ℤ) → live new x y ≡ (live old x y || in_cells cells x y)) → HasSameSize old new →
+  pub module_built : (b : Box2) (old new : Board) (counts : List Counts) →
+      AreBuilt g ms old counts → IsGoodModule g ms (last_of ms) b
+      → ((x y : ℤ) → live new x y ≡ (live old x y || in_area b.x b.y b.w b.h x y)) → HasSameSize old new →
       AreBuilt g (ms ++ new_module b ∷ []) new (counts ++ counts_of (new_module b) ∷ [])
-  module_built b old new counts cells built good are after size = record {
+  module_built b old new counts built good after size = record {
     sound = module_sound b built.sound good;
     width = size.0 ∙ built.width;
     height = size.1 ∙ built.height;
     cells = λ x y.
-        after x y ∙ ap₂ (λ p q. p || q) (built.cells x y) (ap (λ l. in_cells l x y) are ∙ in_box_cells b x y)
+        after x y ∙ ap₂ (λ p q. p || q) (built.cells x y) (area_is b x y)
         ∙ sym (cells_pushed (areas ms) b x y) ∙ ap (λ l. in_boxes l x y) (sym (areas_push ms (new_module b)));
     counted = ap (λ l. l ++ counts_of (new_module b) ∷ []) built.counted
         ∙ sym (map-append counts_of ms (new_module b ∷ []));
@@ -362,4 +341,7 @@ near_by s b sized placed =
     let right = or_false _ (nat_lt s.w (b.x + b.w)) bottom.0 in
     let r = at_most s.w (b.x + b.w) right.1 in
     let d = at_most s.h (b.y + b.h) bottom.1 in
-    record { right = let w = sides.0.most in omega (arith, w, r); bottom = let h = sides.1.most in omega (arith, h, d) }
+    record {
+      columns = (r, let w = sides.0.most in omega (arith, w, r));
+      rows = (d, let h = sides.1.most in omega (arith, h, d));
+    }

@@ -8,16 +8,16 @@ use Rattle.std.proofs.lemmas.List.{length_push}
 use Rattle.bbm_rule.specs.Board.{Board, live, HasSameSize}
 use Rattle.bbm_rule.specs.declared.block.Cell.{Cell}
 use Rattle.section_text.specs.Codes.{code_where, or_else}
+use Rattle.bbm_rule.specs.Spans.{in_area}
 use Rattle.module_box.specs.Boxes.{in_box}
 use Rattle.module_box.specs.Locals.{is_among}
 use Rattle.module_box.specs.declared.boxes.Box2.{Box2}
-use Rattle.pattern.specs.Layout.{in_cells}
 use Rattle.certificate_lines.specs.Entries.{Setting, ModuleLines, with_line, change_last, last_of, add_line, modules_of}
 use Rattle.certificate_lines.specs.Entries.{last_module, counts_of, cut_in, use_in, edge_in, halo_in, stop_in, cuts}
 use Rattle.certificate_lines.specs.Entries.{gates}
 use Rattle.certificate_lines.specs.Entries.{edges, halos, stops, known}
 use Rattle.certificate_lines.specs.Orders.{AreInOrder, may_follow}
-use Rattle.certificate_lines.specs.Rules.{same_cell, is_starred, are_new, box_cells, is_incomplete, is_local}
+use Rattle.certificate_lines.specs.Rules.{same_cell, is_starred, are_new, is_incomplete, is_local}
 use Rattle.certificate_lines.specs.Rules.{lacks_port, words_fault, line_fault, inner_fault, module_fault}
 use Rattle.certificate_lines.specs.Modules.{IsModule}
 use Rattle.certificate_lines.specs.BuilderView.{AreBuilt, AreWires, IsInner, IsLastModule, IsTracked, IsTrackedWith}
@@ -401,7 +401,7 @@ module _ (g : Setting) (es : List CertificateLine) (covered new_covered : Board)
     (last : Option CertificateLine)
     (names new_names : List (List ℕ)) (local : List ℕ) (e h : List Cell)
     (kept : IsTracked g es covered counts last names local e h)
-    (b : Box2) (cells : List Cell) (are : cells ≡ box_cells b) where
+    (b : Box2) where
   begun_lines : ModuleLines
   begun_lines = record { area = b; lines = [] }
 
@@ -418,7 +418,8 @@ module _ (g : Setting) (es : List CertificateLine) (covered new_covered : Board)
   }
 
   pub kept_module : module_fault g (modules_of es) (last_module es) b ≡ None →
-      ((x y : ℤ) → live new_covered x y ≡ (live covered x y || in_cells cells x y)) → HasSameSize covered new_covered
+      ((x y : ℤ) → live new_covered x y ≡ (live covered x y || in_area b.x b.y b.w b.h x y)) →
+      HasSameSize covered new_covered
       → ((f : List ℕ → Bool) → list_any f new_names ≡ list_any (λ p. in_box b p.cell.x p.cell.y && f p.name) g.ports)
       → IsTracked g (es ++ Module b ∷ []) new_covered
       (counts ++ record { area = b; cuts = 0; gates = 0; edges = 0; halos = 0; stops = 0 } ∷ []) None new_names [] [] []
@@ -427,8 +428,8 @@ module _ (g : Setting) (es : List CertificateLine) (covered new_covered : Board)
       let more : modules_of (es ++ Module b ∷ []) ≡ modules_of es ++ begun_lines ∷ [] = modules_push es (Module b) in
       record {
         built = subst (λ ms. AreBuilt g ms new_covered (counts ++ counts_of begun_lines ∷ [])) (sym more)
-            (module_built g (modules_of es) b covered new_covered counts cells kept.built
-            (good_module g (modules_of es) (last_module es) b good) are after size);
+            (module_built g (modules_of es) b covered new_covered counts kept.built
+            (good_module g (modules_of es) (last_module es) b good) after size);
         none = λ gone. absurd (pushed_some (modules_of es) begun_lines (sym more ∙ gone));
         last_module = λ m some. subst (λ k. IsLastModule g k None new_names [] [] [])
             (some_is begun_lines m (sym (ap last_of more ∙ last_pushed (modules_of es) begun_lines) ∙ some))
@@ -463,16 +464,17 @@ module _ (g : Setting) (es : List CertificateLine) (covered : Board) (counts : L
             (wires_in g.circuit i) good.last line.wires was.wires);
       }
 
-  pub with_module : (new_covered : Board) (new_names : List (List ℕ)) (b : Box2) (cells : List Cell) →
-      cells ≡ box_cells b → module_fault g (modules_of es) (last_module es) b ≡ None →
-      ((x y : ℤ) → live new_covered x y ≡ (live covered x y || in_cells cells x y)) → HasSameSize covered new_covered
+  pub with_module : (new_covered : Board) (new_names : List (List ℕ)) (b : Box2) →
+      module_fault g (modules_of es) (last_module es) b ≡ None →
+      ((x y : ℤ) → live new_covered x y ≡ (live covered x y || in_area b.x b.y b.w b.h x y)) →
+      HasSameSize covered new_covered
       → ((f : List ℕ → Bool) → list_any f new_names ≡ list_any (λ p. in_box b p.cell.x p.cell.y && f p.name) g.ports)
       → IsTrackedWith g (es ++ Module b ∷ []) new_covered
       (counts ++ record { area = b; cuts = 0; gates = 0; edges = 0; halos = 0; stops = 0 } ∷ []) None new_names
       (earlier ++ local ∷ []) [] [] []
   unfolding add_line
-  with_module new_covered new_names b cells are good after size ports = record {
-    kept = kept_module g es covered new_covered counts last names new_names local e h was.kept b cells are good after
+  with_module new_covered new_names b good after size ports = record {
+    kept = kept_module g es covered new_covered counts last names new_names local e h was.kept b good after
         size ports;
     wires = subst (λ ms. AreWires g.circuit ms (earlier ++ local ∷ []) []) (sym (modules_push es (Module b)))
         (wires_begun g.circuit (modules_of es) (record { area = b; lines = [] }) earlier local refl was.wires);

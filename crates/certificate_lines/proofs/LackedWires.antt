@@ -5,7 +5,6 @@ use Rattle.std.proofs.Common.{arith}
 use Rattle.std.specs.Prelude.{nat_lt, slice_get}
 use Rattle.std.specs.List.{filter, flat_map, list_any}
 use Rattle.std.proofs.lemmas.Bool.{cond-true, cond-false}
-use Rattle.std.proofs.lemmas.Bool.Decides.{nat_tests}
 use Rattle.std.proofs.lemmas.Option.{get_or_from_slice_get, slice_get-map}
 use Rattle.std.proofs.lemmas.List.{length-map, length_push, map-append, same_from_push}
 use Rattle.circuit.specs.Meaning.{Circuit}

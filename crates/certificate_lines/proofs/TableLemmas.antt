@@ -1,19 +1,24 @@
 -- The tables of ports, and the ports in a box.
-use Rattle.std.proofs.Common.{◌≡◌, ℕ, zero, suc, ◌+◌, ◌*◌, ◌<◌, ◌≤◌, ℤ, Bool, true, false, ◌&&◌, ◌||◌, if◌then◌else◌}
-use Rattle.std.proofs.Common.{List, [], ◌∷◌, ◌++◌, ◌-◌, set, take, length, length-take-le, get_or, replicate, Option}
+use Rattle.std.proofs.Common.{◌≡◌, ℕ, zero, suc, ◌+◌, ◌*◌, ◌<◌, ◌≤◌, ℤ, pos, Bool, true, false, ◌&&◌, ◌||◌}
+use Rattle.std.proofs.Common.{if◌then◌else◌}
+use Rattle.std.proofs.Common.{List, [], ◌∷◌, ◌++◌, ◌-◌, nat_eq, set, take, to_z, w32, drop, length, length-take-le}
+use Rattle.std.proofs.Common.{get_or, replicate, Option}
 use Rattle.std.proofs.Common.{Some, None, refl, sym, ap, ap₂, subst, ◌∙◌, arith}
 use Rattle.std.specs.Prelude.{slice_get}
-use Rattle.std.specs.List.{list_any}
+use Rattle.std.specs.List.{flat_map, list_all, list_any, range_with_len}
 use Rattle.std.specs.Option.{option_map_or}
 use Rattle.std.proofs.Math.Nat.{mul-le-mul_right}
 use Rattle.std.proofs.Math.Seq.{take-suc}
-use Rattle.std.proofs.lemmas.Bool.{and_parts}
-use Rattle.std.proofs.lemmas.List.{length-set, length-replicate, get_or_default, get_or-set_same, get_or-set_other}
+use Rattle.std.proofs.lemmas.Bool.{and_parts, and_from, eqb-true}
+use Rattle.bbm_rule.proofs.Spans.{span_from, span_parts}
+use Rattle.std.proofs.lemmas.List.{get_or-drop, length-set, length-replicate, get_or_default, get_or-set_same}
+use Rattle.std.proofs.lemmas.List.{get_or-set_other}
 use Rattle.std.proofs.lemmas.List.Folds.{list_any-append}
 use Rattle.std.proofs.lemmas.Option.{slice_get-get_or, slice_get_within}
 use Rattle.bbm_rule.specs.Plane.{is_at}
 use Rattle.bbm_rule.specs.declared.block.Cell.{Cell}
-use Rattle.pattern.specs.Layout.{HaveOwnCells}
+use Rattle.pattern.specs.Layout.{HaveOwnCells, cell, row_cells}
+use Rattle.pattern.proofs.CellLists.{cast_cell, none_in_row, row_more, rows_found}
 use Rattle.pattern.specs.declared.layout_line.LayoutHeader.{LayoutHeader}
 use Rattle.pattern.specs.declared.layout_line.Port.{Port}
 use Rattle.module_box.specs.Boxes.{in_box}
@@ -82,18 +87,48 @@ or_again : (a b c : Bool) → ((a || b) || c) ≡ (a || (b || c))
 or_again true b c = refl
 or_again false b c = refl
 
+or_false : (a : Bool) → (a || false) ≡ a
+or_false true = refl
+or_false false = refl
+
+-- the names of the ports at one cell more
+pub row_named : (test : Cell → Bool) (old mid new here : Bool) (x y k : ℕ) → x ≤ k → k < 512 → y < 512 →
+    mid ≡ (old || list_any test (row_cells x (k - x) y)) → new ≡ (mid || here) →
+    here ≡ test (record { x = to_z w32 k; y = to_z w32 y }) → new ≡ (old || list_any test (row_cells x (k + 1 - x) y))
+row_named test old mid new here x y k from low row was now is =
+    let n : k + 1 - x ≡ (k - x) + 1 = omega arith in
+    now ∙ ap₂ (λ a b. a || b) was (is ∙ ap test (cast_cell k y low row) ∙ sym (or_false (test (cell k y))))
+    ∙ or_again old (list_any test (row_cells x (k - x) y)) (test (cell k y) || false)
+    ∙ ap (λ b. old || b) (sym (list_any-append test (row_cells x (k - x) y) (cell k y ∷ []))
+    ∙ ap (list_any test) (sym (row_more x (k - x) y k (omega arith)))
+    ∙ ap (λ (m : ℕ). list_any test (row_cells x m y)) (sym n))
+
+-- at no cell of a row
+pub row_nameless : (test : Cell → Bool) (old : Bool) (x n y : ℕ) → ((k : ℕ) → k < n → test (cell (x + k) y) ≡ false) →
+    old ≡ (old || list_any test (row_cells x n y))
+row_nameless test old x n y none = sym (ap (λ b. old || b) (none_in_row test x n y none) ∙ or_false old)
+
+-- and at the cells of one row more
+pub rows_named : (test : Cell → Bool) (old mid new : Bool) (x w y k : ℕ) → y ≤ k →
+    mid ≡ (old || list_any test (flat_map (row_cells x w) (range_with_len y (k - y)))) →
+    new ≡ (mid || list_any test (row_cells x w k)) →
+    new ≡ (old || list_any test (flat_map (row_cells x w) (range_with_len y (k + 1 - y))))
+rows_named test old mid new x w y k from was now =
+    now ∙ ap (λ b. b || list_any test (row_cells x w k)) was
+    ∙ or_again old (list_any test (flat_map (row_cells x w) (range_with_len y (k - y))))
+    (list_any test (row_cells x w k))
+    ∙ ap (λ b. old || b) (rows_found test x w y k _ _ from refl refl)
+
 -- the ports of both kinds
-pub ports_pushed : (p q : List Port) → HaveOwnCells p → HaveOwnCells q → (b : Box2) (cells : List Cell) →
-    cells ≡ box_cells b
-    → (old mid new : List (List ℕ)) (f : List ℕ → Bool)
-    → list_any f mid ≡ (list_any f old || list_any (λ c. option_map_or f (port_at p c.x c.y) false) cells)
-    → list_any f new ≡ (list_any f mid || list_any (λ c. option_map_or f (port_at q c.x c.y) false) cells)
+pub ports_pushed : (p q : List Port) → HaveOwnCells p → HaveOwnCells q → (b : Box2) (old mid new : List (List ℕ))
+    (f : List ℕ → Bool)
+    → list_any f mid ≡ (list_any f old || list_any (λ c. option_map_or f (port_at p c.x c.y) false) (box_cells b))
+    → list_any f new ≡ (list_any f mid || list_any (λ c. option_map_or f (port_at q c.x c.y) false) (box_cells b))
     → list_any f new ≡ (list_any f old || list_any (λ r. in_box b r.cell.x r.cell.y && f r.name) (p ++ q))
-ports_pushed p q apart apart' b cells are old mid new f first second =
-    let one = ap (list_any (λ c. option_map_or f (port_at p c.x c.y) false)) are ∙ ports_in_box p apart b f in
-    let two = ap (list_any (λ c. option_map_or f (port_at q c.x c.y) false)) are ∙ ports_in_box q apart' b f in
+ports_pushed p q apart apart' b old mid new f first second =
     let test : Port → Bool = λ r. in_box b r.cell.x r.cell.y && f r.name in
-    second ∙ ap₂ (λ x y. x || y) (first ∙ ap (λ x. list_any f old || x) one) two
+    second
+    ∙ ap₂ (λ x y. x || y) (first ∙ ap (λ x. list_any f old || x) (ports_in_box p apart b f)) (ports_in_box q apart' b f)
     ∙ or_again (list_any f old) (list_any test p) (list_any test q)
     ∙ ap (λ x. list_any f old || x) (sym (list_any-append test p q))
 
@@ -224,6 +259,45 @@ place_own : (b : Box2) (c d : Cell) → in_box b c.x c.y ≡ true → in_box b d
     place_in b c.x c.y ≡ place_in b d.x d.y → c ≡ d
 place_own b c d h k same =
     some_is c d (sym (box_place b c.x c.y h) ∙ ap (λ (i : ℕ). slice_get (box_cells b) i) same ∙ box_place b d.x d.y k)
+
+-- a row of a box
+pub row_inside : (b : Box2) (x y k : ℕ) → in_box b (pos x) (pos y) ≡ true → x + k < b.x + b.w →
+    in_box b (pos (x + k)) (pos y) ≡ true
+unfolding in_box
+row_inside b x y k h l =
+    let p = and_parts _ _ h in
+    let s = span_parts b.x b.w x p.0 in
+    and_from _ _ (span_from b.x b.w (x + k) (omega (arith, s.0)) l) p.1
+
+pub row_place : (b : Box2) (x y k : ℕ) → in_box b (pos x) (pos y) ≡ true →
+    place_in b (pos (x + k)) (pos y) ≡ place_in b (pos x) (pos y) + k
+unfolding in_box
+row_place b x y k h =
+    let s = span_parts b.x b.w x (and_parts _ _ h).0 in
+    omega (arith, s.0)
+
+pub row_within : (b : Box2) (x y n : ℕ) → in_box b (pos x) (pos y) ≡ true → x + n ≤ b.x + b.w →
+    place_in b (pos x) (pos y) + n ≤ b.w * b.h
+unfolding in_box
+row_within b x y n h l =
+    let p = and_parts _ _ h in
+    let s = span_parts b.x b.w x p.0 in
+    let t = span_parts b.y b.h y p.1 in
+    let m : (y - b.y + 1) * b.w ≤ b.h * b.w = mul-le-mul_right b.w (omega (arith, t.0, t.1)) in
+    omega (arith, m, s.0)
+
+-- entries that are all zero
+zero_at : (numbers : List ℕ) (n k : ℕ) → list_all (λ m. nat_eq m 0) (take n numbers) ≡ true → k < n →
+    get_or numbers k 0 ≡ 0
+zero_at [] n zero all l = refl
+zero_at [] n (suc k) all l = refl
+zero_at (m ∷ numbers) zero k all l = absurd (omega arith)
+zero_at (m ∷ numbers) (suc n) zero all l = let p = and_parts _ _ all in eqb-true m 0 p.0
+zero_at (m ∷ numbers) (suc n) (suc k) all l = zero_at numbers n k (and_parts _ _ all).1 (omega arith)
+
+pub part_zero : (numbers : List ℕ) (p n k : ℕ) → list_all (λ m. nat_eq m 0) (take n (drop p numbers)) ≡ true → k < n →
+    get_or numbers (p + k) 0 ≡ 0
+part_zero numbers p n k all l = sym (get_or-drop p numbers k 0) ∙ zero_at (drop p numbers) n k all l
 
 pub few_places : (w h : ℕ) → w ≤ 512 → h ≤ 512 → w * h ≤ 262144
 few_places w h p q =

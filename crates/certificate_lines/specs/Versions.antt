@@ -2,7 +2,7 @@
 --
 -- In version 1 a module says in halo lines what the cells of its halo carry. Version 2 has no halo lines. There each
 -- edge line of another module for a cell of its halo is a halo line that says the same.
-use Rattle.std.specs.Prelude.{◌≡◌, ℕ, ◌==◌, ◌&&◌, Bool, true, false, not, if◌then◌else◌, List, [], ◌∷◌, ◌++◌, map}
+use Rattle.std.specs.Prelude.{◌≡◌, ℕ, ◌==◌, Bool, true, false, not, if◌then◌else◌, List, [], ◌∷◌, ◌++◌, map}
 use Rattle.std.specs.Prelude.{Option, Some, None, nat_lt}
 use Rattle.std.specs.List.{filter, flat_map, list_any}
 use Rattle.std.specs.declared.cmp.Ordering.{Ordering}

@@ -5,7 +5,7 @@ ghost use Rattle.pattern.specs.Lines.{size_fault};
 ghost use Rattle.std.specs.List.{flat_map, list_any};
 ghost use Rattle.certificate_lines.specs.Entries.{ModuleLines, counts_of, edge_in, known, modules_of, last_module};
 ghost use Rattle.certificate_lines.specs.ModuleParts.{AreInBox};
-ghost use Rattle.certificate_lines.specs.Rules.{entry_fault, end_fault, box_fault, module_fault, inner_fault, words_fault, is_incomplete, is_local, leaves_gap, box_cells};
+ghost use Rattle.certificate_lines.specs.Rules.{entry_fault, end_fault, box_fault, module_fault, inner_fault, words_fault, is_incomplete, is_local, leaves_gap};
 ghost use Rattle.module_box.specs.Boxes.{in_box};
 ghost use Rattle.certificate_lines.specs.BuilderView.{BuilderView, IsInner, IsSmall, lacks_edge};
 ghost use Rattle.certificate_lines.specs.Versions.{lacks_wire};
@@ -23,11 +23,11 @@ use crate::rules::{
     may_be_halo, may_be_stop, use_code,
 };
 use crate::stars::{has_star, make_room_for_stars, note_stars};
-use crate::tiles::{cells_of_box, is_full};
+use crate::tiles::is_full;
 use bbm_rule::{Cell, Grid};
 use indexmap::IndexSet;
 use module_box::Box2;
-use pattern::{is_any_live, make_live};
+use pattern::{Rectangle, fill_rectangle, is_any_live_in};
 use section_text::{LineFault, Name};
 use std::alloc::{AllocError, Global};
 use std::marker::Model;
@@ -185,15 +185,15 @@ impl<'a> Builder<'a> {
 }
 
 impl<'a> Builder<'a> {
-    // The names of the ports in a box of these cells.
-    fn names_in(&self, alloc: Global, area: Box2, cells: &[Cell]) -> Result<Vec<Name>, AllocError>
-        requires { cells.now ≡ box_cells area }
+    // The names of the ports in a box.
+    fn names_in(&self, alloc: Global, area: Box2) -> Result<Vec<Name>, AllocError>
+        requires { (area.x + area.w ≤ 512) × (area.y + area.h ≤ 512) }
         ensures { IfOk result (λ names. (f : List ℕ → Bool) →
             list_any f names.items
             ≡ list_any (λ p. in_box area p.cell.x p.cell.y && f p.name) self.now.setting.ports) }
     {
         let mut names = Vec::new(alloc);
-        self.tables.push_ports(&mut names, area, cells)?;
+        self.tables.push_ports(&mut names, area)?;
         Ok(names)
     }
 
@@ -210,8 +210,10 @@ impl<'a> Builder<'a> {
         ensures code { result
             ≡ box_fault self.now.setting (length (modules_of self.now.entries))
             (last_module self.now.entries) area }
-        ensures right { result ≡ None → area.x + area.w ≤ 512 }
-        ensures bottom { result ≡ None → area.y + area.h ≤ 512 }
+        ensures columns { result ≡ None → (area.x + area.w ≤ self.now.setting.size.w)
+            × (area.x + area.w ≤ 512) }
+        ensures rows { result ≡ None → (area.y + area.h ≤ self.now.setting.size.h)
+            × (area.y + area.h ≤ 512) }
     {
         let size = self.tables.size();
         if self.lacks_port() {
@@ -228,27 +230,23 @@ impl<'a> Builder<'a> {
         None
     }
 
-    // The cells of a box that may stand, by itself and among the earlier ones.
-    fn free_cells(&self, alloc: Global, area: Box2) -> Result<Vec<Cell>, LineFault>
-        ensures cells { IfOk result (λ cells. cells.items ≡ box_cells area) }
-        ensures alone { OnOk result (box_fault self.now.setting
-            (length (modules_of self.now.entries)) (last_module self.now.entries) area ≡ None) }
-        ensures free { OnOk result (module_fault self.now.setting (modules_of self.now.entries)
-            (last_module self.now.entries) area ≡ None) }
-        ensures fault { IfErr result (λ e. FaultIs e
-            (module_fault self.now.setting (modules_of self.now.entries)
-            (last_module self.now.entries) area)) }
+    // The code of the first test that the box of a module fails, by itself and among the earlier ones.
+    fn module_code(&self, area: Box2) -> Option<u8>
+        ensures code { result ≡ module_fault self.now.setting (modules_of self.now.entries)
+            (last_module self.now.entries) area }
+        ensures columns { result ≡ None → (area.x + area.w ≤ self.now.setting.size.w)
+            × (area.x + area.w ≤ 512) }
+        ensures rows { result ≡ None → (area.y + area.h ≤ self.now.setting.size.h)
+            × (area.y + area.h ≤ 512) }
     {
         if let Some(code) = self.box_code(area) {
-            return Err(LineFault::Code(code));
+            return Some(code);
         }
-        let Ok(cells) = cells_of_box(alloc, area) else {
-            return Err(LineFault::Memory);
-        };
-        if is_any_live(&self.covered, &cells) {
-            return Err(LineFault::Code(8));
+        let Box2 { x, y, w, h } = area;
+        if is_any_live_in(&self.covered, Rectangle { x, y, w, h }) {
+            return Some(8);
         }
-        Ok(cells)
+        None
     }
 
     fn add_module(&mut self, alloc: Global, area: Box2) -> Result<(), LineFault>
@@ -259,8 +257,10 @@ impl<'a> Builder<'a> {
             (module_fault self.old.setting (modules_of self.old.entries)
             (last_module self.old.entries) area)) }
     {
-        let cells = self.free_cells(alloc, area)?;
-        let Ok(names) = self.names_in(alloc, area, &cells) else {
+        if let Some(code) = self.module_code(area) {
+            return Err(LineFault::Code(code));
+        }
+        let Ok(names) = self.names_in(alloc, area) else {
             return Err(LineFault::Memory);
         };
         push_module(&mut self.entries, &mut self.modules, area)?;
@@ -268,7 +268,8 @@ impl<'a> Builder<'a> {
             pop_module(&mut self.entries, &mut self.modules);
             return Err(LineFault::Memory);
         };
-        make_live(&mut self.covered, &cells);
+        let Box2 { x, y, w, h } = area;
+        fill_rectangle(&mut self.covered, Rectangle { x, y, w, h });
         self.last = None;
         self.names = names;
         self.edges.truncate(0);

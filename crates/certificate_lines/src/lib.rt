@@ -26,4 +26,4 @@ pub use line_tables::LineTables;
 pub use lines::{cut_list, inner_lines, is_module, kept_places, used_gates};
 pub use order::compare_borders;
 pub use ports::{PortTable, port_tables};
-pub use tiles::{cells_of_box, is_live};
+pub use tiles::is_live;

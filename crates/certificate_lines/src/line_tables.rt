@@ -1,9 +1,10 @@
 //! The circuit and the layout that a certificate is for, with tables of the layout's ports by their cells.
-ghost use Rattle.std.specs.Prelude.{◌≡◌, ◌||◌, ◌&&◌, Bool, ℕ, List, false, None, slice_get, OnOk, IfOk};
+ghost use Rattle.std.specs.Prelude.{◌≡◌, ◌+◌, ◌<◌, ◌≤◌, ◌||◌, ◌&&◌, Bool, ℕ, List, false, None, slice_get, OnOk, IfOk};
 ghost use Rattle.std.specs.List.{list_any};
 ghost use Rattle.std.specs.Option.{option_map, option_map_or};
 ghost use Rattle.circuit.specs.Meaning.{wire_of};
 ghost use Rattle.circuit.specs.Wiring.{gate_of};
+ghost use Rattle.pattern.specs.Layout.{row_cells};
 ghost use Rattle.pattern.specs.Lines.{size_fault};
 ghost use Rattle.module_box.specs.Boxes.{in_box};
 ghost use Rattle.certificate_lines.specs.Rules.{box_cells, is_inverse_gate};
@@ -51,15 +52,43 @@ fn push_named(names: &mut Vec<Name>, name: Option<Name>) -> Result<(), AllocErro
     Ok(())
 }
 
-// The names of the ports at the cells.
-fn push_names(names: &mut Vec<Name>, ports: &PortTable, cells: &[Cell]) -> Result<(), AllocError>
+// Adds the names of the ports at `width` cells of row `y`, from column `x` on.
+fn push_row_names(
+    names: &mut Vec<Name>,
+    ports: &PortTable,
+    x: u32,
+    y: u32,
+    width: u32,
+) -> Result<(), AllocError>
+    requires { (x + width ≤ 512) × (y < 512) }
     ensures { OnOk result ((f : List ℕ → Bool) →
         list_any f names.new.items
         ≡ (list_any f names.old.items || list_any
-        (λ c. option_map_or f (port_at ports.now c.x c.y) false) cells.now)) }
+        (λ c. option_map_or f (port_at ports.now c.x c.y) false) (row_cells x width y))) }
 {
-    for cell in cells {
-        push_named(names, ports.get(*cell))?;
+    if ports.is_row_free(x, y, width) {
+        return Ok(());
+    }
+    for column in x..x + width {
+        let cell = Cell {
+            x: column as i32,
+            y: y as i32,
+        };
+        push_named(names, ports.get(cell))?;
+    }
+    Ok(())
+}
+
+// Adds the names of the ports in a box.
+fn push_names(names: &mut Vec<Name>, ports: &PortTable, area: Box2) -> Result<(), AllocError>
+    requires { (area.x + area.w ≤ 512) × (area.y + area.h ≤ 512) }
+    ensures { OnOk result ((f : List ℕ → Bool) →
+        list_any f names.new.items
+        ≡ (list_any f names.old.items || list_any
+        (λ c. option_map_or f (port_at ports.now c.x c.y) false) (box_cells area))) }
+{
+    for y in area.y..area.y + area.h {
+        push_row_names(names, ports, area.x, y, area.w)?;
     }
     Ok(())
 }
@@ -118,21 +147,16 @@ impl<'a> LineTables<'a> {
         }
     }
 
-    /// Appends the names of the ports in a box. `cells` are the cells of the box.
-    pub(crate) fn push_ports(
-        &self,
-        names: &mut Vec<Name>,
-        area: Box2,
-        cells: &[Cell],
-    ) -> Result<(), AllocError>
-        requires { cells.now ≡ box_cells area }
+    /// Appends the names of the ports in a box.
+    pub(crate) fn push_ports(&self, names: &mut Vec<Name>, area: Box2) -> Result<(), AllocError>
+        requires { (area.x + area.w ≤ 512) × (area.y + area.h ≤ 512) }
         ensures { OnOk result ((f : List ℕ → Bool) →
             list_any f names.new.items
             ≡ (list_any f names.old.items || list_any
             (λ p. in_box area p.cell.x p.cell.y && f p.name) self.now.ports)) }
     {
-        push_names(names, &self.ins, cells)?;
-        push_names(names, &self.outs, cells)?;
+        push_names(names, &self.ins, area)?;
+        push_names(names, &self.outs, area)?;
         Ok(())
     }
 }

@@ -1,5 +1,6 @@
 //! The ports of a layout by their cells.
-ghost use Rattle.std.specs.Prelude.{◌≡◌, None, OnOk, IfOk};
+ghost use Rattle.std.specs.Prelude.{◌≡◌, ◌+◌, ◌<◌, ◌≤◌, ℕ, nat_eq, pos, true, None, OnOk, IfOk};
+ghost use Rattle.std.specs.List.{list_all};
 ghost use Rattle.pattern.specs.Layout.{HaveOwnCells};
 ghost use Rattle.pattern.specs.Lines.{size_fault};
 ghost use Rattle.certificate_lines.specs.PortTables.{port_at, AreOnBoard};
@@ -76,7 +77,31 @@ pub fn port_tables<'a>(
     Ok((ins, outs))
 }
 
+fn are_all_zero(numbers: &[u32]) -> bool
+    ensures { result ≡ list_all (λ n. nat_eq n 0) numbers.now }
+{
+    numbers.iter().all(|number| *number == 0)
+}
+
 impl<'a> PortTable<'a> {
+    // Whether no port is at `width` cells of row `y`, from column `x` on. It looks at the row once.
+    pub(crate) fn is_row_free(&self, x: u32, y: u32, width: u32) -> bool
+        requires { (x + width ≤ 512) × (y < 512) }
+        ensures { result ≡ true → (k : ℕ) → k < width →
+            port_at self.now (pos (x + k)) (pos y) ≡ None }
+    {
+        let first = Cell {
+            x: x as i32,
+            y: y as i32,
+        };
+        let end = u64::from(self.area.x) + u64::from(self.area.w);
+        if !self.area.holds(first) || u64::from(x + width) > end {
+            return false;
+        }
+        let place = place_in(self.area, first);
+        are_all_zero(&self.numbers[place..place + width as usize])
+    }
+
     /// Returns the name of the port at the cell, if there is one.
     pub fn get(&self, cell: Cell) -> Option<Name>
         ensures { result ≡ port_at self.now cell.x cell.y }

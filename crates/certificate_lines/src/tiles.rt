@@ -1,5 +1,5 @@
-//! The cells of boxes: their list, and those that are live on a grid.
-ghost use Rattle.std.specs.Prelude.{◌≡◌, ◌+◌, ◌≤◌, ◌<◌, IfOk};
+//! The cells of a grid that are live.
+ghost use Rattle.std.specs.Prelude.{◌≡◌, ◌≤◌, ◌<◌};
 ghost use Rattle.std.specs.List.{list_all};
 ghost use Rattle.bbm_rule.specs.Board.{live};
 ghost use Rattle.pattern.specs.Layout.{row_cells};
@@ -8,8 +8,7 @@ ghost use Rattle.module_box.specs.Tiling.{rectangle_of};
 
 use bbm_rule::{Cell, Grid};
 use module_box::Box2;
-use pattern::{LayoutHeader, Rectangle, push_rectangle};
-use std::alloc::{AllocError, Global};
+use pattern::LayoutHeader;
 
 /// Returns the whole rectangle of a layout.
 pub(crate) fn whole_of(size: LayoutHeader) -> Box2
@@ -21,18 +20,6 @@ pub(crate) fn whole_of(size: LayoutHeader) -> Box2
         w: size.w,
         h: size.h,
     }
-}
-
-/// Returns the cells of a box, whose columns and rows are below 512.
-pub fn cells_of_box(alloc: Global, area: Box2) -> Result<Vec<Cell>, AllocError>
-    requires columns { area.x + area.w ≤ 512 }
-    requires rows { area.y + area.h ≤ 512 }
-    ensures { IfOk result (λ cells. cells.items ≡ box_cells area) }
-{
-    let mut cells = Vec::new(alloc);
-    let Box2 { x, y, w, h } = area;
-    push_rectangle(&mut cells, Rectangle { x, y, w, h })?;
-    Ok(cells)
 }
 
 /// Returns whether a cell is on the grid and live.

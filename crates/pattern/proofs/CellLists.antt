@@ -1,14 +1,22 @@
 -- The cells of rows and rectangles.
-use Rattle.std.proofs.Common.{◌≡◌, ℕ, Bool, cond, ◌+◌, ◌-◌, ◌<◌, ◌≤◌, pos, List, [], ◌∷◌, ◌++◌, arith, ap, ◌∙◌}
-use Rattle.std.proofs.Common.{append-nil, append_assoc, sym, to_z, w32}
+use Rattle.std.proofs.Common.{◌≡◌, ℕ, zero, suc, Bool, true, false, cond, ◌+◌, ◌-◌, ◌<◌, ◌≤◌, ◌||◌, pos, List, [], ◌∷◌}
+use Rattle.std.proofs.Common.{◌++◌}
+use Rattle.std.proofs.Common.{arith, ap, ap₂, refl, ◌∙◌, append-nil, append_assoc, sym, to_z, w32, nat_lt, inl, inr}
+use Rattle.std.proofs.lemmas.Bool.{cases_Bool}
+use Rattle.std.proofs.lemmas.Bool.Decides.{nat_tests}
+use Rattle.std.proofs.lemmas.List.Folds.{list_any-append}
 use Rattle.std.proofs.lemmas.Int.{ints}
-use Rattle.std.specs.List.{flat_map, filter, range_with_len}
+use Rattle.std.specs.List.{flat_map, filter, list_any, range_with_len}
 use Rattle.std.proofs.lemmas.List.Elements.{filter-append}
 use Rattle.std.proofs.lemmas.List.Concat.{flat_map-append}
 use Rattle.std.proofs.lemmas.List.FromFn.{map-range_with_len_more, filter_of_map_range_with_len_more}
 use Rattle.std.proofs.lemmas.List.{map-id}
 use Rattle.bbm_rule.specs.declared.block.Cell.{Cell}
 use Rattle.pattern.specs.Layout.{cell, row_cells}
+
+or_true : (a : Bool) → (a || true) ≡ true
+or_true true = refl
+or_true false = refl
 
 pub row_more : (x n y j : ℕ) → x + n ≡ j → row_cells x (n + 1) y ≡ row_cells x n y ++ cell j y ∷ []
 row_more x n y j e = map-range_with_len_more (λ c. cell c y) x n j e
@@ -49,6 +57,55 @@ rows_pushed first out out' x w y k from before now =
     ∙ append_assoc first (flat_map (row_cells x w) (range_with_len y (k - y))) (row_cells x w k)
     ∙ ap (λ (l : List Cell). first ++ l) (sym (flat_map_range_more (row_cells x w) y (k - y) k (omega arith)))
     ∙ ap (λ (m : ℕ). first ++ flat_map (row_cells x w) (range_with_len y m)) (sym n)
+
+-- ---- whether some cell of a row passes a test
+
+any_in_row : (test : Cell → Bool) (x n y k : ℕ) → k < n → test (cell (x + k) y) ≡ true →
+    list_any test (row_cells x n y) ≡ true
+any_in_row test x zero y k l t = absurd (omega arith)
+any_in_row test x (suc n) y zero l t =
+    let e : x + 0 ≡ x = omega arith in
+    let t = rw e at t in
+    rw t refl
+any_in_row test x (suc n) y (suc k) l t =
+    let e : x + suc k ≡ x + 1 + k = omega arith in
+    let t = rw e at t in
+    rw (any_in_row test (x + 1) n y k (omega arith) t) (or_true (test (cell x y)))
+
+pub none_in_row : (test : Cell → Bool) (x n y : ℕ) → ((k : ℕ) → k < n → test (cell (x + k) y) ≡ false) →
+    list_any test (row_cells x n y) ≡ false
+none_in_row test x zero y none = refl
+none_in_row test x (suc n) y none =
+    let e : x + 0 ≡ x = omega arith in
+    let here = rw e at (none 0 (omega arith)) in
+    rw here (none_in_row test (x + 1) n y (λ k l.
+    let e : x + suc k ≡ x + 1 + k = omega arith in rw e at (none (suc k) (omega arith))))
+
+-- as the first that passes it tells
+pub row_found : (test : Cell → Bool) (x n y first : ℕ) → x ≤ first → first ≤ x + n →
+    ((k : ℕ) → x ≤ k → k < first → test (cell k y) ≡ false) → (first < x + n → test (cell first y) ≡ true) →
+    nat_lt first (x + n) ≡ list_any test (row_cells x n y)
+row_found test x n y first low high none some = elim (cases_Bool (nat_lt first (x + n))) [
+  | inl e ↦
+      let e' : x + (first - x) ≡ first = omega arith in
+      let l : first < x + n = grind (arith, nat_tests) in
+      e ∙ sym (any_in_row test x n y (first - x) (omega arith) (rw e' (some l)))
+  | inr e ↦
+      let le : x + n ≤ first = grind (arith, nat_tests) in
+      e ∙ sym (none_in_row test x n y (λ k l. none (x + k) (omega arith) (omega arith)))
+]
+
+-- one row more
+pub rows_found : (test : Cell → Bool) (x w y k : ℕ) (before here : Bool) → y ≤ k →
+    before ≡ list_any test (flat_map (row_cells x w) (range_with_len y (k - y))) →
+    here ≡ list_any test (row_cells x w k) →
+    (before || here) ≡ list_any test (flat_map (row_cells x w) (range_with_len y (k + 1 - y)))
+rows_found test x w y k before here from was now =
+    let n : k + 1 - y ≡ (k - y) + 1 = omega arith in
+    ap₂ (λ a b. a || b) was now
+    ∙ sym (list_any-append test (flat_map (row_cells x w) (range_with_len y (k - y))) (row_cells x w k))
+    ∙ ap (list_any test) (sym (flat_map_range_more (row_cells x w) y (k - y) k (omega arith)))
+    ∙ ap (λ (m : ℕ). list_any test (flat_map (row_cells x w) (range_with_len y m))) (sym n)
 
 -- ---- rows that are filtered
 

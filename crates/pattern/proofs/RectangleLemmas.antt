@@ -1,10 +1,10 @@
 -- The places of the cells of a rectangle.
-use Rattle.std.proofs.Common.{◌≡◌, ℕ, zero, suc, ◌+◌, ℤ, pos, negsuc, false, ◌&&◌, ◌||◌, refl, arith, ◌∙◌}
+use Rattle.std.proofs.Common.{◌≡◌, ℕ, zero, suc, ◌+◌, ◌-◌, ◌≤◌, ℤ, pos, negsuc, false, ◌&&◌, ◌||◌, refl, arith, ◌∙◌}
 use Rattle.std.specs.List.{flat_map, range_with_len}
 use Rattle.std.specs.Ordering.{int_eq}
 use Rattle.std.proofs.lemmas.Bool.Decides.{nat_tests}
 use Rattle.std.proofs.lemmas.List.Folds.{list_any-append}
-use Rattle.bbm_rule.specs.Plane.{is_at}
+use Rattle.bbm_rule.specs.Plane.{State, is_at}
 use Rattle.bbm_rule.specs.Spans.{in_span}
 use Rattle.bbm_rule.specs.declared.block.Cell.{Cell}
 use Rattle.pattern.specs.declared.layout_line.Rectangle.{Rectangle}
@@ -34,3 +34,33 @@ in_rows a w b (suc n) x y = list_any-append (λ (c : Cell). is_at c x y) (row_ce
 pub in_rectangle_cells : (r : Rectangle) (x y : ℤ) → in_cells (rectangle_cells r) x y ≡ in_rectangle r x y
 unfolding rectangle_cells
 in_rectangle_cells r x y = in_rows r.x r.w r.y r.h x y
+
+-- ---- rows of a rectangle that are filled
+
+-- no row is filled yet
+pub none_filled : (first : State) (a w b : ℕ) (x y : ℤ) →
+    first x y ≡ (first x y || (in_span a w x && in_span b (b - b) y))
+none_filled first a w b x y =
+    let e : b - b ≡ 0 = omega arith in
+    rw (e, span_none b y) (grind arith)
+
+spans_join : (b n : ℕ) (y : ℤ) → (in_span b n y || in_span (b + n) 1 y) ≡ in_span b (n + 1) y
+unfolding in_span
+spans_join b n (pos y) = grind (arith, nat_tests)
+spans_join b n (negsuc y) = refl
+
+-- one row more is filled
+pub rows_join : (a w b n : ℕ) (x y : ℤ) →
+    ((in_span a w x && in_span b n y) || (in_span a w x && in_span (b + n) 1 y))
+    ≡ (in_span a w x && in_span b (n + 1) y)
+rows_join a w b n x y = rw (← spans_join b n y) (grind arith)
+
+pub filled_more : (first old new : State) (a w b k : ℕ) → b ≤ k →
+    ((x y : ℤ) → old x y ≡ (first x y || (in_span a w x && in_span b (k - b) y))) →
+    ((x y : ℤ) → new x y ≡ (old x y || (in_span a w x && in_span k 1 y))) →
+    (x y : ℤ) → new x y ≡ (first x y || (in_span a w x && in_span b (k + 1 - b) y))
+filled_more first old new a w b k from was now x y =
+    let e : b + (k - b) ≡ k = omega arith in
+    let n : k + 1 - b ≡ (k - b) + 1 = omega arith in
+    let join = rw e at (rows_join a w b (k - b) x y) in
+    now x y ∙ rw (was x y, n, ← join) (grind arith)

@@ -24,4 +24,4 @@ pub use printing::{print_cell, print_layout};
 pub use reading::read_layout;
 pub use rectangle::push_rectangle;
 pub use run::{RunEnd, run_plain, start_cells};
-pub use taken::{is_any_live, make_live};
+pub use taken::{fill_rectangle, is_any_live_in, make_live};

@@ -1,8 +1,7 @@
-use Rattle.std.proofs.Common.{◌≡◌, ◌∙◌, ◌+◌, ◌++◌, ◌∷◌, [], get_or, sym, ap, subst, drop, map}
-use Rattle.certificate_lines.specs.Entries.{ModuleLines, modules_of}
+use Rattle.std.proofs.Common.{◌≡◌, ◌∙◌, ◌+◌, ◌++◌, get_or, sym, ap, subst, drop, map}
+use Rattle.certificate_lines.specs.Entries.{modules_of}
 use Rattle.certificate_lines.specs.ModuleParts.{inner}
 use Rattle.certificate.specs.SliceLines.{slice_lines}
-use Rattle.certificate.specs.declared.beside.ModuleSlice.{ModuleSlice}
 use Rattle.certificate_lines.specs.declared.certificate_line.CertificateLine.TheVariants.{Module}
 use Rattle.certificate.proofs.BesideLines.{all_parts, one_part, other_line_on}
 use Rattle.certificate_lines.proofs.LinesLeft.{rest_of_lines}

@@ -1,4 +1,4 @@
-use Rattle.std.proofs.Common.{◌≡◌, ◌++◌, ◌∙◌, append-nil, sym, ap}
+use Rattle.std.proofs.Common.{◌++◌, ◌∙◌, append-nil, sym, ap}
 use Rattle.certificate_lines.specs.Entries.{edges}
 use Rattle.certificate.specs.SliceLines.{slice_lines}
 use Rattle.certificate_lines.proofs.FarLines.{far_lines}

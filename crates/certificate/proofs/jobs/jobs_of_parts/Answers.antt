@@ -1,13 +1,10 @@
-use Rattle.std.proofs.Common.{◌≡◌, ◌∙◌, ◌+◌, ◌++◌, ◌∷◌, ℕ, List, [], Some, arith, get_or, inl, inr, length, map, refl}
+use Rattle.std.proofs.Common.{◌≡◌, ◌∙◌, ◌+◌, ◌∷◌, [], arith, map}
 use Rattle.std.proofs.Common.{sym, ap, subst}
-use Rattle.std.specs.Prelude.{slice_get}
 use Rattle.std.specs.Arc.{arc_value}
 use Rattle.std.proofs.lemmas.List.{length-map, map-append}
 use Rattle.circuit.specs.Bridge.{circuit_of}
-use Rattle.certificate_lines.specs.Entries.{ModuleLines}
 use Rattle.certificate_lines.specs.Settings.{setting_of}
 use Rattle.certificate.specs.Jobs.{IsJobOf}
-use Rattle.module_job.specs.Jobs.{JobView}
 use Rattle.certificate.specs.SliceLines.{slice_lines}
 use Rattle.certificate_lines.specs.Modules.{HasPorts, IsModule}
 use Rattle.certificate_lines.specs.Versions.{with_halos}

@@ -1,4 +1,4 @@
-use Rattle.std.proofs.Common.{◌≡◌, ◌==◌, ◌&&◌, ◌∙◌, List, true, false, map, refl, rules, sym, ap, subst}
+use Rattle.std.proofs.Common.{◌≡◌, ◌&&◌, ◌∙◌, List, true, false, map, rules, sym, ap, subst}
 use Rattle.std.specs.Prelude.{IfOk}
 use Rattle.std.specs.Arc.{arc_value}
 use Rattle.circuit.specs.Bridge.{circuit_of}
@@ -8,7 +8,6 @@ use Rattle.certificate.specs.Jobs.{AreJobsOf}
 use Rattle.certificate.specs.SliceLines.{slice_lines}
 use Rattle.certificate_lines.specs.Modules.{AreModules}
 use Rattle.certificate_lines.specs.Versions.{is_haloless, lacks_wire, with_halos}
-use Rattle.certificate.specs.declared.beside.ModuleSlice.{ModuleSlice}
 use Rattle.certificate.proofs.FullModules.{meant_new, meant_old}
 use Rattle.certificate.proofs.jobs.jobs_of_version.Goals as goal
 

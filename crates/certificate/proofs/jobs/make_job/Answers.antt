@@ -5,7 +5,8 @@ use Rattle.std.specs.List.{All}
 use Rattle.circuit.specs.Bridge.{circuit_of, netlist_of}
 use Rattle.circuit.specs.Meaning.{Netlist, wires}
 use Rattle.certificate_lines.specs.Entries.{gates, keeps, ModuleLines, edges, halos, stops}
-use Rattle.certificate.proofs.JobLemmas.{keeps_used, within_512, edges_named, halos_named, lists_local, wires_known}
+use Rattle.certificate.proofs.JobLemmas.{keeps_used, within_512, within_layout, edges_named, halos_named, lists_local}
+use Rattle.certificate.proofs.JobLemmas.{wires_known}
 use Rattle.certificate.proofs.JobLemmas.{cut_count}
 use Rattle.module_box.specs.Boxes.{in_box}
 use Rattle.module_box.specs.Locals.{AreLocalsOf}
@@ -40,13 +41,13 @@ named_locals-requires-clause-kept c =
 
 pub cell_lists-requires-clause-columns : goal.cell_lists-requires-clause-columns
 cell_lists-requires-clause-columns c =
-    (within_512 (setting_of c.args.tables.now.circuit c.args.tables.now.layout)
+    (within_layout (setting_of c.args.tables.now.circuit c.args.tables.now.layout)
     (record { area = c.args.area; lines = c.args.lines.now }) c.size-size.result
     (c.size-size.ensures.size ∙ ap (λ p. p.size) c.layout.ensures) c.size-size.ensures.limits c.requires.module).0
 
 pub cell_lists-requires-clause-rows : goal.cell_lists-requires-clause-rows
 cell_lists-requires-clause-rows c =
-    (within_512 (setting_of c.args.tables.now.circuit c.args.tables.now.layout)
+    (within_layout (setting_of c.args.tables.now.circuit c.args.tables.now.layout)
     (record { area = c.args.area; lines = c.args.lines.now }) c.size-size.result
     (c.size-size.ensures.size ∙ ap (λ p. p.size) c.layout.ensures) c.size-size.ensures.limits c.requires.module).1
 

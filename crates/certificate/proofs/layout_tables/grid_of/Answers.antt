@@ -16,5 +16,11 @@ make_live-requires c = λ k d lt.
     inside_is_layout c.in_ok-grid.grid c.args.size c.in_ok-grid.ensures.size.0 c.in_ok-grid.ensures.size.1 _ _
     ∙ c.requires.inside k d lt
 
-pub returns : goal.returns
-returns c = λ x y. c.make_live.ensures.taken x y ∙ rw (c.in_ok-grid.ensures.dead x y) refl
+pub returns-clause-cells : goal.returns-clause-cells
+returns-clause-cells c = λ x y. c.make_live.ensures.taken x y ∙ rw (c.in_ok-grid.ensures.dead x y) refl
+
+pub returns-clause-size : goal.returns-clause-size
+returns-clause-size c = (
+  c.make_live.ensures.size.0 ∙ c.in_ok-grid.ensures.size.0,
+  c.make_live.ensures.size.1 ∙ c.in_ok-grid.ensures.size.1,
+)

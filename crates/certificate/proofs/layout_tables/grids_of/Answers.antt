@@ -1,7 +1,8 @@
-use Rattle.std.proofs.Common.{◌∙◌, ℕ, ◌+◌, ◌<◌, ◌≤◌, List, length, get_or, ap, subst, sym}
+use Rattle.std.proofs.Common.{◌≡◌, ◌∙◌, ℕ, ◌+◌, ◌<◌, ◌≤◌, List, length, get_or, ap, subst, sym}
 use Rattle.std.specs.List.{flat_map}
 use Rattle.bbm_rule.specs.declared.block.Cell.{Cell}
 use Rattle.pattern.specs.Layout.{in_cells, rectangle_cells}
+use Rattle.pattern.specs.declared.layout_line.LayoutHeader.{LayoutHeader}
 use Rattle.pattern.specs.declared.layout_line.Rectangle.{Rectangle}
 use Rattle.certificate_lines.proofs.LayoutPorts.{AllInLayout, balls_on_layout, wastes_on_layout}
 use Rattle.certificate.proofs.LayoutTableLemmas.{fit_in_layout, in_mirrors, mirrors_on_board}
@@ -34,5 +35,10 @@ grid_of-requires-3-clause-inside c =
 pub returns-clause-mirrors : goal.returns-clause-mirrors
 returns-clause-mirrors c =
     let are = c.deref.ensures.value ∙ c.in_ok-cells.ensures ∙ ap (flat_map rectangle_cells) c.mirrors.ensures in
-    λ x y. c.in_ok-mirrors.ensures x y ∙ ap (λ (l : List Cell). in_cells l x y) are
+    λ x y. c.in_ok-mirrors.ensures.cells x y ∙ ap (λ (l : List Cell). in_cells l x y) are
     ∙ in_mirrors c.args.layout.now.mirrors x y
+
+pub returns-clause-mirrors_size : goal.returns-clause-mirrors_size
+returns-clause-mirrors_size c =
+    subst (λ (s : LayoutHeader). (c.in_ok-mirrors.mirrors.width ≡ s.w) × (c.in_ok-mirrors.mirrors.height ≡ s.h))
+    c.size-size.ensures.size c.in_ok-mirrors.ensures.size

@@ -2,7 +2,7 @@ use Rattle.std.proofs.Common.{◌≡◌, ◌∙◌, sym, ap, ap₂, subst}
 use Rattle.std.specs.Prelude.{IfOk}
 use Rattle.circuit.specs.Bridge.{circuit_of}
 use Rattle.certificate_lines.specs.Entries.{modules_of}
-use Rattle.certificate.specs.Grammars.{CertView, modules_in}
+use Rattle.certificate.specs.Grammars.{CertView}
 use Rattle.certificate_lines.specs.Settings.{setting_of}
 use Rattle.certificate.specs.Times.{time_lines}
 use Rattle.certificate.proofs.MeantLines.{times_meant}

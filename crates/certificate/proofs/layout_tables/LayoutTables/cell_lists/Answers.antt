@@ -1,82 +1,63 @@
-use Rattle.std.proofs.Common.{◌≡◌, ◌∙◌, arith, length}
+use Rattle.std.proofs.Common.{◌≡◌, ◌∙◌, ◌-◌, ℕ, ap, arith, map}
+use Rattle.std.specs.List.{flat_map, range_with_len}
 use Rattle.bbm_rule.specs.declared.block.Cell.{Cell}
 use Rattle.circuit.specs.Bridge.{circuit_of}
+use Rattle.pattern.specs.Layout.{row_cells, rectangle_cells}
 use Rattle.module_box.specs.Locals.{circuit_wire}
+use Rattle.module_box.specs.declared.boxes.Box2.{Box2}
 use Rattle.module_box.specs.declared.schedules.Signal.TheVariants.{Zero}
 use Rattle.certificate.specs.Jobs.{end_demand, start_signal}
-use Rattle.module_job.specs.Signals.{IsBelow, IsDemandBelow, renumber_demand, renumber_signal}
-use Rattle.circuit.specs.Meaning.{wires}
-use Rattle.certificate.proofs.LayoutTableLemmas.{pushed_all, pushed_cell}
+use Rattle.certificate_lines.specs.Rules.{box_cells}
+use Rattle.module_job.specs.Signals.{renumber_demand, renumber_signal}
 use Rattle.module_job.specs.declared.job.Demand.TheVariants.{Dead}
-use Rattle.certificate_lines.proofs.BoxPlaces.{all_cells, found_at, item_inside, same_count}
+use Rattle.certificate.proofs.CellRows.{grow_row}
+use Rattle.certificate_lines.proofs.BoxPlaces.{found_at, same_count}
 use Rattle.certificate.proofs.layout_tables.LayoutTables.cell_lists.Goals as goal
 
-pub cell_at-start-requires-clause-ins : goal.cell_at-start-requires-clause-ins
-cell_at-start-requires-clause-ins c =
-    c.requires.ins _ _ (item_inside c.args.area c.as_slice-cell-items.result.now c.loop-cell.cell-index _
-    (c.as_slice-cell-items.ensures.value ∙ c.in_ok-cells.ensures) c.loop-cell-test.true)
-
-pub cell_at-start-requires-clause-outs : goal.cell_at-start-requires-clause-outs
-cell_at-start-requires-clause-outs c =
-    c.requires.outs _ _ (item_inside c.args.area c.as_slice-cell-items.result.now c.loop-cell.cell-index _
-    (c.as_slice-cell-items.ensures.value ∙ c.in_ok-cells.ensures) c.loop-cell-test.true)
-
-pub loop-cell-preserved : goal.loop-cell-preserved
-loop-cell-preserved c =
+pub rows-preserved : goal.rows-preserved
+rows-preserved c =
     let known = circuit_wire c.args.locals.now in
-    let lines = circuit_of c.args.self.now.circuit in
+    let circuit = circuit_of c.args.self.now.circuit in
     let layout = c.args.self.now.layout in
-    let own = wires c.args.locals.now.netlist in
-    let cells = c.as_slice-cell-items.result.now in
-    let i = c.loop-cell.cell-index in
-    let both = c.cell_at-start.ensures in
+    let so_far = c.rows.invariant in
+    let added = c.in_ok-push_row.ensures in
     record {
-      starts_same = pushed_cell (renumber_signal known)
-          (λ (d : Cell). start_signal lines layout d.x d.y) c.loop-cell.starts.items c.push.new.self.items _ cells i _
-          c.loop-cell-test.true c.in_ok-push.ensures.items
-          c.loop-cell.invariant.starts_same both.start;
-      starts_own = pushed_all (IsBelow own) c.loop-cell.starts.items c.push.new.self.items _ c.in_ok-push.ensures.items
-          c.loop-cell.invariant.starts_own both.start_below;
-      demands_same = pushed_cell (renumber_demand known)
-          (λ (d : Cell). end_demand lines layout d.x d.y) c.loop-cell.demands.items c.push-in-loop-cell.new.self.items _
-          cells i _ c.loop-cell-test.true c.in_ok-push-2.ensures.items
-          c.loop-cell.invariant.demands_same both.demand;
-      demands_own = pushed_all (IsDemandBelow own) c.loop-cell.demands.items c.push-in-loop-cell.new.self.items _
-          c.in_ok-push-2.ensures.items c.loop-cell.invariant.demands_own both.demand_below;
+      starts = grow_row (renumber_signal known) (λ (d : Cell). start_signal circuit layout d.x d.y)
+          c.rows.lists.starts.items c.push_row.new.lists.starts.items c.args.area.x c.args.area.w c.args.area.y c.rows.y
+          (omega arith) so_far.starts added.starts;
+      starts_own = added.starts_own so_far.starts_own;
+      demands = grow_row (renumber_demand known) (λ (d : Cell). end_demand circuit layout d.x d.y)
+          c.rows.lists.demands.items c.push_row.new.lists.demands.items c.args.area.x c.args.area.w c.args.area.y
+          c.rows.y (omega arith) so_far.demands added.demands;
+      demands_own = added.demands_own so_far.demands_own;
     }
+
+-- all rows are those of the box
+all_rows : {B : Type 0} (f : Cell → B) (b : Box2) (n : ℕ) → n ≡ b.h →
+    map f (flat_map (row_cells b.x b.w) (range_with_len b.y n)) ≡ map f (box_cells b)
+unfolding rectangle_cells
+all_rows f b n all = ap (λ (k : ℕ). map f (flat_map (row_cells b.x b.w) (range_with_len b.y k))) all
 
 pub returns-clause-starts_count : goal.returns-clause-starts_count
 returns-clause-starts_count c =
-    let all : c.loop-cell.cell-index ≡ length c.as_slice-cell-items.result.now = omega arith in
-    let g = renumber_signal (circuit_wire c.args.locals.now) in
     let f = λ (d : Cell). start_signal (circuit_of c.args.self.now.circuit) c.args.self.now.layout d.x d.y in
-    same_count g f c.args.area c.loop-cell.starts.items
-    (all_cells g f c.args.area c.loop-cell.starts.items c.as_slice-cell-items.result.now c.loop-cell.cell-index all
-    (c.as_slice-cell-items.ensures.value ∙ c.in_ok-cells.ensures) c.loop-cell.invariant.starts_same)
+    same_count (renumber_signal (circuit_wire c.args.locals.now)) f c.args.area c.rows.lists.starts.items
+    (c.rows.invariant.starts ∙ all_rows f c.args.area (c.rows.y - c.args.area.y) (omega arith))
 
 pub returns-clause-starts : goal.returns-clause-starts
 returns-clause-starts c =
-    let all : c.loop-cell.cell-index ≡ length c.as_slice-cell-items.result.now = omega arith in
-    let g = renumber_signal (circuit_wire c.args.locals.now) in
     let f = λ (d : Cell). start_signal (circuit_of c.args.self.now.circuit) c.args.self.now.layout d.x d.y in
-    found_at g f c.args.area c.loop-cell.starts.items Zero
-    (all_cells g f c.args.area c.loop-cell.starts.items c.as_slice-cell-items.result.now c.loop-cell.cell-index all
-    (c.as_slice-cell-items.ensures.value ∙ c.in_ok-cells.ensures) c.loop-cell.invariant.starts_same)
+    found_at (renumber_signal (circuit_wire c.args.locals.now)) f c.args.area c.rows.lists.starts.items Zero
+    (c.rows.invariant.starts ∙ all_rows f c.args.area (c.rows.y - c.args.area.y) (omega arith))
 
 pub returns-clause-demands_count : goal.returns-clause-demands_count
 returns-clause-demands_count c =
-    let all : c.loop-cell.cell-index ≡ length c.as_slice-cell-items.result.now = omega arith in
-    let g = renumber_demand (circuit_wire c.args.locals.now) in
     let f = λ (d : Cell). end_demand (circuit_of c.args.self.now.circuit) c.args.self.now.layout d.x d.y in
-    same_count g f c.args.area c.loop-cell.demands.items
-    (all_cells g f c.args.area c.loop-cell.demands.items c.as_slice-cell-items.result.now c.loop-cell.cell-index all
-    (c.as_slice-cell-items.ensures.value ∙ c.in_ok-cells.ensures) c.loop-cell.invariant.demands_same)
+    same_count (renumber_demand (circuit_wire c.args.locals.now)) f c.args.area c.rows.lists.demands.items
+    (c.rows.invariant.demands ∙ all_rows f c.args.area (c.rows.y - c.args.area.y) (omega arith))
 
 pub returns-clause-demands : goal.returns-clause-demands
 returns-clause-demands c =
-    let all : c.loop-cell.cell-index ≡ length c.as_slice-cell-items.result.now = omega arith in
-    let g = renumber_demand (circuit_wire c.args.locals.now) in
     let f = λ (d : Cell). end_demand (circuit_of c.args.self.now.circuit) c.args.self.now.layout d.x d.y in
-    found_at g f c.args.area c.loop-cell.demands.items Dead
-    (all_cells g f c.args.area c.loop-cell.demands.items c.as_slice-cell-items.result.now c.loop-cell.cell-index all
-    (c.as_slice-cell-items.ensures.value ∙ c.in_ok-cells.ensures) c.loop-cell.invariant.demands_same)
+    found_at (renumber_demand (circuit_wire c.args.locals.now)) f c.args.area c.rows.lists.demands.items Dead
+    (c.rows.invariant.demands ∙ all_rows f c.args.area (c.rows.y - c.args.area.y) (omega arith))

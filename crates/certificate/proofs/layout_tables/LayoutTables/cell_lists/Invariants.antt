@@ -1,19 +1,22 @@
--- What the cells so far carry and are to be.
-use Rattle.std.proofs.Common.{◌≡◌, map, take}
-use Rattle.std.specs.Prelude.{All}
+-- What the cells of the rows so far carry and must be.
+use Rattle.std.proofs.Common.{◌≡◌, ◌-◌, map}
+use Rattle.std.specs.List.{All, flat_map, range_with_len}
 use Rattle.circuit.specs.Bridge.{circuit_of}
 use Rattle.circuit.specs.Meaning.{wires}
 use Rattle.module_box.specs.Locals.{circuit_wire}
+use Rattle.pattern.specs.Layout.{row_cells}
 use Rattle.certificate.specs.Jobs.{end_demand, start_signal}
 use Rattle.module_job.specs.Signals.{IsBelow, IsDemandBelow, renumber_demand, renumber_signal}
 use Rattle.certificate.proofs.layout_tables.LayoutTables.cell_lists.Given as goal
 
-abbrev pub invariant-loop-cell : goal.invariant-loop-cell
-invariant-loop-cell l = record {
-  starts_same : map (renumber_signal (circuit_wire l.locals)) l.starts.items
-      ≡ map (λ c. start_signal (circuit_of l.self.circuit) l.self.layout c.x c.y) (take l.cell-index l.cell-items);
-  starts_own : All (IsBelow (wires l.locals.netlist)) l.starts.items;
-  demands_same : map (renumber_demand (circuit_wire l.locals)) l.demands.items
-      ≡ map (λ c. end_demand (circuit_of l.self.circuit) l.self.layout c.x c.y) (take l.cell-index l.cell-items);
-  demands_own : All (IsDemandBelow (wires l.locals.netlist)) l.demands.items;
+abbrev pub invariant-rows : goal.invariant-rows
+invariant-rows l = record {
+  starts : map (renumber_signal (circuit_wire l.locals)) l.lists.starts.items
+      ≡ map (λ c. start_signal (circuit_of l.self.circuit) l.self.layout c.x c.y)
+      (flat_map (row_cells l.area.x l.area.w) (range_with_len l.area.y (l.y - l.area.y)));
+  starts_own : All (IsBelow (wires l.locals.netlist)) l.lists.starts.items;
+  demands : map (renumber_demand (circuit_wire l.locals)) l.lists.demands.items
+      ≡ map (λ c. end_demand (circuit_of l.self.circuit) l.self.layout c.x c.y)
+      (flat_map (row_cells l.area.x l.area.w) (range_with_len l.area.y (l.y - l.area.y)));
+  demands_own : All (IsDemandBelow (wires l.locals.netlist)) l.lists.demands.items;
 }

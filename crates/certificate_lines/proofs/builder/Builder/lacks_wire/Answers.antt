@@ -1,4 +1,4 @@
-use Rattle.std.proofs.Common.{◌≡◌, ◌∙◌, ◌+◌, ◌<◌, ◌≤◌, ◌||◌, Bool, List, ℕ, true, false, get_or, drop, length, refl}
+use Rattle.std.proofs.Common.{◌≡◌, ◌∙◌, ◌+◌, ◌<◌, ◌≤◌, ◌||◌, Bool, ℕ, true, false, get_or, drop, length, refl}
 use Rattle.std.proofs.Common.{sym, ap, subst, arith}
 use Rattle.std.specs.Prelude.{nat_lt}
 use Rattle.std.specs.List.{flat_map, list_any}
@@ -7,7 +7,6 @@ use Rattle.pattern.specs.declared.layout_line.LayoutHeader.{LayoutHeader}
 use Rattle.certificate_lines.specs.BuilderView.{BuilderView, lacks_edge}
 use Rattle.certificate_lines.specs.Entries.{ModuleLines, edge_in, edges, modules_of}
 use Rattle.certificate_lines.specs.ModuleParts.{AreInBox, inner}
-use Rattle.certificate_lines.specs.declared.certificate_line.CertificateLine.{CertificateLine}
 use Rattle.certificate_lines.specs.declared.certificate_line.CertificateLine.TheVariants.{Module}
 use Rattle.certificate_lines.proofs.AnyLines.{any_end, any_module, any_other}
 use Rattle.certificate_lines.proofs.LinesLeft.{rest_of_lines}

@@ -1,0 +1,160 @@
+-- Lists of what cells carry and must be, that grow row by row.
+use Rattle.std.proofs.Common.{◌≡◌, ℕ, zero, suc, ◌+◌, ◌-◌, ◌<◌, ◌≤◌, List, [], ◌∷◌, ◌++◌, map, replicate}
+use Rattle.std.proofs.Common.{append-nil, append_assoc, pos, true, refl, sym, ap, ap₂, subst, to_z, w32, ◌∙◌, arith}
+use Rattle.std.specs.List.{All, flat_map, range_with_len}
+use Rattle.std.proofs.lemmas.List.{map-append}
+use Rattle.std.proofs.lemmas.Bool.{and_from}
+use Rattle.std.proofs.lemmas.List.Elements.{All-append, All-push}
+use Rattle.std.proofs.lemmas.Simd.{get_or-replicate, length-replicate}
+use Rattle.bbm_rule.specs.declared.block.Cell.{Cell}
+use Rattle.bbm_rule.proofs.Spans.{span_from}
+use Rattle.circuit.specs.Meaning.{Circuit, wires}
+use Rattle.pattern.specs.Layout.{Pattern}
+use Rattle.module_box.specs.Boxes.{in_box}
+use Rattle.module_box.specs.Locals.{LocalNet, circuit_wire}
+use Rattle.module_box.specs.declared.boxes.Box2.{Box2}
+use Rattle.module_box.specs.declared.schedules.Signal.{Signal}
+use Rattle.module_box.specs.declared.schedules.Signal.TheVariants.{Zero}
+use Rattle.module_job.specs.Signals.{IsBelow, IsDemandBelow, renumber_demand, renumber_signal}
+use Rattle.module_job.specs.declared.job.Demand.{Demand}
+use Rattle.module_job.specs.declared.job.Demand.TheVariants as Demanded
+use Rattle.certificate.specs.Jobs.{end_demand, start_signal}
+use Rattle.certificate.specs.LayoutTablesView.{AddsCells}
+use Rattle.certificate.specs.declared.layout_tables.CellLists.{CellLists}
+use Rattle.pattern.specs.Layout.{cell, row_cells}
+use Rattle.pattern.proofs.CellLists.{cast_cell, flat_map_range_more, row_more}
+
+-- a row in two parts
+row_parts : (x a b y : ℕ) → row_cells x (a + b) y ≡ row_cells x a y ++ row_cells (x + a) b y
+row_parts x zero b y =
+    let e : x + 0 ≡ x = omega arith in
+    let n : 0 + b ≡ b = omega arith in
+    rw (e, n) refl
+row_parts x (suc a) b y =
+    let e : x + suc a ≡ x + 1 + a = omega arith in
+    let n : suc a + b ≡ suc (a + b) = omega arith in
+    rw (e, n) (ap (λ (l : List Cell). cell x y ∷ l) (row_parts (x + 1) a b y))
+
+-- equal values for the cells of a row
+mapped_same : {A B : Type 0} (g : A → B) (f : Cell → B) (v : A) (x n y : ℕ) →
+    ((j : ℕ) → x ≤ j → j < x + n → f (cell j y) ≡ g v) → map g (replicate n v) ≡ map f (row_cells x n y)
+mapped_same g f v x zero y same = refl
+mapped_same g f v x (suc n) y same =
+    ap₂ (λ b bs. b ∷ bs) (sym (same x (omega arith) (omega arith)))
+    (mapped_same g f v (x + 1) n y (λ j low high. same j (omega arith) (omega arith)))
+
+module _ {A B : Type 0} (g : A → B) (f : Cell → B) (first old new : List A) (x k y : ℕ) (from : x ≤ k)
+    (was : map g old ≡ map g first ++ map f (row_cells x (k - x) y)) where
+  grown : (cells : List Cell) (values : List A) → new ≡ old ++ values → map g values ≡ map f cells →
+      map g new ≡ map g first ++ map f (row_cells x (k - x) y ++ cells)
+  grown cells values pushed same =
+      ap (map g) pushed ∙ map-append g old values ∙ ap₂ (λ bs cs. bs ++ cs) was same
+      ∙ append_assoc (map g first) (map f (row_cells x (k - x) y)) (map f cells)
+      ∙ ap (λ (l : List B). map g first ++ l) (sym (map-append f (row_cells x (k - x) y) cells))
+
+  -- the same value for the cells up to the column n
+  pub grow_same : (v : A) (n : ℕ) → k ≤ n → new ≡ old ++ replicate (n - k) v →
+      ((j : ℕ) → k ≤ j → j < n → f (cell j y) ≡ g v) →
+      map g new ≡ map g first ++ map f (row_cells x (n - x) y)
+  grow_same v n le pushed same =
+      let start : x + (k - x) ≡ k = omega arith in
+      let count : k - x + (n - k) ≡ n - x = omega arith in
+      grown (row_cells k (n - k) y) (replicate (n - k) v) pushed
+      (mapped_same g f v k (n - k) y (λ j low high. same j low (omega arith)))
+      ∙ ap (λ (l : List Cell). map g first ++ map f l)
+      (sym (rw (start, count) at (row_parts x (k - x) (n - k) y)))
+
+  -- and a value for one cell
+  pub grow_cell : (a : A) → k < 512 → y < 512 → new ≡ old ++ a ∷ [] →
+      g a ≡ f (record { x = to_z w32 k; y = to_z w32 y }) →
+      map g new ≡ map g first ++ map f (row_cells x (k + 1 - x) y)
+  grow_cell a low row pushed here =
+      let count : k + 1 - x ≡ k - x + 1 = omega arith in
+      grown (cell k y ∷ []) (a ∷ []) pushed (ap (λ (b : B). b ∷ []) (here ∙ ap f (cast_cell k y low row)))
+      ∙ ap (λ (l : List Cell). map g first ++ map f l) (sym (row_more x (k - x) y k (omega arith)))
+      ∙ ap (λ (m : ℕ). map g first ++ map f (row_cells x m y)) (sym count)
+
+-- one row more
+pub grow_row : {A B : Type 0} (g : A → B) (f : Cell → B) (old new : List A) (x w y k : ℕ) → y ≤ k →
+    map g old ≡ map f (flat_map (row_cells x w) (range_with_len y (k - y))) →
+    map g new ≡ map g old ++ map f (row_cells x w k) →
+    map g new ≡ map f (flat_map (row_cells x w) (range_with_len y (k + 1 - y)))
+grow_row g f old new x w y k from was now =
+    let count : k + 1 - y ≡ k - y + 1 = omega arith in
+    now ∙ ap (λ (l : List _). l ++ map f (row_cells x w k)) was
+    ∙ sym (map-append f (flat_map (row_cells x w) (range_with_len y (k - y))) (row_cells x w k))
+    ∙ ap (map f) (sym (flat_map_range_more (row_cells x w) y (k - y) k (omega arith)))
+    ∙ ap (λ (m : ℕ). map f (flat_map (row_cells x w) (range_with_len y m))) (sym count)
+
+-- ---- each element passes a test
+
+pub all_same : {A : Type 0} (P : A → Type 0) (old new : List A) (n : ℕ) (v : A) → new ≡ old ++ replicate n v → P v →
+    All P old → All P new
+all_same P old new n v pushed own all =
+    subst (All P) (sym pushed) (All-append P old (replicate n v) all
+    (λ k d l. subst P (sym (get_or-replicate n k v d (omega (arith, length-replicate n v)))) own))
+
+-- ---- the lists of a row
+
+pub add_none : (c : Circuit) (p : Pattern) (l : LocalNet) (first : CellLists) (x y : ℕ) →
+    AddsCells c p l (row_cells x (x - x) y) first first
+add_none c p l first x y =
+    let n : x - x ≡ 0 = omega arith in
+    rw n (record {
+      starts = sym (append-nil (map (renumber_signal (circuit_wire l)) first.starts.items));
+      starts_own = λ own. own;
+      demands = sym (append-nil (map (renumber_demand (circuit_wire l)) first.demands.items));
+      demands_own = λ own. own;
+    })
+
+module _ (c : Circuit) (p : Pattern) (l : LocalNet) (first old new : CellLists) (x k y : ℕ) (from : x ≤ k)
+    (was : AddsCells c p l (row_cells x (k - x) y) first old) where
+  abbrev starts_at : Cell → Signal
+  starts_at d = start_signal c p d.x d.y
+
+  abbrev demands_at : Cell → Demand
+  demands_at d = end_demand c p d.x d.y
+
+  pub add_dead : (n : ℕ) → k ≤ n → new.starts.items ≡ old.starts.items ++ replicate (n - k) Zero →
+      new.demands.items ≡ old.demands.items ++ replicate (n - k) Demanded.Dead →
+      ((j : ℕ) → k ≤ j → j < n → start_signal c p (pos j) (pos y) ≡ Zero) →
+      ((j : ℕ) → k ≤ j → j < n → end_demand c p (pos j) (pos y) ≡ Demanded.Dead) →
+      AddsCells c p l (row_cells x (n - x) y) first new
+  add_dead n le starts demands no_start no_demand = record {
+    starts = grow_same (renumber_signal (circuit_wire l)) starts_at first.starts.items old.starts.items new.starts.items
+        x k y from was.starts Zero n le starts no_start;
+    starts_own = λ own. all_same (IsBelow (wires l.netlist)) old.starts.items new.starts.items (n - k) Zero starts tt
+        (was.starts_own own);
+    demands = grow_same (renumber_demand (circuit_wire l)) demands_at first.demands.items old.demands.items
+        new.demands.items x k y from was.demands Demanded.Dead n le demands no_demand;
+    demands_own = λ own. all_same (IsDemandBelow (wires l.netlist)) old.demands.items new.demands.items (n - k)
+        Demanded.Dead demands tt (was.demands_own own);
+  }
+
+  pub add_cell : (start : Signal) (demand : Demand) → k < 512 → y < 512 →
+      new.starts.items ≡ old.starts.items ++ start ∷ [] → new.demands.items ≡ old.demands.items ++ demand ∷ [] →
+      renumber_signal (circuit_wire l) start ≡ start_signal c p (to_z w32 k) (to_z w32 y) →
+      IsBelow (wires l.netlist) start →
+      renumber_demand (circuit_wire l) demand ≡ end_demand c p (to_z w32 k) (to_z w32 y) →
+      IsDemandBelow (wires l.netlist) demand → AddsCells c p l (row_cells x (k + 1 - x) y) first new
+  add_cell start demand low row starts demands own_start start_below own_demand demand_below = record {
+    starts = grow_cell (renumber_signal (circuit_wire l)) starts_at first.starts.items old.starts.items new.starts.items
+        x k y from was.starts start low row starts own_start;
+    starts_own = λ own. subst (All (IsBelow (wires l.netlist))) (sym starts)
+        (All-push (IsBelow (wires l.netlist)) old.starts.items start (was.starts_own own) start_below);
+    demands = grow_cell (renumber_demand (circuit_wire l)) demands_at first.demands.items old.demands.items
+        new.demands.items x k y from was.demands demand low row demands own_demand;
+    demands_own = λ own. subst (All (IsDemandBelow (wires l.netlist))) (sym demands)
+        (All-push (IsDemandBelow (wires l.netlist)) old.demands.items demand (was.demands_own own) demand_below);
+  }
+
+-- a cell of a box, whose numbers were cast
+cell_inside : (b : Box2) (x y : ℕ) → b.x ≤ x → x < b.x + b.w → b.y ≤ y → y < b.y + b.h → in_box b (pos x) (pos y) ≡ true
+unfolding in_box
+cell_inside b x y left right top bottom =
+    and_from _ _ (span_from b.x b.w x left right) (span_from b.y b.h y top bottom)
+
+pub cast_inside : (b : Box2) (x y : ℕ) → x < 512 → y < 512 → b.x ≤ x → x < b.x + b.w → b.y ≤ y → y < b.y + b.h →
+    in_box b (to_z w32 x) (to_z w32 y) ≡ true
+cast_inside b x y low row left right top bottom =
+    ap (λ (d : Cell). in_box b d.x d.y) (cast_cell x y low row) ∙ cell_inside b x y left right top bottom

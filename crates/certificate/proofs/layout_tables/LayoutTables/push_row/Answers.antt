@@ -1,0 +1,66 @@
+use Rattle.std.proofs.Common.{◌≡◌, ◌-◌, ℕ, arith, subst}
+use Rattle.circuit.specs.Bridge.{circuit_of}
+use Rattle.pattern.specs.Layout.{row_cells}
+use Rattle.certificate.specs.LayoutTablesView.{AddsCells}
+use Rattle.certificate.proofs.CellRows.{add_cell, add_dead, add_none, cast_inside}
+use Rattle.certificate.proofs.layout_tables.LayoutTables.push_row.Goals as goal
+
+pub returns-then-next-end : goal.returns-then-next-end
+returns-then-next-end c =
+    let circuit = circuit_of c.args.self.now.circuit in
+    let all : c.next_named-next.result - c.args.area.x ≡ c.args.area.w = omega (arith, c.if-next-end.true) in
+    subst (λ (n : ℕ). AddsCells circuit c.args.self.now.layout c.args.locals.now (row_cells c.args.area.x n c.args.y)
+    c.args.lists.now c.push_dead.new.self) all
+    (add_dead circuit c.args.self.now.layout c.args.locals.now c.args.lists.now c.cells.lists c.push_dead.new.self
+    c.args.area.x c.cells.x c.args.y c.cells.invariant.from c.cells.invariant.added c.next_named-next.result
+    c.next_named-next.ensures.range.0 c.in_ok-push_dead.ensures.starts c.in_ok-push_dead.ensures.demands
+    c.next_named-next.ensures.starts c.next_named-next.ensures.demands)
+
+pub cells-init : goal.cells-init
+cells-init c = record {
+  from = omega arith;
+  most = omega arith;
+  added = add_none (circuit_of c.args.self.now.circuit) c.args.self.now.layout c.args.locals.now c.args.lists.now
+      c.args.area.x c.args.y;
+}
+
+pub cell_at-start-requires-clause-ins : goal.cell_at-start-requires-clause-ins
+cell_at-start-requires-clause-ins c =
+    c.requires.ins _ _ (cast_inside c.args.area c.next_named-next.result c.args.y
+    (omega (arith, c.next_named-next.ensures.range, c.requires.columns, c.if-next-end.false)) c.requires.row.2
+    (omega (arith, c.cells.invariant.from, c.next_named-next.ensures.range))
+    (omega (arith, c.next_named-next.ensures.range, c.if-next-end.false)) c.requires.row.0 c.requires.row.1)
+
+pub cell_at-start-requires-clause-outs : goal.cell_at-start-requires-clause-outs
+cell_at-start-requires-clause-outs c =
+    c.requires.outs _ _ (cast_inside c.args.area c.next_named-next.result c.args.y
+    (omega (arith, c.next_named-next.ensures.range, c.requires.columns, c.if-next-end.false)) c.requires.row.2
+    (omega (arith, c.cells.invariant.from, c.next_named-next.ensures.range))
+    (omega (arith, c.next_named-next.ensures.range, c.if-next-end.false)) c.requires.row.0 c.requires.row.1)
+
+pub cells-preserved : goal.cells-preserved
+cells-preserved c =
+    let circuit = circuit_of c.args.self.now.circuit in
+    let next = c.next_named-next.result in
+    let dead = add_dead circuit c.args.self.now.layout c.args.locals.now c.args.lists.now c.cells.lists
+    c.push_dead.new.self c.args.area.x c.cells.x c.args.y c.cells.invariant.from c.cells.invariant.added next
+    c.next_named-next.ensures.range.0 c.in_ok-push_dead.ensures.starts c.in_ok-push_dead.ensures.demands
+    c.next_named-next.ensures.starts c.next_named-next.ensures.demands in
+    let both = c.cell_at-start.ensures in
+    record {
+      from = omega (arith, c.cells.invariant.from, c.next_named-next.ensures.range);
+      most = omega (arith, c.next_named-next.ensures.range, c.if-next-end.false);
+      added = add_cell circuit c.args.self.now.layout c.args.locals.now c.args.lists.now c.push_dead.new.self
+          c.push.new.self c.args.area.x next c.args.y
+          (omega (arith, c.cells.invariant.from, c.next_named-next.ensures.range)) dead _ _
+          (omega (arith, c.next_named-next.ensures.range, c.requires.columns, c.if-next-end.false))
+          c.requires.row.2 c.in_ok-push.ensures.starts c.in_ok-push.ensures.demands both.start both.start_below
+          both.demand both.demand_below;
+    }
+
+pub returns : goal.returns
+returns c =
+    let all : c.cells.x - c.args.area.x ≡ c.args.area.w =
+    omega (arith, c.cells.invariant.most, c.cells-test.false) in
+    subst (λ (n : ℕ). AddsCells (circuit_of c.args.self.now.circuit) c.args.self.now.layout c.args.locals.now
+    (row_cells c.args.area.x n c.args.y) c.args.lists.now c.cells.lists) all c.cells.invariant.added

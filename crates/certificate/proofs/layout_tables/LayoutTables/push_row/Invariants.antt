@@ -1,0 +1,17 @@
+-- The cells of the row so far are in the lists.
+use Rattle.std.proofs.Common.{◌≤◌, ◌-◌}
+use Rattle.circuit.specs.Bridge.{circuit_of}
+use Rattle.pattern.specs.Layout.{row_cells}
+use Rattle.certificate.specs.LayoutTablesView.{AddsCells}
+use Rattle.certificate.proofs.layout_tables.LayoutTables.push_row.Given as goal
+
+abbrev pub invariant-cells : goal.invariant-cells
+invariant-cells l = record {
+  from : l.fn.area.x ≤ l.x;
+  most : l.x ≤ l.end;
+  added : AddsCells (circuit_of l.self.circuit) l.self.layout l.locals (row_cells l.fn.area.x (l.x - l.fn.area.x) l.y)
+      l.fn.lists l.lists;
+}
+
+abbrev pub decreases-cells : goal.decreases-cells
+decreases-cells l = l.end - l.x

@@ -1,0 +1,39 @@
+use Rattle.std.proofs.Common.{◌≡◌, ◌∙◌, None, Some, length, subst, sym}
+use Rattle.certificate_lines.specs.Entries.{modules_of, areas, last_module}
+use Rattle.certificate_lines.specs.Rules.{box_fault, module_fault}
+use Rattle.certificate_lines.specs.BuilderView.{BuilderView}
+use Rattle.certificate_lines.proofs.BuiltLemmas.{early_fault, live_overlaps, no_fault, overlap_fault}
+use Rattle.certificate_lines.proofs.builder.Builder.module_code.Goals as goal
+
+pub returns-in-Some-clause-code : goal.returns-in-Some-clause-code
+returns-in-Some-clause-code c =
+    sym (early_fault c.args.self.now.setting (modules_of c.args.self.now.entries)
+    (last_module c.args.self.now.entries) c.args.area c.in-Some.code (sym c.box_code.ensures.code ∙ c.in-Some.is))
+
+pub returns-then-is_any_live_in-clause-code : goal.returns-then-is_any_live_in-clause-code
+returns-then-is_any_live_in-clause-code c =
+    let es = c.self.inside.entries.items in
+    let good = subst (λ (s : BuilderView).
+    box_fault s.setting (length (modules_of s.entries)) (last_module s.entries) c.args.area ≡ None) (sym c.self.view_is)
+    (sym c.box_code.ensures.code ∙ c.in_default.is) in
+    let same = live_overlaps (areas (modules_of es)) c.args.area c.self.inside.covered
+    c.self.invariant.kept.built.cells in
+    subst (λ (s : BuilderView). Some 8
+    ≡ module_fault s.setting (modules_of s.entries) (last_module s.entries) c.args.area)
+    c.self.view_is
+    (sym (overlap_fault c.self.inside.tables (modules_of es) (last_module es) c.args.area good
+    (sym same ∙ sym c.is_any_live_in.ensures ∙ c.if-is_any_live_in.true)))
+
+pub returns-clause-code : goal.returns-clause-code
+returns-clause-code c =
+    let es = c.self.inside.entries.items in
+    let good = subst (λ (s : BuilderView).
+    box_fault s.setting (length (modules_of s.entries)) (last_module s.entries) c.args.area ≡ None) (sym c.self.view_is)
+    (sym c.box_code.ensures.code ∙ c.in_default.is) in
+    let same = live_overlaps (areas (modules_of es)) c.args.area c.self.inside.covered
+    c.self.invariant.kept.built.cells in
+    subst (λ (s : BuilderView). None
+    ≡ module_fault s.setting (modules_of s.entries) (last_module s.entries) c.args.area)
+    c.self.view_is
+    (sym (no_fault c.self.inside.tables (modules_of es) (last_module es) c.args.area good
+    (sym same ∙ sym c.is_any_live_in.ensures ∙ c.if-is_any_live_in.false)))
