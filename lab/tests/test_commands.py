@@ -89,6 +89,13 @@ class Others(unittest.TestCase):
         self.assertIn("lab's reading", ended.stdout)
         self.assertEqual(support.lab("explain", support.example("gate_and_mirror"), "--program", "/no/such/program").returncode, 4)
 
+    def test_trace_of_a_module_lists_its_own_mirror_cells(self) -> None:
+        """A mirror that goes on in the next module has no dead cells there: `trace` looks at the cells of the box alone."""
+        for module in ("0", "1"):
+            ended = support.lab("trace", "--module", module, "--assignment", "1", support.example("gate_and_mirror"), "--program", support.program())
+            self.assertEqual(ended.returncode, 0)
+            self.assertNotIn("dead mirror", ended.stdout)
+
     def test_trace_is_compared(self) -> None:
         """`trace` compares its last state with the program, and says where a program says otherwise."""
         ended = support.lab("trace", support.example("head_on"), "--program", support.program())
