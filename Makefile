@@ -1,5 +1,7 @@
-# Installs, checks and packs the program. No target needs the Rattle kit while the sources are those of the release.
+# Installs, checks and packs the program. While the sources are those of the release, only `prove` and `release` need the Rattle kit.
 #
+#   make              prints the path of the program that would run
+#   make help         prints these lines
 #   make install [PREFIX=/usr/local] [DESTDIR=..]    the program and the lab, man pages, completions and pages
 #   make uninstall [PREFIX=..] [DESTDIR=..]          removes them
 #   make check        the worked cases and the commands that the pages show (needs Python 3)
@@ -16,10 +18,13 @@ DESTDIR ?=
 top := $(shell dirname -- '$(strip $(MAKEFILE_LIST))')
 room = $(DESTDIR)$(PREFIX)
 
-.PHONY: all install uninstall check dist deb prove release mostlyclean clean
+.PHONY: all help install uninstall check dist deb prove release mostlyclean clean
 
 all:
 	'$(top)/bbmcheck' --wrapper-program
+
+help:
+	@sed -n 's/^#   //p' '$(top)/Makefile'
 
 install:
 	'$(top)/tools/install_files' install '$(room)'

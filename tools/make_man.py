@@ -19,6 +19,8 @@ ZSH = TOP / "share" / "zsh" / "site-functions" / "_bbmcheck"
 FISH = TOP / "share" / "fish" / "vendor_completions.d" / "bbmcheck.fish"
 MANIFEST = TOP / "release" / "x86_64-linux-gnu" / "MANIFEST"
 NOTE = "tools/make_man.py writes this file from what the program prints with --help and --version, and from docs/FORMATS.md."
+# What `apropos` finds. The first line of --help names neither circuits nor layouts.
+PURPOSE = "checks that a layout of the billiard ball automaton computes a circuit"
 # What an installed program has beside it.
 PAGES = [("FORMATS.md", "the texts, the refusals and the statuses"), ("CERTIFICATES.md", "how to write a certificate"),
          ("OPERATING.md", "how to run it as a service: limits, statuses, a sandbox"), ("examples/", "texts to try")]
@@ -37,14 +39,14 @@ class Help(NamedTuple):
 
 # The lines of a report, and what each says.
 REPORT_LINES = [
-    ("local M edge T X Y A", "in the run of the module by itself this cell of its ring is not as its edge line says, or dead without one"),
+    ("local M edge T X Y A", "in the module's own run this cell of its ring differs from its edge line, or is live and has none"),
     ("local M stop T X Y A", "the cell of a stop line is not as its wire at this time"),
     ("local M end T X Y A", "at the last time the cell is not what the layout asks of it"),
     ("keep M G A", "an inverse gate that the module keeps has no row under this assignment"),
     ("border M T X Y", "the module and its neighbour say different things of this cell"),
     ("unkept G", "no module keeps this inverse gate"),
-    ("delay G N M", "the stops of the delay of N steps are M steps apart; a fault unless M is N"),
-    ("meet G T", "the inputs of the gate have their last stops at the time T; a fault if it says `differ`"),
+    ("delay G N M", "the stops of the delay of N steps are M steps apart; a fault unless M is N; also after a yes"),
+    ("meet G T", "the inputs of the gate have their last stops at the time T; a fault if T is `differ`; also after a yes"),
 ]
 
 
@@ -85,13 +87,15 @@ def reads_and_writes(page):
     yield from (f"Reads {roff(page.reads)}.", ".br", f"Writes {roff(page.writes)}.")
 
 
-def command_part(name, page):
-    """What the page says of a command."""
+def command_part(name, page, top):
+    """What the page says of a command. A status that means the same for every command is in the list below alone."""
+    own = [status for status in page.statuses if status not in top.statuses]
     yield from (f".SS {name}", f".B {roff(page.usage)}", ".PP", f"{roff(page.about)}.", ".br")
     yield from reads_and_writes(page)
     yield from tagged(page.options)
-    yield from (".PP", "Exit statuses:")
-    yield from tagged(page.statuses)
+    if own:
+        yield from (".PP", "Exit statuses (the others are under EXIT STATUS):")
+        yield from tagged(own)
     yield from (".PP", "Example:", ".PP", ".RS", f".B {roff(page.example)}", ".RE")
 
 
@@ -109,27 +113,30 @@ def refusal_codes():
 def man_page(version, top, pages):
     first, *facts = version.splitlines()
     yield from (f".\\\" {NOTE}", f'.TH BBMCHECK 1 "{release_date()}" "{roff(first)}" "User Commands"')
-    yield from (".SH NAME", f"bbmcheck \\- {roff(top.about[0].lower() + top.about[1:])}")
+    yield from (".SH NAME", f"bbmcheck \\- {roff(PURPOSE)}")
     yield from (".SH SYNOPSIS", f".B {roff(top.usage)}", ".SH DESCRIPTION")
     yield from reads_and_writes(top)
+    yield from (".PP", "If standard input is a terminal, the program says on standard error that it awaits the text there.")
     yield ".SH OPTIONS"
     yield from tagged(top.options)
     yield ".SH COMMANDS"
     for name, about in top.commands:
-        yield from command_part(name, pages[name]) if name in pages else (f".SS {name}", f"{roff(about)}.")
+        yield from command_part(name, pages[name], top) if name in pages else (f".SS {name}", f"{roff(about)}.")
     yield ".SH EXIT STATUS"
     yield from tagged(top.statuses)
     yield from (".SH REFUSALS", roff("`refused LINE CODE` names the first line with a failing test, counted from 1, and its first failing test:"))
     yield from tagged(refusal_codes())
-    yield from (".SH REPORTS", roff("After `verdict no` the report of `check` has lines for the reasons. M is a module, T a time, X Y a cell,"),
+    yield from (".SH REPORTS", roff("The report of `check` has lines for the reasons of a no, and lines about stops. M is a module, T a time, X Y a cell,"),
                 roff("G a gate, and A an assignment: bit i of A is the value of the module's cut i."))
     yield from tagged(REPORT_LINES)
     yield from (".SH EXAMPLE", f".B {roff(top.example)}", ".SH VERSION", roff(first))
     for fact in facts:
         yield from (".br", roff(fact))
-    yield from (".SH SEE ALSO", "In the folder share/doc/bbmcheck beside the program's folder:")
+    yield from (".SH SEE ALSO", roff("bbmlab(1) explains a report and draws layouts, if the lab is installed."), ".PP",
+                "In /usr/share/doc/bbmcheck, or share/doc/bbmcheck below the prefix of the installation:")
     yield from tagged((f"{name}", f"{about}") for name, about in PAGES)
-    yield from (".SH LICENSE", "MIT: the file LICENSE there. THIRD\\-PARTY.md has the licences of the crates in the program.")
+    yield from (".SH LICENSE", "MIT: the file LICENSE there, or copyright in a package for Debian.",
+                "THIRD\\-PARTY.md has the licences of the crates in the program.")
 
 
 def flags(page):

@@ -4,8 +4,9 @@ and how many of these are definitions that the statement reaches. A file comes a
 
 usage: tools/reading_list.py [--definitions] [--check PAGE] [FILE]
 
-FILE is headline/specs/Headline.antt if it is left out. --definitions names the definitions that are reached. --check compares the table of a
-page: each of its rows that begins with the path of a file must have that file's count.
+FILE is headline/specs/Headline.antt if it is left out. --definitions names the definitions that are reached, and the definitions of the kit's
+library that these name. --check compares a page: each row of its table that begins with the path of a file must have that file's count, and so
+must each "N files" behind the name of this command with a FILE. It also looks for definitions of specs/ that this script does not find.
 """
 import re
 import sys
@@ -13,7 +14,11 @@ from pathlib import Path
 
 CRATES = Path(__file__).resolve().parent.parent / "crates"
 STATEMENT = "headline/specs/Headline.antt"
-HEAD = re.compile(r"^(?:(?:abbrev|unfoldable|pub|infixl|infixr|record|data)\s+)*(\S+)\s*(?:\{[^}]*\}|\([^)]*\)|\s)*:(?:\s|$)")
+HEAD = re.compile(r"^(?:(?:abbrev|unfoldable|pub|infixl|infixr)\s+)*(\S+)\s*(?:\{[^}]*\}|\([^)]*\)|\s)*:(?:\s|$)")
+# A record has its name before its parameters, which may take more lines and may have parentheses in parentheses.
+RECORD = re.compile(r"^(?:(?:abbrev|unfoldable|pub)\s+)*(?:record|data)\s+(\S+)")
+DECLARED = re.compile(r"^(?:abbrev|unfoldable|record|data|pub (?!use\b|mod\b))")
+VISIBLE = r"(?:pub(?:\(\w+\))? )?"
 WORD = re.compile(r"[^\s(){}\[\],;.λ∀]+")
 
 
@@ -22,6 +27,7 @@ class File:
         self.path = path
         self.lines = (CRATES / path).read_text().splitlines()
         self.uses = {}  # a name here: the path and the name there, or the path and None for a whole file
+        self.library = set()  # names here that come from the kit
         self.blocks = {}  # a definition: its lines
         self.owner = {}  # a name, also of a constructor: the definition
         self.read()
@@ -46,7 +52,7 @@ class File:
                 continue
             if re.match(r"infix|pub mod|mod |unfolding", line):
                 continue
-            head = HEAD.match(line)
+            head = RECORD.match(line) or HEAD.match(line)
             name = head.group(1) if head else None
             if name and name not in self.blocks and not (current and "=" in line.split(" : ")[0]):
                 current = name
@@ -58,6 +64,7 @@ class File:
 
     def bring_in(self, crate, folder, path, names, alias):
         if not (CRATES / crate).is_dir():
+            self.library.update(name.split(" as ")[-1] for name in re.split(r",\s*", names or ""))
             return
         parts = path.split(".")
         if parts[0] == "declared":
@@ -84,7 +91,7 @@ def declared(crate, parts):
         if (CRATES / path).is_file():
             return path
     for file in sorted((CRATES / crate / "src").rglob("*.rt")):
-        if re.search(rf"^pub (struct|enum) {parts[-1]}\b", file.read_text(), re.M):
+        if re.search(rf"^{VISIBLE}(struct|enum) {parts[-1]}\b", file.read_text(), re.M):
             return str(file.relative_to(CRATES))
     return f"{crate}/src/lib.rt"
 
@@ -93,7 +100,7 @@ def type_lines(path, name):
     """The declaration of a type of the code, with its comment."""
     lines = (CRATES / path).read_text().splitlines()
     for i, line in enumerate(lines):
-        if re.match(rf"pub (struct|enum) {name}\b", line):
+        if re.match(rf"{VISIBLE}(struct|enum) {name}\b", line):
             first = i
             while first > 0 and re.match(r"///|#\[", lines[first - 1]):
                 first -= 1
@@ -106,7 +113,7 @@ def type_lines(path, name):
 
 class Closure:
     def __init__(self, start):
-        self.files, self.reached, self.seen, self.imported = {}, {}, set(), []
+        self.files, self.reached, self.seen, self.imported, self.library = {}, {}, set(), [], set()
         self.bring(start)
         for name in list(self.files[start].blocks):
             self.reach(start, name)
@@ -136,6 +143,8 @@ class Closure:
             words.add(">>=")
         for word in words:
             for here in (word, f"◌{word}◌"):
+                if here in file.library:
+                    self.library.add(here)
                 if here in file.owner:
                     self.reach(path, here)
                 elif here in file.uses:
@@ -145,6 +154,29 @@ class Closure:
                             self.reach(target, used)
                     else:
                         self.reach(target, there)
+
+
+def lost_definitions():
+    """Yields what this script does not find in the files of specs/: a declaration that begins no definition, and a name that a file brings in."""
+    files = {}
+    for path in sorted(CRATES.glob("*/specs/**/*.antt")):
+        path = str(path.relative_to(CRATES))
+        file = files.setdefault(path, File(path))
+        first_lines = {next(l for l in block if not l.startswith("--")) for block in file.blocks.values()}
+        yield from (f"{path}: {line}" for line in file.lines if DECLARED.match(line) and line not in first_lines)
+        for target, name in file.uses.values():
+            if name and target.endswith(".antt"):
+                other = files.setdefault(target, File(target))
+                if name not in other.owner and name not in other.uses:
+                    yield f"{path}: {name} of {target}"
+
+
+def wrong_numbers(text):
+    """Yields the sentences of a page whose number of files is not that of the list."""
+    for start, said in re.findall(r"`tools/reading_list\.py (\S+\.antt)`[^.;|]*?(\d+)\s+files", text):
+        count = sum(map(bool, Closure(start).reached.values()))
+        if count != int(said):
+            yield f"{start}: {count} files, and the page says {said}"
 
 
 def main(words):
@@ -166,6 +198,9 @@ def main(words):
             if not row or int(row.group(1)) != count:
                 wrong += 1
                 print(f"{path}: {count} lines are reached, and the table says {row.group(1) if row else 'nothing'}")
+        for finding in (*wrong_numbers(text), *(f"not found: {lost}" for lost in lost_definitions())):
+            wrong += 1
+            print(finding)
         return 1 if wrong else 0
     print("| file | lines that are reached | of |")
     print("|---|---|---|")
@@ -174,6 +209,8 @@ def main(words):
         if names:
             print(f"|   {', '.join(reached)} | | |")
     print(f"| {len(needed)} files | {sum(r[2] for r in needed)} | {sum(r[1] for r in needed)} |")
+    if names:
+        print(f"\nNames of the kit's library: {', '.join(sorted(closure.library))}")
     specs = [r for r in rows if r[0].endswith(".antt")]
     print(f"\n{len(specs)} files of specs/ and proofs/ are brought in, {sum(r[1] for r in specs)} lines.")
     return 0

@@ -99,9 +99,11 @@ def as_json(trace: Trace, mirrors: set[Cell]) -> str:
 def as_text(trace: Trace, mirrors: set[Cell], pictures: bool) -> str:
     """Writes a trace: a line for each time with the live cells that are no mirror's, or pictures."""
     lines = [f"# {trace.title}"]
+    left, top, width, height = trace.box
+    inside = {(x, y) for x, y in mirrors if left <= x < left + width and top <= y < top + height}
     for index, state in enumerate(trace.states):
         balls = state - mirrors
-        gone = mirrors - state if trace.box[0] == trace.box[1] == 0 else set()
+        gone = inside - state
         shown = " ".join(f"{x},{y}" for x, y in sorted(balls, key=row_order)) or "none"
         missing = f"; dead mirror cells: {' '.join(f'{x},{y}' for x, y in sorted(gone, key=row_order))}" if gone else ""
         lines.append(f"{trace.first + index:>5}: {shown}{missing}")

@@ -2,6 +2,7 @@
 
 import json
 import os
+import re
 import stat
 import tempfile
 import unittest
@@ -17,6 +18,27 @@ def fake_program(room: str, body: str) -> str:
     path.write_text("#!/bin/sh\n" + body)
     path.chmod(path.stat().st_mode | stat.S_IXUSR)
     return str(path)
+
+
+class Documents(unittest.TestCase):
+    """The lists of docs/LAB.md of what a JSON document has."""
+
+    def members(self, kind: str) -> set[str]:
+        """Returns the members that the page lists for a kind of document."""
+        part = (support.TOP / "docs" / "LAB.md").read_text().split(f"### `{kind}`\n")[1].split("\n##")[0]
+        return {name for line in part.splitlines() if line.startswith("- ") for name in re.findall(r"`(\w+)`", line.split(":")[0])}
+
+    def test_lists_are_whole(self) -> None:
+        """Each document has the members that the page lists, besides `format`. A bundle has no assign section."""
+        file, program = support.example("wrong_edge"), support.program()
+        with tempfile.TemporaryDirectory() as room:
+            report = Path(room) / "report"
+            report.write_text("bbmcheck 1\ncertificate " + "0" * 64 + "\nmodules 1\nverdict no\nlocal 0 edge 1 0 0 0\n")
+            for words, without in [(("json", "--report", str(report), file), {"assign"}), (("explain", "--json", file), set()),
+                                   (("check", "--format", "json", file), set()), (("trace", "--json", file), set())]:
+                more = () if words[0] == "json" else ("--program", program)
+                document = json.loads(support.lab(*words, *more).stdout)
+                self.assertEqual(set(document) - {"format"}, self.members(document["format"]) - without, words[0])
 
 
 class Check(unittest.TestCase):
@@ -88,6 +110,13 @@ class Others(unittest.TestCase):
         ended = support.lab("explain", support.example("not_known"), "--program", "/no/such/program")
         self.assertIn("lab's reading", ended.stdout)
         self.assertEqual(support.lab("explain", support.example("gate_and_mirror"), "--program", "/no/such/program").returncode, 4)
+
+    def test_trace_of_a_module_lists_its_own_mirror_cells(self) -> None:
+        """A mirror that goes on in the next module has no dead cells there: `trace` looks at the cells of the box alone."""
+        for module in ("0", "1"):
+            ended = support.lab("trace", "--module", module, "--assignment", "1", support.example("gate_and_mirror"), "--program", support.program())
+            self.assertEqual(ended.returncode, 0)
+            self.assertNotIn("dead mirror", ended.stdout)
 
     def test_trace_is_compared(self) -> None:
         """`trace` compares its last state with the program, and says where a program says otherwise."""
