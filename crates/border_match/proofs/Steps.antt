@@ -3,7 +3,6 @@ use Rattle.std.proofs.Common.{◌≡◌, ℕ, suc, ◌+◌, ◌-◌, ◌<◌, �
 use Rattle.std.proofs.Common.{false, Some, None, Less, Equal, Greater, refl, sym, ap, ap₂, subst, ◌∙◌, inl, inr, ◌⊎◌}
 use Rattle.std.proofs.Common.{arith}
 use Rattle.std.specs.Prelude.{ℤ, pos, ◌≢◌, slice_get, unwrap_or}
-use Rattle.std.specs.Arc.{arc_value}
 use Rattle.std.specs.Ordering.{nat_cmp}
 use Rattle.std.proofs.lemmas.List.{take_all, take_more}
 use Rattle.std.proofs.lemmas.Option.{slice_get_within}
@@ -11,7 +10,7 @@ use Rattle.std.proofs.lemmas.Bool.{cond-false, false≢true, cases_Bool}
 use Rattle.std.proofs.lemmas.Bool.Decides.{nat_tests}
 use Rattle.std.proofs.lemmas.Cmp.{tied_itself}
 use Rattle.bbm_rule.specs.declared.block.Cell.{Cell}
-use Rattle.module_box.specs.Boxes.{in_box, is_near}
+use Rattle.module_box.specs.Boxes.{in_halo}
 use Rattle.module_box.specs.Locals.{circuit_wire, is_among}
 use Rattle.module_box.specs.Schedules.{Signals, all_times_at, event_at, signal_at, is_then}
 use Rattle.module_box.specs.Tiling.{owner_of}
@@ -19,14 +18,13 @@ use Rattle.module_box.specs.declared.schedules.Event.{Event}
 use Rattle.module_box.specs.declared.schedules.Moment.{Moment}
 use Rattle.module_box.specs.declared.schedules.Signal.TheVariants.{Zero}
 use Rattle.module_box.proofs.BoxCells.{same_some}
-use Rattle.module_box.proofs.NearBoxes.{near_boxes}
 use Rattle.module_box.proofs.Rising.{then_moment}
 use Rattle.module_job.specs.Jobs.{JobView}
 use Rattle.module_job.specs.Signals.{renumber_signal}
 use Rattle.border_match.specs.BorderFaults.{border_cmp}
 use Rattle.border_match.specs.Boards.{AreOwnersNoted, jobs_of, IsReady, Faults, IsNamed, IsNamedBelow, IsEdgeNamed}
 use Rattle.border_match.specs.Boards.{IsEdgeNamedAmong, IsEdgeNamedAt, DiffersAlways, DiffersAlwaysAt}
-use Rattle.border_match.specs.Boards.{DiffersAlwaysInRow, DiffersAlwaysBefore, DiffersAlwaysAbove}
+use Rattle.border_match.specs.Boards.{DiffersAlwaysInRow, DiffersAlwaysBefore, DiffersAlwaysAbove, HasNoHaloBetween}
 use Rattle.border_match.specs.declared.borders.Borders.{Borders}
 use Rattle.border_match.specs.declared.fault.BorderFault.{BorderFault}
 use Rattle.border_match.proofs.FaultOrder.{border_total}
@@ -39,6 +37,9 @@ lower_or_same i m h = grind arith
 same_fault : (time : ℕ) (cell : Cell) (f : BorderFault) → f.time ≡ time → f.cell ≡ cell →
     f ≡ record { time = time; cell = cell }
 same_fault time cell f p q = let mk : ℕ → Cell → BorderFault = λ t c. record { time = t; cell = c } in ap₂ mk p q
+
+before_at_after : (i m : ℕ) → (i < m) ⊎ ((i ≡ m) ⊎ (m < i))
+before_at_after i m = grind arith
 
 -- ---- events
 
@@ -195,13 +196,18 @@ no_column b y x f e g h =
     pos_same : (i k : ℕ) → pos i ≡ pos k → i ≡ k
     pos_same i k e = cc
 
-pub column_step : (b : Borders) (y x : ℕ) (c : Cell) (f : BorderFault) → c.x ≡ pos x → c.y ≡ pos y →
-    DiffersAlwaysBefore b y (x + 1) f → DiffersAlwaysBefore b y x f ⊎ DiffersAlwaysAt b c f
-column_step b y x c f ex ey h =
+pub column_step : (b : Borders) (y x z : ℕ) (c : Cell) (f : BorderFault) → c.x ≡ pos x → c.y ≡ pos y →
+    HasNoHaloBetween b y x z → Faults b f → DiffersAlwaysBefore b y z f →
+    DiffersAlwaysBefore b y x f ⊎ DiffersAlwaysAt b c f
+column_step b y x z c f ex ey none g h =
     let mk : ℤ → ℤ → Cell = λ x y. record { x = x; y = y } in
-    elim (lower_or_same h.at x h.before) [
+    elim (before_at_after h.at x) [
       | inl lt ↦ inl (record { differs = h.differs; at = h.at; column = h.column; before = lt })
-      | inr same ↦ inr (h.differs.0, ap₂ mk (h.column ∙ ap pos same ∙ sym ex) (h.differs.1 ∙ sym ey))
+      | inr from ↦ elim from [
+        | inl same ↦ inr (h.differs.0, ap₂ mk (h.column ∙ ap pos same ∙ sym ex) (h.differs.1 ∙ sym ey))
+        | inr gt ↦ absurd (false≢true (sym (none h.at gt h.before)
+            ∙ sym (ap₂ (in_halo b.job.now.area) h.column h.differs.1) ∙ g.halo))
+      ]
     ]
 
 pub all_columns : (b : Borders) (y x : ℕ) (f : BorderFault) → b.job.now.area.x + b.job.now.area.w + 1 ≤ x → Faults b f →

@@ -1,6 +1,6 @@
 -- Border faults by the jobs of the modules, and the parts of a search for them
-use Rattle.std.specs.Prelude.{◌≡◌, ◌≢◌, ℕ, ℤ, pos, ◌<◌, ◌%◌, ◌&&◌, true, List, length, map, Some, None, slice_get}
-use Rattle.std.specs.Prelude.{IsTrue}
+use Rattle.std.specs.Prelude.{◌≡◌, ◌≢◌, ℕ, ℤ, pos, ◌<◌, ◌%◌, ◌&&◌, true, false, List, [], length, map}
+use Rattle.std.specs.Prelude.{Some, None, slice_get, IsTrue}
 use Rattle.std.specs.List.{All}
 use Rattle.std.specs.Arc.{arc_value}
 use Rattle.bbm_rule.specs.declared.block.Cell.{Cell}
@@ -69,6 +69,20 @@ Faults b f = IsJobFault b.whole b.owners.now (jobs_of b) b.job.now f
 -- the job that is searched and the module that has the cell say different things of it at the time
 abbrev pub Differ : Borders → ℕ → ℤ → ℤ → Type 0
 Differ b t x y = AreDifferent b.owners.now (jobs_of b) b.job.now t x y
+
+-- no cell of row y between the columns x and z is in the module's halo
+abbrev pub HasNoHaloBetween : Borders → ℕ → ℕ → ℕ → Type 0
+HasNoHaloBetween b y x z = (c : ℕ) → x < c → c < z → in_halo b.job.now.area (pos c) (pos y) ≡ false
+
+-- no edge line with a star is of one of the modules with these numbers
+abbrev pub AreEdgesStarless : Borders → List ℕ → Type 0
+AreEdgesStarless b ks = (k : ℕ) (j : JobView) → IsTrue (is_among ks k) → slice_get (jobs_of b) k ≡ Some j →
+    j.edges.all_times ≡ []
+
+-- the same, and no halo line with a star is of the module that is searched
+pub record IsStarless (b : Borders) (ks : List ℕ) : Type 0 where
+  pub halos : b.job.now.halos.all_times ≡ []
+  pub edges : AreEdgesStarless b ks
 
 -- ---- which faults a part of the search finds
 

@@ -1,5 +1,5 @@
 //! The borders of one module.
-ghost use Rattle.std.specs.Prelude.{◌≡◌, ◌≢◌, ◌<◌, ◌↔◌, ◌&&◌, List, length, map, slice_get, IsTrue, Some, IfOk, OnOk};
+ghost use Rattle.std.specs.Prelude.{◌≡◌, ◌≢◌, ◌<◌, ◌↔◌, ◌&&◌, false, List, [], length, map, slice_get, IsTrue, Some, IfOk, OnOk};
 ghost use Rattle.std.specs.Arc.{arc_value};
 ghost use Rattle.circuit.specs.Meaning.{wires};
 ghost use Rattle.module_box.specs.Boxes.{in_box, in_halo};
@@ -7,7 +7,7 @@ ghost use Rattle.module_box.specs.Locals.{circuit_wire};
 ghost use Rattle.module_box.specs.Moves.{IsNear};
 ghost use Rattle.module_box.specs.Tiling.{owner_of};
 ghost use Rattle.module_job.specs.Signals.{IsBelow, renumber_signal};
-ghost use Rattle.border_match.specs.Boards.{AreNumbers, AreOwnersNoted, Differ, Faults, IsEdgeNamed, IsEdgeNamedAt, DiffersAlways, DiffersAlwaysAt, DiffersAlwaysInRow, IsNamed, IsNoted, IsReady, IsRowNoted, KeepsNumbers, job_edge, job_halo, jobs_of};
+ghost use Rattle.border_match.specs.Boards.{AreNumbers, AreOwnersNoted, Differ, Faults, IsEdgeNamed, IsEdgeNamedAt, DiffersAlways, DiffersAlwaysAt, DiffersAlwaysInRow, HasNoHaloBetween, IsNamed, IsNoted, IsReady, IsRowNoted, IsStarless, KeepsNumbers, job_edge, job_halo, jobs_of};
 ghost use Rattle.border_match.specs.Candidates.{IsBetter, IsLeast};
 ghost use Rattle.border_match.specs.declared.fault.BorderFault.{BorderFault};
 
@@ -60,6 +60,22 @@ fn edge_signal(job: &Job, time: u32, cell: Cell) -> Signal
     circuit_signal(job, job.edge(time, cell))
 }
 
+// Returns whether a line with a star, which speaks of all times, is for the module's halo.
+fn has_halo_star(job: &Job) -> bool
+    ensures { result ≡ false → job.now.halos.all_times ≡ [] }
+{
+    let own: &Shape = job.shape();
+    !own.halos().all_times().is_empty()
+}
+
+// Returns whether a line with a star is for the module's ring.
+fn has_edge_star(job: &Job) -> bool
+    ensures { result ≡ false → job.now.edges.all_times ≡ [] }
+{
+    let own: &Shape = job.shape();
+    !own.edges().all_times().is_empty()
+}
+
 impl<'a> Borders<'a> {
     // The job of the module that has a cell of the rectangle.
     fn owner(&self, cell: Cell) -> &'a Job
@@ -89,18 +105,6 @@ impl<'a> Borders<'a> {
         // The cell lies in the owner's box, and so not far away.
         let _area = owner.area();
         halo_signal(self.job, time, cell) != edge_signal(owner, time, cell)
-    }
-
-    // Whether a line with a star, which speaks of all times, is for the module's halo or for the ring of the module
-    // that has the cell. Where it is false the signals of the cell do not differ at time 0.
-    fn has_star_line(&self, cell: Cell) -> bool
-        requires ready { IsReady self.now }
-        requires inside { IsTrue (in_box self.now.whole cell.x cell.y) }
-        ensures { Differ self.now 0 cell.x cell.y → IsTrue result }
-    {
-        let own: &Shape = self.job.shape();
-        let other: &Shape = self.owner(cell).shape();
-        !own.halos().all_times().is_empty() || !other.edges().all_times().is_empty()
     }
 
     // Whether this is a border fault of the module.
@@ -177,7 +181,8 @@ impl<'a> Borders<'a> {
         self.with_edge_events(best, &self.jobs[number])
     }
 
-    // Adds the number of the module that has the cell, if the cell is in the module's halo and the number is new.
+    // Adds the number of the module that has the cell, unless the cell is outside the rectangle or in the module's box.
+    // A number is added once.
     fn note_owner(&self, near: &mut Vec<usize>, cell: Cell) -> Result<(), AllocError>
         requires ready { IsReady self.now }
         requires below { AreNumbers self.now near.old.items }
@@ -185,7 +190,11 @@ impl<'a> Borders<'a> {
         ensures kept { OnOk result (KeepsNumbers near.old.items near.new.items) }
         ensures below { OnOk result (AreNumbers self.now near.new.items) }
     {
-        if !self.reaches(cell) {
+        // No cell of the halo fails these two tests, and they take less than `reaches`.
+        if !self.whole.holds(cell) {
+            return Ok(());
+        }
+        if self.job.area().holds(cell) {
             return Ok(());
         }
         let number = self.owners.owner(cell);
@@ -194,6 +203,25 @@ impl<'a> Borders<'a> {
         }
         near.push(number)?;
         Ok(())
+    }
+
+    // Returns the next column after `x` in which row `y` may have a cell of the halo. The columns between are in the
+    // box.
+    fn next_column(&self, x: u32, y: u32) -> u32
+        requires column { x < 1024 }
+        requires row { y < 1024 }
+        ensures after { x < result }
+        ensures none_between { HasNoHaloBetween self.now y x result }
+    {
+        let area = self.job.area();
+        let next = Cell {
+            x: (x + 1) as i32,
+            y: y as i32,
+        };
+        if area.holds(next) {
+            return area.x + area.w;
+        }
+        x + 1
     }
 
     // Adds the numbers of the modules that have cells of the module's halo in a row.
@@ -206,12 +234,15 @@ impl<'a> Borders<'a> {
         ensures below { OnOk result (AreNumbers self.now near.new.items) }
     {
         let area = self.job.area();
-        'columns: for x in area.x.saturating_sub(1)..area.x + area.w + 1 {
+        let end = area.x + area.w + 1;
+        let mut x = area.x.saturating_sub(1);
+        'columns: while x < end {
             let cell = Cell {
                 x: x as i32,
                 y: y as i32,
             };
             self.note_owner(near, cell)?;
+            x = self.next_column(x, y);
         }
         Ok(())
     }
@@ -260,8 +291,8 @@ impl<'a> Borders<'a> {
     }
 
     // The lesser of the candidate and the first fault of a cell, if halo and edge signal differ where no line names a
-    // time. No line names time 0, so those signals are found there, and without a line with a star both are `Zero`. The
-    // first fault is soon met, since only an even time, or an odd one that a line names for the cell, is without one.
+    // time. No line names time 0, so those signals are found there. The first fault is soon met, since only an even
+    // time, or an odd one that a line names for the cell, is without one.
     fn with_cell(&self, best: Option<BorderFault>, cell: Cell) -> Option<BorderFault>
         requires { IsReady self.now }
         ensures { IsBetter (Faults self.now) (DiffersAlwaysAt self.now cell) best result }
@@ -269,7 +300,7 @@ impl<'a> Borders<'a> {
         if !self.reaches(cell) {
             return best;
         }
-        if !self.has_star_line(cell) || !self.differs(0, cell) {
+        if !self.differs(0, cell) {
             return best;
         }
         self.with_first_at(best, cell)
@@ -282,22 +313,48 @@ impl<'a> Borders<'a> {
         ensures { IsBetter (Faults self.now) (DiffersAlwaysInRow self.now y) best result }
     {
         let area = self.job.area();
+        let end = area.x + area.w + 1;
         let mut least = best;
-        'columns: for x in area.x.saturating_sub(1)..area.x + area.w + 1 {
+        let mut x = area.x.saturating_sub(1);
+        'columns: while x < end {
             let cell = Cell {
                 x: x as i32,
                 y: y as i32,
             };
             least = self.with_cell(least, cell);
+            x = self.next_column(x, y);
         }
         least
     }
 
-    // The least of the candidate and the faults of those cells of the halo for which such signals differ.
-    fn with_halo(&self, best: Option<BorderFault>) -> Option<BorderFault>
-        requires { IsReady self.now }
+    // Returns whether a line with a star is for the module's halo or for the ring of a module in `near`. If not, each
+    // signal at time 0 is `Zero`.
+    fn has_star(&self, near: &[usize]) -> bool
+        requires { AreNumbers self.now near.now }
+        ensures { result ≡ false → IsStarless self.now near.now }
+    {
+        if has_halo_star(self.job) {
+            return true;
+        }
+        'modules: for number in near {
+            if has_edge_star(&self.jobs[*number]) {
+                return true;
+            }
+        }
+        false
+    }
+
+    // The least of the candidate and the faults of those cells of the halo for which such signals differ, where these
+    // are the numbers of the modules that have cells of the halo.
+    fn with_halo(&self, best: Option<BorderFault>, near: &[usize]) -> Option<BorderFault>
+        requires ready { IsReady self.now }
+        requires noted { AreOwnersNoted self.now near.now }
+        requires below { AreNumbers self.now near.now }
         ensures { IsBetter (Faults self.now) (DiffersAlways self.now) best result }
     {
+        if !self.has_star(near) {
+            return best;
+        }
         let area = self.job.area();
         let mut least = best;
         'rows: for y in area.y.saturating_sub(1)..area.y + area.h + 1 {
@@ -314,6 +371,6 @@ impl<'a> Borders<'a> {
         let near = self.near_modules(alloc)?;
         let by_halo = self.with_halo_events(None);
         let by_edges = self.with_edges(by_halo, &near);
-        Ok(self.with_halo(by_edges))
+        Ok(self.with_halo(by_edges, &near))
     }
 }
