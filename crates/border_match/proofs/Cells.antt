@@ -17,7 +17,8 @@ use Rattle.module_box.specs.declared.schedules.Signal.{Signal}
 use Rattle.module_box.proofs.BoxCells.{in_span_nat, in_box_nats, same_some}
 use Rattle.module_box.proofs.NearBoxes.{near_one, near_parts}
 use Rattle.module_job.specs.Jobs.{JobView}
-use Rattle.border_match.specs.Boards.{job_halo, job_edge, jobs_of, HasNoHaloBetween, IsReady, Faults, Differ}
+use Rattle.border_match.specs.Boards.{job_halo, job_edge, jobs_of, HasNoHaloBetween, IsAround, IsReady, Faults}
+use Rattle.border_match.specs.Boards.{Differ}
 use Rattle.border_match.specs.declared.borders.Borders.{Borders}
 use Rattle.border_match.specs.declared.fault.BorderFault.{BorderFault}
 
@@ -130,3 +131,16 @@ box_skipped b a x y cx cy r same ex ey is holds =
 -- where a fault is
 pub placed : (b : Borders) (f : BorderFault) → Faults b f → IsPlaced b f.cell.x f.cell.y
 placed b f g = cell_placed b f.cell.x f.cell.y g.inside g.halo
+
+-- a fault is around the module's box
+pub fault_around : (b : Borders) (f : BorderFault) → Faults b f → IsAround b.job.now.area f.cell.x f.cell.y
+fault_around b f g =
+    let p = placed b f g in
+    let px = p.x in let py = p.y in
+    let left = p.left in let right = p.right in let top = p.top in let bottom = p.bottom in
+    record {
+      left = omega (arith, ints, px, left);
+      right = omega (arith, ints, px, right);
+      top = omega (arith, ints, py, top);
+      bottom = omega (arith, ints, py, bottom);
+    }

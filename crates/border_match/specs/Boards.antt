@@ -1,5 +1,5 @@
 -- Border faults by the jobs of the modules, and the parts of a search for them
-use Rattle.std.specs.Prelude.{◌≡◌, ◌≢◌, ℕ, ℤ, pos, ◌<◌, ◌%◌, ◌&&◌, true, false, List, [], length, map}
+use Rattle.std.specs.Prelude.{◌≡◌, ◌≢◌, ℕ, ℤ, pos, ◌+◌, ◌+ℤ◌, ◌≤ℤ◌, ◌<◌, ◌%◌, ◌&&◌, true, false, List, [], length, map}
 use Rattle.std.specs.Prelude.{Some, None, slice_get, IsTrue}
 use Rattle.std.specs.List.{All}
 use Rattle.std.specs.Arc.{arc_value}
@@ -73,6 +73,13 @@ Differ b t x y = AreDifferent b.owners.now (jobs_of b) b.job.now t x y
 -- no cell of row y between the columns x and z is in the module's halo
 abbrev pub HasNoHaloBetween : Borders → ℕ → ℕ → ℕ → Type 0
 HasNoHaloBetween b y x z = (c : ℕ) → x < c → c < z → in_halo b.job.now.area (pos c) (pos y) ≡ false
+
+-- the cell (x, y) is in the columns and rows of the box or next to them, as the cells of its halo are
+pub record IsAround (a : Box2) (x y : ℤ) : Type 0 where
+  pub left : pos a.x ≤ℤ (x +ℤ pos 1)
+  pub right : x ≤ℤ pos (a.x + a.w)
+  pub top : pos a.y ≤ℤ (y +ℤ pos 1)
+  pub bottom : y ≤ℤ pos (a.y + a.h)
 
 -- no edge line with a star is of one of the modules with these numbers
 abbrev pub AreEdgesStarless : Borders → List ℕ → Type 0

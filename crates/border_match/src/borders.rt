@@ -1,17 +1,17 @@
 //! The borders of one module.
-ghost use Rattle.std.specs.Prelude.{◌≡◌, ◌≢◌, ◌<◌, ◌↔◌, ◌&&◌, false, List, [], length, map, slice_get, IsTrue, Some, IfOk, OnOk};
+ghost use Rattle.std.specs.Prelude.{pos, ◌+◌, ◌+ℤ◌, ◌≤ℤ◌, ◌≡◌, ◌≢◌, ◌<◌, ◌↔◌, ◌&&◌, false, List, [], length, map, slice_get, IsTrue, Some, IfOk, OnOk};
 ghost use Rattle.std.specs.Arc.{arc_value};
 ghost use Rattle.circuit.specs.Meaning.{wires};
 ghost use Rattle.module_box.specs.Boxes.{in_box, in_halo};
 ghost use Rattle.module_box.specs.Locals.{circuit_wire};
-ghost use Rattle.module_box.specs.Moves.{IsNear};
+ghost use Rattle.module_box.specs.Moves.{IsNear, moved_cell};
 ghost use Rattle.module_box.specs.Tiling.{owner_of};
 ghost use Rattle.module_job.specs.Signals.{IsBelow, renumber_signal};
-ghost use Rattle.border_match.specs.Boards.{AreNumbers, AreOwnersNoted, Differ, Faults, IsEdgeNamed, IsEdgeNamedAt, DiffersAlways, DiffersAlwaysAt, DiffersAlwaysInRow, HasNoHaloBetween, IsNamed, IsNoted, IsReady, IsRowNoted, IsStarless, KeepsNumbers, job_edge, job_halo, jobs_of};
+ghost use Rattle.border_match.specs.Boards.{AreNumbers, AreOwnersNoted, Differ, Faults, IsEdgeNamed, IsEdgeNamedAt, DiffersAlways, DiffersAlwaysAt, DiffersAlwaysInRow, HasNoHaloBetween, IsAround, IsNamed, IsNoted, IsReady, IsRowNoted, IsStarless, KeepsNumbers, job_edge, job_halo, jobs_of};
 ghost use Rattle.border_match.specs.Candidates.{IsBetter, IsLeast};
 ghost use Rattle.border_match.specs.declared.fault.BorderFault.{BorderFault};
 
-use crate::fault::{BorderFault, lesser};
+use crate::fault::{BorderFault, is_less, lesser};
 use bbm_rule::Cell;
 use certificate::Job;
 use module_box::{Box2, Event, Owners, Signal};
@@ -76,6 +76,33 @@ fn has_edge_star(job: &Job) -> bool
     !own.edges().all_times().is_empty()
 }
 
+// Returns whether `z`, counted from a corner, is one of the `n` numbers from `from` on or next to one of them.
+fn is_beside(from: u32, n: u32, corner: u32, z: i32) -> bool
+    ensures { let at = z +ℤ pos corner in
+        pos from ≤ℤ (at +ℤ pos 1) → at ≤ℤ pos (from + n) → IsTrue result }
+{
+    let at = z as i64 + corner as i64;
+    if at + 1 < from as i64 {
+        return false;
+    }
+    if at > from as i64 + n as i64 {
+        return false;
+    }
+    true
+}
+
+// Returns whether a cell, counted from the corner of another box, is in the columns and rows of the area or next to
+// them.
+fn is_around(area: Box2, corner: Box2, cell: Cell) -> bool
+    ensures { let at = moved_cell (pos corner.x) (pos corner.y) cell in
+        IsAround area at.x at.y → IsTrue result }
+{
+    if !is_beside(area.x, area.w, corner.x, cell.x) {
+        return false;
+    }
+    is_beside(area.y, area.h, corner.y, cell.y)
+}
+
 impl<'a> Borders<'a> {
     // The job of the module that has a cell of the rectangle.
     fn owner(&self, cell: Cell) -> &'a Job
@@ -129,7 +156,7 @@ impl<'a> Borders<'a> {
         requires { IsReady self.now }
         ensures { IsBetter (Faults self.now) (λ h. h ≡ fault) best result }
     {
-        if self.is_fault(fault) {
+        if is_less(fault, best) && self.is_fault(fault) {
             return lesser(best, fault);
         }
         best
@@ -165,8 +192,16 @@ impl<'a> Borders<'a> {
         requires { IsReady self.now }
         ensures { IsBetter (Faults self.now) (IsNamed other.now.edges.events) best result }
     {
+        let area = self.job.area();
+        let corner = other.area();
+        let shape: &Shape = other.shape();
+        let events = shape.edges().events();
         let mut least = best;
-        'events: for place in 0..other.edge_events() {
+        'events: for place in 0..events.len() {
+            // Most events of a long side are far from this module, so this test comes before all others.
+            if !is_around(area, corner, events[place].at.cell) {
+                continue;
+            }
             least = self.with_event(least, other.edge_event(place));
         }
         least
