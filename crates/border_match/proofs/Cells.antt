@@ -11,12 +11,14 @@ use Rattle.std.proofs.lemmas.Int.{ints}
 use Rattle.bbm_rule.specs.Spans.{in_span}
 use Rattle.bbm_rule.proofs.Spans.{span_from, span_parts}
 use Rattle.module_box.specs.Boxes.{in_box, in_halo}
+use Rattle.bbm_rule.specs.declared.block.Cell.{Cell}
+use Rattle.module_box.specs.Moves.{IsNear, IsSmall}
 use Rattle.module_box.specs.Tiling.{owner_of}
 use Rattle.module_box.specs.declared.boxes.Box2.{Box2}
 use Rattle.module_box.specs.declared.schedules.Signal.{Signal}
 use Rattle.module_box.proofs.BoxCells.{in_span_nat, in_box_nats, same_some}
 use Rattle.module_box.proofs.NearBoxes.{near_one, near_parts}
-use Rattle.module_job.specs.Jobs.{JobView}
+use Rattle.module_job.specs.Jobs.{JobView, IsJob}
 use Rattle.border_match.specs.Boards.{job_halo, job_edge, jobs_of, HasNoHaloBetween, IsAround, IsReady, Faults}
 use Rattle.border_match.specs.Boards.{Differ}
 use Rattle.border_match.specs.declared.borders.Borders.{Borders}
@@ -57,6 +59,25 @@ fault_is b f r odd early reached h =
 pub reached : (b : Borders) (f : BorderFault) → Faults b f →
     (in_box b.whole f.cell.x f.cell.y && in_halo b.job.now.area f.cell.x f.cell.y) ≡ true
 reached b f g = and_from _ _ g.inside g.halo
+
+-- ---- cells that have an owner
+
+small_number : (z : ℤ) (n m w : ℕ) → z ≡ pos n → n < m + w → m + w ≤ 512 → IsSmall z
+small_number z n m w e lt few = (omega (arith, ints, e), omega (arith, ints, e, lt, few))
+
+-- a cell of the rectangle is in the box of a job
+pub owned_near : (b : Borders) (c : Cell) (owner : JobView) → IsReady b → in_box b.whole c.x c.y ≡ true →
+    slice_get (jobs_of b) (owner_of b.owners.now c.x c.y) ≡ Some owner → IsJob owner → IsNear c
+owned_near b c owner ready inside got is =
+    let m = ready.0.holder c.x c.y inside in
+    let same : m.0 ≡ owner = same_some (slice_get (jobs_of b) (owner_of b.owners.now c.x c.y)) m.0 owner m.1 got in
+    let there : in_box owner.area c.x c.y ≡ true = ap (λ (j : JobView). in_box j.area c.x c.y) (sym same) ∙ m.2 in
+    let p = in_box_nats owner.area c.x c.y there in
+    let px = p.0 in
+    let py = p.1 in (
+      small_number c.x px.0 owner.area.x owner.area.w px.1 px.3 is.width.2,
+      small_number c.y py.0 owner.area.y owner.area.h py.1 py.3 is.height.2,
+    )
 
 -- ---- columns and rows of a halo
 

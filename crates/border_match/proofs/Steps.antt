@@ -32,6 +32,7 @@ use Rattle.border_match.specs.Boards.{AreOwnersNoted, jobs_of, IsReady, Faults, 
 use Rattle.border_match.specs.Boards.{IsEdgeNamedAmong, IsEdgeNamedAt, DiffersAlways, DiffersAlwaysAt}
 use Rattle.border_match.specs.Boards.{DiffersAlwaysInRow, DiffersAlwaysBefore, DiffersAlwaysAbove, HasNoHaloBetween}
 use Rattle.border_match.specs.Boards.{IsAround}
+use Rattle.border_match.specs.Boards.{IsAtEventOf}
 use Rattle.border_match.specs.declared.borders.Borders.{Borders}
 use Rattle.border_match.specs.declared.fault.BorderFault.{BorderFault}
 use Rattle.border_match.proofs.FaultOrder.{border_total}
@@ -59,6 +60,14 @@ named_step events i e f got h = elim (lower_or_same h.named.place i h.below) [
       let is = same_some (slice_get events i) h.named.event e (ap (slice_get events) (sym same) ∙ h.named.got) got in
       same_fault e.at.time e.at.cell f (sym h.named.time ∙ ap (λ (z : Event). z.at.time) is)
       (sym h.named.cell ∙ ap (λ (z : Event). z.at.cell) is))
+]
+
+pub named_step_of : (b : Borders) (k : ℕ) (events : List Event) (i : ℕ) (e : Event) (f : BorderFault) →
+    slice_get events i ≡ Some e → IsNamedBelow (i + 1) events f → owner_of b.owners.now f.cell.x f.cell.y ≡ k →
+    (IsNamedBelow i events f × (owner_of b.owners.now f.cell.x f.cell.y ≡ k)) ⊎ IsAtEventOf b k e f
+named_step_of b k events i e f got h owned = elim (named_step events i e f got h) [
+  | inl before ↦ inl (before, owned)
+  | inr at ↦ inr (at, owned)
 ]
 
 pub named_all : (events : List Event) (k : ℕ) (f : BorderFault) → length events ≤ k → IsNamed events f →

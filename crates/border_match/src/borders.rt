@@ -7,7 +7,7 @@ ghost use Rattle.module_box.specs.Locals.{circuit_wire};
 ghost use Rattle.module_box.specs.Moves.{IsNear, moved_cell};
 ghost use Rattle.module_box.specs.Tiling.{owner_of};
 ghost use Rattle.module_job.specs.Signals.{IsBelow, renumber_signal};
-ghost use Rattle.border_match.specs.Boards.{AreNumbers, AreOwnersNoted, Differ, Faults, IsEdgeNamed, IsEdgeNamedAt, DiffersAlways, DiffersAlwaysAt, DiffersAlwaysInRow, HasNoHaloBetween, IsAround, IsNamed, IsNoted, IsReady, IsRowNoted, IsStarless, KeepsNumbers, job_edge, job_halo, jobs_of};
+ghost use Rattle.border_match.specs.Boards.{AreNumbers, AreOwnersNoted, Differ, Faults, IsEdgeNamed, IsEdgeNamedAt, DiffersAlways, DiffersAlwaysAt, DiffersAlwaysInRow, HasNoHaloBetween, IsAround, IsAtEvent, IsAtEventOf, IsListed, IsNamed, IsNamedOf, IsNoted, IsReady, IsRowNoted, IsStarless, KeepsNumbers, MayBeFault, job_edge, job_halo, jobs_of};
 ghost use Rattle.border_match.specs.Candidates.{IsBetter, IsLeast};
 ghost use Rattle.border_match.specs.declared.fault.BorderFault.{BorderFault};
 
@@ -76,6 +76,37 @@ fn has_edge_star(job: &Job) -> bool
     !own.edges().all_times().is_empty()
 }
 
+// Returns what a module says of the cell and the time of an event of its halo. If no line has a star, the event itself
+// says it: no two events are of one cell and time, since they rise.
+fn halo_event_signal(job: &Job, event: Event) -> Signal
+    requires near { IsNear event.at.cell }
+    requires listed { IsListed job.now.halos.events event }
+    ensures { result ≡ job_halo job.now event.at.time event.at.cell.x event.at.cell.y }
+{
+    if has_halo_star(job) {
+        return halo_signal(job, event.at.time, event.at.cell);
+    }
+    let _area = job.area();
+    let own: &Shape = job.shape();
+    let _events = own.halos().events();
+    circuit_signal(job, event.signal)
+}
+
+// Returns what a module says of the cell and the time of an event of its ring.
+fn edge_event_signal(job: &Job, event: Event) -> Signal
+    requires near { IsNear event.at.cell }
+    requires listed { IsListed job.now.edges.events event }
+    ensures { result ≡ job_edge job.now event.at.time event.at.cell.x event.at.cell.y }
+{
+    if has_edge_star(job) {
+        return edge_signal(job, event.at.time, event.at.cell);
+    }
+    let _area = job.area();
+    let own: &Shape = job.shape();
+    let _events = own.edges().events();
+    circuit_signal(job, event.signal)
+}
+
 // Returns whether `z`, counted from a corner, is one of the `n` numbers from `from` on or next to one of them.
 fn is_beside(from: u32, n: u32, corner: u32, z: i32) -> bool
     ensures { let at = z +ℤ pos corner in
@@ -101,6 +132,17 @@ fn is_around(area: Box2, corner: Box2, cell: Cell) -> bool
         return false;
     }
     is_beside(area.y, area.h, corner.y, cell.y)
+}
+
+// Returns the fault that an event names, which may be none.
+fn fault_at(event: Event) -> BorderFault
+    ensures time { result.time ≡ event.at.time }
+    ensures cell { result.cell ≡ event.at.cell }
+{
+    BorderFault {
+        time: event.at.time,
+        cell: event.at.cell,
+    }
 }
 
 impl<'a> Borders<'a> {
@@ -134,10 +176,35 @@ impl<'a> Borders<'a> {
         halo_signal(self.job, time, cell) != edge_signal(owner, time, cell)
     }
 
-    // Whether this is a border fault of the module.
-    fn is_fault(&self, fault: BorderFault) -> bool
-        requires { IsReady self.now }
-        ensures { IsTrue result ↔ Faults self.now fault }
+    // Returns the same for the cell and the time of an event of the module's halo, with one search less.
+    fn halo_event_differs(&self, event: Event) -> bool
+        requires ready { IsReady self.now }
+        requires inside { IsTrue (in_box self.now.whole event.at.cell.x event.at.cell.y) }
+        requires listed { IsListed self.now.job.now.halos.events event }
+        ensures { IsTrue result ↔ Differ self.now event.at.time event.at.cell.x event.at.cell.y }
+    {
+        let owner = self.owner(event.at.cell);
+        let _area = owner.area();
+        halo_event_signal(self.job, event) != edge_signal(owner, event.at.time, event.at.cell)
+    }
+
+    // Returns the same for the cell and the time of an event of the ring of the module that has the cell.
+    fn edge_event_differs(&self, owner: &Job, event: Event) -> bool
+        requires ready { IsReady self.now }
+        requires inside { IsTrue (in_box self.now.whole event.at.cell.x event.at.cell.y) }
+        requires owner { slice_get (jobs_of self.now)
+            (owner_of self.now.owners.now event.at.cell.x event.at.cell.y) ≡ Some owner.now }
+        requires listed { IsListed owner.now.edges.events event }
+        ensures { IsTrue result ↔ Differ self.now event.at.time event.at.cell.x event.at.cell.y }
+    {
+        let _area = owner.area();
+        let own = halo_signal(self.job, event.at.time, event.at.cell);
+        own != edge_event_signal(owner, event)
+    }
+
+    // Returns whether a border fault can be at this time and cell.
+    fn may_be_fault(&self, fault: BorderFault) -> bool
+        ensures { IsTrue result ↔ MayBeFault self.now fault }
     {
         if fault.time % 2 != 1 {
             return false;
@@ -145,34 +212,51 @@ impl<'a> Borders<'a> {
         if fault.time >= self.job.steps() {
             return false;
         }
-        if !self.reaches(fault.cell) {
-            return false;
-        }
-        self.differs(fault.time, fault.cell)
+        self.reaches(fault.cell)
     }
 
-    // The lesser of the candidate and the fault, if it is one.
-    fn with_fault(&self, best: Option<BorderFault>, fault: BorderFault) -> Option<BorderFault>
+    // Whether this is a border fault of the module.
+    fn is_fault(&self, fault: BorderFault) -> bool
         requires { IsReady self.now }
-        ensures { IsBetter (Faults self.now) (λ h. h ≡ fault) best result }
+        ensures { IsTrue result ↔ Faults self.now fault }
     {
-        if is_less(fault, best) && self.is_fault(fault) {
+        self.may_be_fault(fault) && self.differs(fault.time, fault.cell)
+    }
+
+    // The lesser of the candidate and the fault that an event of the module's halo names.
+    fn with_halo_event(&self, best: Option<BorderFault>, event: Event) -> Option<BorderFault>
+        requires ready { IsReady self.now }
+        requires listed { IsListed self.now.job.now.halos.events event }
+        ensures { IsBetter (Faults self.now) (IsAtEvent event) best result }
+    {
+        let fault = fault_at(event);
+        if is_less(fault, best) && self.may_be_fault(fault) && self.halo_event_differs(event) {
             return lesser(best, fault);
         }
         best
     }
 
-    // The lesser of the candidate and the fault that an event names.
-    fn with_event(&self, best: Option<BorderFault>, event: Event) -> Option<BorderFault>
-        requires { IsReady self.now }
-        ensures { IsBetter (Faults self.now)
-            (λ h. h ≡ record { time = event.at.time; cell = event.at.cell }) best result }
+    // The lesser of the candidate and the fault that an event of a module's ring names, if that module has the cell.
+    fn with_edge_event(
+        &self,
+        best: Option<BorderFault>,
+        number: usize,
+        other: &Job,
+        event: Event,
+    ) -> Option<BorderFault>
+        requires ready { IsReady self.now }
+        requires numbered { slice_get (jobs_of self.now) number ≡ Some other.now }
+        requires listed { IsListed other.now.edges.events event }
+        ensures { IsBetter (Faults self.now) (IsAtEventOf self.now number event) best result }
     {
-        let fault = BorderFault {
-            time: event.at.time,
-            cell: event.at.cell,
-        };
-        self.with_fault(best, fault)
+        let fault = fault_at(event);
+        if !is_less(fault, best) || !self.may_be_fault(fault) {
+            return best;
+        }
+        if self.owners.owner(fault.cell) == number && self.edge_event_differs(other, event) {
+            return lesser(best, fault);
+        }
+        best
     }
 
     // The least of the candidate and the faults that the events of the module's halo name.
@@ -182,15 +266,22 @@ impl<'a> Borders<'a> {
     {
         let mut least = best;
         'events: for place in 0..self.job.halo_events() {
-            least = self.with_event(least, self.job.halo_event(place));
+            least = self.with_halo_event(least, self.job.halo_event(place));
         }
         least
     }
 
-    // The least of the candidate and the faults that the events of a module's ring name.
-    fn with_edge_events(&self, best: Option<BorderFault>, other: &Job) -> Option<BorderFault>
-        requires { IsReady self.now }
-        ensures { IsBetter (Faults self.now) (IsNamed other.now.edges.events) best result }
+    // The least of the candidate and the faults that the events of a module's ring name at cells of that module.
+    fn with_edge_events(
+        &self,
+        best: Option<BorderFault>,
+        number: usize,
+        other: &Job,
+    ) -> Option<BorderFault>
+        requires ready { IsReady self.now }
+        requires numbered { slice_get (jobs_of self.now) number ≡ Some other.now }
+        ensures { IsBetter (Faults self.now) (IsNamedOf self.now number other.now.edges.events) best
+            result }
     {
         let area = self.job.area();
         let corner = other.area();
@@ -202,7 +293,7 @@ impl<'a> Borders<'a> {
             if !is_around(area, corner, events[place].at.cell) {
                 continue;
             }
-            least = self.with_event(least, other.edge_event(place));
+            least = self.with_edge_event(least, number, other, other.edge_event(place));
         }
         least
     }
@@ -213,7 +304,7 @@ impl<'a> Borders<'a> {
         requires number { number < length self.now.jobs.now }
         ensures { IsBetter (Faults self.now) (IsEdgeNamedAt number self.now) best result }
     {
-        self.with_edge_events(best, &self.jobs[number])
+        self.with_edge_events(best, number, &self.jobs[number])
     }
 
     // Adds the number of the module that has the cell, unless the cell is outside the rectangle or in the module's box.

@@ -32,7 +32,7 @@ impl BorderFault {
     }
 }
 
-// Whether the fault is less than the candidate, or there is no candidate.
+// Returns whether the fault is less than the candidate, or there is no candidate.
 pub(crate) fn is_less(fault: BorderFault, best: Option<BorderFault>) -> bool
     ensures { result ≡ false → Covers best fault }
 {
