@@ -1,6 +1,7 @@
 -- Cells of a halo, and the modules that have them
-use Rattle.std.proofs.Common.{◌≡◌, ℕ, ◌+◌, ◌-◌, ◌<◌, ◌≤◌, ◌%◌, List, map, length, Bool, true, ◌||◌, ◌&&◌, Some, sym, ap}
-use Rattle.std.proofs.Common.{subst, ◌∙◌, inl, inr, ◌⊎◌, arith, get_or}
+use Rattle.std.proofs.Common.{◌≡◌, ℕ, ◌+◌, ◌-◌, ◌<◌, ◌≤◌, ◌%◌, List, map, length, Bool, true, false, ◌||◌, ◌&&◌, Some}
+use Rattle.std.proofs.Common.{sym}
+use Rattle.std.proofs.Common.{ap, ap₂, subst, ◌∙◌, inl, inr, ◌⊎◌, arith, get_or}
 use Rattle.std.specs.Prelude.{ℤ, pos, ◌+ℤ◌, ◌-ℤ◌, ◌≢◌, ◌↔◌, IsTrue, slice_get, option_map}
 use Rattle.std.specs.Arc.{arc_value}
 use Rattle.std.proofs.lemmas.List.{length-map}
@@ -8,14 +9,18 @@ use Rattle.std.proofs.lemmas.Option.{slice_get-map, slice_get-get_or, slice_get_
 use Rattle.std.proofs.lemmas.Bool.{and_parts, and_from}
 use Rattle.std.proofs.lemmas.Int.{ints}
 use Rattle.bbm_rule.specs.Spans.{in_span}
+use Rattle.bbm_rule.proofs.Spans.{span_from, span_parts}
 use Rattle.module_box.specs.Boxes.{in_box, in_halo}
+use Rattle.bbm_rule.specs.declared.block.Cell.{Cell}
+use Rattle.module_box.specs.Moves.{IsNear, IsSmall}
 use Rattle.module_box.specs.Tiling.{owner_of}
+use Rattle.module_box.specs.declared.boxes.Box2.{Box2}
 use Rattle.module_box.specs.declared.schedules.Signal.{Signal}
 use Rattle.module_box.proofs.BoxCells.{in_span_nat, in_box_nats, same_some}
 use Rattle.module_box.proofs.NearBoxes.{near_one, near_parts}
-use Rattle.module_job.specs.Jobs.{JobView}
-use Rattle.border_match.proofs.Modules.{there}
-use Rattle.border_match.specs.Boards.{job_halo, job_edge, jobs_of, IsReady, Faults, Differ}
+use Rattle.module_job.specs.Jobs.{JobView, IsJob}
+use Rattle.border_match.specs.Boards.{job_halo, job_edge, jobs_of, HasNoHaloBetween, IsAround, IsReady, Faults}
+use Rattle.border_match.specs.Boards.{Differ}
 use Rattle.border_match.specs.declared.borders.Borders.{Borders}
 use Rattle.border_match.specs.declared.fault.BorderFault.{BorderFault}
 
@@ -55,6 +60,25 @@ pub reached : (b : Borders) (f : BorderFault) → Faults b f →
     (in_box b.whole f.cell.x f.cell.y && in_halo b.job.now.area f.cell.x f.cell.y) ≡ true
 reached b f g = and_from _ _ g.inside g.halo
 
+-- ---- cells that have an owner
+
+small_number : (z : ℤ) (n m w : ℕ) → z ≡ pos n → n < m + w → m + w ≤ 512 → IsSmall z
+small_number z n m w e lt few = (omega (arith, ints, e), omega (arith, ints, e, lt, few))
+
+-- a cell of the rectangle is in the box of a job
+pub owned_near : (b : Borders) (c : Cell) (owner : JobView) → IsReady b → in_box b.whole c.x c.y ≡ true →
+    slice_get (jobs_of b) (owner_of b.owners.now c.x c.y) ≡ Some owner → IsJob owner → IsNear c
+owned_near b c owner ready inside got is =
+    let m = ready.0.holder c.x c.y inside in
+    let same : m.0 ≡ owner = same_some (slice_get (jobs_of b) (owner_of b.owners.now c.x c.y)) m.0 owner m.1 got in
+    let there : in_box owner.area c.x c.y ≡ true = ap (λ (j : JobView). in_box j.area c.x c.y) (sym same) ∙ m.2 in
+    let p = in_box_nats owner.area c.x c.y there in
+    let px = p.0 in
+    let py = p.1 in (
+      small_number c.x px.0 owner.area.x owner.area.w px.1 px.3 is.width.2,
+      small_number c.y py.0 owner.area.y owner.area.h py.1 py.3 is.height.2,
+    )
+
 -- ---- columns and rows of a halo
 
 near_bounds : (f n k j : ℕ) (x y : ℤ) → x ≡ pos k → y ≡ pos j → (y ≡ x -ℤ pos 1) ⊎ ((y ≡ x) ⊎ (y ≡ x +ℤ pos 1)) →
@@ -92,6 +116,52 @@ cell_placed b x y inside halo =
     let sy = near_nat area.y area.h y ay.0 ay.1 near.1 in
     record { column = ax.0; x = ax.1; left = sx.0; right = sx.1; row = ay.0; y = ay.1; top = sy.0; bottom = sy.1 }
 
+-- ---- cells of the box
+
+-- a cell of the box is not in its halo
+pub box_no_halo : (a : Box2) (x y : ℤ) → in_box a x y ≡ true → in_halo a x y ≡ false
+unfolding in_halo
+box_no_halo a x y h = rw h
+
+-- the cells of a row from one in the box up to the box's last are in it
+row_inside : (a : Box2) (x c : ℕ) (y : ℤ) → in_box a (pos x) y ≡ true → x ≤ c → c < a.x + a.w →
+    in_box a (pos c) y ≡ true
+unfolding in_box
+row_inside a x c y h le lt =
+    let both = and_parts (in_span a.x a.w (pos x)) (in_span a.y a.h y) h in
+    let from = span_parts a.x a.w x both.0 in
+    and_from _ _ (span_from a.x a.w c (omega (arith, from.0)) lt) both.1
+
+box_ends_after : (a : Box2) (x : ℕ) (y : ℤ) → in_box a (pos (x + 1)) y ≡ true → x < a.x + a.w
+unfolding in_box
+box_ends_after a x y h =
+    let both = and_parts (in_span a.x a.w (pos (x + 1))) (in_span a.y a.h y) h in
+    let at = span_parts a.x a.w (x + 1) both.0 in
+    omega (arith, at.1)
+
+-- after a column whose next cell is in the box, the cells up to the end of the box's row are in it
+pub box_skipped : (b : Borders) (a : Box2) (x y : ℕ) (cx cy : ℤ) (r : Bool) → a ≡ b.job.now.area → cx ≡ pos (x + 1) →
+    cy ≡ pos y → r ≡ in_box a cx cy → r ≡ true → (x < a.x + a.w) × HasNoHaloBetween b y x (a.x + a.w)
+box_skipped b a x y cx cy r same ex ey is holds =
+    let inside : in_box a (pos (x + 1)) (pos y) ≡ true = sym (ap₂ (in_box a) ex ey) ∙ sym is ∙ holds in (
+      box_ends_after a x (pos y) inside,
+      λ c after before. ap (λ (z : Box2). in_halo z (pos c) (pos y)) (sym same)
+          ∙ box_no_halo a (pos c) (pos y) (row_inside a (x + 1) c (pos y) inside (omega arith) before),
+    )
+
 -- where a fault is
 pub placed : (b : Borders) (f : BorderFault) → Faults b f → IsPlaced b f.cell.x f.cell.y
 placed b f g = cell_placed b f.cell.x f.cell.y g.inside g.halo
+
+-- a fault is around the module's box
+pub fault_around : (b : Borders) (f : BorderFault) → Faults b f → IsAround b.job.now.area f.cell.x f.cell.y
+fault_around b f g =
+    let p = placed b f g in
+    let px = p.x in let py = p.y in
+    let left = p.left in let right = p.right in let top = p.top in let bottom = p.bottom in
+    record {
+      left = omega (arith, ints, px, left);
+      right = omega (arith, ints, px, right);
+      top = omega (arith, ints, py, top);
+      bottom = omega (arith, ints, py, bottom);
+    }

@@ -48,6 +48,14 @@ module _ (F : BorderFault → Type 0) where
       IsBetter F P o o
   better_same P o none = record { sound = λ s. s; kept = λ h c. c; covers = λ h f p. absurd (none h f p) }
 
+  -- the candidate is at most m
+  pub better_covered : (m : BorderFault) (o : Option BorderFault) → Covers o m → IsBetter F (λ h. h ≡ m) o o
+  better_covered m o covered = record {
+    sound = λ s. s;
+    kept = λ h c. c;
+    covers = λ h f same. subst (Covers o) (sym same) covered;
+  }
+
   -- the new candidate is at most m, which is one of F and at most each of F with P
   pub better_with : (P : BorderFault → Type 0) (o o' : Option BorderFault) (m : BorderFault) → F m →
       ((h : BorderFault) → F h → P h → border_cmp m h ≢ Greater) →

@@ -1,3 +1,4 @@
+pub mod EventSignals
 pub mod NearModules
 pub mod FaultOrder
 pub mod Least

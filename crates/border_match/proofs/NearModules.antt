@@ -1,17 +1,15 @@
 -- The numbers of the modules that have cells of a module's halo, noted one by one.
-use Rattle.std.proofs.Common.{◌≡◌, ℕ, ◌+◌, ◌-◌, ◌<◌, ◌≤◌, List, [], ◌∷◌, ◌++◌, length, Bool, true, false, ◌||◌, ◌&&◌}
-use Rattle.std.proofs.Common.{nat_eq, refl, sym, ap, subst, ◌∙◌, inl, inr, ◌⊎◌, arith}
-use Rattle.std.specs.Prelude.{ℤ, pos, ◌==◌, IsTrue}
-use Rattle.std.specs.List.{list_any}
-use Rattle.std.proofs.lemmas.Bool.{and_parts, cases_Bool, false≢true}
+use Rattle.std.proofs.Common.{◌≡◌, ℕ, ◌+◌, ◌-◌, ◌<◌, ◌≤◌, List, [], ◌∷◌, ◌++◌, Bool, true, false, ◌||◌}
+use Rattle.std.proofs.Common.{refl, sym, subst, ◌∙◌, inl, inr, ◌⊎◌, arith}
+use Rattle.std.specs.Prelude.{ℤ, pos, ◌==◌}
+use Rattle.std.proofs.lemmas.Bool.{and_parts, false≢true}
 use Rattle.std.proofs.lemmas.Bool.Decides.{nat_tests}
 use Rattle.std.proofs.lemmas.List.Folds.{list_any-append}
 use Rattle.module_box.specs.Boxes.{in_box, in_halo}
 use Rattle.module_box.specs.Locals.{is_among}
-use Rattle.module_box.specs.Tiling.{owner_of}
 use Rattle.border_match.proofs.Cells.{cell_placed}
 use Rattle.border_match.specs.Boards.{AreOwnersNoted, AreRowsNotedAbove, IsNoted, IsRowNoted, IsRowNotedBefore}
-use Rattle.border_match.specs.Boards.{KeepsNumbers}
+use Rattle.border_match.specs.Boards.{HasNoHaloBetween, KeepsNumbers}
 use Rattle.border_match.specs.declared.borders.Borders.{Borders}
 
 -- ---- one number more
@@ -57,6 +55,9 @@ noted_still b old new x y keeps noted there = keeps _ (noted there)
 lower_or_same : (i m : ℕ) → i < m + 1 → (i < m) ⊎ (i ≡ m)
 lower_or_same i m h = grind arith
 
+before_at_after : (i m : ℕ) → (i < m) ⊎ ((i ≡ m) ⊎ (m < i))
+before_at_after i m = grind arith
+
 pub no_column : (b : Borders) (ks : List ℕ) (y x : ℕ) → x ≡ b.job.now.area.x - 1 → IsRowNotedBefore b ks y x
 no_column b ks y x from c lt there =
     let both = and_parts (in_box b.whole (pos c) (pos y)) (in_halo b.job.now.area (pos c) (pos y)) there in
@@ -68,12 +69,16 @@ no_column b ks y x from c lt there =
     pos_same : (i k : ℕ) → pos i ≡ pos k → i ≡ k
     pos_same i k e = cc
 
-pub column_more : (b : Borders) (old new : List ℕ) (y x : ℕ) (cx cy : ℤ) → cx ≡ pos x → cy ≡ pos y →
-    IsRowNotedBefore b old y x → KeepsNumbers old new → IsNoted b new cx cy → IsRowNotedBefore b new y (x + 1)
-column_more b old new y x cx cy ex ey before keeps here c lt = elim (lower_or_same c x lt) [
+pub column_more : (b : Borders) (old new : List ℕ) (y x z : ℕ) (cx cy : ℤ) → cx ≡ pos x → cy ≡ pos y →
+    HasNoHaloBetween b y x z → IsRowNotedBefore b old y x → KeepsNumbers old new → IsNoted b new cx cy →
+    IsRowNotedBefore b new y z
+column_more b old new y x z cx cy ex ey none before keeps here c lt = elim (before_at_after c x) [
   | inl l ↦ noted_still b old new (pos c) (pos y) keeps (before c l)
-  | inr same ↦ subst (λ (n : ℕ). IsNoted b new (pos n) (pos y)) (sym same)
-      (subst (λ (z : ℤ). IsNoted b new (pos x) z) ey (subst (λ (z : ℤ). IsNoted b new z cy) ex here))
+  | inr from ↦ elim from [
+    | inl same ↦ subst (λ (n : ℕ). IsNoted b new (pos n) (pos y)) (sym same)
+        (subst (λ (z : ℤ). IsNoted b new (pos x) z) ey (subst (λ (z : ℤ). IsNoted b new z cy) ex here))
+    | inr gt ↦ λ there. absurd (false≢true (sym (none c gt lt) ∙ (and_parts _ _ there).1))
+  ]
 ]
 
 pub all_columns : (b : Borders) (ks : List ℕ) (y x : ℕ) → b.job.now.area.x + b.job.now.area.w + 1 ≤ x →

@@ -1,36 +1,42 @@
 -- One more event, module, time, column or row
-use Rattle.std.proofs.Common.{◌≡◌, ℕ, suc, ◌+◌, ◌-◌, ◌<◌, ◌≤◌, List, [], ◌∷◌, ◌++◌, length, take, get_or, Bool, true}
+use Rattle.std.proofs.Common.{◌≡◌, ℕ, suc, ◌+◌, ◌-◌, ◌<◌, ◌≤◌, List, [], ◌∷◌, ◌++◌, length, map, take, get_or, Bool}
+use Rattle.std.proofs.Common.{true}
 use Rattle.std.proofs.Common.{false, Some, None, Less, Equal, Greater, refl, sym, ap, ap₂, subst, ◌∙◌, inl, inr, ◌⊎◌}
 use Rattle.std.proofs.Common.{arith}
-use Rattle.std.specs.Prelude.{ℤ, pos, ◌≢◌, slice_get, unwrap_or}
-use Rattle.std.specs.Arc.{arc_value}
+use Rattle.std.specs.Prelude.{ℤ, pos, ◌+ℤ◌, ◌≢◌, option_map, slice_get, unwrap_or}
 use Rattle.std.specs.Ordering.{nat_cmp}
-use Rattle.std.proofs.lemmas.List.{take_all, take_more}
-use Rattle.std.proofs.lemmas.Option.{slice_get_within}
+use Rattle.std.proofs.lemmas.List.{length-map, take_all, take_more}
+use Rattle.std.proofs.lemmas.Option.{slice_get_within, slice_get-get_or, slice_get-map}
 use Rattle.std.proofs.lemmas.Bool.{cond-false, false≢true, cases_Bool}
 use Rattle.std.proofs.lemmas.Bool.Decides.{nat_tests}
 use Rattle.std.proofs.lemmas.Cmp.{tied_itself}
+use Rattle.std.proofs.lemmas.Int.{ints}
 use Rattle.bbm_rule.specs.declared.block.Cell.{Cell}
-use Rattle.module_box.specs.Boxes.{in_box, is_near}
+use Rattle.module_box.specs.Boxes.{in_halo}
 use Rattle.module_box.specs.Locals.{circuit_wire, is_among}
+use Rattle.module_box.specs.Moves.{moved_cell, moved_event}
 use Rattle.module_box.specs.Schedules.{Signals, all_times_at, event_at, signal_at, is_then}
 use Rattle.module_box.specs.Tiling.{owner_of}
+use Rattle.module_box.specs.declared.boxes.Box2.{Box2}
 use Rattle.module_box.specs.declared.schedules.Event.{Event}
 use Rattle.module_box.specs.declared.schedules.Moment.{Moment}
 use Rattle.module_box.specs.declared.schedules.Signal.TheVariants.{Zero}
 use Rattle.module_box.proofs.BoxCells.{same_some}
-use Rattle.module_box.proofs.NearBoxes.{near_boxes}
+use Rattle.module_box.proofs.MovedBoxes.{cell_back}
 use Rattle.module_box.proofs.Rising.{then_moment}
 use Rattle.module_job.specs.Jobs.{JobView}
+use Rattle.module_job.specs.Shapes.{shape_of, shift_to_origin}
 use Rattle.module_job.specs.Signals.{renumber_signal}
 use Rattle.border_match.specs.BorderFaults.{border_cmp}
 use Rattle.border_match.specs.Boards.{AreOwnersNoted, jobs_of, IsReady, Faults, IsNamed, IsNamedBelow, IsEdgeNamed}
 use Rattle.border_match.specs.Boards.{IsEdgeNamedAmong, IsEdgeNamedAt, DiffersAlways, DiffersAlwaysAt}
-use Rattle.border_match.specs.Boards.{DiffersAlwaysInRow, DiffersAlwaysBefore, DiffersAlwaysAbove}
+use Rattle.border_match.specs.Boards.{DiffersAlwaysInRow, DiffersAlwaysBefore, DiffersAlwaysAbove, HasNoHaloBetween}
+use Rattle.border_match.specs.Boards.{IsAround}
+use Rattle.border_match.specs.Boards.{IsAtEventOf}
 use Rattle.border_match.specs.declared.borders.Borders.{Borders}
 use Rattle.border_match.specs.declared.fault.BorderFault.{BorderFault}
 use Rattle.border_match.proofs.FaultOrder.{border_total}
-use Rattle.border_match.proofs.Cells.{placed, reached}
+use Rattle.border_match.proofs.Cells.{fault_around, placed, reached}
 use Rattle.border_match.proofs.NearModules.{among_more}
 
 lower_or_same : (i m : ℕ) → i < m + 1 → (i < m) ⊎ (i ≡ m)
@@ -39,6 +45,9 @@ lower_or_same i m h = grind arith
 same_fault : (time : ℕ) (cell : Cell) (f : BorderFault) → f.time ≡ time → f.cell ≡ cell →
     f ≡ record { time = time; cell = cell }
 same_fault time cell f p q = let mk : ℕ → Cell → BorderFault = λ t c. record { time = t; cell = c } in ap₂ mk p q
+
+before_at_after : (i m : ℕ) → (i < m) ⊎ ((i ≡ m) ⊎ (m < i))
+before_at_after i m = grind arith
 
 -- ---- events
 
@@ -53,11 +62,59 @@ named_step events i e f got h = elim (lower_or_same h.named.place i h.below) [
       (sym h.named.cell ∙ ap (λ (z : Event). z.at.cell) is))
 ]
 
+pub named_step_of : (b : Borders) (k : ℕ) (events : List Event) (i : ℕ) (e : Event) (f : BorderFault) →
+    slice_get events i ≡ Some e → IsNamedBelow (i + 1) events f → owner_of b.owners.now f.cell.x f.cell.y ≡ k →
+    (IsNamedBelow i events f × (owner_of b.owners.now f.cell.x f.cell.y ≡ k)) ⊎ IsAtEventOf b k e f
+named_step_of b k events i e f got h owned = elim (named_step events i e f got h) [
+  | inl before ↦ inl (before, owned)
+  | inr at ↦ inr (at, owned)
+]
+
 pub named_all : (events : List Event) (k : ℕ) (f : BorderFault) → length events ≤ k → IsNamed events f →
     IsNamedBelow k events f
 named_all events k f le h =
     let within = slice_get_within events h.place h.event h.got in
     record { named = h; below = omega (arith, within) }
+
+-- events that are counted from the corner of their module's box
+pub cornered : (other : JobView) (es : List Event) (moved : Signals) → es ≡ moved.events →
+    moved ≡ (shape_of other).edges →
+    es ≡ map (moved_event (shift_to_origin other.area.x) (shift_to_origin other.area.y)) other.edges.events
+cornered other es moved same are = same ∙ ap (λ (s : Signals). s.events) are
+
+pub cornered_all : (dx dy : ℤ) (es events : List Event) (k : ℕ) → es ≡ map (moved_event dx dy) events →
+    length es ≤ k → length events ≤ k
+cornered_all dx dy es events k are le =
+    subst (λ n. n ≤ k) (ap length are ∙ length-map events (moved_event dx dy)) le
+
+-- the event at a place is at no cell around the module's box, so it is no fault
+pub around_step : (b : Borders) (other : JobView) (a corner : Box2) (es : List Event) (i : ℕ) (d : Event) (r : Bool)
+    (f : BorderFault) → a ≡ b.job.now.area → corner ≡ other.area →
+    es ≡ map (moved_event (shift_to_origin other.area.x) (shift_to_origin other.area.y)) other.edges.events →
+    i < length es →
+    (IsAround a ((get_or es i d).at.cell.x +ℤ pos corner.x) ((get_or es i d).at.cell.y +ℤ pos corner.y) → r ≡ true) →
+    r ≡ false → Faults b f → IsNamedBelow (i + 1) other.edges.events f → IsNamedBelow i other.edges.events f
+around_step b other a corner es i d r f same_area same_corner are lt around none g h =
+    elim (lower_or_same h.named.place i h.below) [
+      | inl lower ↦ record { named = h.named; below = lower }
+      | inr same ↦
+          let dx = shift_to_origin other.area.x in let dy = shift_to_origin other.area.y in
+          let there : slice_get other.edges.events i ≡ Some h.named.event =
+          ap (slice_get other.edges.events) (sym same) ∙ h.named.got in
+          let moved : moved_event dx dy h.named.event ≡ get_or es i d =
+          same_some _ _ _
+          (slice_get-map (moved_event dx dy) other.edges.events i ∙ ap (option_map (moved_event dx dy)) there)
+          (ap (λ l. slice_get l i) (sym are) ∙ slice_get-get_or es i d lt) in
+          let ex = ap (λ (z : Box2). z.x) same_corner in
+          let ey = ap (λ (z : Box2). z.y) same_corner in
+          let back : moved_cell (pos corner.x) (pos corner.y) (get_or es i d).at.cell ≡ f.cell =
+          ap (λ (e : Event). moved_cell (pos corner.x) (pos corner.y) e.at.cell) (sym moved)
+          ∙ cell_back dx dy (pos corner.x) (pos corner.y) h.named.event.at.cell (omega (arith, ints, ex))
+          (omega (arith, ints, ey)) ∙ h.named.cell in
+          let at : IsAround a f.cell.x f.cell.y =
+          subst (λ (z : Box2). IsAround z f.cell.x f.cell.y) (sym same_area) (fault_around b f g) in
+          absurd (false≢true (sym none ∙ around (subst (λ (c : Cell). IsAround a c.x c.y) (sym back) at)))
+    ]
 
 -- ---- modules
 
@@ -195,13 +252,18 @@ no_column b y x f e g h =
     pos_same : (i k : ℕ) → pos i ≡ pos k → i ≡ k
     pos_same i k e = cc
 
-pub column_step : (b : Borders) (y x : ℕ) (c : Cell) (f : BorderFault) → c.x ≡ pos x → c.y ≡ pos y →
-    DiffersAlwaysBefore b y (x + 1) f → DiffersAlwaysBefore b y x f ⊎ DiffersAlwaysAt b c f
-column_step b y x c f ex ey h =
+pub column_step : (b : Borders) (y x z : ℕ) (c : Cell) (f : BorderFault) → c.x ≡ pos x → c.y ≡ pos y →
+    HasNoHaloBetween b y x z → Faults b f → DiffersAlwaysBefore b y z f →
+    DiffersAlwaysBefore b y x f ⊎ DiffersAlwaysAt b c f
+column_step b y x z c f ex ey none g h =
     let mk : ℤ → ℤ → Cell = λ x y. record { x = x; y = y } in
-    elim (lower_or_same h.at x h.before) [
+    elim (before_at_after h.at x) [
       | inl lt ↦ inl (record { differs = h.differs; at = h.at; column = h.column; before = lt })
-      | inr same ↦ inr (h.differs.0, ap₂ mk (h.column ∙ ap pos same ∙ sym ex) (h.differs.1 ∙ sym ey))
+      | inr from ↦ elim from [
+        | inl same ↦ inr (h.differs.0, ap₂ mk (h.column ∙ ap pos same ∙ sym ex) (h.differs.1 ∙ sym ey))
+        | inr gt ↦ absurd (false≢true (sym (none h.at gt h.before)
+            ∙ sym (ap₂ (in_halo b.job.now.area) h.column h.differs.1) ∙ g.halo))
+      ]
     ]
 
 pub all_columns : (b : Borders) (y x : ℕ) (f : BorderFault) → b.job.now.area.x + b.job.now.area.w + 1 ≤ x → Faults b f →

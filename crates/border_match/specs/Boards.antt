@@ -1,6 +1,6 @@
 -- Border faults by the jobs of the modules, and the parts of a search for them
-use Rattle.std.specs.Prelude.{◌≡◌, ◌≢◌, ℕ, ℤ, pos, ◌<◌, ◌%◌, ◌&&◌, true, List, length, map, Some, None, slice_get}
-use Rattle.std.specs.Prelude.{IsTrue}
+use Rattle.std.specs.Prelude.{◌≡◌, ◌≢◌, ℕ, ℤ, pos, ◌+◌, ◌+ℤ◌, ◌≤ℤ◌, ◌<◌, ◌%◌, ◌&&◌, true, false, List, [], length, map}
+use Rattle.std.specs.Prelude.{Some, None, slice_get, IsTrue}
 use Rattle.std.specs.List.{All}
 use Rattle.std.specs.Arc.{arc_value}
 use Rattle.bbm_rule.specs.declared.block.Cell.{Cell}
@@ -66,9 +66,37 @@ IsReady b = IsBoard b.whole b.owners.now (jobs_of b) × IsQuiet b.job.now
 abbrev pub Faults : Borders → BorderFault → Type 0
 Faults b f = IsJobFault b.whole b.owners.now (jobs_of b) b.job.now f
 
+-- f is at an odd time below the steps, and at a cell of the halo and of the rectangle
+pub record MayBeFault (b : Borders) (f : BorderFault) : Type 0 where
+  pub odd : f.time % 2 ≡ 1
+  pub early : f.time < b.job.now.steps
+  pub inside : IsTrue (in_box b.whole f.cell.x f.cell.y)
+  pub halo : IsTrue (in_halo b.job.now.area f.cell.x f.cell.y)
+
 -- the job that is searched and the module that has the cell say different things of it at the time
 abbrev pub Differ : Borders → ℕ → ℤ → ℤ → Type 0
 Differ b t x y = AreDifferent b.owners.now (jobs_of b) b.job.now t x y
+
+-- no cell of row y between the columns x and z is in the module's halo
+abbrev pub HasNoHaloBetween : Borders → ℕ → ℕ → ℕ → Type 0
+HasNoHaloBetween b y x z = (c : ℕ) → x < c → c < z → in_halo b.job.now.area (pos c) (pos y) ≡ false
+
+-- the cell (x, y) is in the columns and rows of the box or next to them, as the cells of its halo are
+pub record IsAround (a : Box2) (x y : ℤ) : Type 0 where
+  pub left : pos a.x ≤ℤ (x +ℤ pos 1)
+  pub right : x ≤ℤ pos (a.x + a.w)
+  pub top : pos a.y ≤ℤ (y +ℤ pos 1)
+  pub bottom : y ≤ℤ pos (a.y + a.h)
+
+-- no edge line with a star is of one of the modules with these numbers
+abbrev pub AreEdgesStarless : Borders → List ℕ → Type 0
+AreEdgesStarless b ks = (k : ℕ) (j : JobView) → IsTrue (is_among ks k) → slice_get (jobs_of b) k ≡ Some j →
+    j.edges.all_times ≡ []
+
+-- the same, and no halo line with a star is of the module that is searched
+pub record IsStarless (b : Borders) (ks : List ℕ) : Type 0 where
+  pub halos : b.job.now.halos.all_times ≡ []
+  pub edges : AreEdgesStarless b ks
 
 -- ---- which faults a part of the search finds
 
@@ -79,6 +107,22 @@ pub record IsNamed (events : List Event) (f : BorderFault) : Type 0 where
   pub got : slice_get events place ≡ Some event
   pub time : event.at.time ≡ f.time
   pub cell : event.at.cell ≡ f.cell
+
+-- the event is one of the list
+abbrev pub IsListed : List Event → Event → Type 0
+IsListed es e = (k : ℕ) × (slice_get es k ≡ Some e)
+
+-- f is at the time and cell of the event
+abbrev pub IsAtEvent : Event → BorderFault → Type 0
+IsAtEvent e f = f ≡ record { time = e.at.time; cell = e.at.cell }
+
+-- the same, and the module with the number k has the cell
+abbrev pub IsAtEventOf : Borders → ℕ → Event → BorderFault → Type 0
+IsAtEventOf b k e f = IsAtEvent e f × (owner_of b.owners.now f.cell.x f.cell.y ≡ k)
+
+-- an event of the list is at the time and cell of f, and the module with the number k has the cell
+abbrev pub IsNamedOf : Borders → ℕ → List Event → BorderFault → Type 0
+IsNamedOf b k events f = IsNamed events f × (owner_of b.owners.now f.cell.x f.cell.y ≡ k)
 
 -- one of the first k events of the list is at the time and cell of f
 pub record IsNamedBelow (k : ℕ) (events : List Event) (f : BorderFault) : Type 0 where

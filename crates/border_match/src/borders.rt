@@ -1,17 +1,17 @@
 //! The borders of one module.
-ghost use Rattle.std.specs.Prelude.{◌≡◌, ◌≢◌, ◌<◌, ◌↔◌, ◌&&◌, List, length, map, slice_get, IsTrue, Some, IfOk, OnOk};
+ghost use Rattle.std.specs.Prelude.{pos, ◌+◌, ◌+ℤ◌, ◌≤ℤ◌, ◌≡◌, ◌≢◌, ◌<◌, ◌↔◌, ◌&&◌, false, List, [], length, map, slice_get, IsTrue, Some, IfOk, OnOk};
 ghost use Rattle.std.specs.Arc.{arc_value};
 ghost use Rattle.circuit.specs.Meaning.{wires};
 ghost use Rattle.module_box.specs.Boxes.{in_box, in_halo};
 ghost use Rattle.module_box.specs.Locals.{circuit_wire};
-ghost use Rattle.module_box.specs.Moves.{IsNear};
+ghost use Rattle.module_box.specs.Moves.{IsNear, moved_cell};
 ghost use Rattle.module_box.specs.Tiling.{owner_of};
 ghost use Rattle.module_job.specs.Signals.{IsBelow, renumber_signal};
-ghost use Rattle.border_match.specs.Boards.{AreNumbers, AreOwnersNoted, Differ, Faults, IsEdgeNamed, IsEdgeNamedAt, DiffersAlways, DiffersAlwaysAt, DiffersAlwaysInRow, IsNamed, IsNoted, IsReady, IsRowNoted, KeepsNumbers, job_edge, job_halo, jobs_of};
+ghost use Rattle.border_match.specs.Boards.{AreNumbers, AreOwnersNoted, Differ, Faults, IsEdgeNamed, IsEdgeNamedAt, DiffersAlways, DiffersAlwaysAt, DiffersAlwaysInRow, HasNoHaloBetween, IsAround, IsAtEvent, IsAtEventOf, IsListed, IsNamed, IsNamedOf, IsNoted, IsReady, IsRowNoted, IsStarless, KeepsNumbers, MayBeFault, job_edge, job_halo, jobs_of};
 ghost use Rattle.border_match.specs.Candidates.{IsBetter, IsLeast};
 ghost use Rattle.border_match.specs.declared.fault.BorderFault.{BorderFault};
 
-use crate::fault::{BorderFault, lesser};
+use crate::fault::{BorderFault, is_less, lesser};
 use bbm_rule::Cell;
 use certificate::Job;
 use module_box::{Box2, Event, Owners, Signal};
@@ -60,6 +60,91 @@ fn edge_signal(job: &Job, time: u32, cell: Cell) -> Signal
     circuit_signal(job, job.edge(time, cell))
 }
 
+// Returns whether a line with a star, which speaks of all times, is for the module's halo.
+fn has_halo_star(job: &Job) -> bool
+    ensures { result ≡ false → job.now.halos.all_times ≡ [] }
+{
+    let own: &Shape = job.shape();
+    !own.halos().all_times().is_empty()
+}
+
+// Returns whether a line with a star is for the module's ring.
+fn has_edge_star(job: &Job) -> bool
+    ensures { result ≡ false → job.now.edges.all_times ≡ [] }
+{
+    let own: &Shape = job.shape();
+    !own.edges().all_times().is_empty()
+}
+
+// Returns what a module says of the cell and the time of an event of its halo. If no line has a star, the event itself
+// says it: no two events are of one cell and time, since they rise.
+fn halo_event_signal(job: &Job, event: Event) -> Signal
+    requires near { IsNear event.at.cell }
+    requires listed { IsListed job.now.halos.events event }
+    ensures { result ≡ job_halo job.now event.at.time event.at.cell.x event.at.cell.y }
+{
+    if has_halo_star(job) {
+        return halo_signal(job, event.at.time, event.at.cell);
+    }
+    let _area = job.area();
+    let own: &Shape = job.shape();
+    let _events = own.halos().events();
+    circuit_signal(job, event.signal)
+}
+
+// Returns what a module says of the cell and the time of an event of its ring.
+fn edge_event_signal(job: &Job, event: Event) -> Signal
+    requires near { IsNear event.at.cell }
+    requires listed { IsListed job.now.edges.events event }
+    ensures { result ≡ job_edge job.now event.at.time event.at.cell.x event.at.cell.y }
+{
+    if has_edge_star(job) {
+        return edge_signal(job, event.at.time, event.at.cell);
+    }
+    let _area = job.area();
+    let own: &Shape = job.shape();
+    let _events = own.edges().events();
+    circuit_signal(job, event.signal)
+}
+
+// Returns whether `z`, counted from a corner, is one of the `n` numbers from `from` on or next to one of them.
+fn is_beside(from: u32, n: u32, corner: u32, z: i32) -> bool
+    ensures { let at = z +ℤ pos corner in
+        pos from ≤ℤ (at +ℤ pos 1) → at ≤ℤ pos (from + n) → IsTrue result }
+{
+    let at = z as i64 + corner as i64;
+    if at + 1 < from as i64 {
+        return false;
+    }
+    if at > from as i64 + n as i64 {
+        return false;
+    }
+    true
+}
+
+// Returns whether a cell, counted from the corner of another box, is in the columns and rows of the area or next to
+// them.
+fn is_around(area: Box2, corner: Box2, cell: Cell) -> bool
+    ensures { let at = moved_cell (pos corner.x) (pos corner.y) cell in
+        IsAround area at.x at.y → IsTrue result }
+{
+    if !is_beside(area.x, area.w, corner.x, cell.x) {
+        return false;
+    }
+    is_beside(area.y, area.h, corner.y, cell.y)
+}
+
+// Returns the fault that an event names, which may be none.
+fn fault_at(event: Event) -> BorderFault
+    ensures time { result.time ≡ event.at.time }
+    ensures cell { result.cell ≡ event.at.cell }
+{
+    BorderFault {
+        time: event.at.time,
+        cell: event.at.cell,
+    }
+}
+
 impl<'a> Borders<'a> {
     // The job of the module that has a cell of the rectangle.
     fn owner(&self, cell: Cell) -> &'a Job
@@ -91,22 +176,35 @@ impl<'a> Borders<'a> {
         halo_signal(self.job, time, cell) != edge_signal(owner, time, cell)
     }
 
-    // Whether a line with a star, which speaks of all times, is for the module's halo or for the ring of the module
-    // that has the cell. Where it is false the signals of the cell do not differ at time 0.
-    fn has_star_line(&self, cell: Cell) -> bool
+    // Returns the same for the cell and the time of an event of the module's halo, with one search less.
+    fn halo_event_differs(&self, event: Event) -> bool
         requires ready { IsReady self.now }
-        requires inside { IsTrue (in_box self.now.whole cell.x cell.y) }
-        ensures { Differ self.now 0 cell.x cell.y → IsTrue result }
+        requires inside { IsTrue (in_box self.now.whole event.at.cell.x event.at.cell.y) }
+        requires listed { IsListed self.now.job.now.halos.events event }
+        ensures { IsTrue result ↔ Differ self.now event.at.time event.at.cell.x event.at.cell.y }
     {
-        let own: &Shape = self.job.shape();
-        let other: &Shape = self.owner(cell).shape();
-        !own.halos().all_times().is_empty() || !other.edges().all_times().is_empty()
+        let owner = self.owner(event.at.cell);
+        let _area = owner.area();
+        halo_event_signal(self.job, event) != edge_signal(owner, event.at.time, event.at.cell)
     }
 
-    // Whether this is a border fault of the module.
-    fn is_fault(&self, fault: BorderFault) -> bool
-        requires { IsReady self.now }
-        ensures { IsTrue result ↔ Faults self.now fault }
+    // Returns the same for the cell and the time of an event of the ring of the module that has the cell.
+    fn edge_event_differs(&self, owner: &Job, event: Event) -> bool
+        requires ready { IsReady self.now }
+        requires inside { IsTrue (in_box self.now.whole event.at.cell.x event.at.cell.y) }
+        requires owner { slice_get (jobs_of self.now)
+            (owner_of self.now.owners.now event.at.cell.x event.at.cell.y) ≡ Some owner.now }
+        requires listed { IsListed owner.now.edges.events event }
+        ensures { IsTrue result ↔ Differ self.now event.at.time event.at.cell.x event.at.cell.y }
+    {
+        let _area = owner.area();
+        let own = halo_signal(self.job, event.at.time, event.at.cell);
+        own != edge_event_signal(owner, event)
+    }
+
+    // Returns whether a border fault can be at this time and cell.
+    fn may_be_fault(&self, fault: BorderFault) -> bool
+        ensures { IsTrue result ↔ MayBeFault self.now fault }
     {
         if fault.time % 2 != 1 {
             return false;
@@ -114,34 +212,51 @@ impl<'a> Borders<'a> {
         if fault.time >= self.job.steps() {
             return false;
         }
-        if !self.reaches(fault.cell) {
-            return false;
-        }
-        self.differs(fault.time, fault.cell)
+        self.reaches(fault.cell)
     }
 
-    // The lesser of the candidate and the fault, if it is one.
-    fn with_fault(&self, best: Option<BorderFault>, fault: BorderFault) -> Option<BorderFault>
+    // Whether this is a border fault of the module.
+    fn is_fault(&self, fault: BorderFault) -> bool
         requires { IsReady self.now }
-        ensures { IsBetter (Faults self.now) (λ h. h ≡ fault) best result }
+        ensures { IsTrue result ↔ Faults self.now fault }
     {
-        if self.is_fault(fault) {
+        self.may_be_fault(fault) && self.differs(fault.time, fault.cell)
+    }
+
+    // The lesser of the candidate and the fault that an event of the module's halo names.
+    fn with_halo_event(&self, best: Option<BorderFault>, event: Event) -> Option<BorderFault>
+        requires ready { IsReady self.now }
+        requires listed { IsListed self.now.job.now.halos.events event }
+        ensures { IsBetter (Faults self.now) (IsAtEvent event) best result }
+    {
+        let fault = fault_at(event);
+        if is_less(fault, best) && self.may_be_fault(fault) && self.halo_event_differs(event) {
             return lesser(best, fault);
         }
         best
     }
 
-    // The lesser of the candidate and the fault that an event names.
-    fn with_event(&self, best: Option<BorderFault>, event: Event) -> Option<BorderFault>
-        requires { IsReady self.now }
-        ensures { IsBetter (Faults self.now)
-            (λ h. h ≡ record { time = event.at.time; cell = event.at.cell }) best result }
+    // The lesser of the candidate and the fault that an event of a module's ring names, if that module has the cell.
+    fn with_edge_event(
+        &self,
+        best: Option<BorderFault>,
+        number: usize,
+        other: &Job,
+        event: Event,
+    ) -> Option<BorderFault>
+        requires ready { IsReady self.now }
+        requires numbered { slice_get (jobs_of self.now) number ≡ Some other.now }
+        requires listed { IsListed other.now.edges.events event }
+        ensures { IsBetter (Faults self.now) (IsAtEventOf self.now number event) best result }
     {
-        let fault = BorderFault {
-            time: event.at.time,
-            cell: event.at.cell,
-        };
-        self.with_fault(best, fault)
+        let fault = fault_at(event);
+        if !is_less(fault, best) || !self.may_be_fault(fault) {
+            return best;
+        }
+        if self.owners.owner(fault.cell) == number && self.edge_event_differs(other, event) {
+            return lesser(best, fault);
+        }
+        best
     }
 
     // The least of the candidate and the faults that the events of the module's halo name.
@@ -151,19 +266,34 @@ impl<'a> Borders<'a> {
     {
         let mut least = best;
         'events: for place in 0..self.job.halo_events() {
-            least = self.with_event(least, self.job.halo_event(place));
+            least = self.with_halo_event(least, self.job.halo_event(place));
         }
         least
     }
 
-    // The least of the candidate and the faults that the events of a module's ring name.
-    fn with_edge_events(&self, best: Option<BorderFault>, other: &Job) -> Option<BorderFault>
-        requires { IsReady self.now }
-        ensures { IsBetter (Faults self.now) (IsNamed other.now.edges.events) best result }
+    // The least of the candidate and the faults that the events of a module's ring name at cells of that module.
+    fn with_edge_events(
+        &self,
+        best: Option<BorderFault>,
+        number: usize,
+        other: &Job,
+    ) -> Option<BorderFault>
+        requires ready { IsReady self.now }
+        requires numbered { slice_get (jobs_of self.now) number ≡ Some other.now }
+        ensures { IsBetter (Faults self.now) (IsNamedOf self.now number other.now.edges.events) best
+            result }
     {
+        let area = self.job.area();
+        let corner = other.area();
+        let shape: &Shape = other.shape();
+        let events = shape.edges().events();
         let mut least = best;
-        'events: for place in 0..other.edge_events() {
-            least = self.with_event(least, other.edge_event(place));
+        'events: for place in 0..events.len() {
+            // Most events of a long side are far from this module, so this test comes before all others.
+            if !is_around(area, corner, events[place].at.cell) {
+                continue;
+            }
+            least = self.with_edge_event(least, number, other, other.edge_event(place));
         }
         least
     }
@@ -174,10 +304,11 @@ impl<'a> Borders<'a> {
         requires number { number < length self.now.jobs.now }
         ensures { IsBetter (Faults self.now) (IsEdgeNamedAt number self.now) best result }
     {
-        self.with_edge_events(best, &self.jobs[number])
+        self.with_edge_events(best, number, &self.jobs[number])
     }
 
-    // Adds the number of the module that has the cell, if the cell is in the module's halo and the number is new.
+    // Adds the number of the module that has the cell, unless the cell is outside the rectangle or in the module's box.
+    // A number is added once.
     fn note_owner(&self, near: &mut Vec<usize>, cell: Cell) -> Result<(), AllocError>
         requires ready { IsReady self.now }
         requires below { AreNumbers self.now near.old.items }
@@ -185,7 +316,11 @@ impl<'a> Borders<'a> {
         ensures kept { OnOk result (KeepsNumbers near.old.items near.new.items) }
         ensures below { OnOk result (AreNumbers self.now near.new.items) }
     {
-        if !self.reaches(cell) {
+        // No cell of the halo fails these two tests, and they take less than `reaches`.
+        if !self.whole.holds(cell) {
+            return Ok(());
+        }
+        if self.job.area().holds(cell) {
             return Ok(());
         }
         let number = self.owners.owner(cell);
@@ -194,6 +329,25 @@ impl<'a> Borders<'a> {
         }
         near.push(number)?;
         Ok(())
+    }
+
+    // Returns the next column after `x` in which row `y` may have a cell of the halo. The columns between are in the
+    // box.
+    fn next_column(&self, x: u32, y: u32) -> u32
+        requires column { x < 1024 }
+        requires row { y < 1024 }
+        ensures after { x < result }
+        ensures none_between { HasNoHaloBetween self.now y x result }
+    {
+        let area = self.job.area();
+        let next = Cell {
+            x: (x + 1) as i32,
+            y: y as i32,
+        };
+        if area.holds(next) {
+            return area.x + area.w;
+        }
+        x + 1
     }
 
     // Adds the numbers of the modules that have cells of the module's halo in a row.
@@ -206,12 +360,15 @@ impl<'a> Borders<'a> {
         ensures below { OnOk result (AreNumbers self.now near.new.items) }
     {
         let area = self.job.area();
-        'columns: for x in area.x.saturating_sub(1)..area.x + area.w + 1 {
+        let end = area.x + area.w + 1;
+        let mut x = area.x.saturating_sub(1);
+        'columns: while x < end {
             let cell = Cell {
                 x: x as i32,
                 y: y as i32,
             };
             self.note_owner(near, cell)?;
+            x = self.next_column(x, y);
         }
         Ok(())
     }
@@ -260,8 +417,8 @@ impl<'a> Borders<'a> {
     }
 
     // The lesser of the candidate and the first fault of a cell, if halo and edge signal differ where no line names a
-    // time. No line names time 0, so those signals are found there, and without a line with a star both are `Zero`. The
-    // first fault is soon met, since only an even time, or an odd one that a line names for the cell, is without one.
+    // time. No line names time 0, so those signals are found there. The first fault is soon met, since only an even
+    // time, or an odd one that a line names for the cell, is without one.
     fn with_cell(&self, best: Option<BorderFault>, cell: Cell) -> Option<BorderFault>
         requires { IsReady self.now }
         ensures { IsBetter (Faults self.now) (DiffersAlwaysAt self.now cell) best result }
@@ -269,7 +426,7 @@ impl<'a> Borders<'a> {
         if !self.reaches(cell) {
             return best;
         }
-        if !self.has_star_line(cell) || !self.differs(0, cell) {
+        if !self.differs(0, cell) {
             return best;
         }
         self.with_first_at(best, cell)
@@ -282,22 +439,48 @@ impl<'a> Borders<'a> {
         ensures { IsBetter (Faults self.now) (DiffersAlwaysInRow self.now y) best result }
     {
         let area = self.job.area();
+        let end = area.x + area.w + 1;
         let mut least = best;
-        'columns: for x in area.x.saturating_sub(1)..area.x + area.w + 1 {
+        let mut x = area.x.saturating_sub(1);
+        'columns: while x < end {
             let cell = Cell {
                 x: x as i32,
                 y: y as i32,
             };
             least = self.with_cell(least, cell);
+            x = self.next_column(x, y);
         }
         least
     }
 
-    // The least of the candidate and the faults of those cells of the halo for which such signals differ.
-    fn with_halo(&self, best: Option<BorderFault>) -> Option<BorderFault>
-        requires { IsReady self.now }
+    // Returns whether a line with a star is for the module's halo or for the ring of a module in `near`. If not, each
+    // signal at time 0 is `Zero`.
+    fn has_star(&self, near: &[usize]) -> bool
+        requires { AreNumbers self.now near.now }
+        ensures { result ≡ false → IsStarless self.now near.now }
+    {
+        if has_halo_star(self.job) {
+            return true;
+        }
+        'modules: for number in near {
+            if has_edge_star(&self.jobs[*number]) {
+                return true;
+            }
+        }
+        false
+    }
+
+    // The least of the candidate and the faults of those cells of the halo for which such signals differ, where these
+    // are the numbers of the modules that have cells of the halo.
+    fn with_halo(&self, best: Option<BorderFault>, near: &[usize]) -> Option<BorderFault>
+        requires ready { IsReady self.now }
+        requires noted { AreOwnersNoted self.now near.now }
+        requires below { AreNumbers self.now near.now }
         ensures { IsBetter (Faults self.now) (DiffersAlways self.now) best result }
     {
+        if !self.has_star(near) {
+            return best;
+        }
         let area = self.job.area();
         let mut least = best;
         'rows: for y in area.y.saturating_sub(1)..area.y + area.h + 1 {
@@ -314,6 +497,6 @@ impl<'a> Borders<'a> {
         let near = self.near_modules(alloc)?;
         let by_halo = self.with_halo_events(None);
         let by_edges = self.with_edges(by_halo, &near);
-        Ok(self.with_halo(by_edges))
+        Ok(self.with_halo(by_edges, &near))
     }
 }

@@ -1,5 +1,5 @@
 //! Border faults, and their order.
-ghost use Rattle.std.specs.Prelude.{◌≡◌, ◌⊎◌, Some};
+ghost use Rattle.std.specs.Prelude.{◌≡◌, ◌⊎◌, false, Some};
 ghost use Rattle.border_match.specs.BorderFaults.{border_cmp};
 ghost use Rattle.border_match.specs.Candidates.{Covers};
 ghost use Rattle.border_match.specs.declared.fault.BorderFault.{BorderFault};
@@ -29,6 +29,16 @@ impl BorderFault {
         self.time
             .cmp(&other.time)
             .then(compare_cells(self.cell, other.cell))
+    }
+}
+
+// Returns whether the fault is less than the candidate, or there is no candidate.
+pub(crate) fn is_less(fault: BorderFault, best: Option<BorderFault>) -> bool
+    ensures { result ≡ false → Covers best fault }
+{
+    match best {
+        Some(other) => other.compare(fault) == Ordering::Greater,
+        None => true,
     }
 }
 

@@ -10,8 +10,6 @@ use Rattle.certificate_lines.specs.Versions.{meant, with_halos}
 use Rattle.border_match.specs.BorderFaults.{AreBorderFaultsOf, IsLeastBorderFault}
 use Rattle.border_match.specs.Boards.{IsBoard, IsJobFault}
 use Rattle.border_match.specs.Candidates.{IsLeast}
-use Rattle.module_box.specs.declared.boxes.Box2.{Box2}
-use Rattle.certificate.proofs.FullModules.{meant_areas}
 use Rattle.border_match.proofs.Bridge.{board, quiet_job, least_by_lines}
 use Rattle.border_match.proofs.Cells.{job_at}
 use Rattle.border_match.proofs.Modules.{pushed_more}

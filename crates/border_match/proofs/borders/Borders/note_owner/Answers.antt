@@ -1,14 +1,23 @@
 -- A number that is there already stays, and a new one is the last.
 use Rattle.std.proofs.Common.{◌≡◌, ◌∙◌, ℕ, ◌<◌, List, [], ◌∷◌, ◌++◌, length, true, ap, subst, sym}
-use Rattle.std.proofs.lemmas.Bool.{and_parts}
+use Rattle.std.proofs.lemmas.Bool.{and_parts, false≢true}
 use Rattle.std.proofs.lemmas.List.Elements.{All-push}
-use Rattle.module_box.specs.Boxes.{in_box, in_halo}
+use Rattle.module_box.specs.Boxes.{in_box}
+use Rattle.module_box.specs.declared.boxes.Box2.{Box2}
 use Rattle.module_box.specs.Locals.{is_among}
 use Rattle.module_box.specs.Tiling.{owner_of}
 use Rattle.border_match.specs.Boards.{AreNumbers}
-use Rattle.border_match.proofs.Cells.{owner_within}
+use Rattle.border_match.proofs.Cells.{box_no_halo, owner_within}
 use Rattle.border_match.proofs.NearModules.{keeps_more, last_among}
 use Rattle.border_match.proofs.borders.Borders.note_owner.Goals as goal
+
+pub returns-then-holds-clause-noted : goal.returns-then-holds-clause-noted
+returns-then-holds-clause-noted c =
+    let area = c.args.self.now.job.now.area in
+    let x = c.args.cell.x in let y = c.args.cell.y in
+    let inside : in_box area x y ≡ true =
+    ap (λ (a : Box2). in_box a x y) (sym c.area.ensures.area) ∙ sym c.holds-2.ensures ∙ c.if-holds.true in
+    λ there. absurd (false≢true (sym (box_no_halo area x y inside) ∙ (and_parts _ _ there).1))
 
 pub returns : goal.returns
 returns c =
@@ -16,8 +25,7 @@ returns c =
     let near = c.args.near.now.items in
     let number = c.owner-number.result in
     let items = c.in_ok-push.ensures.items in
-    let both = and_parts (in_box b.whole c.args.cell.x c.args.cell.y)
-    (in_halo b.job.now.area c.args.cell.x c.args.cell.y) (sym c.reaches.ensures ∙ c.if-not-reaches.false) in
+    let inside = sym c.holds.ensures ∙ c.if-not-holds.false in
     record {
       noted = λ there. subst (λ (l : List ℕ). is_among l (owner_of b.owners.now c.args.cell.x c.args.cell.y) ≡ true)
           (sym items) (subst (λ (k : ℕ). is_among (near ++ number ∷ []) k ≡ true) c.owner-number.ensures
@@ -26,5 +34,5 @@ returns c =
       below = subst (AreNumbers b) (sym items)
           (All-push (λ (k : ℕ). k < length b.jobs.now) near number c.requires.below
           (subst (λ (k : ℕ). k < length b.jobs.now) (sym c.owner-number.ensures)
-          (owner_within b c.args.cell.x c.args.cell.y c.requires.ready both.0)));
+          (owner_within b c.args.cell.x c.args.cell.y c.requires.ready inside)));
     }

@@ -20,8 +20,8 @@ columns-preserved c =
     let now = c.in_ok-note_owner.ensures in
     let before = c.columns.invariant in
     record {
-      noted = column_more c.args.self.now c.columns.near.items c.note_owner.new.near.items c.args.y c.columns.x _ _
-          (search rules) (search rules) before.noted now.kept now.noted;
+      noted = column_more c.args.self.now c.columns.near.items c.note_owner.new.near.items c.args.y c.columns.x _ _ _
+          (search rules) (search rules) c.next_column-x.ensures.none_between before.noted now.kept now.noted;
       kept = λ k h. now.kept k (before.kept k h);
       below = now.below;
     }

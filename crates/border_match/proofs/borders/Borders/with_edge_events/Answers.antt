@@ -1,13 +1,38 @@
-use Rattle.std.proofs.Common.{arith}
+use Rattle.std.proofs.Common.{ap, ◌∙◌}
+use Rattle.module_job.specs.Shapes.{ShapeView}
 use Rattle.border_match.proofs.Least.{better_then, better_for}
-use Rattle.border_match.proofs.Steps.{named_step, named_all}
+use Rattle.border_match.proofs.Steps.{around_step, cornered, cornered_all, named_step_of, named_all}
 use Rattle.border_match.proofs.borders.Borders.with_edge_events.Goals as goal
 
+pub events-preserved-then-not-is_around : goal.events-preserved-then-not-is_around
+events-preserved-then-not-is_around c =
+    let other = c.args.other.now in
+    let are = cornered other c.events-events.result.now c.edges.result.now c.events-events.ensures.same_list
+    (c.edges.ensures ∙ ap (λ (s : ShapeView). s.edges) (c.deref-shape.ensures ∙ c.shape.ensures)) in
+    better_for _ _ _ _ _ c.events.invariant
+    (λ h f r. (
+      around_step c.args.self.now other c.area-area.result c.area-corner.result c.events-events.result.now
+          c.events.place _ c.is_around.result h c.area-area.ensures.area c.area-corner.ensures.area are
+          c.events-test.true
+          c.is_around.ensures c.if-not-is_around.true f r.0,
+      r.1,
+    ))
+
+pub with_edge_event-least-requires-clause-listed : goal.with_edge_event-least-requires-clause-listed
+with_edge_event-least-requires-clause-listed c = (c.events.place, c.edge_event.ensures)
+
 pub events-preserved : goal.events-preserved
-events-preserved c = better_then _ _ _ _ _ _ _ c.events.invariant c.with_event-least.ensures
-    (λ h f r. named_step c.args.other.now.edges.events c.events.place c.edge_event.result h c.edge_event.ensures r)
+events-preserved c = better_then _ _ _ _ _ _ _ c.events.invariant c.with_edge_event-least.ensures
+    (λ h f r. named_step_of c.args.self.now c.args.number c.args.other.now.edges.events c.events.place
+    c.edge_event.result h c.edge_event.ensures r.0 r.1)
 
 pub returns : goal.returns
-returns c = better_for _ _ _ _ _ c.events.invariant
-    (λ h f r. named_all c.args.other.now.edges.events c.events.place h
-    (omega (arith, c.events-test.false, c.edge_events-place-end.ensures)) r)
+returns c =
+    let other = c.args.other.now in
+    let are = cornered other c.events-events.result.now c.edges.result.now c.events-events.ensures.same_list
+    (c.edges.ensures ∙ ap (λ (s : ShapeView). s.edges) (c.deref-shape.ensures ∙ c.shape.ensures)) in
+    better_for _ _ _ _ _ c.events.invariant (λ h f r. (
+      named_all other.edges.events c.events.place h
+          (cornered_all _ _ c.events-events.result.now other.edges.events c.events.place are c.events-test.false) r.0,
+      r.1,
+    ))

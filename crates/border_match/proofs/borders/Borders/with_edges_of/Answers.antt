@@ -7,10 +7,14 @@ use Rattle.border_match.proofs.Least.{better_for}
 use Rattle.border_match.proofs.Steps.{edges_named}
 use Rattle.border_match.proofs.borders.Borders.with_edges_of.Goals as goal
 
+pub with_edge_events-requires-clause-numbered : goal.with_edge_events-requires-clause-numbered
+with_edge_events-requires-clause-numbered c =
+    job_at arc_value c.args.self.now.jobs.now c.args.number _ c.deref.result.now c.requires.number c.deref.ensures
+
 pub returns : goal.returns
 returns c =
     let b = c.args.self.now in
     let other = c.deref.result.now in
     let got : slice_get (jobs_of b) c.args.number ≡ Some other =
     job_at arc_value b.jobs.now c.args.number _ other c.requires.number c.deref.ensures in
-    better_for _ _ _ _ _ c.with_edge_events.ensures (λ h f p. edges_named b c.args.number other h got p)
+    better_for _ _ _ _ _ c.with_edge_events.ensures (λ h f p. (edges_named b c.args.number other h got p, p.1))

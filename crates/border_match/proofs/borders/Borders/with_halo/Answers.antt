@@ -2,7 +2,13 @@ use Rattle.std.proofs.Common.{◌≡◌, ◌≤◌, ◌-◌, ◌+◌, ap, arith}
 use Rattle.module_box.specs.declared.boxes.Box2.{Box2}
 use Rattle.border_match.proofs.Least.{better_same, better_for}
 use Rattle.border_match.proofs.Steps.{no_row, all_rows}
+use Rattle.border_match.proofs.Unheld.{starless}
 use Rattle.border_match.proofs.borders.Borders.with_halo.Goals as goal
+
+pub returns-then-not-has_star : goal.returns-then-not-has_star
+returns-then-not-has_star c = better_same _ _ _
+    (λ h f p. starless c.args.self.now c.args.near.now h c.requires.ready c.requires.noted
+    (c.has_star.ensures c.if-not-has_star.true) f p)
 
 pub rows-init : goal.rows-init
 rows-init c =
