@@ -1,5 +1,5 @@
 //! The borders of one module.
-ghost use Rattle.std.specs.Prelude.{pos, ◌+◌, ◌+ℤ◌, ◌≤ℤ◌, ◌≡◌, ◌≢◌, ◌<◌, ◌↔◌, ◌&&◌, false, List, [], length, map, slice_get, slice_set, true, IsTrue, Some, IfSome, IfOk, OnOk};
+ghost use Rattle.std.specs.Prelude.{pos, ◌+◌, ◌≤◌, ◌+ℤ◌, ◌≤ℤ◌, ◌≡◌, ◌≢◌, ◌<◌, ◌↔◌, ◌&&◌, false, List, [], length, map, slice_get, slice_set, true, IsTrue, Some, IfSome, IfOk, OnOk};
 ghost use Rattle.std.specs.Arc.{arc_value};
 ghost use Rattle.circuit.specs.Meaning.{wires};
 ghost use Rattle.module_box.specs.Boxes.{in_box, in_halo};
@@ -14,8 +14,8 @@ ghost use Rattle.border_match.specs.declared.fault.BorderFault.{BorderFault};
 use crate::fault::{BorderFault, is_less, lesser};
 use bbm_rule::Cell;
 use certificate::Job;
-use module_box::{Box2, Event, Moment, Owners, Signal};
-use module_job::Shape;
+use module_box::{Box2, Event, Moment, Owners, Signal, moved_cell};
+use module_job::{Shape, shift_to_origin};
 use std::alloc::{AllocError, Global};
 use std::cmp::Ordering;
 use std::sync::Arc;
@@ -135,6 +135,36 @@ fn is_around(area: Box2, corner: Box2, cell: Cell) -> bool
     is_beside(area.y, area.h, corner.y, cell.y)
 }
 
+// Returns the place of the first event from `from` on that is not before a moment.
+//
+// It looks at places ever further from `from`, and then between the last two, since the next event is mostly near.
+// `halo_place` compares the event at the place, so a wrong place would cost only time.
+fn place_from(events: &[Event], from: usize, at: Moment) -> usize
+    requires { from ≤ length events.now }
+    ensures { result ≤ length events.now }
+{
+    let mut low = from;
+    let mut high = from;
+    'jumps: while high < events.len() {
+        match events[high].at.compare(at) {
+            Ordering::Less => {
+                let jump = (high - low).saturating_mul(2).saturating_add(1);
+                low = high + 1;
+                high = low + jump.min(events.len() - low);
+            }
+            _ => break,
+        }
+    }
+    'halves: while low < high {
+        let middle = low + (high - low) / 2;
+        match events[middle].at.compare(at) {
+            Ordering::Less => low = middle + 1,
+            _ => high = middle,
+        }
+    }
+    low
+}
+
 // Sets a mark.
 fn mark(seen: &mut [bool], place: usize)
     requires { place < length seen.old }
@@ -247,32 +277,40 @@ impl<'a> Borders<'a> {
         best
     }
 
-    // Returns the place of the event of the module's halo at this time and cell, or `None` if the search meets none.
-    fn halo_place(&self, at: Moment) -> Option<usize>
+    // Returns the place of the event of the module's halo at this time and cell, or `None` if the search from a place
+    // on meets none.
+    fn halo_place(&self, at: Moment, from: usize) -> Option<usize>
+        requires { IsNear at.cell }
         ensures { IfSome result (IsPlaceOf self.now.job.now.halos.events at) }
     {
-        let mut low = 0;
-        let mut high = self.job.halo_events();
-        'search: while low < high {
-            let middle = low + (high - low) / 2;
-            match self.job.halo_event(middle).at.compare(at) {
-                Ordering::Less => low = middle + 1,
-                Ordering::Greater => high = middle,
-                Ordering::Equal => return Some(middle),
-            }
+        let area = self.job.area();
+        let shape: &Shape = self.job.shape();
+        let events = shape.halos().events();
+        let local = Moment {
+            time: at.time,
+            cell: moved_cell(at.cell, shift_to_origin(area.x), shift_to_origin(area.y)),
+        };
+        let place = place_from(events, from.min(events.len()), local);
+        if place >= self.job.halo_events() {
+            return None;
         }
-        None
+        match self.job.halo_event(place).at.compare(at) {
+            Ordering::Equal => Some(place),
+            _ => None,
+        }
     }
 
-    // Returns what the module says of this time and cell of its halo. If an event says it, that event gets its mark.
-    fn mark_halo(&self, at: Moment, seen: &mut [bool]) -> Signal
+    // Returns what the module says of this time and cell of its halo. If an event says it, that event gets its mark,
+    // and the next search begins behind it.
+    fn mark_halo(&self, at: Moment, seen: &mut [bool], from: &mut usize) -> Signal
         requires near { IsNear at.cell }
         requires sized { length seen.old ≡ length self.now.job.now.halos.events }
         ensures signal { result ≡ job_halo self.now.job.now at.time at.cell.x at.cell.y }
         ensures marks { AddsMark self.now.job.now.halos.events at seen.old seen.new }
     {
-        match self.halo_place(at) {
+        match self.halo_place(at, *from) {
             Some(place) => {
+                *from = place.saturating_add(1);
                 mark(seen, place);
                 halo_event_signal(self.job, self.job.halo_event(place))
             }
@@ -288,6 +326,7 @@ impl<'a> Borders<'a> {
         other: &Job,
         event: Event,
         seen: &mut [bool],
+        from: &mut usize,
     ) -> Option<BorderFault>
         requires ready { IsReady self.now }
         requires numbered { slice_get (jobs_of self.now) number ≡ Some other.now }
@@ -305,7 +344,7 @@ impl<'a> Borders<'a> {
             return best;
         }
         let _area = other.area();
-        let own = self.mark_halo(event.at, seen);
+        let own = self.mark_halo(event.at, seen, from);
         if self.edge_event_differs(other, event, own) {
             return lesser(best, fault);
         }
@@ -348,13 +387,21 @@ impl<'a> Borders<'a> {
         let corner = other.area();
         let shape: &Shape = other.shape();
         let events = shape.edges().events();
+        let mut from = 0;
         let mut least = best;
         'events: for place in 0..events.len() {
             // Most events of a long side are far from this module, so this test comes before all others.
             if !is_around(area, corner, events[place].at.cell) {
                 continue;
             }
-            least = self.with_edge_event(least, number, other, other.edge_event(place), seen);
+            least = self.with_edge_event(
+                least,
+                number,
+                other,
+                other.edge_event(place),
+                seen,
+                &mut from,
+            );
         }
         least
     }
