@@ -7,7 +7,7 @@ ghost use Rattle.module_box.specs.Locals.{circuit_wire};
 ghost use Rattle.module_box.specs.Moves.{IsNear, moved_cell};
 ghost use Rattle.module_box.specs.Tiling.{owner_of};
 ghost use Rattle.module_job.specs.Signals.{IsBelow, renumber_signal};
-ghost use Rattle.border_match.specs.Boards.{AddsMark, AreMarked, AreNumbers, AreOwnersNoted, Differ, Faults, IsEdgeNamed, IsEdgeNamedAt, DiffersAlways, DiffersAlwaysAt, DiffersAlwaysInRow, HasNoHaloBetween, IsAround, IsAtEvent, IsAtEventOf, IsListed, IsNamed, IsNamedOf, IsPlaceOf, IsUnmarked, IsNoted, IsReady, IsRowNoted, IsStarless, KeepsNumbers, MayBeFault, job_edge, job_halo, jobs_of};
+ghost use Rattle.border_match.specs.Boards.{AddsMark, AreMarked, AreNumbers, AreOwnersNoted, Differ, Faults, IsEdgeNamed, IsEdgeNamedAt, DiffersAlways, DiffersAlwaysAt, DiffersAlwaysInRow, HasNoHaloBetween, IsAround, IsAtEvent, IsAtEventOf, IsListed, IsNamedOf, IsPlaceOf, IsUnmarked, IsNoted, IsReady, IsRowNoted, IsStarless, KeepsNumbers, MayBeFault, job_edge, job_halo, jobs_of};
 ghost use Rattle.border_match.specs.Candidates.{IsBetter, IsLeast};
 ghost use Rattle.border_match.specs.declared.fault.BorderFault.{BorderFault};
 
