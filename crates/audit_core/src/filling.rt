@@ -61,7 +61,7 @@ fn are_same(own: &[Arc<Job>], jobs: &[Arc<Job>]) -> bool
 ///
 /// # Errors
 ///
-/// Out of memory. What was accepted stays.
+/// Out of memory. The findings that were accepted stay.
 pub fn fill_open(
     alloc: Global,
     state: &mut BookState,
