@@ -1,0 +1,1 @@
+docs/reading_list.py
