@@ -1,6 +1,6 @@
 #!/usr/bin/env python3
 """make_cases.py FOLDER.. [--commands A,B] [--also NAME].. [--largest BYTES] [--bundles FOLDER [--without WORD,WORD]
-    [--runs BYTES]]
+    [--runs BYTES] [--large FOLDER]]
     > crates/worked_rows/data/cases.txt
 
 Writes case folders as one file of cases, in the form that crates/case_text/src/lib.rt describes.
@@ -15,18 +15,23 @@ bundles that have a line which begins with one of the words of --without. If the
 of `migrate` from the first to the second.
 --runs adds for each NAME_v1.txt that has at most BYTES bytes, at most four inputs and no waste cell, a case of `run` for each
 assignment of its inputs; the expected list is made from the circuit alone (tools/oracle/meaning.py).
+--large copies each bundle of more than 2000 lines, with its report, to that folder, and makes no case of it.
 
-The repository's file is made with `--commands run,value,modules,check,migrate --largest 200000`, and with all bundles and
-`--runs 3000`. That leaves out the cases with as many edge and halo lines as a module may have, or one
+The repository's file is made with `--commands run,value,modules,check,migrate --largest 200000`, and with all bundles,
+`--runs 3000` and `--large conformance/data`. That leaves out the cases with as many edge and halo lines as a module may have, or one
 more: each is over a megabyte. tools/oracle/fuzz_texts makes such bundles itself.
 """
 import argparse
+import shutil
 import sys
 from pathlib import Path
 
 sys.dont_write_bytecode = True
 sys.path.insert(0, str(Path(__file__).resolve().parent))
 from meaning import ends  # noqa: E402
+
+# A bundle with more lines is large: conformance/run.py reads it from a file of its own.
+MOST_LINES = 2000
 
 HEAD = """\
 # Command lines, each with what it is given and what it must do. tools/oracle/make_cases.py writes this file.
@@ -156,6 +161,7 @@ def main():
     parser.add_argument("--largest", type=int)
     parser.add_argument("--bundles", type=Path)
     parser.add_argument("--runs", type=int, default=0)
+    parser.add_argument("--large", type=Path)
     parser.add_argument("--without", type=lambda words: words.split(","), default=[])
     options = parser.parse_args()
     found = sorted((args.parent for folder in options.folders for args in folder.glob("**/args")), key=lambda f: f.name)
@@ -169,7 +175,12 @@ def main():
             out.write(b"\n" + b"\n".join(case_lines(folder)) + b"\n")
     if options.bundles:
         for text in sorted(options.bundles.glob("*_v[12].txt")):
-            if not has_word(text, options.without):
+            if has_word(text, options.without):
+                continue
+            if options.large and text.read_bytes().count(b"\n") > MOST_LINES:
+                for path in (text, text.with_suffix(".report")):
+                    shutil.copyfile(path, options.large / path.name)
+            else:
                 out.write(b"\n" + b"\n".join(bundle_lines(text)) + b"\n")
                 out.write(b"".join(line + b"\n" for line in migrate_lines(text, options.largest)))
                 if text.stem.endswith("_v1"):
