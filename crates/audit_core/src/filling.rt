@@ -55,8 +55,14 @@ fn are_same(own: &[Arc<Job>], jobs: &[Arc<Job>]) -> bool
     own == jobs
 }
 
-// Fills up an open state of this digest and these jobs. Counts the jobs that it runs.
-fn fill_open(
+/// Makes an open state of this digest and these jobs hold a finding for each of them.
+///
+/// It does what `fill` does, without comparing the jobs with the state's, and adds to `runs` how many jobs it runs.
+///
+/// # Errors
+///
+/// Out of memory. The findings that were accepted stay.
+pub fn fill_open(
     alloc: Global,
     state: &mut BookState,
     digest: [u8; 32],

@@ -31,7 +31,7 @@ mod verdict;
 pub use book::{BookState, NotFiled};
 pub use claim::Claim;
 pub use concluding::conclude;
-pub use filling::fill;
+pub use filling::{fill, fill_open};
 pub use log_entry::{Filing, LogEntry};
 pub use machine::{Answer, Core, Event, NotApplied};
 pub use reply::{Mismatch, Reply};

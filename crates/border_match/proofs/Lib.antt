@@ -5,6 +5,7 @@ pub mod Least
 pub mod OwnSignals
 pub mod Cells
 pub mod Steps
+pub mod Marks
 pub mod Unheld
 pub mod Renumbered
 pub mod Modules

@@ -42,7 +42,7 @@ use Rattle.border_match.proofs.NearModules.{among_more}
 lower_or_same : (i m : ℕ) → i < m + 1 → (i < m) ⊎ (i ≡ m)
 lower_or_same i m h = grind arith
 
-same_fault : (time : ℕ) (cell : Cell) (f : BorderFault) → f.time ≡ time → f.cell ≡ cell →
+pub same_fault : (time : ℕ) (cell : Cell) (f : BorderFault) → f.time ≡ time → f.cell ≡ cell →
     f ≡ record { time = time; cell = cell }
 same_fault time cell f p q = let mk : ℕ → Cell → BorderFault = λ t c. record { time = t; cell = c } in ap₂ mk p q
 

@@ -1,6 +1,6 @@
 -- Border faults by the jobs of the modules, and the parts of a search for them
 use Rattle.std.specs.Prelude.{◌≡◌, ◌≢◌, ℕ, ℤ, pos, ◌+◌, ◌+ℤ◌, ◌≤ℤ◌, ◌<◌, ◌%◌, ◌&&◌, true, false, List, [], length, map}
-use Rattle.std.specs.Prelude.{Some, None, slice_get, IsTrue}
+use Rattle.std.specs.Prelude.{Bool, ◌⊎◌, Some, None, slice_get, IsTrue}
 use Rattle.std.specs.List.{All}
 use Rattle.std.specs.Arc.{arc_value}
 use Rattle.bbm_rule.specs.declared.block.Cell.{Cell}
@@ -10,6 +10,7 @@ use Rattle.module_box.specs.Schedules.{event_at, signal_at}
 use Rattle.module_box.specs.Tiling.{Owning, rectangle, owner_of}
 use Rattle.module_box.specs.declared.boxes.Box2.{Box2}
 use Rattle.module_box.specs.declared.schedules.Event.{Event}
+use Rattle.module_box.specs.declared.schedules.Moment.{Moment}
 use Rattle.module_box.specs.declared.schedules.Signal.{Signal}
 use Rattle.module_job.specs.Jobs.{JobView}
 use Rattle.module_job.specs.Signals.{renumber_signal}
@@ -168,6 +169,36 @@ pub record DiffersAlwaysAbove (b : Borders) (y : ℕ) (f : BorderFault) : Type 0
   pub at : ℕ
   pub row : f.cell.y ≡ pos at
   pub above : at < y
+
+-- ---- marks of the halo events that edges name
+
+-- the event at a place of the list is at this time and cell
+pub record IsPlaceOf (events : List Event) (at : Moment) (place : ℕ) : Type 0 where
+  pub event : Event
+  pub got : slice_get events place ≡ Some event
+  pub same : event.at ≡ at
+
+-- each mark is an old one, or one of an event at this time and cell
+pub record AddsMark (events : List Event) (at : Moment) (old new : List Bool) : Type 0 where
+  pub sized : length new ≡ length old
+  pub marks : (p : ℕ) (e : Event) → slice_get new p ≡ Some true → slice_get events p ≡ Some e →
+      (slice_get old p ≡ Some true) ⊎ (e.at ≡ at)
+
+-- there is a place for a mark for each halo event, and what a marked one names is named by an edge too
+pub record AreMarked (b : Borders) (seen : List Bool) : Type 0 where
+  pub sized : length seen ≡ length b.job.now.halos.events
+  pub edges : (p : ℕ) (e : Event) (f : BorderFault) → slice_get seen p ≡ Some true →
+      slice_get b.job.now.halos.events p ≡ Some e → IsAtEvent e f → IsEdgeNamed b f
+
+-- an event of the list without a mark is at the time and cell of f
+pub record IsUnmarked (seen : List Bool) (events : List Event) (f : BorderFault) : Type 0 where
+  pub named : IsNamed events f
+  pub unmarked : slice_get seen named.place ≡ Some false
+
+-- the same of the first k events
+pub record IsUnmarkedBelow (k : ℕ) (seen : List Bool) (events : List Event) (f : BorderFault) : Type 0 where
+  pub unmarked : IsUnmarked seen events f
+  pub below : unmarked.named.place < k
 
 -- ---- the modules that have cells of a module's halo
 

@@ -1,5 +1,5 @@
 //! The borders of one module.
-ghost use Rattle.std.specs.Prelude.{pos, ◌+◌, ◌+ℤ◌, ◌≤ℤ◌, ◌≡◌, ◌≢◌, ◌<◌, ◌↔◌, ◌&&◌, false, List, [], length, map, slice_get, IsTrue, Some, IfOk, OnOk};
+ghost use Rattle.std.specs.Prelude.{pos, ◌+◌, ◌≤◌, ◌+ℤ◌, ◌≤ℤ◌, ◌≡◌, ◌≢◌, ◌<◌, ◌↔◌, ◌&&◌, false, List, [], length, map, slice_get, slice_set, true, IsTrue, Some, IfSome, IfOk, OnOk};
 ghost use Rattle.std.specs.Arc.{arc_value};
 ghost use Rattle.circuit.specs.Meaning.{wires};
 ghost use Rattle.module_box.specs.Boxes.{in_box, in_halo};
@@ -7,16 +7,17 @@ ghost use Rattle.module_box.specs.Locals.{circuit_wire};
 ghost use Rattle.module_box.specs.Moves.{IsNear, moved_cell};
 ghost use Rattle.module_box.specs.Tiling.{owner_of};
 ghost use Rattle.module_job.specs.Signals.{IsBelow, renumber_signal};
-ghost use Rattle.border_match.specs.Boards.{AreNumbers, AreOwnersNoted, Differ, Faults, IsEdgeNamed, IsEdgeNamedAt, DiffersAlways, DiffersAlwaysAt, DiffersAlwaysInRow, HasNoHaloBetween, IsAround, IsAtEvent, IsAtEventOf, IsListed, IsNamed, IsNamedOf, IsNoted, IsReady, IsRowNoted, IsStarless, KeepsNumbers, MayBeFault, job_edge, job_halo, jobs_of};
+ghost use Rattle.border_match.specs.Boards.{AddsMark, AreMarked, AreNumbers, AreOwnersNoted, Differ, Faults, IsEdgeNamed, IsEdgeNamedAt, DiffersAlways, DiffersAlwaysAt, DiffersAlwaysInRow, HasNoHaloBetween, IsAround, IsAtEvent, IsAtEventOf, IsListed, IsNamedOf, IsPlaceOf, IsUnmarked, IsNoted, IsReady, IsRowNoted, IsStarless, KeepsNumbers, MayBeFault, job_edge, job_halo, jobs_of};
 ghost use Rattle.border_match.specs.Candidates.{IsBetter, IsLeast};
 ghost use Rattle.border_match.specs.declared.fault.BorderFault.{BorderFault};
 
 use crate::fault::{BorderFault, is_less, lesser};
 use bbm_rule::Cell;
 use certificate::Job;
-use module_box::{Box2, Event, Owners, Signal};
-use module_job::Shape;
+use module_box::{Box2, Event, Moment, Owners, Signal, moved_cell};
+use module_job::{Shape, shift_to_origin};
 use std::alloc::{AllocError, Global};
+use std::cmp::Ordering;
 use std::sync::Arc;
 
 /// The borders of a module: the layout's rectangle, the number of the module that has each cell of it, the jobs of all
@@ -134,6 +135,44 @@ fn is_around(area: Box2, corner: Box2, cell: Cell) -> bool
     is_beside(area.y, area.h, corner.y, cell.y)
 }
 
+// Returns the place of the first event from `from` on that is not before a moment.
+//
+// It looks at places ever further from `from`, and then between the last two, since the next event is mostly near.
+// `halo_place` compares the event at the place, so a wrong place would cost only time.
+fn place_from(events: &[Event], from: usize, at: Moment) -> usize
+    requires { from ≤ length events.now }
+    ensures { result ≤ length events.now }
+{
+    let mut low = from;
+    let mut high = from;
+    'jumps: while high < events.len() {
+        match events[high].at.compare(at) {
+            Ordering::Less => {
+                let jump = (high - low).saturating_mul(2).saturating_add(1);
+                low = high + 1;
+                high = low + jump.min(events.len() - low);
+            }
+            _ => break,
+        }
+    }
+    'halves: while low < high {
+        let middle = low + (high - low) / 2;
+        match events[middle].at.compare(at) {
+            Ordering::Less => low = middle + 1,
+            _ => high = middle,
+        }
+    }
+    low
+}
+
+// Sets a mark.
+fn mark(seen: &mut [bool], place: usize)
+    requires { place < length seen.old }
+    ensures { seen.new ≡ slice_set seen.old place true }
+{
+    seen[place] = true;
+}
+
 // Returns the fault that an event names, which may be none.
 fn fault_at(event: Event) -> BorderFault
     ensures time { result.time ≡ event.at.time }
@@ -188,17 +227,19 @@ impl<'a> Borders<'a> {
         halo_event_signal(self.job, event) != edge_signal(owner, event.at.time, event.at.cell)
     }
 
-    // Returns the same for the cell and the time of an event of the ring of the module that has the cell.
-    fn edge_event_differs(&self, owner: &Job, event: Event) -> bool
+    // Returns the same for the cell and the time of an event of the ring of the module that has the cell, where `own`
+    // is what the module says of them.
+    fn edge_event_differs(&self, owner: &Job, event: Event, own: Signal) -> bool
         requires ready { IsReady self.now }
         requires inside { IsTrue (in_box self.now.whole event.at.cell.x event.at.cell.y) }
         requires owner { slice_get (jobs_of self.now)
             (owner_of self.now.owners.now event.at.cell.x event.at.cell.y) ≡ Some owner.now }
         requires listed { IsListed owner.now.edges.events event }
+        requires own { own
+            ≡ job_halo self.now.job.now event.at.time event.at.cell.x event.at.cell.y }
         ensures { IsTrue result ↔ Differ self.now event.at.time event.at.cell.x event.at.cell.y }
     {
         let _area = owner.area();
-        let own = halo_signal(self.job, event.at.time, event.at.cell);
         own != edge_event_signal(owner, event)
     }
 
@@ -236,6 +277,47 @@ impl<'a> Borders<'a> {
         best
     }
 
+    // Returns the place of the event of the module's halo at this time and cell, or `None` if the search from a place
+    // on meets none.
+    fn halo_place(&self, at: Moment, from: usize) -> Option<usize>
+        requires { IsNear at.cell }
+        ensures { IfSome result (IsPlaceOf self.now.job.now.halos.events at) }
+    {
+        let area = self.job.area();
+        let shape: &Shape = self.job.shape();
+        let events = shape.halos().events();
+        let local = Moment {
+            time: at.time,
+            cell: moved_cell(at.cell, shift_to_origin(area.x), shift_to_origin(area.y)),
+        };
+        let place = place_from(events, from.min(events.len()), local);
+        if place >= self.job.halo_events() {
+            return None;
+        }
+        match self.job.halo_event(place).at.compare(at) {
+            Ordering::Equal => Some(place),
+            _ => None,
+        }
+    }
+
+    // Returns what the module says of this time and cell of its halo. If an event says it, that event gets its mark,
+    // and the next search begins behind it.
+    fn mark_halo(&self, at: Moment, seen: &mut [bool], from: &mut usize) -> Signal
+        requires near { IsNear at.cell }
+        requires sized { length seen.old ≡ length self.now.job.now.halos.events }
+        ensures signal { result ≡ job_halo self.now.job.now at.time at.cell.x at.cell.y }
+        ensures marks { AddsMark self.now.job.now.halos.events at seen.old seen.new }
+    {
+        match self.halo_place(at, *from) {
+            Some(place) => {
+                *from = place.saturating_add(1);
+                mark(seen, place);
+                halo_event_signal(self.job, self.job.halo_event(place))
+            }
+            None => halo_signal(self.job, at.time, at.cell),
+        }
+    }
+
     // The lesser of the candidate and the fault that an event of a module's ring names, if that module has the cell.
     fn with_edge_event(
         &self,
@@ -243,29 +325,44 @@ impl<'a> Borders<'a> {
         number: usize,
         other: &Job,
         event: Event,
+        seen: &mut [bool],
+        from: &mut usize,
     ) -> Option<BorderFault>
         requires ready { IsReady self.now }
         requires numbered { slice_get (jobs_of self.now) number ≡ Some other.now }
         requires listed { IsListed other.now.edges.events event }
-        ensures { IsBetter (Faults self.now) (IsAtEventOf self.now number event) best result }
+        requires marked { AreMarked self.now seen.old }
+        ensures better { IsBetter (Faults self.now) (IsAtEventOf self.now number event) best
+            result }
+        ensures marked { AreMarked self.now seen.new }
     {
         let fault = fault_at(event);
         if !is_less(fault, best) || !self.may_be_fault(fault) {
             return best;
         }
-        if self.owners.owner(fault.cell) == number && self.edge_event_differs(other, event) {
+        if self.owners.owner(fault.cell) != number {
+            return best;
+        }
+        let _area = other.area();
+        let own = self.mark_halo(event.at, seen, from);
+        if self.edge_event_differs(other, event, own) {
             return lesser(best, fault);
         }
         best
     }
 
-    // The least of the candidate and the faults that the events of the module's halo name.
-    fn with_halo_events(&self, best: Option<BorderFault>) -> Option<BorderFault>
-        requires { IsReady self.now }
-        ensures { IsBetter (Faults self.now) (IsNamed self.now.job.now.halos.events) best result }
+    // The least of the candidate and the faults that the events of the module's halo without a mark name.
+    fn with_halo_events(&self, best: Option<BorderFault>, seen: &[bool]) -> Option<BorderFault>
+        requires ready { IsReady self.now }
+        requires sized { length seen.now ≡ length self.now.job.now.halos.events }
+        ensures { IsBetter (Faults self.now) (IsUnmarked seen.now self.now.job.now.halos.events)
+            best result }
     {
         let mut least = best;
         'events: for place in 0..self.job.halo_events() {
+            if seen[place] {
+                continue;
+            }
             least = self.with_halo_event(least, self.job.halo_event(place));
         }
         least
@@ -277,34 +374,52 @@ impl<'a> Borders<'a> {
         best: Option<BorderFault>,
         number: usize,
         other: &Job,
+        seen: &mut [bool],
     ) -> Option<BorderFault>
         requires ready { IsReady self.now }
         requires numbered { slice_get (jobs_of self.now) number ≡ Some other.now }
-        ensures { IsBetter (Faults self.now) (IsNamedOf self.now number other.now.edges.events) best
-            result }
+        requires marked { AreMarked self.now seen.old }
+        ensures better { IsBetter (Faults self.now)
+            (IsNamedOf self.now number other.now.edges.events) best result }
+        ensures marked { AreMarked self.now seen.new }
     {
         let area = self.job.area();
         let corner = other.area();
         let shape: &Shape = other.shape();
         let events = shape.edges().events();
+        let mut from = 0;
         let mut least = best;
         'events: for place in 0..events.len() {
             // Most events of a long side are far from this module, so this test comes before all others.
             if !is_around(area, corner, events[place].at.cell) {
                 continue;
             }
-            least = self.with_edge_event(least, number, other, other.edge_event(place));
+            least = self.with_edge_event(
+                least,
+                number,
+                other,
+                other.edge_event(place),
+                seen,
+                &mut from,
+            );
         }
         least
     }
 
     // The least of the candidate and the faults that the edges of one module name.
-    fn with_edges_of(&self, best: Option<BorderFault>, number: usize) -> Option<BorderFault>
+    fn with_edges_of(
+        &self,
+        best: Option<BorderFault>,
+        number: usize,
+        seen: &mut [bool],
+    ) -> Option<BorderFault>
         requires ready { IsReady self.now }
         requires number { number < length self.now.jobs.now }
-        ensures { IsBetter (Faults self.now) (IsEdgeNamedAt number self.now) best result }
+        requires marked { AreMarked self.now seen.old }
+        ensures better { IsBetter (Faults self.now) (IsEdgeNamedAt number self.now) best result }
+        ensures marked { AreMarked self.now seen.new }
     {
-        self.with_edge_events(best, number, &self.jobs[number])
+        self.with_edge_events(best, number, &self.jobs[number], seen)
     }
 
     // Adds the number of the module that has the cell, unless the cell is outside the rectangle or in the module's box.
@@ -388,16 +503,24 @@ impl<'a> Borders<'a> {
     }
 
     // The least of the candidate and the faults that the edges of the modules name, where these are the numbers of the
-    // modules that have cells of the module's halo.
-    fn with_edges(&self, best: Option<BorderFault>, near: &[usize]) -> Option<BorderFault>
+    // modules that have cells of the module's halo. An event of the halo gets its mark if an edge has its time and
+    // cell.
+    fn with_edges(
+        &self,
+        best: Option<BorderFault>,
+        near: &[usize],
+        seen: &mut [bool],
+    ) -> Option<BorderFault>
         requires ready { IsReady self.now }
         requires noted { AreOwnersNoted self.now near.now }
         requires below { AreNumbers self.now near.now }
-        ensures { IsBetter (Faults self.now) (IsEdgeNamed self.now) best result }
+        requires marked { AreMarked self.now seen.old }
+        ensures better { IsBetter (Faults self.now) (IsEdgeNamed self.now) best result }
+        ensures marked { AreMarked self.now seen.new }
     {
         let mut least = best;
         'modules: for number in near {
-            least = self.with_edges_of(least, *number);
+            least = self.with_edges_of(least, *number, seen);
         }
         least
     }
@@ -495,8 +618,9 @@ impl<'a> Borders<'a> {
         ensures { IfOk result (IsLeast (Faults self.now)) }
     {
         let near = self.near_modules(alloc)?;
-        let by_halo = self.with_halo_events(None);
-        let by_edges = self.with_edges(by_halo, &near);
-        Ok(self.with_halo(by_edges, &near))
+        let mut seen = vec![in alloc; false; self.job.halo_events()]?;
+        let by_edges = self.with_edges(None, &near, &mut seen);
+        let by_halo = self.with_halo_events(by_edges, &seen);
+        Ok(self.with_halo(by_halo, &near))
     }
 }

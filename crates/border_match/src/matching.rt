@@ -58,8 +58,8 @@ fn no_faults(alloc: Global, count: usize) -> Result<Vec<Option<BorderFault>>, Al
 /// There is one entry for each module, in their order. `specs/BorderFaults.antt` defines border faults. In version 2 no
 /// module has one. The jobs are the certificate's, as [`Cert::jobs`](certificate::Cert::jobs) makes them.
 ///
-/// It takes memory for the modules' boxes, a table of the rectangle's blocks of two by two cells, the numbers of the
-/// modules near one, and the answer.
+/// It takes memory for the modules' boxes, a table of the rectangle's blocks of two by two cells, and the answer. For
+/// one module at a time it takes memory for the numbers of the modules near it, and for a mark for each halo line.
 pub fn match_borders(
     alloc: Global,
     cert: &Cert,

@@ -1,3 +1,5 @@
+mod ByStatus
 pub mod Closings
+mod Ends
 mod RightStreams
 mod Words

@@ -12,6 +12,7 @@ use Rattle.headline.specs.Headline.{Gives, SaysYes, YesMeans}
 use Rattle.headline.specs.ReportLines.{Relates}
 use Rattle.headline.proofs.FourthLines.{says_on}
 use Rattle.headline.proofs.YesIsRight.{by_line}
+use Rattle.check_main.specs.Program.{YesPromises}
 use Rattle.check_main.specs.Stream.{ReadsAll, TakesPrefix}
 
 all_read : (left left' : Option (List ℕ)) (text known : List ℕ) → left ≡ Some known → Consumes left left' text →
@@ -66,7 +67,7 @@ unfolding lines_of
 nothing_says e = cc
 
 -- nothing was
-pub nothing_said : (P : List ℕ → Type 0) (left written_bytes written_bytes' : Option (List ℕ)) →
+nothing_said : (P : List ℕ → Type 0) (left written_bytes written_bytes' : Option (List ℕ)) →
     written_bytes' ≡ written_bytes → YesMeans P left written_bytes written_bytes'
 nothing_said P left written_bytes written_bytes' same text before more e f g line =
     let both : ◌≡◌ {A = Option (List ℕ)} (Some (before ++ more)) (Some before) = sym g ∙ same ∙ f in
@@ -74,7 +75,7 @@ nothing_said P left written_bytes written_bytes' same text before more e f g lin
     absurd (nothing_says (subst SaysYes (append_cancel_left before more [] (own ∙ sym (append-nil before))) line))
 
 -- a writer was told the report, or its first bytes
-pub written_right : {E : Type 0} (P : List ℕ → Type 0) → Holds P →
+written_right : {E : Type 0} (P : List ℕ → Type 0) → Holds P →
     (left left' written_bytes written_bytes' : Option (List ℕ)) (text output : List ℕ) (outcome : Outcome) →
     ReadsAll left left' text →
     IsReportOf text output outcome →
@@ -98,12 +99,28 @@ outcome_means P wanted holds left left' text output outcome read says (Ok o) is 
     given P left left' text read (holds text output (subst (λ o. IsReportOf text output o) (sym same ∙ wanted_is) says))
 outcome_means P wanted holds left left' text output outcome read says (Err e) is same = absurd cc
 
-pub outcome_right : {E : Type 0} (P : List ℕ → Type 0) → Holds P →
-    (left left' : Option (List ℕ)) (text output : List ℕ) (outcome : Outcome) → ReadsAll left left' text →
-    IsReportOf text output outcome →
-    (result : Result Outcome E) → result ≡ Ok Yes → IfOk result (λ o. o ≡ outcome) → Gives P left
-outcome_right P holds left left' text output outcome read says result is same =
-    outcome_means P Yes holds left left' text output outcome read says result is same
+-- the promise of a yes, if the report was written, or its first bytes
+pub yes_promised : {E : Type 0} (P : List ℕ → Type 0) → Holds P →
+    (left left' written_bytes written_bytes' : Option (List ℕ)) (text output : List ℕ) (outcome : Outcome) →
+    ReadsAll left left' text → IsReportOf text output outcome → (result : Result Outcome E) →
+    IfOk result (λ o. o ≡ outcome) → OnOk result (Appends written_bytes written_bytes' output) →
+    IfErr result (λ e. TakesPrefix written_bytes written_bytes' output) →
+    YesPromises P (result ≡ Ok Yes) left written_bytes written_bytes'
+yes_promised P holds left left' written_bytes written_bytes' text output outcome read says result same all front =
+    record {
+      by_end = λ is. outcome_means P Yes holds left left' text output outcome read says result is same;
+      by_line = written_right P holds left left' written_bytes written_bytes' text output outcome read says result all
+          front;
+    }
+
+-- and if nothing was written, and there was no yes
+pub nothing_promised : (P : List ℕ → Type 0) (EndsAsYes : Type 0)
+    (left written_bytes written_bytes' : Option (List ℕ)) →
+    ¬ EndsAsYes → written_bytes' ≡ written_bytes → YesPromises P EndsAsYes left written_bytes written_bytes'
+nothing_promised P EndsAsYes left written_bytes written_bytes' unsaid same = record {
+  by_end = λ yes. absurd (unsaid yes);
+  by_line = nothing_said P left written_bytes written_bytes' same;
+}
 
 -- and all of the report was written, which P relates to the text
 pub outcome_tells : {E : Type 0} (P : List ℕ → List ℕ → Type 0) (wanted : Outcome) →

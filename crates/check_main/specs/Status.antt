@@ -1,6 +1,7 @@
 -- The exit status for the end of a command, and the line for a fault.
-use Rattle.std.specs.Prelude.{◌≡◌, ◌++◌, ℕ, Bool, false, List, Option, Ok, Err, Result, codes}
+use Rattle.std.specs.Prelude.{◌≡◌, ◌++◌, ℕ, false, List, Ok, Err, Result, codes}
 use Rattle.std.specs.Io.KnownBytes.{Appends}
+use Rattle.device.specs.declared.streams.Sink.{Ghosts as Sink}
 use Rattle.answers.specs.declared.outcome.Outcome.{Outcome}
 use Rattle.answers.specs.declared.outcome.Outcome.TheVariants.{Yes, No, Refused}
 use Rattle.check_main.specs.declared.fault.CheckFault.{CheckFault}
@@ -27,7 +28,8 @@ text_of Memory = codes "out of memory"
 unfoldable pub line_for : CheckFault → List ℕ
 line_for fault = codes "bbmcheck: " ++ text_of fault ++ codes "\n"
 
--- the line for a fault was written to a writer, unless that failed
-abbrev pub Says : Option (List ℕ) → Option (List ℕ) → Bool → CheckFault → Type 0
-Says written_bytes written_bytes' has_failed fault =
-    has_failed ≡ false → Appends written_bytes written_bytes' (line_for fault)
+-- the line for a fault was written to a sink, unless that failed
+abbrev pub Says : {E : Type 0} → Sink E → E → E → CheckFault → Type 0
+Says sink errors errors' fault =
+    sink.has_failed errors' ≡ false →
+    Appends (sink.written_bytes errors) (sink.written_bytes errors') (line_for fault)

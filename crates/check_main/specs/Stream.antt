@@ -1,8 +1,10 @@
 -- Reading a text to its end, and writing the answer.
-use Rattle.std.specs.Prelude.{◌≡◌, ◌≢◌, ◌<◌, ◌≤◌, ◌++◌, ℕ, Bool, true, false, List, None, Result, IfErr, IfOk, IsErrOf}
+use Rattle.std.specs.Prelude.{◌≡◌, ◌≢◌, ◌<◌, ◌≤◌, ◌++◌, ℕ, true, false, List, None, Result, IfErr, IfOk, IsErrOf}
 use Rattle.std.specs.Prelude.{OnOk, length}
 use Rattle.std.specs.declared.option.Option.{Option}
 use Rattle.std.specs.Io.KnownBytes.{Consumes, IsAtEnd, Appends}
+use Rattle.device.specs.declared.streams.Source.{Ghosts as Source}
+use Rattle.device.specs.declared.streams.Sink.{Ghosts as Sink}
 use Rattle.section_text.specs.Feeds.{FeedView, text_limit}
 use Rattle.answers.specs.declared.outcome.Outcome.{Outcome}
 use Rattle.check_main.specs.declared.fault.CheckFault.{CheckFault}
@@ -53,17 +55,15 @@ pub record BreaksOff (R : List ℕ → List ℕ → Outcome → Type 0)
   pub right : R text output outcome
   pub written : TakesPrefix written_bytes written_bytes' output
 
--- The effect of a call of the command `R` on a reader and a writer that had not failed, and its end. `left` is what a
--- reader has still to give and `written_bytes` what a writer took, if it is known.
-pub record Serves {X Y : Type 0} (R : List ℕ → List ℕ → Outcome → Type 0) (left : X → Option (List ℕ))
-    (reader_failed : X → Bool) (reader reader' : X)
-    (written_bytes : Y → Option (List ℕ)) (writer_failed : Y → Bool) (writer writer' : Y)
-    (result : Result Outcome CheckFault) : Type 0 where
-  pub answered : IfOk result (Answers R (left reader) (left reader') (written_bytes writer) (written_bytes writer'))
-  pub works : OnOk result ((reader_failed reader' ≡ false) × (writer_failed writer' ≡ false))
-  pub read : IsErrOf result Read → reader_failed reader' ≡ true
-  pub too_long : IsErrOf result TooLong → GivesTooMuch (left reader) (left reader')
-  pub write : IsErrOf result Write → writer_failed writer' ≡ true
-  pub prefix : IsErrOf result Write →
-      BreaksOff R (left reader) (left reader') (written_bytes writer) (written_bytes writer')
+-- The effect of a call of the command `R` on a reader and a writer that had not failed, and its end.
+pub record Serves {X Y : Type 0} (R : List ℕ → List ℕ → Outcome → Type 0) (source : Source X) (sink : Sink Y)
+    (reader reader' : X) (writer writer' : Y) (result : Result Outcome CheckFault) : Type 0 where
+  pub answered : IfOk result (Answers R (source.left reader) (source.left reader')
+      (sink.written_bytes writer) (sink.written_bytes writer'))
+  pub works : OnOk result ((source.has_failed reader' ≡ false) × (sink.has_failed writer' ≡ false))
+  pub read : IsErrOf result Read → source.has_failed reader' ≡ true
+  pub too_long : IsErrOf result TooLong → GivesTooMuch (source.left reader) (source.left reader')
+  pub write : IsErrOf result Write → sink.has_failed writer' ≡ true
+  pub prefix : IsErrOf result Write → BreaksOff R (source.left reader) (source.left reader')
+      (sink.written_bytes writer) (sink.written_bytes writer')
   pub unwritten : IfErr result (λ fault. fault ≢ Write → writer' ≡ writer)

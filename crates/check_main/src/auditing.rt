@@ -9,7 +9,7 @@ ghost use Rattle.audit_core.specs.Replay.{has_closing};
 ghost use Rattle.audit_core.specs.Filling.{shapes_of};
 ghost use Rattle.check_main.specs.Audits.{IsAuditOf, IsClosedOnce, IsCompleted, filings_in};
 
-use audit_core::{BookState, fill};
+use audit_core::{BookState, fill_open};
 use certificate::{Cert, Job, job_groups};
 use job_pool::{Gate, WorkEnd, work};
 use std::alloc::{AllocError, Global};
@@ -87,7 +87,7 @@ fn complete(
         state.new) }
     ensures replays { OnOk result (IsReplayed state.new) }
 {
-    fill(alloc, state, digest, jobs)?;
+    fill_open(alloc, state, digest, jobs, &mut 0)?;
     state.close()?;
     // The history replays to the state.
     let _history = state.history();

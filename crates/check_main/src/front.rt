@@ -1,15 +1,17 @@
 //! The whole program, over the words and the streams that it is given.
-ghost use Rattle.std.specs.Prelude.{◌≡◌, ◌≢◌, ◌<◌, ◌≤◌, ◌⊎◌, false, true, IfErr, IsErrOf, OnOk, Ok, map};
+ghost use Rattle.std.specs.Prelude.{◌≡◌, ◌<◌, ◌≤◌, ◌⊎◌, false, true, IfErr, OnOk, Ok};
+ghost use Rattle.clap.specs.Walk.{texts};
 ghost use Rattle.clap.specs.Words.{kind_of};
-ghost use Rattle.command_line.specs.CommandLine.{AsksForHelp, IsAccepted, IsHelpAlone, asked_by};
-ghost use Rattle.check_main.specs.Commands.{IsAnswerTo};
-ghost use Rattle.headline.specs.Headline.{Gives, IsRight, YesMeans};
+ghost use Rattle.command_line.specs.CommandLine.{IsAccepted, asked_by};
+ghost use Rattle.headline.specs.Headline.{Gives, IsRight};
 ghost use Rattle.headline.specs.Stops.{HasRightStops};
 ghost use Rattle.headline.specs.Plain.{IsWrongIfPlain};
 ghost use Rattle.headline.specs.SmallDesigns.{IsNoSmallDesign};
 ghost use Rattle.headline.specs.ReportLines.{LinesTell, Relates};
+ghost use Rattle.check_main.specs.Commands.{IsAnswerTo};
+ghost use Rattle.check_main.specs.Program.{AsksForCheck, Explained, Explains, IsHelp, Ran, YesPromises};
 ghost use Rattle.check_main.specs.Status.{status_for, Says};
-ghost use Rattle.check_main.specs.Stream.{Answers, BreaksOff, GivesTooMuch, Serves};
+ghost use Rattle.check_main.specs.Stream.{Serves};
 
 use crate::CheckFault;
 use crate::stream::{
@@ -76,84 +78,31 @@ where
     G: Gate + Sync,
     requires reader_works { R.has_failed streams.old.reader ≡ false }
     requires writer_works { W.has_failed streams.old.writer ≡ false }
-    ensures range { result ≤ 5 }
-    ensures accepted { IsAccepted (map (λ s. s.now) words.entry.now) → result ≢ 2 }
-    ensures unread { ¬ IsAccepted (map (λ s. s.now) words.entry.now) →
-        streams.new.reader ≡ streams.old.reader }
-    ensures help { ¬ IsAccepted (map (λ s. s.now) words.entry.now) → result ≢ 2 → result ≢ 5 →
-        AsksForHelp (map (λ s. s.now) words.entry.now) }
 
-    ensures told { IsHelpAlone (map (λ s. s.now) words.entry.now) → result ≢ 2 }
+    // The command that the words ask for ran, or the words were explained.
+    ensures ran { IsAccepted (texts words.entry.now) → Ran R.Source W.Sink E.Sink
+        (asked_by (texts words.entry.now)) streams.old streams.new result }
+    ensures explained { ¬ IsAccepted (texts words.entry.now) → Explained W.Sink E.Sink
+        (texts words.entry.now) streams.old streams.new result }
 
-    ensures yes { IsAccepted (map (λ s. s.now) words.entry.now) → result ≡ 0
-        → Answers (IsAnswerTo (asked_by (map (λ s. s.now) words.entry.now)))
-        (R.left streams.old.reader) (R.left streams.new.reader)
-        (W.written_bytes streams.old.writer) (W.written_bytes streams.new.writer) Outcome.Yes }
-
-    // What a yes of `check` means, by the status and by what is written.
-    ensures correct { IsAccepted (map (λ s. s.now) words.entry.now) →
-        asked_by (map (λ s. s.now) words.entry.now) ≡ Request.Check → result ≡ 0 →
-        Gives IsRight (R.left streams.old.reader) }
-    ensures says_yes { IsAccepted (map (λ s. s.now) words.entry.now) →
-        asked_by (map (λ s. s.now) words.entry.now) ≡ Request.Check →
-        YesMeans IsRight (R.left streams.old.reader) (W.written_bytes streams.old.writer)
+    // A yes of `check`: the layout computes the circuit, and the stops hold.
+    ensures right { AsksForCheck (texts words.entry.now) → YesPromises IsRight (result ≡ 0)
+        (R.left streams.old.reader) (W.written_bytes streams.old.writer)
         (W.written_bytes streams.new.writer) }
-    // And of its stops.
-    ensures stops { IsAccepted (map (λ s. s.now) words.entry.now) →
-        asked_by (map (λ s. s.now) words.entry.now) ≡ Request.Check → result ≡ 0 →
-        Gives HasRightStops (R.left streams.old.reader) }
-    ensures says_yes_of_stops { IsAccepted (map (λ s. s.now) words.entry.now) →
-        asked_by (map (λ s. s.now) words.entry.now) ≡ Request.Check →
-        YesMeans HasRightStops (R.left streams.old.reader) (W.written_bytes streams.old.writer)
+    ensures stops { AsksForCheck (texts words.entry.now) → YesPromises HasRightStops (result ≡ 0)
+        (R.left streams.old.reader) (W.written_bytes streams.old.writer)
         (W.written_bytes streams.new.writer) }
 
-    // What a no of `check` means if the certificate is plain, and what its lines mean.
-    ensures wrong { asked_by (map (λ s. s.now) words.entry.now) ≡ Request.Check → result ≡ 1
-        → Gives IsWrongIfPlain (R.left streams.old.reader) }
-    ensures lines { asked_by (map (λ s. s.now) words.entry.now) ≡ Request.Check → result ≡ 1
-        → Relates LinesTell (R.left streams.old.reader)
-        (W.written_bytes streams.old.writer) (W.written_bytes streams.new.writer) }
-    // The plain text of a small design is not refused.
-    ensures small { asked_by (map (λ s. s.now) words.entry.now) ≡ Request.Check → result ≡ 3
-        → Gives IsNoSmallDesign (R.left streams.old.reader) }
+    // A no of `check`: if the certificate is plain, the text is wrong. The lines of the report have a meaning.
+    ensures wrong { AsksForCheck (texts words.entry.now) → result ≡ 1 →
+        Gives IsWrongIfPlain (R.left streams.old.reader) }
+    ensures lines { AsksForCheck (texts words.entry.now) → result ≡ 1 →
+        Relates LinesTell (R.left streams.old.reader) (W.written_bytes streams.old.writer)
+        (W.written_bytes streams.new.writer) }
 
-    ensures no { result ≡ 1 → Answers (IsAnswerTo (asked_by (map (λ s. s.now) words.entry.now)))
-        (R.left streams.old.reader) (R.left streams.new.reader)
-        (W.written_bytes streams.old.writer) (W.written_bytes streams.new.writer) Outcome.No }
-    ensures words { result ≡ 2 →
-        (streams.new.reader ≡ streams.old.reader) × (streams.new.writer ≡ streams.old.writer) }
-    ensures refused { result ≡ 3 →
-        Answers (IsAnswerTo (asked_by (map (λ s. s.now) words.entry.now)))
-        (R.left streams.old.reader) (R.left streams.new.reader) (W.written_bytes streams.old.writer)
-        (W.written_bytes streams.new.writer) Outcome.Refused }
-    // Each fault comes only where it is one, and its line is said.
-    ensures device { result ≡ 4 →
-        ((R.has_failed streams.new.reader ≡ true)
-        × Says (E.written_bytes streams.old.errors) (E.written_bytes streams.new.errors)
-        (E.has_failed streams.new.errors) CheckFault.Read)
-        ⊎ ((W.has_failed streams.new.writer ≡ true)
-        × Says (E.written_bytes streams.old.errors) (E.written_bytes streams.new.errors)
-        (E.has_failed streams.new.errors) CheckFault.Write)
-        ⊎ (GivesTooMuch (R.left streams.old.reader) (R.left streams.new.reader)
-        × Says (E.written_bytes streams.old.errors) (E.written_bytes streams.new.errors)
-        (E.has_failed streams.new.errors) CheckFault.TooLong) }
-    ensures works { result ≢ 4 → W.has_failed streams.new.writer ≡ false }
-    ensures unwritten { result ≡ 4 → W.has_failed streams.new.writer ≡ false →
-        streams.new.writer ≡ streams.old.writer }
-
-    ensures prefix { IsAccepted (map (λ s. s.now) words.entry.now)
-        → result ≡ 4 → W.has_failed streams.new.writer ≡ true
-        → BreaksOff (IsAnswerTo (asked_by (map (λ s. s.now) words.entry.now)))
-        (R.left streams.old.reader) (R.left streams.new.reader)
-        (W.written_bytes streams.old.writer) (W.written_bytes streams.new.writer) }
-
-    ensures not_decided { result ≡ 5 →
-        (streams.new.writer ≡ streams.old.writer)
-        × Says (E.written_bytes streams.old.errors) (E.written_bytes streams.new.errors)
-        (E.has_failed streams.new.errors) CheckFault.Memory }
-
-    // Where an answer or help was written, nothing is said.
-    ensures quiet { result ≢ 2 → result ≢ 4 → result ≢ 5 → streams.new.errors ≡ streams.old.errors }
+    // A refusal of `check`: the text is not the plain text of a small design.
+    ensures small { AsksForCheck (texts words.entry.now) → result ≡ 3 →
+        Gives IsNoSmallDesign (R.left streams.old.reader) }
 {
     match read_words(alloc, words) {
         Ok(asked) => {
@@ -183,18 +132,14 @@ fn serve<T: Threads + Wait + Sync, R: Source, W: Sink, G: Gate + Sync>(
     requires workers { (0 < asked.workers) × (asked.workers ≤ 64) }
     requires reader_works { R.has_failed reader.old ≡ false }
     requires writer_works { W.has_failed writer.old ≡ false }
-    ensures serves { Serves (IsAnswerTo asked.request) R.left R.has_failed reader.old reader.new
-        W.written_bytes W.has_failed writer.old writer.new result }
-    ensures correct { asked.request ≡ Request.Check → result ≡ Ok Outcome.Yes →
-        Gives IsRight (R.left reader.old) }
-    ensures says_yes { asked.request ≡ Request.Check →
-        YesMeans IsRight (R.left reader.old) (W.written_bytes writer.old)
-        (W.written_bytes writer.new) }
-    ensures stops { asked.request ≡ Request.Check → result ≡ Ok Outcome.Yes →
-        Gives HasRightStops (R.left reader.old) }
-    ensures says_yes_of_stops { asked.request ≡ Request.Check →
-        YesMeans HasRightStops (R.left reader.old) (W.written_bytes writer.old)
-        (W.written_bytes writer.new) }
+    ensures serves { Serves (IsAnswerTo asked.request) R.Source W.Sink reader.old reader.new
+        writer.old writer.new result }
+    ensures right { asked.request ≡ Request.Check →
+        YesPromises IsRight (result ≡ Ok Outcome.Yes) (R.left reader.old)
+        (W.written_bytes writer.old) (W.written_bytes writer.new) }
+    ensures stops { asked.request ≡ Request.Check →
+        YesPromises HasRightStops (result ≡ Ok Outcome.Yes) (R.left reader.old)
+        (W.written_bytes writer.old) (W.written_bytes writer.new) }
     ensures wrong { asked.request ≡ Request.Check → result ≡ Ok Outcome.No →
         Gives IsWrongIfPlain (R.left reader.old) }
     ensures lines { asked.request ≡ Request.Check → result ≡ Ok Outcome.No →
@@ -216,8 +161,7 @@ fn serve<T: Threads + Wait + Sync, R: Source, W: Sink, G: Gate + Sync>(
 pub fn status_of<E: Sink>(ended: Result<Outcome, CheckFault>, errors: &mut E) -> u8
     ensures status { result ≡ status_for ended }
     ensures quiet { OnOk ended (errors.new ≡ errors.old) }
-    ensures said { IfErr ended (Says (E.written_bytes errors.old) (E.written_bytes errors.new)
-        (E.has_failed errors.new)) }
+    ensures said { IfErr ended (Says E.Sink errors.old errors.new) }
 {
     match ended {
         Ok(Outcome::Yes) => DONE,
@@ -236,23 +180,8 @@ pub fn status_of<E: Sink>(ended: Result<Outcome, CheckFault>, errors: &mut E) ->
 // Help goes to the writer, and what is wrong with the words to `errors`.
 fn explain<W: Sink, E: Sink>(alloc: Global, error: &Error, writer: &mut W, errors: &mut E) -> u8
     requires { W.has_failed writer.old ≡ false }
-    ensures range { (result ≡ 0) ⊎ (result ≡ 2) ⊎ (result ≡ 4) ⊎ (result ≡ 5) }
-    ensures help { result ≢ 2 → result ≢ 5 →
-        (kind_of error.now ≡ ErrorKind.DisplayHelp)
-        ⊎ (kind_of error.now ≡ ErrorKind.DisplayVersion) }
-    ensures told { (kind_of error.now ≡ ErrorKind.DisplayHelp)
-        ⊎ (kind_of error.now ≡ ErrorKind.DisplayVersion) → result ≢ 2 }
-    ensures words { result ≡ 2 → writer.new ≡ writer.old }
-    ensures device { result ≡ 4 →
-        (W.has_failed writer.new ≡ true)
-        × Says (E.written_bytes errors.old) (E.written_bytes errors.new) (E.has_failed errors.new)
-        CheckFault.Write }
-    ensures works { result ≢ 4 → W.has_failed writer.new ≡ false }
-    ensures not_decided { result ≡ 5 →
-        (writer.new ≡ writer.old)
-        × Says (E.written_bytes errors.old) (E.written_bytes errors.new) (E.has_failed errors.new)
-        CheckFault.Memory }
-    ensures quiet { result ≡ 0 → errors.new ≡ errors.old }
+    ensures explains { Explains W.Sink E.Sink (IsHelp (kind_of error.now))
+        (IsHelp (kind_of error.now)) writer.old writer.new errors.old errors.new result }
     ensures memory { kind_of error.now ≡ ErrorKind.OutOfMemory → result ≡ 5 }
 {
     if matches!(error.kind(), ErrorKind::OutOfMemory) {
@@ -277,9 +206,7 @@ fn show<W: Sink, E: Sink>(text: &str, writer: &mut W, errors: &mut E) -> u8
     requires { W.has_failed writer.old ≡ false }
     ensures range { (result ≡ 0) ⊎ (result ≡ 4) }
     ensures device { result ≡ 4 →
-        (W.has_failed writer.new ≡ true)
-        × Says (E.written_bytes errors.old) (E.written_bytes errors.new) (E.has_failed errors.new)
-        CheckFault.Write }
+        (W.has_failed writer.new ≡ true) × Says E.Sink errors.old errors.new CheckFault.Write }
     ensures quiet { result ≡ 0 → errors.new ≡ errors.old }
     ensures works { result ≡ 0 → W.has_failed writer.new ≡ false }
 {
@@ -293,8 +220,7 @@ fn show<W: Sink, E: Sink>(text: &str, writer: &mut W, errors: &mut E) -> u8
 // Says the one line for a fault, without memory.
 #[tactic(auto, unfolding(crate::specs::Status::line_for))]
 fn say<E: Sink>(errors: &mut E, fault: CheckFault)
-    ensures { Says (E.written_bytes errors.old) (E.written_bytes errors.new)
-        (E.has_failed errors.new) fault }
+    ensures { Says E.Sink errors.old errors.new fault }
 {
     let _ = write_whole(errors, b"bbmcheck: ")
         && write_whole(errors, fault.text().as_bytes())

@@ -2,7 +2,7 @@
 ghost use Rattle.std.specs.Prelude.{◌≡◌, ◌≢◌, ◌<◌, ◌≤◌, true, false, Ok, IfOk, IfErr, IsErrOf, OnOk, length};
 ghost use Rattle.std.specs.Io.KnownBytes.{Appends};
 ghost use Rattle.answers.specs.CheckText.{IsReportOf};
-ghost use Rattle.headline.specs.Headline.{Gives, IsRight, YesMeans};
+ghost use Rattle.headline.specs.Headline.{Gives, IsRight};
 ghost use Rattle.headline.specs.Stops.{HasRightStops};
 ghost use Rattle.headline.specs.Plain.{IsWrongIfPlain};
 ghost use Rattle.headline.specs.SmallDesigns.{IsNoSmallDesign};
@@ -11,6 +11,7 @@ ghost use Rattle.answers.specs.MigrateText.{IsMigrationOf};
 ghost use Rattle.answers.specs.ModulesText.{IsModulesOf};
 ghost use Rattle.answers.specs.RunText.{IsRunOf};
 ghost use Rattle.answers.specs.ValueText.{IsValueOf};
+ghost use Rattle.check_main.specs.Program.{YesPromises};
 ghost use Rattle.check_main.specs.Stream.{ReadsAll, Serves, GivesTooMuch, TakesPrefix, whole_text};
 
 use crate::CheckFault;
@@ -57,13 +58,11 @@ where
     requires workers { (0 < workers) × (workers ≤ 64) }
     requires reader_works { R.has_failed reader.old ≡ false }
     requires writer_works { W.has_failed writer.old ≡ false }
-    ensures serves { Serves IsReportOf R.left R.has_failed reader.old reader.new W.written_bytes
-        W.has_failed writer.old writer.new result }
-    ensures correct { result ≡ Ok Outcome.Yes → Gives IsRight (R.left reader.old) }
-    ensures says_yes { YesMeans IsRight (R.left reader.old) (W.written_bytes writer.old)
-        (W.written_bytes writer.new) }
-    ensures stops { result ≡ Ok Outcome.Yes → Gives HasRightStops (R.left reader.old) }
-    ensures says_yes_of_stops { YesMeans HasRightStops (R.left reader.old)
+    ensures serves { Serves IsReportOf R.Source W.Sink reader.old reader.new writer.old writer.new
+        result }
+    ensures right { YesPromises IsRight (result ≡ Ok Outcome.Yes) (R.left reader.old)
+        (W.written_bytes writer.old) (W.written_bytes writer.new) }
+    ensures stops { YesPromises HasRightStops (result ≡ Ok Outcome.Yes) (R.left reader.old)
         (W.written_bytes writer.old) (W.written_bytes writer.new) }
     ensures wrong { result ≡ Ok Outcome.No → Gives IsWrongIfPlain (R.left reader.old) }
     ensures lines { result ≡ Ok Outcome.No →
@@ -87,8 +86,8 @@ pub fn run_stream<R: Source, W: Sink>(
 ) -> Result<Outcome, CheckFault>
     requires reader_works { R.has_failed reader.old ≡ false }
     requires writer_works { W.has_failed writer.old ≡ false }
-    ensures serves { Serves IsRunOf R.left R.has_failed reader.old reader.new W.written_bytes
-        W.has_failed writer.old writer.new result }
+    ensures serves { Serves IsRunOf R.Source W.Sink reader.old reader.new writer.old writer.new
+        result }
 {
     let mut feed = read_text(alloc, reader)?;
     let answered = run_text(alloc, &mut feed).map_err(|_| CheckFault::Memory)?;
@@ -106,8 +105,8 @@ pub fn value_stream<R: Source, W: Sink>(
 ) -> Result<Outcome, CheckFault>
     requires reader_works { R.has_failed reader.old ≡ false }
     requires writer_works { W.has_failed writer.old ≡ false }
-    ensures serves { Serves IsValueOf R.left R.has_failed reader.old reader.new W.written_bytes
-        W.has_failed writer.old writer.new result }
+    ensures serves { Serves IsValueOf R.Source W.Sink reader.old reader.new writer.old writer.new
+        result }
 {
     let mut feed = read_text(alloc, reader)?;
     let answered = value_text(alloc, &mut feed).map_err(|_| CheckFault::Memory)?;
@@ -125,8 +124,8 @@ pub fn modules_stream<R: Source, W: Sink>(
 ) -> Result<Outcome, CheckFault>
     requires reader_works { R.has_failed reader.old ≡ false }
     requires writer_works { W.has_failed writer.old ≡ false }
-    ensures serves { Serves IsModulesOf R.left R.has_failed reader.old reader.new W.written_bytes
-        W.has_failed writer.old writer.new result }
+    ensures serves { Serves IsModulesOf R.Source W.Sink reader.old reader.new writer.old writer.new
+        result }
 {
     let mut feed = read_text(alloc, reader)?;
     let answered = modules_text(alloc, &mut feed).map_err(|_| CheckFault::Memory)?;
@@ -145,8 +144,8 @@ pub fn migrate_stream<R: Source, W: Sink>(
 ) -> Result<Outcome, CheckFault>
     requires reader_works { R.has_failed reader.old ≡ false }
     requires writer_works { W.has_failed writer.old ≡ false }
-    ensures serves { Serves IsMigrationOf R.left R.has_failed reader.old reader.new W.written_bytes
-        W.has_failed writer.old writer.new result }
+    ensures serves { Serves IsMigrationOf R.Source W.Sink reader.old reader.new writer.old
+        writer.new result }
 {
     let mut feed = read_text(alloc, reader)?;
     let answered = migrate_text(alloc, &mut feed).map_err(|_| CheckFault::Memory)?;

@@ -67,13 +67,13 @@ pub const WORKERS: &str =
 
 /// The help of the program.
 pub const ALL: Help = help!(
-    "Checks billiard ball patterns, over standard input and output",
+    "Checks that a layout of the billiard ball automaton computes a circuit",
     "bbmcheck <COMMAND> < TEXT",
     "one text, of at most 16 MiB, from standard input",
-    "the answer, to standard output; what is wrong with the words, and a line for a\n  status of 4 or 5, to standard error",
+    "the answer to standard output; errors in the words of the command, and one\n  line for status 4 or 5, to standard error",
     [
         "0  the verdict is yes, another command is done, or help or the version was asked for",
-        "1  the verdict is no, a ball left the rectangle, or a gate has no row for what it is fed"
+        "1  the verdict is no, a ball left the rectangle, or a gate has no row for its inputs"
     ],
     [
         "\n\nCommands:\n",
@@ -123,10 +123,10 @@ pub const VALUE: Help = help!(
     "Evaluates a circuit under an assignment",
     "bbmcheck value < CIRCUIT_AND_ASSIGN",
     "a circuit and an assign section, which names the inputs that are on",
-    "the value of each wire, up to a gate that has no row for what it is fed",
+    "the value of each wire, up to a gate that has no row for its inputs",
     [
         "0  each wire has its value",
-        "1  a gate has no row for what it is fed"
+        "1  a gate has no row for its inputs"
     ],
     [],
     ["  -h, --help  Print help"],

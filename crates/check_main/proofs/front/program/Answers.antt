@@ -1,74 +1,141 @@
--- Words in which nothing is wrong are not taken only where memory ran out, and then nothing is written.
-use Rattle.std.proofs.Common.{◌≡◌, ◌∙◌, [], Result, Ok, Err, ap, arith, refl, subst, sym, inl, inr}
+-- The command ran, or memory ran out before it did, or the words are explained.
+use Rattle.std.proofs.Common.{◌≡◌, ◌∙◌, ◌⊎◌, ℕ, List, [], Option, Result, Ok, Err, ap, arith, inl, inr, refl, subst}
+use Rattle.std.proofs.Common.{sym}
 use Rattle.clap.specs.Words.{HasKind, IsAmong, Kinds, kind_of}
 use Rattle.clap.specs.declared.error.Error.{Error}
-use Rattle.clap.specs.declared.error.kind.ErrorKind.TheVariants.{OutOfMemory}
+use Rattle.clap.specs.declared.error.kind.ErrorKind.TheVariants.{DisplayHelp, DisplayVersion, OutOfMemory}
+use Rattle.device.specs.declared.streams.Source.{Ghosts as Source}
+use Rattle.device.specs.declared.streams.Sink.{Ghosts as Sink}
+use Rattle.command_line.specs.declared.Request.{Request}
 use Rattle.headline.specs.Headline.{IsRight}
 use Rattle.headline.specs.Stops.{HasRightStops}
 use Rattle.answers.specs.declared.outcome.Outcome.{Outcome}
 use Rattle.answers.specs.declared.outcome.Outcome.TheVariants.{Yes, No, Refused}
-use Rattle.check_main.specs.Status.{status_for}
 use Rattle.check_main.specs.declared.fault.CheckFault.{CheckFault}
-use Rattle.check_main.specs.declared.fault.CheckFault.TheVariants.{Read, Write, TooLong, Memory}
-use Rattle.check_main.proofs.RightStreams.{nothing_said}
+use Rattle.check_main.specs.declared.fault.CheckFault.TheVariants.{Memory}
+use Rattle.check_main.specs.declared.front.Streams.{Streams}
+use Rattle.check_main.specs.Program.{IsHelp, Ran, YesPromises}
+use Rattle.check_main.specs.Status.{status_for}
+use Rattle.check_main.proofs.Ends.{outcome_of}
+use Rattle.check_main.proofs.RightStreams.{nothing_promised}
 use Rattle.check_main.proofs.front.program.Goals as goal
 
 of_memory : (kinds : Kinds) (error : Error) → kinds ≡ [] → HasKind kinds error → kind_of error ≡ OutOfMemory
 of_memory kinds error none (inl memory) = memory
 of_memory kinds error none (inr among) = absurd (subst (λ (k : Kinds). IsAmong (kind_of error) k) none among)
 
-pub returns-in-Err-clause-told : goal.returns-in-Err-clause-told
-returns-in-Err-clause-told g c help two = elim c.in-Err.ensures.fails [
-  | inl memory ↦ let five = c.explain.ensures.memory memory in absurd (omega (arith, five, two))
-  | inr among ↦ c.explain.ensures.told (help (kind_of c.in-Err.error) among) two
-]
+-- an error that is help is among the kinds
+help_is_asked : (kinds : Kinds) (error : Error) → IsHelp (kind_of error) → HasKind kinds error →
+    IsAmong DisplayHelp kinds ⊎ IsAmong DisplayVersion kinds
+help_is_asked kinds error (inl help) (inl memory) = absurd cc
+help_is_asked kinds error (inl help) (inr among) = inl (subst (λ k. IsAmong k kinds) help among)
+help_is_asked kinds error (inr version) (inl memory) = absurd cc
+help_is_asked kinds error (inr version) (inr among) = inr (subst (λ k. IsAmong k kinds) version among)
 
-pub returns-in-Err-clause-says_yes : goal.returns-in-Err-clause-says_yes
-returns-in-Err-clause-says_yes g c accepted check =
-    let memory = of_memory _ c.in-Err.error accepted c.in-Err.ensures.fails in
-    let same = (c.explain.ensures.not_decided (c.explain.ensures.memory memory)).0 in
-    nothing_said IsRight (g.R.Source.left c.args.streams.now.reader) (g.W.Sink.written_bytes c.args.streams.now.writer)
-    (g.W.Sink.written_bytes c.explain.new.writer) (ap g.W.Sink.written_bytes same)
+-- a command ran, whatever its request is called
+ran_for : {R W E : Type 0} {source : Source R} {sink : Sink W} {messages : Sink E} (asked wanted : Request)
+    (old new : Streams R W E) (status : ℕ) → asked ≡ wanted → Ran source sink messages asked old new status →
+    Ran source sink messages wanted old new status
+ran_for {source} {sink} {messages} asked wanted old new status same ran =
+    subst (λ (request : Request). Ran source sink messages request old new status) same ran
 
-pub returns-in-Err-clause-says_yes_of_stops : goal.returns-in-Err-clause-says_yes_of_stops
-returns-in-Err-clause-says_yes_of_stops g c accepted check =
-    let memory = of_memory _ c.in-Err.error accepted c.in-Err.ensures.fails in
-    let same = (c.explain.ensures.not_decided (c.explain.ensures.memory memory)).0 in
-    nothing_said HasRightStops (g.R.Source.left c.args.streams.now.reader)
-    (g.W.Sink.written_bytes c.args.streams.now.writer)
-    (g.W.Sink.written_bytes c.explain.new.writer) (ap g.W.Sink.written_bytes same)
+pub returns-in-Ok-clause-ran : goal.returns-in-Ok-clause-ran
+returns-in-Ok-clause-ran g c accepted = ran_for _ _ _ _ _ c.in-Ok.ensures.request (record {
+  ended = c.serve-ended.result;
+  served = c.serve-ended.ensures.serves;
+  status_of_end = c.status_of.ensures.status;
+  said = c.status_of.ensures.said;
+  quiet = c.status_of.ensures.quiet;
+})
 
--- only a no has the status 1
-no_of : (ended : Result Outcome CheckFault) → status_for ended ≡ 1 → ended ≡ Ok No
-no_of (Ok Yes) e = absurd (omega (arith, e))
-no_of (Ok No) e = refl
-no_of (Ok Refused) e = absurd (omega (arith, e))
-no_of (Err Read) e = absurd (omega (arith, e))
-no_of (Err Write) e = absurd (omega (arith, e))
-no_of (Err TooLong) e = absurd (omega (arith, e))
-no_of (Err Memory) e = absurd (omega (arith, e))
+-- the promise of a yes, by the status
+promised : {P : List ℕ → Type 0} {left written_bytes written_bytes' : Option (List ℕ)}
+    (ended : Result Outcome CheckFault) (status : ℕ) → status ≡ status_for ended →
+    YesPromises P (ended ≡ Ok Yes) left written_bytes written_bytes' →
+    YesPromises P (status ≡ 0) left written_bytes written_bytes'
+promised ended status is promise = record {
+  by_end = λ zero. promise.by_end (outcome_of Yes ended (sym is ∙ zero));
+  by_line = promise.by_line;
+}
+
+pub returns-in-Ok-clause-right : goal.returns-in-Ok-clause-right
+returns-in-Ok-clause-right g c check = promised c.serve-ended.result c.status_of.result c.status_of.ensures.status
+    (c.serve-ended.ensures.right (c.in-Ok.ensures.request ∙ check.asked))
+
+pub returns-in-Ok-clause-stops : goal.returns-in-Ok-clause-stops
+returns-in-Ok-clause-stops g c check = promised c.serve-ended.result c.status_of.result c.status_of.ensures.status
+    (c.serve-ended.ensures.stops (c.in-Ok.ensures.request ∙ check.asked))
 
 pub returns-in-Ok-clause-wrong : goal.returns-in-Ok-clause-wrong
 returns-in-Ok-clause-wrong g c check one =
-    c.serve-ended.ensures.wrong (c.in-Ok.ensures.request ∙ check)
-    (no_of c.serve-ended.result (sym c.status_of.ensures.status ∙ one))
+    c.serve-ended.ensures.wrong (c.in-Ok.ensures.request ∙ check.asked)
+    (outcome_of No c.serve-ended.result (sym c.status_of.ensures.status ∙ one))
 
 pub returns-in-Ok-clause-lines : goal.returns-in-Ok-clause-lines
 returns-in-Ok-clause-lines g c check one =
-    c.serve-ended.ensures.lines (c.in-Ok.ensures.request ∙ check)
-    (no_of c.serve-ended.result (sym c.status_of.ensures.status ∙ one))
-
--- only a refusal has the status 3
-refusal_of : (ended : Result Outcome CheckFault) → status_for ended ≡ 3 → ended ≡ Ok Refused
-refusal_of (Ok Yes) e = absurd (omega (arith, e))
-refusal_of (Ok No) e = absurd (omega (arith, e))
-refusal_of (Ok Refused) e = refl
-refusal_of (Err Read) e = absurd (omega (arith, e))
-refusal_of (Err Write) e = absurd (omega (arith, e))
-refusal_of (Err TooLong) e = absurd (omega (arith, e))
-refusal_of (Err Memory) e = absurd (omega (arith, e))
+    c.serve-ended.ensures.lines (c.in-Ok.ensures.request ∙ check.asked)
+    (outcome_of No c.serve-ended.result (sym c.status_of.ensures.status ∙ one))
 
 pub returns-in-Ok-clause-small : goal.returns-in-Ok-clause-small
 returns-in-Ok-clause-small g c check three =
-    c.serve-ended.ensures.small (c.in-Ok.ensures.request ∙ check)
-    (refusal_of c.serve-ended.result (sym c.status_of.ensures.status ∙ three))
+    c.serve-ended.ensures.small (c.in-Ok.ensures.request ∙ check.asked)
+    (outcome_of Refused c.serve-ended.result (sym c.status_of.ensures.status ∙ three))
+
+pub returns-in-Err-clause-ran : goal.returns-in-Err-clause-ran
+returns-in-Err-clause-ran g c accepted =
+    let five = c.explain.ensures.memory (of_memory _ c.in-Err.error accepted c.in-Err.ensures.fails) in
+    let starved = c.explain.ensures.explains.out_of_memory five in
+    record {
+      ended = Err Memory;
+      served = record {
+        answered = tt;
+        works = tt;
+        read = λ e. absurd cc;
+        too_long = λ e. absurd cc;
+        write = λ e. absurd cc;
+        prefix = λ e. absurd cc;
+        unwritten = λ _. starved.0;
+      };
+      status_of_end = five;
+      said = starved.1;
+      quiet = tt;
+    }
+
+pub returns-in-Err-clause-explained : goal.returns-in-Err-clause-explained
+returns-in-Err-clause-explained g c refused =
+    let fails = c.in-Err.ensures.fails in
+    let explains = c.explain.ensures.explains in
+    record {
+      unread = refl;
+      by_status = record {
+        range = explains.range;
+        helped = λ zero. let shown = explains.helped zero in
+            (help_is_asked _ c.in-Err.error shown.0 fails, shown.1, shown.2);
+        refused = λ two. let said = explains.refused two in (
+          (λ alone. elim fails [
+            | inl memory ↦ let five = c.explain.ensures.memory memory in absurd (omega (arith, five, two))
+            | inr among ↦ said.0 (alone (kind_of c.in-Err.error) among)
+          ]),
+          said.1,
+        );
+        cut_off = λ four. let shown = explains.cut_off four in
+            (help_is_asked _ c.in-Err.error shown.0 fails, shown.1, shown.2);
+        out_of_memory = explains.out_of_memory;
+      };
+    }
+
+pub returns-in-Err-clause-right : goal.returns-in-Err-clause-right
+returns-in-Err-clause-right g c check =
+    let five = c.explain.ensures.memory (of_memory _ c.in-Err.error check.accepted c.in-Err.ensures.fails) in
+    nothing_promised IsRight _ (g.R.Source.left c.args.streams.now.reader)
+    (g.W.Sink.written_bytes c.args.streams.now.writer) (g.W.Sink.written_bytes c.explain.new.writer)
+    (λ zero. absurd (omega (arith, five, zero)))
+    (ap g.W.Sink.written_bytes (c.explain.ensures.explains.out_of_memory five).0)
+
+pub returns-in-Err-clause-stops : goal.returns-in-Err-clause-stops
+returns-in-Err-clause-stops g c check =
+    let five = c.explain.ensures.memory (of_memory _ c.in-Err.error check.accepted c.in-Err.ensures.fails) in
+    nothing_promised HasRightStops _ (g.R.Source.left c.args.streams.now.reader)
+    (g.W.Sink.written_bytes c.args.streams.now.writer) (g.W.Sink.written_bytes c.explain.new.writer)
+    (λ zero. absurd (omega (arith, five, zero)))
+    (ap g.W.Sink.written_bytes (c.explain.ensures.explains.out_of_memory five).0)

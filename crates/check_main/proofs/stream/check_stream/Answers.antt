@@ -9,61 +9,45 @@ use Rattle.headline.proofs.PlainTexts.{no_is_wrong, no_lines_tell}
 use Rattle.answers.specs.declared.outcome.Outcome.TheVariants.{No, Refused}
 use Rattle.headline.proofs.SmallDesigns.{refused_is_none}
 use Rattle.headline.proofs.YesIsRight.{yes_has_right_stops, yes_is_right}
-use Rattle.check_main.proofs.RightStreams.{nothing_said, outcome_means, outcome_right, outcome_tells, written_right}
+use Rattle.check_main.proofs.RightStreams.{nothing_promised, outcome_means, outcome_tells, yes_promised}
 use Rattle.check_main.proofs.stream.check_stream.Goals as goal
 
-pub returns-in_err-feed-clause-says_yes : goal.returns-in_err-feed-clause-says_yes
-returns-in_err-feed-clause-says_yes g c =
-    nothing_said IsRight (g.R.Source.left c.args.reader.now) (g.W.Sink.written_bytes c.args.writer.now)
-    (g.W.Sink.written_bytes c.args.writer.now) refl
+pub returns-in_err-feed-clause-right : goal.returns-in_err-feed-clause-right
+returns-in_err-feed-clause-right g c =
+    nothing_promised IsRight _ (g.R.Source.left c.args.reader.now) (g.W.Sink.written_bytes c.args.writer.now)
+    (g.W.Sink.written_bytes c.args.writer.now) (λ is. rw is at c.from_residual.ensures.1) refl
 
-pub returns-in_err-answered-clause-says_yes : goal.returns-in_err-answered-clause-says_yes
-returns-in_err-answered-clause-says_yes g c =
-    nothing_said IsRight (g.R.Source.left c.args.reader.now) (g.W.Sink.written_bytes c.args.writer.now)
-    (g.W.Sink.written_bytes c.args.writer.now) refl
+pub returns-in_err-answered-clause-right : goal.returns-in_err-answered-clause-right
+returns-in_err-answered-clause-right g c =
+    nothing_promised IsRight _ (g.R.Source.left c.args.reader.now) (g.W.Sink.written_bytes c.args.writer.now)
+    (g.W.Sink.written_bytes c.args.writer.now) (λ is. rw is at c.from_residual-in_err-answered.ensures.1) refl
 
-pub returns-clause-correct : goal.returns-clause-correct
-returns-clause-correct g c is =
-    outcome_right IsRight yes_is_right (g.R.Source.left c.args.reader.now)
-    (g.R.Source.left c.read_text.new.reader) c.in_ok-feed.feed.text c.in_ok-answered.answered.output.items
-    c.in_ok-answered.answered.outcome
-    c.in_ok-feed.ensures.read_all c.in_ok-answered.ensures.answered c.write_answer.result is
-    c.write_answer.ensures.outcome
-
-pub returns-clause-says_yes : goal.returns-clause-says_yes
-returns-clause-says_yes g c =
-    written_right IsRight yes_is_right (g.R.Source.left c.args.reader.now) (g.R.Source.left c.read_text.new.reader)
+pub returns-clause-right : goal.returns-clause-right
+returns-clause-right g c =
+    yes_promised IsRight yes_is_right (g.R.Source.left c.args.reader.now) (g.R.Source.left c.read_text.new.reader)
     (g.W.Sink.written_bytes c.args.writer.now) (g.W.Sink.written_bytes c.write_answer.new.writer)
     c.in_ok-feed.feed.text c.in_ok-answered.answered.output.items c.in_ok-answered.answered.outcome
-    c.in_ok-feed.ensures.read_all c.in_ok-answered.ensures.answered c.write_answer.result c.write_answer.ensures.all
-    c.write_answer.ensures.prefix
+    c.in_ok-feed.ensures.read_all c.in_ok-answered.ensures.answered c.write_answer.result
+    c.write_answer.ensures.outcome c.write_answer.ensures.all c.write_answer.ensures.prefix
 
-pub returns-in_err-feed-clause-says_yes_of_stops : goal.returns-in_err-feed-clause-says_yes_of_stops
-returns-in_err-feed-clause-says_yes_of_stops g c =
-    nothing_said HasRightStops (g.R.Source.left c.args.reader.now) (g.W.Sink.written_bytes c.args.writer.now)
-    (g.W.Sink.written_bytes c.args.writer.now) refl
+pub returns-in_err-feed-clause-stops : goal.returns-in_err-feed-clause-stops
+returns-in_err-feed-clause-stops g c =
+    nothing_promised HasRightStops _ (g.R.Source.left c.args.reader.now) (g.W.Sink.written_bytes c.args.writer.now)
+    (g.W.Sink.written_bytes c.args.writer.now) (λ is. rw is at c.from_residual.ensures.1) refl
 
-pub returns-in_err-answered-clause-says_yes_of_stops : goal.returns-in_err-answered-clause-says_yes_of_stops
-returns-in_err-answered-clause-says_yes_of_stops g c =
-    nothing_said HasRightStops (g.R.Source.left c.args.reader.now) (g.W.Sink.written_bytes c.args.writer.now)
-    (g.W.Sink.written_bytes c.args.writer.now) refl
+pub returns-in_err-answered-clause-stops : goal.returns-in_err-answered-clause-stops
+returns-in_err-answered-clause-stops g c =
+    nothing_promised HasRightStops _ (g.R.Source.left c.args.reader.now) (g.W.Sink.written_bytes c.args.writer.now)
+    (g.W.Sink.written_bytes c.args.writer.now) (λ is. rw is at c.from_residual-in_err-answered.ensures.1) refl
 
 pub returns-clause-stops : goal.returns-clause-stops
-returns-clause-stops g c is =
-    outcome_right HasRightStops yes_has_right_stops (g.R.Source.left c.args.reader.now)
-    (g.R.Source.left c.read_text.new.reader) c.in_ok-feed.feed.text c.in_ok-answered.answered.output.items
-    c.in_ok-answered.answered.outcome
-    c.in_ok-feed.ensures.read_all c.in_ok-answered.ensures.answered c.write_answer.result is
-    c.write_answer.ensures.outcome
-
-pub returns-clause-says_yes_of_stops : goal.returns-clause-says_yes_of_stops
-returns-clause-says_yes_of_stops g c =
-    written_right HasRightStops yes_has_right_stops (g.R.Source.left c.args.reader.now)
-    (g.R.Source.left c.read_text.new.reader) (g.W.Sink.written_bytes c.args.writer.now)
-    (g.W.Sink.written_bytes c.write_answer.new.writer)
+returns-clause-stops g c =
+    yes_promised HasRightStops yes_has_right_stops (g.R.Source.left c.args.reader.now)
+    (g.R.Source.left c.read_text.new.reader)
+    (g.W.Sink.written_bytes c.args.writer.now) (g.W.Sink.written_bytes c.write_answer.new.writer)
     c.in_ok-feed.feed.text c.in_ok-answered.answered.output.items c.in_ok-answered.answered.outcome
-    c.in_ok-feed.ensures.read_all c.in_ok-answered.ensures.answered c.write_answer.result c.write_answer.ensures.all
-    c.write_answer.ensures.prefix
+    c.in_ok-feed.ensures.read_all c.in_ok-answered.ensures.answered c.write_answer.result
+    c.write_answer.ensures.outcome c.write_answer.ensures.all c.write_answer.ensures.prefix
 
 pub returns-clause-wrong : goal.returns-clause-wrong
 returns-clause-wrong g c is =

@@ -1,11 +1,6 @@
 use Rattle.border_match.proofs.Cells.{owned_near}
 use Rattle.border_match.proofs.borders.Borders.edge_event_differs.Goals as goal
 
-pub halo_signal-own-requires : goal.halo_signal-own-requires
-halo_signal-own-requires c =
-    owned_near c.args.self.now c.args.event.at.cell c.args.owner.now c.requires.ready c.requires.inside
-    c.requires.owner c.area-area.ensures.good
-
 pub edge_event_signal-requires-clause-near : goal.edge_event_signal-requires-clause-near
 edge_event_signal-requires-clause-near c =
     owned_near c.args.self.now c.args.event.at.cell c.args.owner.now c.requires.ready c.requires.inside

@@ -9,30 +9,35 @@ events-preserved-then-not-is_around c =
     let other = c.args.other.now in
     let are = cornered other c.events-events.result.now c.edges.result.now c.events-events.ensures.same_list
     (c.edges.ensures ∙ ap (λ (s : ShapeView). s.edges) (c.deref-shape.ensures ∙ c.shape.ensures)) in
-    better_for _ _ _ _ _ c.events.invariant
+    let better = better_for _ _ _ _ _ c.events.invariant.better
     (λ h f r. (
       around_step c.args.self.now other c.area-area.result c.area-corner.result c.events-events.result.now
           c.events.place _ c.is_around.result h c.area-area.ensures.area c.area-corner.ensures.area are
           c.events-test.true
           c.is_around.ensures c.if-not-is_around.true f r.0,
       r.1,
-    ))
+    )) in
+    record { better = better; marked = c.events.invariant.marked }
 
 pub with_edge_event-least-requires-clause-listed : goal.with_edge_event-least-requires-clause-listed
 with_edge_event-least-requires-clause-listed c = (c.events.place, c.edge_event.ensures)
 
 pub events-preserved : goal.events-preserved
-events-preserved c = better_then _ _ _ _ _ _ _ c.events.invariant c.with_edge_event-least.ensures
-    (λ h f r. named_step_of c.args.self.now c.args.number c.args.other.now.edges.events c.events.place
-    c.edge_event.result h c.edge_event.ensures r.0 r.1)
+events-preserved c = record {
+  better = better_then _ _ _ _ _ _ _ c.events.invariant.better c.with_edge_event-least.ensures.better
+      (λ h f r. named_step_of c.args.self.now c.args.number c.args.other.now.edges.events c.events.place
+      c.edge_event.result h c.edge_event.ensures r.0 r.1);
+  marked = c.with_edge_event-least.ensures.marked;
+}
 
 pub returns : goal.returns
 returns c =
     let other = c.args.other.now in
     let are = cornered other c.events-events.result.now c.edges.result.now c.events-events.ensures.same_list
     (c.edges.ensures ∙ ap (λ (s : ShapeView). s.edges) (c.deref-shape.ensures ∙ c.shape.ensures)) in
-    better_for _ _ _ _ _ c.events.invariant (λ h f r. (
+    let better = better_for _ _ _ _ _ c.events.invariant.better (λ h f r. (
       named_all other.edges.events c.events.place h
           (cornered_all _ _ c.events-events.result.now other.edges.events c.events.place are c.events-test.false) r.0,
       r.1,
-    ))
+    )) in
+    record { better = better; marked = c.events.invariant.marked }

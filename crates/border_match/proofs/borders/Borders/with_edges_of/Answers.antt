@@ -17,4 +17,8 @@ returns c =
     let other = c.deref.result.now in
     let got : slice_get (jobs_of b) c.args.number ≡ Some other =
     job_at arc_value b.jobs.now c.args.number _ other c.requires.number c.deref.ensures in
-    better_for _ _ _ _ _ c.with_edge_events.ensures (λ h f p. (edges_named b c.args.number other h got p, p.1))
+    record {
+      better = better_for _ _ _ _ _ c.with_edge_events.ensures.better
+          (λ h f p. (edges_named b c.args.number other h got p, p.1));
+      marked = c.with_edge_events.ensures.marked;
+    }

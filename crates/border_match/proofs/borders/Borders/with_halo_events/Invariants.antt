@@ -1,6 +1,7 @@
-use Rattle.border_match.specs.Boards.{Faults, IsNamedBelow}
+use Rattle.border_match.specs.Boards.{Faults, IsUnmarkedBelow}
 use Rattle.border_match.specs.Candidates.{IsBetter}
 use Rattle.border_match.proofs.borders.Borders.with_halo_events.Given as goal
 
 abbrev pub invariant-events : goal.invariant-events
-invariant-events l = IsBetter (Faults l.self) (IsNamedBelow l.place l.self.job.now.halos.events) l.fn.best l.least
+invariant-events l = IsBetter (Faults l.self)
+    (IsUnmarkedBelow l.place l.seen l.self.job.now.halos.events) l.fn.best l.least

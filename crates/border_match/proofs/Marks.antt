@@ -1,0 +1,147 @@
+-- Marks of the halo events that edges name
+use Rattle.std.proofs.Common.{◌≡◌, ℕ, ◌+◌, ◌<◌, ◌≤◌, List, [], ◌∷◌, ◌++◌, length, take, replicate, Bool, true, false}
+use Rattle.std.proofs.Common.{Some}
+use Rattle.std.proofs.Common.{arith, refl, sym, ap, ◌∙◌, inl, inr, ◌⊎◌, zero, suc}
+use Rattle.std.specs.Prelude.{slice_get, slice_set}
+use Rattle.std.proofs.Math.ListN.{length-set}
+use Rattle.std.proofs.Math.Seq.{take-append_seam}
+use Rattle.std.proofs.lemmas.Bool.{false≢true}
+use Rattle.std.proofs.lemmas.Option.{slice_get_within}
+use Rattle.module_box.specs.Tiling.{owner_of}
+use Rattle.module_box.specs.declared.schedules.Event.{Event}
+use Rattle.module_box.specs.declared.schedules.Moment.{Moment}
+use Rattle.module_box.proofs.BoxCells.{same_some}
+use Rattle.module_job.specs.Jobs.{JobView}
+use Rattle.border_match.specs.Boards.{AddsMark, AreMarked, DiffersAlways, Faults, IsAtEvent, IsEdgeNamed, IsListed}
+use Rattle.border_match.specs.Boards.{IsPlaceOf, IsReady, IsUnmarked, IsUnmarkedBelow, jobs_of}
+use Rattle.border_match.specs.declared.borders.Borders.{Borders}
+use Rattle.border_match.specs.declared.fault.BorderFault.{BorderFault}
+use Rattle.border_match.proofs.Modules.{there}
+use Rattle.border_match.proofs.Steps.{fault_covered, same_fault}
+
+lower_or_same : (i m : ℕ) → i < m + 1 → (i < m) ⊎ (i ≡ m)
+lower_or_same i m h = grind arith
+
+-- ---- one mark more
+
+same_or_other : (p q : ℕ) → (p ≡ q) ⊎ (p ≡ q → ⊥)
+same_or_other p q = grind arith
+
+set_elsewhere : (xs : List Bool) (q p : ℕ) → (p ≡ q → ⊥) → slice_get (slice_set xs q true) p ≡ slice_get xs p
+set_elsewhere [] q p other = refl
+set_elsewhere (x ∷ xs) zero zero other = absurd (other refl)
+set_elsewhere (x ∷ xs) zero (suc p) other = refl
+set_elsewhere (x ∷ xs) (suc q) zero other = refl
+set_elsewhere (x ∷ xs) (suc q) (suc p) other = set_elsewhere xs q p (λ same. other (ap suc same))
+
+pub mark_added : (events : List Event) (at : Moment) (old new : List Bool) (place : ℕ) →
+    IsPlaceOf events at place → new ≡ slice_set old place true → AddsMark events at old new
+mark_added events at old new place is set = record {
+  sized = ap length set ∙ length-set old place true;
+  marks = λ p e marked got. elim (same_or_other p place) [
+    | inl same ↦ inr (ap (λ (z : Event). z.at)
+        (same_some (slice_get events p) e is.event got (ap (slice_get events) same ∙ is.got)) ∙ is.same)
+    | inr other ↦ inl (sym (set_elsewhere old place p other) ∙ ap (λ l. slice_get l p) (sym set) ∙ marked)
+  ];
+}
+
+pub none_added : (events : List Event) (at : Moment) (old : List Bool) → AddsMark events at old old
+none_added events at old = record { sized = refl; marks = λ p e marked got. inl marked }
+
+-- the edge that names what the new mark's event names
+pub still_marked : (b : Borders) (k : ℕ) (other : JobView) (event : Event) (old new : List Bool) →
+    slice_get (jobs_of b) k ≡ Some other → owner_of b.owners.now event.at.cell.x event.at.cell.y ≡ k →
+    IsListed other.edges.events event → AddsMark b.job.now.halos.events event.at old new → AreMarked b old →
+    AreMarked b new
+still_marked b k other event old new numbered owned listed adds marked = record {
+  sized = adds.sized ∙ marked.sized;
+  edges = λ p e f mark got at. elim (adds.marks p e mark got) [
+    | inl before ↦ marked.edges p e f before got at
+    | inr same ↦
+        let here : event.at ≡ record { time = f.time; cell = f.cell } =
+        sym same ∙ ap (λ (g : BorderFault). record { time = g.time; cell = g.cell }) (sym at) in
+        record {
+          owner = other;
+          numbered = ap (slice_get (jobs_of b))
+              (ap (λ (m : Moment). owner_of b.owners.now m.cell.x m.cell.y) (sym here) ∙ owned) ∙ numbered;
+          named = record {
+            place = listed.0;
+            event = event;
+            got = listed.1;
+            time = ap (λ (m : Moment). m.time) here;
+            cell = ap (λ (m : Moment). m.cell) here;
+          };
+        }
+  ];
+}
+
+-- ---- no mark at first
+
+all_false : (n p : ℕ) → slice_get (replicate n false) p ≡ Some true → ⊥
+all_false zero p e = cc
+all_false (suc n) zero e = cc
+all_false (suc n) (suc p) e = all_false n p e
+
+pub unmarked_first : (b : Borders) (seen : List Bool) (n : ℕ) → n ≡ length b.job.now.halos.events →
+    seen ≡ replicate n false → length seen ≡ n → AreMarked b seen
+unmarked_first b seen n count are sized = record {
+  sized = sized ∙ count;
+  edges = λ p e f mark got at. absurd (all_false n p (ap (λ l. slice_get l p) (sym are) ∙ mark));
+}
+
+-- marks that are written back into their vector
+pub written_back : (new rest items : List Bool) (n : ℕ) → n ≡ length new → items ≡ take n (new ++ rest) → new ≡ items
+written_back new rest items n count is =
+    sym (is ∙ ap (λ k. take k (new ++ rest)) count ∙ take-append_seam new rest)
+
+-- ---- one event more
+
+pub unmarked_step : (seen : List Bool) (events : List Event) (i : ℕ) (f : BorderFault) →
+    IsUnmarkedBelow (i + 1) seen events f → slice_get seen i ≡ Some true → IsUnmarkedBelow i seen events f
+unmarked_step seen events i f h marked = elim (lower_or_same h.unmarked.named.place i h.below) [
+  | inl lt ↦ record { unmarked = h.unmarked; below = lt }
+  | inr same ↦ absurd (false≢true (same_some (slice_get seen i) false true
+      (ap (slice_get seen) (sym same) ∙ h.unmarked.unmarked) marked))
+]
+
+pub event_step : (seen : List Bool) (events : List Event) (i : ℕ) (e : Event) (f : BorderFault) →
+    slice_get events i ≡ Some e → IsUnmarkedBelow (i + 1) seen events f →
+    IsUnmarkedBelow i seen events f ⊎ IsAtEvent e f
+event_step seen events i e f got h = elim (lower_or_same h.unmarked.named.place i h.below) [
+  | inl lt ↦ inl (record { unmarked = h.unmarked; below = lt })
+  | inr same ↦
+      let named = h.unmarked.named in
+      let is = same_some (slice_get events i) named.event e (ap (slice_get events) (sym same) ∙ named.got) got in
+      inr (same_fault e.at.time e.at.cell f (sym named.time ∙ ap (λ (z : Event). z.at.time) is)
+      (sym named.cell ∙ ap (λ (z : Event). z.at.cell) is))
+]
+
+pub unmarked_all : (seen : List Bool) (events : List Event) (k : ℕ) (f : BorderFault) → length events ≤ k →
+    IsUnmarked seen events f → IsUnmarkedBelow k seen events f
+unmarked_all seen events k f le h =
+    let within = slice_get_within events h.named.place h.named.event h.named.got in
+    record { unmarked = h; below = omega (arith, within) }
+
+-- ---- what a fault is named by
+
+mark_cases : (o : Bool) → (o ≡ true) ⊎ (o ≡ false)
+mark_cases true = inl refl
+mark_cases false = inr refl
+
+pub fault_unmarked : (b : Borders) (seen : List Bool) (f : BorderFault) → IsReady b → AreMarked b seen → Faults b f →
+    IsEdgeNamed b f ⊎ (IsUnmarked seen b.job.now.halos.events f ⊎ DiffersAlways b f)
+fault_unmarked b seen f ready marked g = elim (fault_covered b f ready g) [
+  | inl h ↦
+      let within = slice_get_within b.job.now.halos.events h.place h.event h.got in
+      let sized = marked.sized in
+      let mark = there seen h.place (omega (arith, within, sized)) in
+      elim (mark_cases mark.0) [
+        | inl set ↦ inl (marked.edges h.place h.event f (mark.1 ∙ ap Some set) h.got
+            (same_fault h.event.at.time h.event.at.cell f (sym h.time) (sym h.cell)))
+        | inr unset ↦ inr (inl (record { named = h; unmarked = mark.1 ∙ ap Some unset }))
+      ]
+  | inr rest ↦ elim rest [
+    | inl edge ↦ inl edge
+    | inr always ↦ inr (inr always)
+  ]
+]
