@@ -243,6 +243,19 @@ impl<'a> Borders<'a> {
         own != edge_event_signal(owner, event)
     }
 
+    // Returns whether a line with a star is for the module's halo or for the ring of the module that has the cell. If
+    // not, the signals of the cell do not differ at time 0: both are `Zero`.
+    fn has_star_line(&self, cell: Cell) -> bool
+        requires ready { IsReady self.now }
+        requires inside { IsTrue (in_box self.now.whole cell.x cell.y) }
+        ensures { Differ self.now 0 cell.x cell.y → IsTrue result }
+    {
+        if has_halo_star(self.job) {
+            return true;
+        }
+        has_edge_star(self.owner(cell))
+    }
+
     // Returns whether a border fault can be at this time and cell.
     fn may_be_fault(&self, fault: BorderFault) -> bool
         ensures { IsTrue result ↔ MayBeFault self.now fault }
@@ -549,7 +562,7 @@ impl<'a> Borders<'a> {
         if !self.reaches(cell) {
             return best;
         }
-        if !self.differs(0, cell) {
+        if !self.has_star_line(cell) || !self.differs(0, cell) {
             return best;
         }
         self.with_first_at(best, cell)
