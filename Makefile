@@ -27,29 +27,29 @@ help:
 	@sed -n 's/^#   //p' '$(top)/Makefile'
 
 install:
-	'$(top)/tools/install_files' install '$(room)'
-	'$(top)/tools/install_files' install_lab '$(room)'
+	'$(top)/tools/package/install_files' install '$(room)'
+	'$(top)/tools/package/install_files' install_lab '$(room)'
 
 uninstall:
-	'$(top)/tools/install_files' uninstall_lab '$(room)'
-	'$(top)/tools/install_files' uninstall '$(room)'
+	'$(top)/tools/package/install_files' uninstall_lab '$(room)'
+	'$(top)/tools/package/install_files' uninstall '$(room)'
 
 check:
 	program="$$('$(top)/bbmcheck' --wrapper-program)" && \
 	'$(top)/conformance/run.py' "$$program" --all && \
-	'$(top)/tools/documented_commands.py' "$$program"
+	'$(top)/tools/docs/documented_commands.py' "$$program"
 
 dist:
-	'$(top)/tools/make_archive'
+	'$(top)/tools/package/make_archive'
 
 deb:
-	'$(top)/tools/make_deb'
+	'$(top)/tools/package/make_deb'
 
 prove:
-	'$(top)/tools/prove'
+	'$(top)/tools/package/prove'
 
 release:
-	'$(top)/tools/release'
+	'$(top)/tools/package/release'
 
 mostlyclean:
 	rm -rf -- '$(top)/dist' '$(top)/crates/bbmcheck/out/wrapper'

@@ -11,7 +11,7 @@ import sys
 
 HERE = os.path.dirname(os.path.realpath(__file__))
 sys.dont_write_bytecode = True
-sys.path.insert(0, os.path.join(os.path.dirname(HERE), "tools"))
+sys.path.insert(0, os.path.join(os.path.dirname(HERE), "tools", "oracle"))
 import random_bundle  # noqa: E402
 
 BOXES = [(x, y, 16, 16) for y in range(0, 512, 16) for x in range(0, 512, 16)]

@@ -1,4 +1,4 @@
-"""Worked cases: reads them from the repository's files and from case folders.
+"""Worked cases: reads them from the repository's files, from the large bundles of conformance/data, and from case folders.
 
 A Case has a name, the words of a command, what it is given on standard input, and what it must do: the exit status, and the bytes of
 standard output and of standard error. Where one of these two is None, anything may be written there.
@@ -10,6 +10,8 @@ from pathlib import Path
 DATA = Path(__file__).resolve().parent.parent / "crates" / "worked_rows" / "data"
 # In this order: those of the specification, those that were written by hand, random bundles.
 FILES = [DATA / name for name in ("cases.txt", "by_hand.txt", "reports.txt")]
+# Large bundles: NAME.txt, and NAME.report, the report of `check`.
+LARGE = Path(__file__).resolve().parent / "data"
 COMMANDS = ("run", "value", "check", "modules", "migrate")
 TEXT = re.compile(rb"(?:([0-9]+) times )?(?:\| ?(?P<line>.*)|\\ (?P<piece>.*))\Z", re.DOTALL)
 PARTS = {b"input": "input", b"output": "output", b"errors": "errors"}
@@ -47,8 +49,20 @@ def cases_of_file(path):
     return [Case(**case) for case in found]
 
 
+def large_cases():
+    """Returns the cases of `check` and `migrate` for the large bundles. NAME_v2.txt is the migrated NAME_v1.txt, if there are both."""
+    found = []
+    for path in sorted(LARGE.glob("*.txt")):
+        text, report = path.read_bytes(), path.with_suffix(".report").read_bytes()
+        found.append(Case(f"bundle_{path.stem}", ["check"], text, 1 if b"\nverdict no\n" in report else 0, report, None))
+        after = path.with_name(path.name.replace("_v1", "_v2"))
+        if after != path and after.exists():
+            found.append(Case(f"migrate_{path.stem}", ["migrate"], text, 0, after.read_bytes(), None))
+    return found
+
+
 def all_cases():
-    return [case for path in FILES for case in cases_of_file(path)]
+    return [case for path in FILES for case in cases_of_file(path)] + large_cases()
 
 
 def bytes_or_none(path):

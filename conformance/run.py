@@ -4,10 +4,10 @@
 Runs PROGRAM on each worked case and compares the exit status and standard output. Prints a line for each case that does not hold, and last
 how many held. The status is 0 if all did.
 
-Without FOLDER the cases are those of the repository. With it they are the case folders at or below each FOLDER, such as
-conformance/unpack.py writes. --commands takes the cases of these commands alone. --all also takes the cases that are about the words of a
-command and no text, and compares standard error if a case gives it: both are this project's own. A case has 120 seconds, or N.
-Two run at a time, or N.
+Without FOLDER the cases are those of the repository, with the large bundles of conformance/data. With it they are the case folders at or
+below each FOLDER, such as conformance/unpack.py writes. --commands takes the cases of these commands alone. --all also takes the cases
+that are about the words of a command and no text, and compares standard error if a case gives it: both are this project's own. A case has
+120 seconds, or N. Two run at a time, or N.
 """
 import argparse
 import subprocess

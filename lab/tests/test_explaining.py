@@ -135,9 +135,9 @@ def gives(document: support.Document, inputs: dict[str, int], wanted: dict[str, 
 
 
 def explained_example(name: str):
-    """Returns the words of an example's report, which the plain programs of tools/ make."""
+    """Returns the words of an example's report, which the plain programs of tools/oracle make."""
     import sys
-    sys.path.insert(0, str(support.TOP / "tools"))
+    sys.path.insert(0, str(support.TOP / "tools" / "oracle"))
     import reference_reports
     data = (support.EXAMPLES / f"{name}.txt").read_bytes()
     return explain_answer(data.decode(), "check", reference_reports.answer(data)[1].decode(), name)

@@ -1,4 +1,4 @@
-# tools/make_man.py writes this file from what the program prints with --help and --version, and from docs/FORMATS.md.
+# tools/package/make_man.py writes this file from what the program prints with --help and --version, and from docs/FORMATS.md.
 # A word is never a file; after `<` fish completes files by itself.
 complete -c bbmcheck -f
 complete -c bbmcheck -n __fish_use_subcommand -a check -d 'Checks a layout against its circuit by a certificate'
