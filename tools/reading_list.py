@@ -1,1 +1,0 @@
-docs/reading_list.py
