@@ -6,7 +6,7 @@
 -- audit_core/specs/Implements.antt (a layout computes a circuit); section_text/specs/SaidSection.antt,
 -- circuit/specs/Forms.antt and pattern/specs/Forms.antt (a section, and what its lines say); Design.antt (what a text
 -- says). The types that they name are in circuit/src/circuit_line.rt, bbm_rule/src/block.rt, pattern/src/layout_line.rt
--- and section_text/src/section.rt. `tools/docs/reading_list.py --definitions` prints which of their definitions are meant.
+-- and section_text/src/section.rt. `tools/docs/reading_list.py --definitions` names the definitions that are meant.
 use Rattle.std.specs.Prelude.{◌≡◌, ℕ, List, ◌++◌, Option, Some, slice_get, codes}
 use Rattle.section_text.specs.Words.{lines_of}
 use Rattle.circuit.specs.declared.circuit_line.CircuitLine.{CircuitLine}
