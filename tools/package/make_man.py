@@ -136,7 +136,7 @@ def man_page(version, top, pages):
                 "In /usr/share/doc/bbmcheck, or share/doc/bbmcheck below the prefix of the installation:")
     yield from tagged((f"{name}", f"{about}") for name, about in PAGES)
     yield from (".SH LICENSE", "MIT: the file LICENSE there, or copyright in a package for Debian.",
-                "THIRD\\-PARTY.md has the licences of the crates in the program.")
+                "THIRD\\-PARTY.md has the licences of the ported crates in the program, and names parts whose licence is not known.")
 
 
 def flags(page):
