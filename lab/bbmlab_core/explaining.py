@@ -172,11 +172,22 @@ def explain_value(document: Document, output: str, file: str) -> Explanation:
     return Explanation(file, "value", headline, last[0] if last[0] == "undefined" else "values")
 
 
+def explain_listing(command: str, output: str, file: str) -> Explanation:
+    """Returns the answer of `modules` or `migrate`, which refused nothing, in words."""
+    if command == "modules":
+        count = len(output.splitlines())
+        modules = "one module" if count == 1 else f"{count} modules"
+        return Explanation(file, command, [f"The text is read, and its certificate has {modules}."], "read")
+    return Explanation(file, command, ["The text is read, and the program wrote it with a certificate of version 2."], "read")
+
+
 def explain_answer(text: str, command: str, output: str, file: str) -> Explanation:
     """Returns what a command of the program wrote, in words."""
     document = read_document(text, command)
     if output.startswith("refused ") or command == "check":
         return explain_report(document, parse_report(output), file)
+    if command in ("modules", "migrate"):
+        return explain_listing(command, output, file)
     return explain_run(document, output, file) if command == "run" else explain_value(document, output, file)
 
 

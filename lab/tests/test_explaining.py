@@ -128,6 +128,20 @@ class Cures(unittest.TestCase):
         return ask(support.program(), "check", text.encode("latin-1")).output
 
 
+class Listings(unittest.TestCase):
+    """What `modules` and `migrate` write of a text that is read."""
+
+    def test_listings_are_told_as_their_own(self) -> None:
+        """They are no values of a circuit."""
+        text = (support.EXAMPLES / "four_modules.txt").read_text()
+        for command, output, words in (("modules", "module 0 0 0 4 4\nmodule 1 4 0 4 4\n", "2 modules"), ("modules", "module 0 0 0 8 8\n", "one module"),
+                                       ("migrate", text, "version 2")):
+            told = explain_answer(text, command, output, "four_modules.txt")
+            with self.subTest(command):
+                self.assertEqual((told.command, told.verdict), (command, "read"))
+                self.assertIn(words, " ".join(told.headline))
+
+
 def gives(document: support.Document, inputs: dict[str, int], wanted: dict[str, int]) -> bool:
     """Whether the circuit's values under these inputs are the wanted ones."""
     values, _ = values_under(document.circuit, {name for name, value in inputs.items() if value})
