@@ -4,6 +4,7 @@ pub mod FaultOrder
 pub mod Least
 pub mod OwnSignals
 pub mod Cells
+pub mod Stars
 pub mod Steps
 pub mod Marks
 pub mod Unheld

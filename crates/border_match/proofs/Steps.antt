@@ -1,4 +1,4 @@
--- One more event, module, time, column or row
+-- One more event, module or time
 use Rattle.std.proofs.Common.{◌≡◌, ℕ, suc, ◌+◌, ◌-◌, ◌<◌, ◌≤◌, List, [], ◌∷◌, ◌++◌, length, map, take, get_or, Bool}
 use Rattle.std.proofs.Common.{true}
 use Rattle.std.proofs.Common.{false, Some, None, Less, Equal, Greater, refl, sym, ap, ap₂, subst, ◌∙◌, inl, inr, ◌⊎◌}
@@ -29,8 +29,7 @@ use Rattle.module_job.specs.Shapes.{shape_of, shift_to_origin}
 use Rattle.module_job.specs.Signals.{renumber_signal}
 use Rattle.border_match.specs.BorderFaults.{border_cmp}
 use Rattle.border_match.specs.Boards.{AreOwnersNoted, jobs_of, IsReady, Faults, IsNamed, IsNamedBelow, IsEdgeNamed}
-use Rattle.border_match.specs.Boards.{IsEdgeNamedAmong, IsEdgeNamedAt, DiffersAlways, DiffersAlwaysAt}
-use Rattle.border_match.specs.Boards.{DiffersAlwaysInRow, DiffersAlwaysBefore, DiffersAlwaysAbove, HasNoHaloBetween}
+use Rattle.border_match.specs.Boards.{IsEdgeNamedAmong, IsEdgeNamedAt, DiffersAlways}
 use Rattle.border_match.specs.Boards.{IsAround}
 use Rattle.border_match.specs.Boards.{IsAtEventOf}
 use Rattle.border_match.specs.declared.borders.Borders.{Borders}
@@ -238,62 +237,3 @@ fault_covered b f ready g =
         }))
       ]
     ]
-
--- ---- columns and rows
-
-pub no_column : (b : Borders) (y x : ℕ) (f : BorderFault) → x ≡ b.job.now.area.x - 1 → Faults b f →
-    DiffersAlwaysBefore b y x f → ⊥
-no_column b y x f e g h =
-    let p = placed b f g in
-    let same = pos_same h.at p.column (sym h.column ∙ p.x) in
-    let left = p.left in let before = h.before in
-    omega (arith, left, before, same, e)
-  where
-    pos_same : (i k : ℕ) → pos i ≡ pos k → i ≡ k
-    pos_same i k e = cc
-
-pub column_step : (b : Borders) (y x z : ℕ) (c : Cell) (f : BorderFault) → c.x ≡ pos x → c.y ≡ pos y →
-    HasNoHaloBetween b y x z → Faults b f → DiffersAlwaysBefore b y z f →
-    DiffersAlwaysBefore b y x f ⊎ DiffersAlwaysAt b c f
-column_step b y x z c f ex ey none g h =
-    let mk : ℤ → ℤ → Cell = λ x y. record { x = x; y = y } in
-    elim (before_at_after h.at x) [
-      | inl lt ↦ inl (record { differs = h.differs; at = h.at; column = h.column; before = lt })
-      | inr from ↦ elim from [
-        | inl same ↦ inr (h.differs.0, ap₂ mk (h.column ∙ ap pos same ∙ sym ex) (h.differs.1 ∙ sym ey))
-        | inr gt ↦ absurd (false≢true (sym (none h.at gt h.before)
-            ∙ sym (ap₂ (in_halo b.job.now.area) h.column h.differs.1) ∙ g.halo))
-      ]
-    ]
-
-pub all_columns : (b : Borders) (y x : ℕ) (f : BorderFault) → b.job.now.area.x + b.job.now.area.w + 1 ≤ x → Faults b f →
-    DiffersAlwaysInRow b y f → DiffersAlwaysBefore b y x f
-all_columns b y x f le g h =
-    let p = placed b f g in
-    let right = p.right in
-    record { differs = h; at = p.column; column = p.x; before = omega (arith, right, le) }
-
-pub no_row : (b : Borders) (y : ℕ) (f : BorderFault) → y ≡ b.job.now.area.y - 1 → Faults b f →
-    DiffersAlwaysAbove b y f → ⊥
-no_row b y f e g h =
-    let p = placed b f g in
-    let same = pos_same h.at p.row (sym h.row ∙ p.y) in
-    let top = p.top in let above = h.above in
-    omega (arith, top, above, same, e)
-  where
-    pos_same : (i k : ℕ) → pos i ≡ pos k → i ≡ k
-    pos_same i k e = cc
-
-pub row_step : (b : Borders) (y : ℕ) (f : BorderFault) → DiffersAlwaysAbove b (y + 1) f →
-    DiffersAlwaysAbove b y f ⊎ DiffersAlwaysInRow b y f
-row_step b y f h = elim (lower_or_same h.at y h.above) [
-  | inl lt ↦ inl (record { differs = h.differs; at = h.at; row = h.row; above = lt })
-  | inr same ↦ inr (h.differs, h.row ∙ ap pos same)
-]
-
-pub all_rows : (b : Borders) (y : ℕ) (f : BorderFault) → b.job.now.area.y + b.job.now.area.h + 1 ≤ y → Faults b f →
-    DiffersAlways b f → DiffersAlwaysAbove b y f
-all_rows b y f le g h =
-    let p = placed b f g in
-    let bottom = p.bottom in
-    record { differs = h; at = p.row; row = p.y; above = omega (arith, bottom, le) }

@@ -9,6 +9,7 @@ use Rattle.module_box.specs.Locals.{circuit_wire, is_among}
 use Rattle.module_box.specs.Schedules.{event_at, signal_at}
 use Rattle.module_box.specs.Tiling.{Owning, rectangle, owner_of}
 use Rattle.module_box.specs.declared.boxes.Box2.{Box2}
+use Rattle.module_box.specs.declared.schedules.AllTimes.{AllTimes}
 use Rattle.module_box.specs.declared.schedules.Event.{Event}
 use Rattle.module_box.specs.declared.schedules.Moment.{Moment}
 use Rattle.module_box.specs.declared.schedules.Signal.{Signal}
@@ -89,16 +90,6 @@ pub record IsAround (a : Box2) (x y : ℤ) : Type 0 where
   pub top : pos a.y ≤ℤ (y +ℤ pos 1)
   pub bottom : y ≤ℤ pos (a.y + a.h)
 
--- no edge line with a star is of one of the modules with these numbers
-abbrev pub AreEdgesStarless : Borders → List ℕ → Type 0
-AreEdgesStarless b ks = (k : ℕ) (j : JobView) → IsTrue (is_among ks k) → slice_get (jobs_of b) k ≡ Some j →
-    j.edges.all_times ≡ []
-
--- the same, and no halo line with a star is of the module that is searched
-pub record IsStarless (b : Borders) (ks : List ℕ) : Type 0 where
-  pub halos : b.job.now.halos.all_times ≡ []
-  pub edges : AreEdgesStarless b ks
-
 -- ---- which faults a part of the search finds
 
 -- an event of the list is at the time and cell of f
@@ -152,23 +143,29 @@ DiffersAlways b f = Differ b 0 f.cell.x f.cell.y
 abbrev pub DiffersAlwaysAt : Borders → Cell → BorderFault → Type 0
 DiffersAlwaysAt b c f = DiffersAlways b f × (f.cell ≡ c)
 
--- the same, and f's cell is in row y
-abbrev pub DiffersAlwaysInRow : Borders → ℕ → BorderFault → Type 0
-DiffersAlwaysInRow b y f = DiffersAlways b f × (f.cell.y ≡ pos y)
-
--- the same, in row y and before column x
-pub record DiffersAlwaysBefore (b : Borders) (y x : ℕ) (f : BorderFault) : Type 0 where
-  pub differs : DiffersAlwaysInRow b y f
-  pub at : ℕ
-  pub column : f.cell.x ≡ pos at
-  pub before : at < x
-
--- the same, above row y
-pub record DiffersAlwaysAbove (b : Borders) (y : ℕ) (f : BorderFault) : Type 0 where
+-- the same, and a line of the list says something of f's cell at all times
+pub record IsStarred (b : Borders) (stars : List AllTimes) (f : BorderFault) : Type 0 where
   pub differs : DiffersAlways b f
-  pub at : ℕ
-  pub row : f.cell.y ≡ pos at
-  pub above : at < y
+  pub place : ℕ
+  pub star : AllTimes
+  pub got : slice_get stars place ≡ Some star
+  pub cell : star.cell ≡ f.cell
+
+-- one of the first k lines of the list does
+pub record IsStarredBelow (k : ℕ) (b : Borders) (stars : List AllTimes) (f : BorderFault) : Type 0 where
+  pub starred : IsStarred b stars f
+  pub below : starred.place < k
+
+-- an edge line of the module that has f's cell does
+pub record IsEdgeStarred (b : Borders) (f : BorderFault) : Type 0 where
+  pub owner : JobView
+  pub numbered : slice_get (jobs_of b) (owner_of b.owners.now f.cell.x f.cell.y) ≡ Some owner
+  pub starred : IsStarred b owner.edges.all_times f
+
+-- a halo line of the module does, or an edge line of the module that has f's cell and one of these numbers
+abbrev pub IsStarredAmong : List ℕ → Borders → BorderFault → Type 0
+IsStarredAmong ks b f = IsStarred b b.job.now.halos.all_times f
+    ⊎ (IsEdgeStarred b f × IsTrue (is_among ks (owner_of b.owners.now f.cell.x f.cell.y)))
 
 -- ---- marks of the halo events that edges name
 

@@ -1,20 +1,20 @@
 //! The borders of one module.
-ghost use Rattle.std.specs.Prelude.{pos, ◌+◌, ◌≤◌, ◌+ℤ◌, ◌≤ℤ◌, ◌≡◌, ◌≢◌, ◌<◌, ◌↔◌, ◌&&◌, false, List, [], length, map, slice_get, slice_set, true, IsTrue, Some, IfSome, IfOk, OnOk};
+ghost use Rattle.std.specs.Prelude.{pos, ◌+◌, ◌≤◌, ◌+ℤ◌, ◌≤ℤ◌, ◌≡◌, ◌≢◌, ◌<◌, ◌↔◌, ◌&&◌, false, List, [], length, map, slice_get, slice_set, true, IsTrue, Some, IfNone, IfSome, IfOk, OnOk};
 ghost use Rattle.std.specs.Arc.{arc_value};
 ghost use Rattle.circuit.specs.Meaning.{wires};
 ghost use Rattle.module_box.specs.Boxes.{in_box, in_halo};
 ghost use Rattle.module_box.specs.Locals.{circuit_wire};
-ghost use Rattle.module_box.specs.Moves.{IsNear, moved_cell};
+ghost use Rattle.module_box.specs.Moves.{IsNear, moved_all_times, moved_cell};
 ghost use Rattle.module_box.specs.Tiling.{owner_of};
 ghost use Rattle.module_job.specs.Signals.{IsBelow, renumber_signal};
-ghost use Rattle.border_match.specs.Boards.{AddsMark, AreMarked, AreNumbers, AreOwnersNoted, Differ, Faults, IsEdgeNamed, IsEdgeNamedAt, DiffersAlways, DiffersAlwaysAt, DiffersAlwaysInRow, HasNoHaloBetween, IsAround, IsAtEvent, IsAtEventOf, IsListed, IsNamedOf, IsPlaceOf, IsUnmarked, IsNoted, IsReady, IsRowNoted, IsStarless, KeepsNumbers, MayBeFault, job_edge, job_halo, jobs_of};
+ghost use Rattle.border_match.specs.Boards.{AddsMark, AreMarked, AreNumbers, AreOwnersNoted, Differ, Faults, IsEdgeNamed, IsEdgeNamedAt, DiffersAlways, DiffersAlwaysAt, HasNoHaloBetween, IsAround, IsAtEvent, IsAtEventOf, IsListed, IsNamedOf, IsPlaceOf, IsUnmarked, IsNoted, IsReady, IsRowNoted, IsStarred, KeepsNumbers, MayBeFault, job_edge, job_halo, jobs_of};
 ghost use Rattle.border_match.specs.Candidates.{IsBetter, IsLeast};
 ghost use Rattle.border_match.specs.declared.fault.BorderFault.{BorderFault};
 
 use crate::fault::{BorderFault, is_less, lesser};
 use bbm_rule::Cell;
 use certificate::Job;
-use module_box::{Box2, Event, Moment, Owners, Signal, moved_cell};
+use module_box::{AllTimes, Box2, Event, Moment, Owners, Signal, moved_cell};
 use module_job::{Shape, shift_to_origin};
 use std::alloc::{AllocError, Global};
 use std::cmp::Ordering;
@@ -110,8 +110,10 @@ fn edge_event_signal(job: &Job, event: Event) -> Signal
 
 // Returns whether `z`, counted from a corner, is one of the `n` numbers from `from` on or next to one of them.
 fn is_beside(from: u32, n: u32, corner: u32, z: i32) -> bool
-    ensures { let at = z +ℤ pos corner in
+    ensures beside { let at = z +ℤ pos corner in
         pos from ≤ℤ (at +ℤ pos 1) → at ≤ℤ pos (from + n) → IsTrue result }
+    ensures bounds { let at = z +ℤ pos corner in
+        IsTrue result → (pos from ≤ℤ (at +ℤ pos 1)) × (at ≤ℤ pos (from + n)) }
 {
     let at = z as i64 + corner as i64;
     if at + 1 < from as i64 {
@@ -126,13 +128,34 @@ fn is_beside(from: u32, n: u32, corner: u32, z: i32) -> bool
 // Returns whether a cell, counted from the corner of another box, is in the columns and rows of the area or next to
 // them.
 fn is_around(area: Box2, corner: Box2, cell: Cell) -> bool
-    ensures { let at = moved_cell (pos corner.x) (pos corner.y) cell in
+    ensures around { let at = moved_cell (pos corner.x) (pos corner.y) cell in
         IsAround area at.x at.y → IsTrue result }
+    ensures bounds { let at = moved_cell (pos corner.x) (pos corner.y) cell in
+        IsTrue result → IsAround area at.x at.y }
 {
     if !is_beside(area.x, area.w, corner.x, cell.x) {
         return false;
     }
     is_beside(area.y, area.h, corner.y, cell.y)
+}
+
+// Returns a cell that is counted from the corner of another box, counted from that of the plane. It returns `None` if
+// the cell is not in the columns and rows of the area or next to them.
+fn cell_around(area: Box2, corner: Box2, cell: Cell) -> Option<Cell>
+    requires area { (area.x + area.w ≤ 512) × (area.y + area.h ≤ 512) }
+    requires corner { (corner.x ≤ 512) × (corner.y ≤ 512) }
+    ensures around { IfSome result (λ c. c
+        ≡ moved_cell (pos corner.x) (pos corner.y) cell) }
+    ensures far { let at = moved_cell (pos corner.x) (pos corner.y) cell in
+        IfNone result (¬ IsAround area at.x at.y) }
+{
+    if !is_around(area, corner, cell) {
+        return None;
+    }
+    Some(Cell {
+        x: cell.x + corner.x as i32,
+        y: cell.y + corner.y as i32,
+    })
 }
 
 // Returns the place of the first event from `from` on that is not before a moment.
@@ -241,19 +264,6 @@ impl<'a> Borders<'a> {
     {
         let _area = owner.area();
         own != edge_event_signal(owner, event)
-    }
-
-    // Returns whether a line with a star is for the module's halo or for the ring of the module that has the cell. If
-    // not, the signals of the cell do not differ at time 0: both are `Zero`.
-    fn has_star_line(&self, cell: Cell) -> bool
-        requires ready { IsReady self.now }
-        requires inside { IsTrue (in_box self.now.whole cell.x cell.y) }
-        ensures { Differ self.now 0 cell.x cell.y → IsTrue result }
-    {
-        if has_halo_star(self.job) {
-            return true;
-        }
-        has_edge_star(self.owner(cell))
     }
 
     // Returns whether a border fault can be at this time and cell.
@@ -559,68 +569,71 @@ impl<'a> Borders<'a> {
         requires { IsReady self.now }
         ensures { IsBetter (Faults self.now) (DiffersAlwaysAt self.now cell) best result }
     {
-        if !self.reaches(cell) {
-            return best;
-        }
-        if !self.has_star_line(cell) || !self.differs(0, cell) {
+        if !self.reaches(cell) || !self.differs(0, cell) {
             return best;
         }
         self.with_first_at(best, cell)
     }
 
-    // The least of the candidate and the faults of those cells of a row for which such signals differ.
-    fn with_row(&self, best: Option<BorderFault>, y: u32) -> Option<BorderFault>
+    // The least of the candidate and the faults of those cells of these lines for which such signals differ. The lines
+    // have a star, and count cells from a corner.
+    fn with_stars(
+        &self,
+        best: Option<BorderFault>,
+        corner: Box2,
+        stars: &[AllTimes],
+    ) -> Option<BorderFault>
         requires ready { IsReady self.now }
-        requires row { y < 1024 }
-        ensures { IsBetter (Faults self.now) (DiffersAlwaysInRow self.now y) best result }
+        requires corner { (corner.x ≤ 512) × (corner.y ≤ 512) }
+        ensures { IsBetter (Faults self.now)
+            (IsStarred self.now (map (moved_all_times (pos corner.x) (pos corner.y)) stars.now))
+            best result }
     {
         let area = self.job.area();
-        let end = area.x + area.w + 1;
         let mut least = best;
-        let mut x = area.x.saturating_sub(1);
-        'columns: while x < end {
-            let cell = Cell {
-                x: x as i32,
-                y: y as i32,
+        'stars: for place in 0..stars.len() {
+            let Some(cell) = cell_around(area, corner, stars[place].cell) else {
+                continue;
             };
             least = self.with_cell(least, cell);
-            x = self.next_column(x, y);
         }
         least
     }
 
-    // Returns whether a line with a star is for the module's halo or for the ring of a module in `near`. If not, each
-    // signal at time 0 is `Zero`.
-    fn has_star(&self, near: &[usize]) -> bool
-        requires { AreNumbers self.now near.now }
-        ensures { result ≡ false → IsStarless self.now near.now }
+    // The same for the lines of the module's halo.
+    fn with_halo_stars(&self, best: Option<BorderFault>) -> Option<BorderFault>
+        requires ready { IsReady self.now }
+        ensures { IsBetter (Faults self.now)
+            (IsStarred self.now self.now.job.now.halos.all_times) best result }
     {
-        if has_halo_star(self.job) {
-            return true;
-        }
-        'modules: for number in near {
-            if has_edge_star(&self.jobs[*number]) {
-                return true;
-            }
-        }
-        false
+        let corner = self.job.area();
+        let shape: &Shape = self.job.shape();
+        self.with_stars(best, corner, shape.halos().all_times())
+    }
+
+    // The same for the lines of the ring of a module.
+    fn with_edge_stars(&self, best: Option<BorderFault>, other: &Job) -> Option<BorderFault>
+        requires ready { IsReady self.now }
+        ensures { IsBetter (Faults self.now) (IsStarred self.now other.now.edges.all_times) best
+            result }
+    {
+        let corner = other.area();
+        let shape: &Shape = other.shape();
+        self.with_stars(best, corner, shape.edges().all_times())
     }
 
     // The least of the candidate and the faults of those cells of the halo for which such signals differ, where these
-    // are the numbers of the modules that have cells of the halo.
+    // are the numbers of the modules that have cells of the halo. A cell of which no line with a star speaks is `Zero`
+    // for both modules.
     fn with_halo(&self, best: Option<BorderFault>, near: &[usize]) -> Option<BorderFault>
         requires ready { IsReady self.now }
         requires noted { AreOwnersNoted self.now near.now }
         requires below { AreNumbers self.now near.now }
         ensures { IsBetter (Faults self.now) (DiffersAlways self.now) best result }
     {
-        if !self.has_star(near) {
-            return best;
-        }
-        let area = self.job.area();
-        let mut least = best;
-        'rows: for y in area.y.saturating_sub(1)..area.y + area.h + 1 {
-            least = self.with_row(least, y);
+        let mut least = self.with_halo_stars(best);
+        'modules: for number in near {
+            least = self.with_edge_stars(least, &self.jobs[*number]);
         }
         least
     }

@@ -14,7 +14,7 @@ events-preserved-then-not-is_around c =
       around_step c.args.self.now other c.area-area.result c.area-corner.result c.events-events.result.now
           c.events.place _ c.is_around.result h c.area-area.ensures.area c.area-corner.ensures.area are
           c.events-test.true
-          c.is_around.ensures c.if-not-is_around.true f r.0,
+          c.is_around.ensures.around c.if-not-is_around.true f r.0,
       r.1,
     )) in
     record { better = better; marked = c.events.invariant.marked }

@@ -1,0 +1,170 @@
+-- Cells of which a line with a star speaks
+use Rattle.std.proofs.Common.{◌≡◌, ℕ, suc, ◌+◌, ◌<◌, ◌≤◌, Bool, true, false, List, [], ◌∷◌, ◌++◌, map, length, take}
+use Rattle.std.proofs.Common.{get_or, Option, Some, None, refl, sym, ap, ap₂, subst, ◌∙◌, inl, inr, ◌⊎◌, arith}
+use Rattle.std.specs.Prelude.{ℤ, pos, ◌+ℤ◌, option_map, slice_get, unwrap_or}
+use Rattle.std.proofs.lemmas.Bool.{cond-false, cases_Bool}
+use Rattle.std.proofs.lemmas.List.{length-map, take_all, take_more}
+use Rattle.std.proofs.lemmas.Option.{slice_get_within, slice_get-get_or, slice_get-map}
+use Rattle.std.proofs.lemmas.Int.{ints}
+use Rattle.bbm_rule.specs.Plane.{is_at}
+use Rattle.bbm_rule.specs.declared.block.Cell.{Cell}
+use Rattle.bbm_rule.proofs.SameCells.{cell_same}
+use Rattle.module_box.specs.Locals.{circuit_wire, is_among}
+use Rattle.module_box.specs.Moves.{moved_all_times, moved_cell, moved_signals}
+use Rattle.module_box.specs.Schedules.{Signals, all_times_at, event_at, signal_at}
+use Rattle.module_box.specs.Tiling.{owner_of}
+use Rattle.module_box.specs.declared.boxes.Box2.{Box2}
+use Rattle.module_box.specs.declared.schedules.AllTimes.{AllTimes}
+use Rattle.module_box.specs.declared.schedules.Signal.TheVariants.{Zero}
+use Rattle.module_box.proofs.BoxCells.{same_some}
+use Rattle.module_box.proofs.MovedBoxes.{signals_back}
+use Rattle.module_job.specs.Jobs.{JobView}
+use Rattle.module_job.specs.Shapes.{shift_to_origin}
+use Rattle.module_job.specs.Signals.{renumber_signal}
+use Rattle.border_match.specs.Boards.{AreOwnersNoted, DiffersAlways, DiffersAlwaysAt, Faults, IsAround, IsEdgeStarred}
+use Rattle.border_match.specs.Boards.{IsReady, IsStarred, IsStarredAmong, IsStarredBelow, jobs_of}
+use Rattle.border_match.specs.declared.borders.Borders.{Borders}
+use Rattle.border_match.specs.declared.fault.BorderFault.{BorderFault}
+use Rattle.border_match.proofs.Cells.{fault_around, reached}
+use Rattle.border_match.proofs.NearModules.{among_more}
+
+-- ---- one more line
+
+lower_or_same : (i m : ℕ) → i < m + 1 → (i < m) ⊎ (i ≡ m)
+lower_or_same i m h = grind arith
+
+-- the cell of the line at this place, moved
+star_at : (dx dy : ℤ) (b : Borders) (stars : List AllTimes) (k : ℕ) (d : AllTimes) (f : BorderFault) → k < length stars →
+    (h : IsStarred b (map (moved_all_times dx dy) stars) f) → h.place ≡ k →
+    moved_cell dx dy (get_or stars k d).cell ≡ f.cell
+star_at dx dy b stars k d f lt h same =
+    let moved = map (moved_all_times dx dy) stars in
+    let there : slice_get moved k ≡ Some (moved_all_times dx dy (get_or stars k d)) =
+    slice_get-map (moved_all_times dx dy) stars k
+    ∙ ap (option_map (moved_all_times dx dy)) (slice_get-get_or stars k d lt) in
+    ap (λ (z : AllTimes). z.cell) (same_some (slice_get moved k) _ h.star there
+    (ap (slice_get moved) (sym same) ∙ h.got)) ∙ h.cell
+
+-- the line at this place is for a cell that is not around the module's box, so that no fault is there
+pub star_far : (a corner : Box2) (b : Borders) (stars : List AllTimes) (k : ℕ) (d : AllTimes) (f : BorderFault) →
+    a ≡ b.job.now.area → k < length stars →
+    (let at = moved_cell (pos corner.x) (pos corner.y) (get_or stars k d).cell in ¬ IsAround a at.x at.y) →
+    Faults b f → IsStarredBelow (k + 1) b (map (moved_all_times (pos corner.x) (pos corner.y)) stars) f →
+    IsStarredBelow k b (map (moved_all_times (pos corner.x) (pos corner.y)) stars) f
+star_far a corner b stars k d f area lt far g h = elim (lower_or_same h.starred.place k h.below) [
+  | inl lower ↦ record { starred = h.starred; below = lower }
+  | inr same ↦
+      let at = star_at (pos corner.x) (pos corner.y) b stars k d f lt h.starred same in
+      let around : IsAround a f.cell.x f.cell.y =
+      subst (λ (z : Box2). IsAround z f.cell.x f.cell.y) (sym area) (fault_around b f g) in
+      absurd (far (subst (λ (c : Cell). IsAround a c.x c.y) (sym at) around))
+]
+
+pub star_step : (corner : Box2) (b : Borders) (stars : List AllTimes) (k : ℕ) (d : AllTimes) (c : Cell)
+    (f : BorderFault) → k < length stars → c ≡ moved_cell (pos corner.x) (pos corner.y) (get_or stars k d).cell →
+    IsStarredBelow (k + 1) b (map (moved_all_times (pos corner.x) (pos corner.y)) stars) f →
+    IsStarredBelow k b (map (moved_all_times (pos corner.x) (pos corner.y)) stars) f ⊎ DiffersAlwaysAt b c f
+star_step corner b stars k d c f lt is h = elim (lower_or_same h.starred.place k h.below) [
+  | inl lower ↦ inl (record { starred = h.starred; below = lower })
+  | inr same ↦ inr (
+    h.starred.differs,
+    sym (is ∙ star_at (pos corner.x) (pos corner.y) b stars k d f lt h.starred same),
+  )
+]
+
+pub star_all : (dx dy : ℤ) (b : Borders) (stars : List AllTimes) (k : ℕ) (f : BorderFault) → length stars ≤ k →
+    IsStarred b (map (moved_all_times dx dy) stars) f → IsStarredBelow k b (map (moved_all_times dx dy) stars) f
+star_all dx dy b stars k f le h =
+    let within = slice_get_within (map (moved_all_times dx dy) stars) h.place h.star h.got in
+    let same = length-map stars (moved_all_times dx dy) in
+    record { starred = h; below = omega (arith, within, same, le) }
+
+-- ---- lines that count cells from the corner of their module's box
+
+-- counted from the corner of the plane again, they are the job's
+pub stars_of : (x y : ℕ) (own moved : Signals) (stars : List AllTimes) → stars ≡ moved.all_times →
+    moved ≡ moved_signals (shift_to_origin x) (shift_to_origin y) own →
+    map (moved_all_times (pos x) (pos y)) stars ≡ own.all_times
+stars_of x y own moved stars same are =
+    ap (map (moved_all_times (pos x) (pos y))) (same ∙ ap (λ (z : Signals). z.all_times) are)
+    ∙ ap (λ (z : Signals). z.all_times)
+    (signals_back (shift_to_origin x) (shift_to_origin y) (pos x) (pos y) own (back x) (back y))
+  where
+    back : (n : ℕ) → shift_to_origin n +ℤ pos n ≡ pos 0
+    back n = omega (arith, ints)
+
+pub starred_back : (b : Borders) (area corner : Box2) (stars own : List AllTimes) (f : BorderFault) → corner ≡ area →
+    map (moved_all_times (pos area.x) (pos area.y)) stars ≡ own → IsStarred b own f →
+    IsStarred b (map (moved_all_times (pos corner.x) (pos corner.y)) stars) f
+starred_back b area corner stars own f same are h =
+    subst (λ (z : Box2). IsStarred b (map (moved_all_times (pos z.x) (pos z.y)) stars) f) (sym same)
+    (subst (λ l. IsStarred b l f) (sym are) h)
+
+-- ---- one more module
+
+pub modules_step : (b : Borders) (ks : List ℕ) (i k d : ℕ) (owner : JobView) (f : BorderFault) → i < length ks →
+    k ≡ get_or ks i d → slice_get (jobs_of b) k ≡ Some owner → IsStarredAmong (take (i + 1) ks) b f →
+    IsStarredAmong (take i ks) b f ⊎ IsStarred b owner.edges.all_times f
+modules_step b ks i k d owner f lt is got (inl halo) = inl (inl halo)
+modules_step b ks i k d owner f lt is got (inr (edge, among)) =
+    let own = owner_of b.owners.now f.cell.x f.cell.y in
+    elim (among_more (take i ks) k own
+    (ap (λ l. is_among l own) (ap (λ x. take i ks ++ x ∷ []) is ∙ sym (take_more ks i d lt)) ∙ among)) [
+      | inl before ↦ inl (inr (edge, before))
+      | inr same ↦
+          let is_owner : edge.owner ≡ owner = same_some (slice_get (jobs_of b) k) edge.owner owner
+          (ap (slice_get (jobs_of b)) (sym same) ∙ edge.numbered) got in
+          inr (subst (λ (j : JobView). IsStarred b j.edges.all_times f) is_owner edge.starred)
+    ]
+
+pub no_module : (b : Borders) (ks : List ℕ) (f : BorderFault) → IsStarredAmong (take 0 ks) b f →
+    IsStarred b b.job.now.halos.all_times f
+no_module b ks f (inl halo) = halo
+no_module b ks f (inr (edge, among)) = absurd (cc among)
+
+-- ---- if signals differ at time 0, a line with a star is for the cell of one of the modules
+
+-- a line of the list is for the cell
+record IsListed (stars : List AllTimes) (c : Cell) : Type 0 where
+  place : ℕ
+  star : AllTimes
+  got : slice_get stars place ≡ Some star
+  cell : star.cell ≡ c
+
+star_named : (stars : List AllTimes) (c : Cell) → (all_times_at stars c.x c.y ≡ None) ⊎ IsListed stars c
+unfolding all_times_at
+star_named [] c = inl refl
+star_named (h ∷ hs) c = elim (cases_Bool (is_at h.cell c.x c.y)) [
+  | inl here ↦ inr (record { place = 0; star = h; got = refl; cell = cell_same h.cell c here })
+  | inr other ↦ elim (star_named hs c) [
+    | inl none ↦ inl (cond-false _ _ _ other ∙ none)
+    | inr l ↦ inr (record { place = suc l.place; star = l.star; got = l.got; cell = l.cell })
+  ]
+]
+
+dead_signal : (s : Signals) (x y : ℤ) → all_times_at s.all_times x y ≡ None → event_at s.events 0 x y ≡ None →
+    signal_at s 0 x y ≡ Zero
+unfolding signal_at
+dead_signal s x y none quiet = ap₂ (λ h z. unwrap_or h (unwrap_or z Zero)) none quiet
+
+pub star_covered : (b : Borders) (ks : List ℕ) (f : BorderFault) (n : ℕ) → IsReady b → AreOwnersNoted b ks →
+    length ks ≤ n → Faults b f → DiffersAlways b f → IsStarredAmong (take n ks) b f
+star_covered b ks f n ready noted le g d =
+    let x = f.cell.x in let y = f.cell.y in
+    elim (star_named b.job.now.halos.all_times f.cell) [
+      | inr l ↦ inl (record { differs = d; place = l.place; star = l.star; got = l.got; cell = l.cell })
+      | inl halo ↦ elim (star_named d.owner.edges.all_times f.cell) [
+        | inr l ↦ inr (
+          record {
+            owner = d.owner;
+            numbered = d.numbered;
+            starred = record { differs = d; place = l.place; star = l.star; got = l.got; cell = l.cell };
+          },
+          ap (λ l. is_among l (owner_of b.owners.now x y)) (take_all n ks le) ∙ noted x y (reached b f g),
+        )
+        | inl edge ↦ absurd (d.differ (ap (renumber_signal (circuit_wire b.job.now.locals))
+            (dead_signal b.job.now.halos x y halo (ready.1.halos x y))
+            ∙ sym (ap (renumber_signal (circuit_wire d.owner.locals))
+            (dead_signal d.owner.edges x y edge ((ready.0.quiet _ d.owner d.numbered).edges x y)))))
+      ]
+    ]

@@ -1,0 +1,18 @@
+use Rattle.std.proofs.Common.{◌∙◌, ap, subst}
+use Rattle.std.specs.Prelude.{map, pos}
+use Rattle.module_box.specs.Moves.{moved_all_times}
+use Rattle.module_box.specs.declared.boxes.Box2.{Box2}
+use Rattle.module_box.specs.declared.schedules.AllTimes.{AllTimes}
+use Rattle.module_job.specs.Shapes.{ShapeView}
+use Rattle.border_match.proofs.Least.{better_for}
+use Rattle.border_match.proofs.Stars.{stars_of, starred_back}
+use Rattle.border_match.proofs.borders.Borders.with_halo_stars.Goals as goal
+
+pub returns : goal.returns
+returns c =
+    let j = c.args.self.now.job.now in
+    let are = stars_of j.area.x j.area.y j.halos c.halos.result.now c.all_times.result.now c.all_times.ensures.same_list
+    (c.halos.ensures ∙ ap (λ (s : ShapeView). s.halos) (c.deref-shape.ensures ∙ c.shape.ensures)) in
+    better_for _ _ _ _ _ c.with_stars.ensures
+    (λ h f r. starred_back c.args.self.now j.area c.area-corner.result c.all_times.result.now j.halos.all_times h
+    c.area-corner.ensures.area are r)
