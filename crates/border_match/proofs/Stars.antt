@@ -34,7 +34,8 @@ lower_or_same : (i m : ℕ) → i < m + 1 → (i < m) ⊎ (i ≡ m)
 lower_or_same i m h = grind arith
 
 -- the cell of the line at this place, moved
-star_at : (dx dy : ℤ) (b : Borders) (stars : List AllTimes) (k : ℕ) (d : AllTimes) (f : BorderFault) → k < length stars →
+star_at : (dx dy : ℤ) (b : Borders) (stars : List AllTimes) (k : ℕ) (d : AllTimes) (f : BorderFault) →
+    k < length stars →
     (h : IsStarred b (map (moved_all_times dx dy) stars) f) → h.place ≡ k →
     moved_cell dx dy (get_or stars k d).cell ≡ f.cell
 star_at dx dy b stars k d f lt h same =

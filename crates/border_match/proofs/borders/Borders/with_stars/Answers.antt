@@ -8,7 +8,8 @@ returns c = better_for _ _ _ _ _ c.stars.invariant
 
 pub stars-preserved : goal.stars-preserved
 stars-preserved c = better_then _ _ _ _ _ _ _ c.stars.invariant c.with_cell-least.ensures
-    (λ h f r. star_step c.args.corner c.args.self.now c.args.stars.now c.stars.place _ c.in-Some.cell h c.stars-test.true
+    (λ h f r. star_step c.args.corner c.args.self.now c.args.stars.now c.stars.place _ c.in-Some.cell h
+    c.stars-test.true
     c.in-Some.ensures.around r)
 
 pub stars-preserved-in_default : goal.stars-preserved-in_default
