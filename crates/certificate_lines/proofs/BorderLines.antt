@@ -1,46 +1,112 @@
--- A border line or a stop by its words.
-use Rattle.std.proofs.Common.{◌≡◌, ◌==◌, if◌then◌else◌, ℕ, Bool, true, false, List, [], ◌∷◌, length, Some, None, refl}
-use Rattle.std.proofs.Common.{sym, ap, ◌∙◌}
+-- The form of a line by whether it has five words
+use Rattle.std.proofs.Common.{◌≡◌, ◌==◌, if◌then◌else◌, ℕ, Bool, true, false, List, ◌∷◌, length, Option, Some, None}
+use Rattle.std.proofs.Common.{refl, sym, ap, ◌∙◌, inl, inr}
+use Rattle.std.specs.Prelude.{codes, slice_get}
+use Rattle.std.specs.Str.{bytes_eq}
+use Rattle.std.proofs.lemmas.Bool.{cases_Bool, cond-false, cond-true}
 use Rattle.std.proofs.lemmas.Option.{same_Some}
-use Rattle.section_text.specs.Words.{five, is_word_at, number_at, name_at}
-use Rattle.pattern.specs.Forms.{cell_from}
-use Rattle.pattern.specs.PortWords.{cell_by}
-use Rattle.certificate_lines.specs.BorderWords.{border_by, signal_by, stop_by, time_by}
-use Rattle.certificate_lines.specs.Forms.{border_of, signal_at, stop_of, time_at, timed_cell, timed_wire}
+use Rattle.std.proofs.lemmas.Slice.Eq.{bytes_eq-Decides}
+use Rattle.section_text.specs.Listed.{listed}
+use Rattle.section_text.specs.Words.{five, is_word, is_word_at, lone, lone_name, lone_number, ◌>>=◌}
+use Rattle.section_text.specs.declared.feed.FiveWords.{FiveWords}
+use Rattle.section_text.specs.declared.section.Form.TheVariants.{Header, Item, End}
+use Rattle.certificate_lines.specs.Forms.{Line, area_of, border_of, form_of, short_form_of, stop_of}
+use Rattle.certificate_lines.specs.declared.certificate_line.CertificateLine.TheVariants.{Module, Cut, Use, Keep, Edge}
+use Rattle.certificate_lines.specs.declared.certificate_line.CertificateLine.TheVariants.{Halo, Stop}
 
-by_words : (k t x y s : List ℕ) → border_of (k ∷ t ∷ x ∷ y ∷ s ∷ []) ≡ border_by t x y s
-unfolding border_of timed_cell time_at signal_at cell_from is_word_at number_at name_at border_by cell_by time_by
-    signal_by
-by_words k t x y s = refl
+same_none : (b : Bool) (x : Option Line) → x ≡ None → (if b then None else x) ≡ None
+same_none true x e = refl
+same_none false x e = e
 
-is_five : {A : Type 0} (b : Bool) (x y : A) → (if b then Some x else None) ≡ Some y → x ≡ y
-is_five true x y e = same_Some x y e
-is_five false x y e = absurd cc
+-- ---- lines of five words
+
+-- a line of five words that begins with no keyword of such lines has no form
+pub no_long_form : (w : FiveWords) → bytes_eq w.first.now (codes "edge") ≡ false →
+    bytes_eq w.first.now (codes "halo") ≡ false → bytes_eq w.first.now (codes "stop") ≡ false →
+    bytes_eq w.first.now (codes "module") ≡ false → None ≡ form_of (listed w)
+unfolding form_of is_word_at lone lone_name lone_number
+no_long_form w e h s m = sym (
+    cond-false _ _ _ e ∙ cond-false _ _ _ h ∙ cond-false _ _ _ s
+    ∙ same_none (is (codes "cut")) _ (same_none (is (codes "use")) _ (same_none (is (codes "keep")) _
+    (cond-false _ (area_of (listed w) >>= λ b. Some (Item (Module b))) _ m
+    ∙ same_none (is (codes "certificate")) _ (same_none (is (codes "end")) _ refl)))))
+  where
+    is : List ℕ → Bool
+    is k = bytes_eq w.first.now k
+
+five_is : {A : Type 0} (b : Bool) (x y : A) → (if b then Some x else None) ≡ Some y → x ≡ y
+five_is true x y e = same_Some x y e
+five_is false x y e = absurd cc
+
+pub long_form_is : (ws : List (List ℕ)) (w : FiveWords) → Some (listed w) ≡ five ws → form_of (listed w) ≡ form_of ws
+unfolding five
+long_form_is ws w e = ap form_of (sym (five_is (length ws == 5) ws (listed w) (sym e)))
+
+-- ---- lines of another number of words
 
 no_five : {A : Type 0} (b : Bool) (x : A) → (if b then Some x else None) ≡ None → b ≡ false
 no_five true x e = absurd cc
 no_five false x e = refl
 
-pub border_found : (ws : List (List ℕ)) (k t x y s : List ℕ) → Some (k ∷ t ∷ x ∷ y ∷ s ∷ []) ≡ five ws →
-    border_by t x y s ≡ border_of ws
-unfolding five
-border_found ws k t x y s e =
-    sym (by_words k t x y s) ∙ ap border_of (sym (is_five (length ws == 5) ws (k ∷ t ∷ x ∷ y ∷ s ∷ []) (sym e)))
+-- a word that is one keyword is no other
+other_word : (o : Option (List ℕ)) (k m : List ℕ) → bytes_eq k m ≡ false → is_word o k ≡ true → is_word o m ≡ false
+other_word None k m d e = refl
+other_word (Some w) k m d e = ap (λ z. bytes_eq z m) ((bytes_eq-Decides w k).0 e) ∙ d
 
-pub border_missed : (ws : List (List ℕ)) → None ≡ five ws → None ≡ border_of ws
-unfolding five border_of
-border_missed ws e = rw (no_five (length ws == 5) ws (sym e)) refl
+-- a line that begins with the keyword of a line of five words
+no_short_form : (ws : List (List ℕ)) (k : List ℕ) → is_word_at ws 0 k ≡ true → bytes_eq k (codes "cut") ≡ false →
+    bytes_eq k (codes "use") ≡ false → bytes_eq k (codes "keep") ≡ false → bytes_eq k (codes "certificate") ≡ false →
+    bytes_eq k (codes "end") ≡ false → short_form_of ws ≡ None
+unfolding short_form_of is_word_at
+no_short_form ws k is a b c d e =
+    let o = slice_get ws 0 in
+    cond-false _ _ _ (other_word o k _ a is) ∙ cond-false _ _ _ (other_word o k _ b is)
+    ∙ cond-false _ _ _ (other_word o k _ c is) ∙ cond-false _ _ _ (other_word o k _ d is)
+    ∙ cond-false _ _ _ (other_word o k _ e is)
 
-stop_by_words : (k t n x y : List ℕ) → stop_of (k ∷ t ∷ n ∷ x ∷ y ∷ []) ≡ stop_by t n x y
-unfolding stop_of timed_wire cell_from is_word_at number_at name_at stop_by cell_by
-stop_by_words k t n x y = refl
+-- the tests from that of `module` on
+from_module : (ws : List (List ℕ)) → area_of ws ≡ None →
+    (if is_word_at ws 0 (codes "module") then (area_of ws >>= λ b. Some (Item (Module b)))
+    else if is_word_at ws 0 (codes "certificate") then (lone_number ws >>= λ v. Some (Header v))
+    else if is_word_at ws 0 (codes "end") then lone ws End
+    else None)
+    ≡ (if is_word_at ws 0 (codes "certificate") then (lone_number ws >>= λ v. Some (Header v))
+    else if is_word_at ws 0 (codes "end") then lone ws End
+    else None)
+unfolding is_word_at
+from_module ws none = elim (cases_Bool (is_word (slice_get ws 0) (codes "module"))) [
+  | inl is ↦
+      let o = slice_get ws 0 in
+      cond-true _ _ _ is ∙ ap (λ z. z >>= λ b. Some (Item (Module b))) none
+      ∙ sym (cond-false _ _ _ (other_word o (codes "module") _ refl is)
+      ∙ cond-false _ _ _ (other_word o (codes "module") _ refl is))
+  | inr other ↦ cond-false _ _ _ other
+]
 
-pub stop_found : (ws : List (List ℕ)) (k t n x y : List ℕ) → Some (k ∷ t ∷ n ∷ x ∷ y ∷ []) ≡ five ws →
-    stop_by t n x y ≡ stop_of ws
-unfolding five
-stop_found ws k t n x y e = sym (stop_by_words k t n x y)
-    ∙ ap stop_of (sym (is_five (length ws == 5) ws (k ∷ t ∷ n ∷ x ∷ y ∷ []) (sym e)))
+short_is : (ws : List (List ℕ)) → border_of ws ≡ None → stop_of ws ≡ None → area_of ws ≡ None →
+    short_form_of ws ≡ form_of ws
+unfolding short_form_of form_of
+short_is ws border stop area = elim (cases_Bool (is_word_at ws 0 (codes "edge"))) [
+  | inl is ↦ no_short_form ws _ is refl refl refl refl refl
+      ∙ sym (cond-true _ _ _ is ∙ ap (λ z. z >>= λ e. Some (Item (Edge e))) border)
+  | inr edge ↦ elim (cases_Bool (is_word_at ws 0 (codes "halo"))) [
+    | inl is ↦ no_short_form ws _ is refl refl refl refl refl
+        ∙ sym (cond-false _ _ _ edge ∙ cond-true _ _ _ is ∙ ap (λ z. z >>= λ e. Some (Item (Halo e))) border)
+    | inr halo ↦ elim (cases_Bool (is_word_at ws 0 (codes "stop"))) [
+      | inl is ↦ no_short_form ws _ is refl refl refl refl refl
+          ∙ sym (cond-false _ _ _ edge ∙ cond-false _ _ _ halo ∙ cond-true _ _ _ is
+          ∙ ap (λ z. z >>= λ s. Some (Item (Stop s))) stop)
+      | inr none ↦ sym (cond-false _ _ _ edge ∙ cond-false _ _ _ halo ∙ cond-false _ _ _ none
+          ∙ ap (λ z. if is_word_at ws 0 (codes "cut") then (lone_name ws >>= λ n. Some (Item (Cut n)))
+          else if is_word_at ws 0 (codes "use") then (lone_number ws >>= λ k. Some (Item (Use k)))
+          else if is_word_at ws 0 (codes "keep") then (lone_number ws >>= λ k. Some (Item (Keep k)))
+          else z) (from_module ws area))
+    ]
+  ]
+]
 
-pub stop_missed : (ws : List (List ℕ)) → None ≡ five ws → None ≡ stop_of ws
-unfolding five stop_of
-stop_missed ws e = rw (no_five (length ws == 5) ws (sym e)) refl
+pub short_form_is : (ws : List (List ℕ)) → None ≡ five ws → short_form_of ws ≡ form_of ws
+unfolding five border_of stop_of area_of
+short_form_is ws e =
+    let many = no_five (length ws == 5) ws (sym e) in
+    short_is ws (cond-false _ _ _ many) (cond-false _ _ _ many) (cond-false _ _ _ many)

@@ -73,3 +73,13 @@ form_of ws =
     else if is_word_at ws 0 (codes "certificate") then (lone_number ws >>= λ v. Some (Header v))
     else if is_word_at ws 0 (codes "end") then lone ws End
     else None
+
+-- the same of a line that has not five words: it begins with no module and no line about a cell
+unfoldable pub short_form_of : List (List ℕ) → Option Line
+short_form_of ws =
+    if is_word_at ws 0 (codes "cut") then (lone_name ws >>= λ n. Some (Item (Cut n)))
+    else if is_word_at ws 0 (codes "use") then (lone_number ws >>= λ k. Some (Item (Use k)))
+    else if is_word_at ws 0 (codes "keep") then (lone_number ws >>= λ k. Some (Item (Keep k)))
+    else if is_word_at ws 0 (codes "certificate") then (lone_number ws >>= λ v. Some (Header v))
+    else if is_word_at ws 0 (codes "end") then lone ws End
+    else None

@@ -1,36 +1,26 @@
 //! The line forms of the certificate section.
-ghost use Rattle.std.specs.Prelude.{◌≡◌, ◌+◌, ◌≤◌};
+ghost use Rattle.std.specs.Prelude.{◌≡◌};
+ghost use Rattle.std.specs.Str.{bytes_eq};
+ghost use Rattle.section_text.specs.Listed.{listed};
 ghost use Rattle.section_text.specs.Words.{words_of, lone};
 ghost use Rattle.section_text.specs.Feeds.{IsLine, line_bytes};
-ghost use Rattle.certificate_lines.specs.Forms.{Line as FormLine, corner_and_sides, area_of, border_of, form_of, stop_of};
-ghost use Rattle.certificate_lines.specs.BorderWords.{border_by, signal_by, stop_by, time_by};
+ghost use Rattle.certificate_lines.specs.Forms.{Line as FormLine, area_of, border_of, form_of, short_form_of, stop_of};
+ghost use Rattle.certificate_lines.specs.BorderWords.{signal_by, time_by};
 
 use crate::certificate_line::{Border, CertificateLine, StopLine};
 use module_box::Box2;
 use pattern::cell_from_words;
 use section_text::{Feed, FiveWords, Form, Line, Name, read_number};
 
-#[tactic(auto, unfolding(crate::specs::Forms::corner_and_sides))]
-fn corner_and_sides_in(feed: &Feed, line: &Line) -> Option<Box2>
-    requires { IsLine feed.now line.now }
-    ensures { result ≡ corner_and_sides (words_of (line_bytes feed.now line.now)) }
+#[tactic(auto, unfolding(crate::specs::Forms::area_of, crate::specs::Forms::corner_and_sides, section_text::specs::Words::number_at))]
+fn area_of_words(words: &FiveWords) -> Option<Box2>
+    ensures { result ≡ area_of (listed words.now) }
 {
-    let x = feed.number(line, 1)?;
-    let y = feed.number(line, 2)?;
-    let w = feed.number(line, 3)?;
-    let h = feed.number(line, 4)?;
+    let x = read_number(words.second)?;
+    let y = read_number(words.third)?;
+    let w = read_number(words.fourth)?;
+    let h = read_number(words.fifth)?;
     Some(Box2 { x, y, w, h })
-}
-
-#[tactic(auto, unfolding(crate::specs::Forms::area_of))]
-fn area_in(feed: &Feed, line: &Line) -> Option<Box2>
-    requires { IsLine feed.now line.now }
-    ensures { result ≡ area_of (words_of (line_bytes feed.now line.now)) }
-{
-    if feed.words(line) != 5 {
-        return None;
-    }
-    corner_and_sides_in(feed, line)
 }
 
 #[tactic(auto, unfolding(crate::specs::BorderWords::time_by))]
@@ -53,11 +43,9 @@ fn signal_of(word: &[u8]) -> Option<Option<Name>>
     Some(Some(Name::of(word)?))
 }
 
-#[tactic(auto, unfolding(crate::specs::BorderWords::border_by))]
+#[tactic(auto, unfolding(crate::specs::Forms::border_of, crate::specs::Forms::timed_cell, crate::specs::Forms::time_at, crate::specs::Forms::signal_at, pattern::specs::Forms::cell_from, section_text::specs::Words::is_word_at, section_text::specs::Words::number_at, section_text::specs::Words::name_at, pattern::specs::PortWords::cell_by, crate::specs::BorderWords::time_by, crate::specs::BorderWords::signal_by))]
 fn border_of_words(words: &FiveWords) -> Option<Border>
-    ensures { result
-        ≡ border_by words.now.second.now words.now.third.now words.now.fourth.now
-        words.now.fifth.now }
+    ensures { result ≡ border_of (listed words.now) }
 {
     let time = time_of(words.second)?;
     let cell = cell_from_words(words.third, words.fourth)?;
@@ -65,36 +53,14 @@ fn border_of_words(words: &FiveWords) -> Option<Border>
     Some(Border { time, cell, signal })
 }
 
-fn border_in(feed: &Feed, line: &Line) -> Option<Border>
-    requires { IsLine feed.now line.now }
-    ensures { result ≡ border_of (words_of (line_bytes feed.now line.now)) }
-{
-    let Some(words) = feed.five_words(line) else {
-        return None;
-    };
-    border_of_words(&words)
-}
-
-#[tactic(auto, unfolding(crate::specs::BorderWords::stop_by))]
+#[tactic(auto, unfolding(crate::specs::Forms::stop_of, crate::specs::Forms::timed_wire, pattern::specs::Forms::cell_from, section_text::specs::Words::number_at, section_text::specs::Words::name_at, pattern::specs::PortWords::cell_by))]
 fn stop_of_words(words: &FiveWords) -> Option<StopLine>
-    ensures { result
-        ≡ stop_by words.now.second.now words.now.third.now words.now.fourth.now
-        words.now.fifth.now }
+    ensures { result ≡ stop_of (listed words.now) }
 {
     let time = read_number(words.second)?;
     let wire = Name::of(words.third)?;
     let cell = cell_from_words(words.fourth, words.fifth)?;
     Some(StopLine { time, wire, cell })
-}
-
-fn stop_in(feed: &Feed, line: &Line) -> Option<StopLine>
-    requires { IsLine feed.now line.now }
-    ensures { result ≡ stop_of (words_of (line_bytes feed.now line.now)) }
-{
-    let Some(words) = feed.five_words(line) else {
-        return None;
-    };
-    stop_of_words(&words)
 }
 
 #[tactic(auto, unfolding(section_text::specs::Words::lone))]
@@ -109,31 +75,59 @@ fn end_in(feed: &Feed, line: &Line) -> Option<Form<u32, CertificateLine>>
     }
 }
 
-/// Returns the form of a line, if it has one.
-#[tactic(auto, unfolding(crate::specs::Forms::form_of))]
-pub fn line_form(feed: &Feed, line: &Line) -> Option<Form<u32, CertificateLine>>
-    requires { IsLine feed.now line.now }
-    ensures { result ≡ form_of (words_of (line_bytes feed.now line.now)) }
+// Whether a word is a keyword.
+fn is_keyword(word: &[u8], keyword: &[u8]) -> bool
+    ensures { result ≡ bytes_eq word.now keyword.now }
 {
-    if feed.is(line, 0, b"edge") {
-        Some(Form::Item(CertificateLine::Edge(border_in(feed, line)?)))
-    } else if feed.is(line, 0, b"halo") {
-        Some(Form::Item(CertificateLine::Halo(border_in(feed, line)?)))
-    } else if feed.is(line, 0, b"stop") {
-        Some(Form::Item(CertificateLine::Stop(stop_in(feed, line)?)))
-    } else if feed.is(line, 0, b"cut") {
+    word == keyword
+}
+
+// The form of a line of five words.
+#[tactic(auto, unfolding(crate::specs::Forms::form_of, section_text::specs::Words::is_word_at))]
+fn long_form(words: &FiveWords) -> Option<Form<u32, CertificateLine>>
+    ensures { result ≡ form_of (listed words.now) }
+{
+    if is_keyword(words.first, b"edge") {
+        Some(Form::Item(CertificateLine::Edge(border_of_words(words)?)))
+    } else if is_keyword(words.first, b"halo") {
+        Some(Form::Item(CertificateLine::Halo(border_of_words(words)?)))
+    } else if is_keyword(words.first, b"stop") {
+        Some(Form::Item(CertificateLine::Stop(stop_of_words(words)?)))
+    } else if is_keyword(words.first, b"module") {
+        Some(Form::Item(CertificateLine::Module(area_of_words(words)?)))
+    } else {
+        None
+    }
+}
+
+// The form of a line that has not five words.
+#[tactic(auto, unfolding(crate::specs::Forms::short_form_of))]
+fn short_form(feed: &Feed, line: &Line) -> Option<Form<u32, CertificateLine>>
+    requires { IsLine feed.now line.now }
+    ensures { result ≡ short_form_of (words_of (line_bytes feed.now line.now)) }
+{
+    if feed.is(line, 0, b"cut") {
         Some(Form::Item(CertificateLine::Cut(feed.lone_name(line)?)))
     } else if feed.is(line, 0, b"use") {
         Some(Form::Item(CertificateLine::Use(feed.lone_number(line)?)))
     } else if feed.is(line, 0, b"keep") {
         Some(Form::Item(CertificateLine::Keep(feed.lone_number(line)?)))
-    } else if feed.is(line, 0, b"module") {
-        Some(Form::Item(CertificateLine::Module(area_in(feed, line)?)))
     } else if feed.is(line, 0, b"certificate") {
         Some(Form::Header(feed.lone_number(line)?))
     } else if feed.is(line, 0, b"end") {
         end_in(feed, line)
     } else {
         None
+    }
+}
+
+/// Returns the form of a line, if it has one. It passes over the words of a line of five once.
+pub fn line_form(feed: &Feed, line: &Line) -> Option<Form<u32, CertificateLine>>
+    requires { IsLine feed.now line.now }
+    ensures { result ≡ form_of (words_of (line_bytes feed.now line.now)) }
+{
+    match feed.five_words(line) {
+        Some(words) => long_form(&words),
+        None => short_form(feed, line),
     }
 }

@@ -1,9 +1,11 @@
 -- A number has one spelling.
 use Rattle.std.proofs.Common.{◌≡◌, ◌⊎◌, inl, inr, ℕ, zero, suc, ◌<◌, ◌≤◌, ◌^◌, true, List, [], ◌∷◌, length, get_or}
-use Rattle.std.proofs.Common.{Some, sym, ap, ◌∙◌, arith, rules}
+use Rattle.std.proofs.Common.{Bool, false, Option, None, Some, sym, ap, ◌∙◌, arith, rules}
+use Rattle.std.specs.Prelude.{IfNone, IfSome}
 use Rattle.std.specs.List.{list_all}
 use Rattle.std.specs.Fmt.{decimal}
 use Rattle.std.proofs.lemmas.Option.{cond_some}
+use Rattle.std.proofs.lemmas.Bool.{cases_Bool, cond-false, cond-true, false≢true}
 use Rattle.std.proofs.lemmas.Bool.Decides.{nat_tests}
 use Rattle.std.proofs.lemmas.Str.Parse.{IsNumeralModel, numerals_by_fold, digits_value_short}
 use Rattle.std.proofs.lemmas.Fmt.{decimal-digits_value, digits_decimal, digits_value-decimal, decimal_digit}
@@ -62,3 +64,29 @@ number_written n small =
     (length-decimal-le 9 n (omega arith) small wide) (first_digit n small) in
     let value : read_on 0 (decimal n) ≡ n = digits_value-decimal own n wide in
     rw is (ap Some value)
+
+-- ---- reading one
+
+-- digits that were read are the number, if a word of digits is one
+pub number_read : (w : List ℕ) (o : Option ℕ) → list_all is_digit w ≡ is_number w →
+    IfSome o (λ n. (list_all is_digit w ≡ true) × (n ≡ read_on 0 w)) → IfNone o (list_all is_digit w ≡ false) →
+    o ≡ number_of w
+unfolding number_of
+number_read w None same some none = sym (cond-false _ _ _ (sym same ∙ none))
+number_read w (Some n) same some none = ap Some some.1 ∙ sym (cond-true _ _ _ (sym same ∙ some.0))
+
+pub not_read : (w : List ℕ) (r : Bool) → (is_number w ≡ true → r ≡ true) → r ≡ false → None ≡ number_of w
+unfolding number_of
+not_read w r may fails = elim (cases_Bool (is_number w)) [
+  | inl is ↦ absurd (false≢true (sym fails ∙ may is))
+  | inr other ↦ sym (cond-false _ _ _ other)
+]
+
+-- a number has at most nine digits
+pub read_small : (w : List ℕ) (o : Option ℕ) → list_all is_digit w ≡ is_number w →
+    IfSome o (λ n. (list_all is_digit w ≡ true) × (n ≡ read_on 0 w)) → IfSome o (λ n. n < 10 ^ 9)
+read_small w None same some = some
+read_small w (Some n) same some =
+    let small = number_small w (sym same ∙ some.0) in
+    let is = some.1 in
+    omega (arith, small, is)

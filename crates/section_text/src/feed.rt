@@ -1,5 +1,5 @@
 //! A text in pieces, taken line by line.
-ghost use Rattle.std.specs.Prelude.{drop, take, ◌≡◌, ℕ, ◌+◌, ◌-◌, ◌^◌, ◌<◌, ◌≤◌, ◌↔◌, true, false, List, [], ◌∷◌, ◌++◌, length, Option, Some, None, Ok, Err, IsTrue, IsOk, IfOk, IfErr, ◌≢◌, OnOk, OnErr, IfSome, MatchOption, unwrap_or, slice_get, slice_range, option_and_then, map};
+ghost use Rattle.std.specs.Prelude.{drop, take, ◌≡◌, ℕ, ◌+◌, ◌-◌, ◌^◌, ◌<◌, ◌≤◌, ◌↔◌, true, false, List, [], ◌∷◌, ◌++◌, length, Option, Some, None, Ok, Err, IsTrue, IsOk, IfOk, IfErr, ◌≢◌, OnOk, OnErr, IfNone, IfSome, MatchOption, unwrap_or, slice_get, slice_range, option_and_then, map};
 ghost use Rattle.std.specs.Option.{option_copied, option_map, ForSome};
 ghost use Rattle.std.specs.List.{flat_map, position, list_all};
 ghost use Rattle.section_text.specs.Codes.{text_cut};
@@ -196,46 +196,44 @@ fn words_in(line: &[u8]) -> usize
     1 + line.iter().filter(|b| **b == b' ').count()
 }
 
-fn is_number_word(word: &[u8]) -> bool
-    ensures { result ≡ is_number word.now }
-{
-    match word {
-        [] => false,
-        [first, rest @ ..] => {
-            are_digits(word) && rest.len() < 9 && (rest.is_empty() || *first > b'0')
-        }
-    }
-}
-
-fn are_digits(word: &[u8]) -> bool
-    ensures { result ≡ list_all is_digit word.now }
-{
-    word.iter().all(|b| b.is_ascii_digit())
-}
-
-// What at most nine digits spell.
-fn read_digits(word: &[u8]) -> u32
-    requires digits { list_all is_digit word.now ≡ true }
+// The number that at most nine digits spell, or `None` if some byte is no digit.
+fn read_digits(word: &[u8]) -> Option<u32>
     requires at_most_9 { length word.now ≤ 9 }
-    ensures { result ≡ read_on 0 word.now }
+    ensures number { IfSome result (λ n. (list_all is_digit word.now ≡ true)
+        × (n ≡ read_on 0 word.now)) }
+    ensures other { IfNone result (list_all is_digit word.now ≡ false) }
 {
     let mut number = 0u32;
     for b in word {
+        if !b.is_ascii_digit() {
+            return None;
+        }
         number = 10 * number + u32::from(*b - b'0');
     }
-    number
+    Some(number)
+}
+
+// Whether a word may be a number by its length and its first byte.
+fn may_be_number(word: &[u8]) -> bool
+    ensures number { is_number word.now ≡ true → result ≡ true }
+    ensures at_most_9 { result ≡ true → length word.now ≤ 9 }
+    ensures other { result ≡ true → list_all is_digit word.now ≡ is_number word.now }
+{
+    match word {
+        [] => false,
+        [first, rest @ ..] => rest.len() < 9 && (rest.is_empty() || *first > b'0'),
+    }
 }
 
 /// Returns the number that a word is, or `None` for any other word.
 ///
 /// A number is `0`, or at most nine digits of which the first is not `0`.
-#[tactic(auto, unfolding(crate::specs::Words::number_of))]
 pub fn read_number(word: &[u8]) -> Option<u32>
     ensures number { result ≡ number_of word.now }
     ensures small { IfSome result (λ n. n < 10 ^ 9) }
 {
-    if is_number_word(word) {
-        Some(read_digits(word))
+    if may_be_number(word) {
+        read_digits(word)
     } else {
         None
     }

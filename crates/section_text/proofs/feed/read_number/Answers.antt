@@ -1,10 +1,14 @@
-use Rattle.std.proofs.Common.{◌≡◌, ◌<◌, ◌^◌, true, sym, ◌∙◌, arith}
-use Rattle.section_text.specs.Words.{is_number, read_on}
-use Rattle.section_text.proofs.Numbers.{number_small}
+use Rattle.section_text.proofs.Numbers.{not_read, number_read, read_small}
 use Rattle.section_text.proofs.feed.read_number.Goals as goal
 
-pub returns-then-is_number_word-clause-small : goal.returns-then-is_number_word-clause-small
-returns-then-is_number_word-clause-small c =
-    let is : is_number c.args.word.now ≡ true = sym c.is_number_word.ensures ∙ c.if-is_number_word.true in
-    let small : read_on 0 c.args.word.now < 10 ^ 9 = number_small c.args.word.now is in
-    omega (arith, c.read_digits.ensures)
+pub returns-then-may_be_number-clause-number : goal.returns-then-may_be_number-clause-number
+returns-then-may_be_number-clause-number c = number_read c.args.word.now c.read_digits.result
+    (c.may_be_number.ensures.other c.if-may_be_number.true) c.read_digits.ensures.number c.read_digits.ensures.other
+
+pub returns-then-may_be_number-clause-small : goal.returns-then-may_be_number-clause-small
+returns-then-may_be_number-clause-small c = read_small c.args.word.now c.read_digits.result
+    (c.may_be_number.ensures.other c.if-may_be_number.true) c.read_digits.ensures.number
+
+pub returns-else-may_be_number-clause-number : goal.returns-else-may_be_number-clause-number
+returns-else-may_be_number-clause-number c =
+    not_read c.args.word.now c.may_be_number.result c.may_be_number.ensures.number c.if-may_be_number.false
