@@ -7,6 +7,7 @@ use Rattle.std.proofs.lemmas.Bool.Decides.{nat_tests}
 use Rattle.std.proofs.lemmas.List.FromFn.{get_or-map-range_with_len}
 use Rattle.std.proofs.lemmas.Nat.{div-mul-add, mod-mul-add, div_below, mod_below}
 use Rattle.std.proofs.Math.Nat.{mul-le-mul_right, div-add-mod, mul-le-mul_left}
+use Rattle.std.proofs.Math.Bool.{and-false}
 use Rattle.bbm_rule.specs.Plane.{step, turned}
 use Rattle.bbm_rule.specs.Rows.{cell_at, mate, TurnsRows, is_inner, HasLiveMargin, HasDeadMargin}
 use Rattle.bbm_rule.specs.Board.{Board, live, is_inside, IsStep, Leaves}
@@ -37,15 +38,11 @@ le_test a b l = grind (arith, nat_tests)
 not_le_test : (a b : ℕ) → b < a → nat_le a b ≡ false
 not_le_test a b l = grind (arith, nat_tests)
 
-and_false : (b : Bool) → (b && false) ≡ false
-and_false true = refl
-and_false false = refl
-
 pub not_inner_column : (w h x y : ℕ) → w < x → is_inner w h x y ≡ false
-not_inner_column w h x y l = rw (not_le_test x w l, and_false (nat_le 1 x)) refl
+not_inner_column w h x y l = rw (not_le_test x w l, and-false (nat_le 1 x)) refl
 
 pub not_inner_row : (w h x y : ℕ) → h < y → is_inner w h x y ≡ false
-not_inner_row w h x y l = rw (not_le_test y h l) (and_false _)
+not_inner_row w h x y l = rw (not_le_test y h l) (and-false _)
 
 pub not_inner_first_row : (w h x : ℕ) → is_inner w h x 0 ≡ false
 not_inner_first_row w h x = ends (nat_le 1 x) (nat_le x w)
@@ -178,7 +175,7 @@ inside_ext b (suc x) (suc y) outer =
     by_lt_or_le x b.width
     (λ lx. by_lt_or_le y b.height
     (λ ly. let inner : is_inner b.width b.height (suc x) (suc y) ≡ true = inner_test b.width b.height x y lx ly in cc)
-    (λ gy. rw (not_lt_test y b.height gy) (and_false (nat_lt x b.width))))
+    (λ gy. rw (not_lt_test y b.height gy) (and-false (nat_lt x b.width))))
     (λ gx. rw (not_lt_test x b.width gx) refl)
 
 pub odd_leaves : (t w h s r : ℕ) (old new : List ℕ) → t % 2 ≡ 1 → IsPlane w h s old → TurnsRows 0 s r old new →

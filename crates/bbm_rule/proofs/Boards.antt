@@ -2,13 +2,10 @@
 use Rattle.std.proofs.Common.{◌≡◌, ℕ, Bool, true, false, ◌&&◌, ◌+◌, ◌∙◌, refl, arith}
 use Rattle.std.specs.Prelude.{ℤ, pos, negsuc, nat_lt}
 use Rattle.std.proofs.lemmas.Bool.{le-leb}
+use Rattle.std.proofs.Math.Bool.{and-false}
 use Rattle.bbm_rule.specs.Spans.{in_span}
 use Rattle.bbm_rule.specs.Board.{Board, live, is_inside}
 use Rattle.bbm_rule.proofs.Spans.{in_span-pos, in_span-negsuc}
-
-and_false : (a : Bool) → (a && false) ≡ false
-and_false true = refl
-and_false false = refl
 
 pub in_span-from_zero : (n k : ℕ) → in_span 0 n (pos k) ≡ nat_lt k n
 in_span-from_zero n k =
@@ -17,7 +14,7 @@ in_span-from_zero n k =
 
 pub inside_is_span : (b : Board) (x y : ℤ) → is_inside b x y ≡ (in_span 0 b.width x && in_span 0 b.height y)
 inside_is_span b (pos x) (pos y) = rw (in_span-from_zero b.width x, in_span-from_zero b.height y) refl
-inside_is_span b (pos x) (negsuc y) = rw (in_span-negsuc 0 b.height y, and_false (in_span 0 b.width (pos x))) refl
+inside_is_span b (pos x) (negsuc y) = rw (in_span-negsuc 0 b.height y, and-false (in_span 0 b.width (pos x))) refl
 inside_is_span b (negsuc x) y = rw (in_span-negsuc 0 b.width x) refl
 
 first_two : (a b c : Bool) → (a && b && c) ≡ true → (a && b) ≡ true

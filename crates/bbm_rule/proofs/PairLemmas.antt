@@ -7,6 +7,7 @@ use Rattle.std.proofs.lemmas.List.{get_or-set_same, get_or-set_other}
 use Rattle.std.proofs.lemmas.Nat.{div-mul-add, mod-mul-add}
 use Rattle.std.proofs.Math.Nat.{div-add-mod}
 use Rattle.std.proofs.Math.Dec.{eqb}
+use Rattle.std.proofs.Math.Bool.{and-false, and-true, or-false}
 use Rattle.bbm_rule.specs.Plane.{turned}
 use Rattle.bbm_rule.specs.Words.{AreTurned}
 use Rattle.bbm_rule.specs.Bits.{bit, AreSameBits}
@@ -45,19 +46,9 @@ all_dead = refl
 
 -- a bit of a word that keeps the first of each pair
 kept_first : (n j : ℕ) → j < 64 → j % 2 ≡ 0 → bit (bit_and n first_mask) j ≡ bit n j
-kept_first n j l even = rw (bit-and n first_mask j, bit_mask j l, even) (and_true (bit n j))
-  where
-    and_true : (b : Bool) → (b && true) ≡ b
-    and_true true = refl
-    and_true false = refl
-
+kept_first n j l even = rw (bit-and n first_mask j, bit_mask j l, even) (and-true (bit n j))
 kept_second : (n j : ℕ) → j < 64 → j % 2 ≡ 1 → bit (bit_and n first_mask) j ≡ false
-kept_second n j l odd = rw (bit-and n first_mask j, bit_mask j l, odd) (and_false (bit n j))
-  where
-    and_false : (b : Bool) → (b && false) ≡ false
-    and_false true = refl
-    and_false false = refl
-
+kept_second n j l odd = rw (bit-and n first_mask j, bit_mask j l, odd) (and-false (bit n j))
 -- a word that is joined from first and second cells of pairs
 joined_first : (f s j : ℕ) → j < 63 → bit f (1 + j) ≡ false →
     bit (bit_or f (s * 2 % 18446744073709551616)) (1 + j) ≡ bit s j
@@ -67,12 +58,7 @@ joined_first f s j l none = rw (bit-or f (s * 2 % 2 ^ 64) (1 + j), none, bit-mod
 joined_zero : (f s : ℕ) → bit (bit_or f (s * 2 % 18446744073709551616)) 0 ≡ bit f 0
 joined_zero f s =
     rw (bit-or f (s * 2 % 2 ^ 64) 0, bit-mod (s * 2 ^ 1) 64 0 (omega arith), bit-shl_low s 1 0 (omega arith))
-    (or_false (bit f 0))
-  where
-    or_false : (b : Bool) → (b || false) ≡ b
-    or_false true = refl
-    or_false false = refl
-
+    (or-false (bit f 0))
 pub mate_even : (j : ℕ) → j % 2 ≡ 0 → mate j ≡ 1 + j
 unfolding mate
 mate_even j even = rw even (omega arith)
@@ -126,10 +112,6 @@ side_turned a b u v first second j l = at_parity j l
         ∙ (rw (kept_second a j l odd, kept_second (a / 2) j l odd, kept_second b j l odd, kept_second (b / 2) j l odd)
         all_dead)
 
-    or_false : (x : Bool) → (x || false) ≡ x
-    or_false true = refl
-    or_false false = refl
-
     at_even : (j : ℕ) → j < 64 → j % 2 ≡ 0 → bit (bit_or u (v * 2 % 18446744073709551616)) j ≡ bit u j
     at_even zero l even = joined_zero u v
     at_even (suc i) l even =
@@ -141,7 +123,7 @@ side_turned a b u v first second j l = at_parity j l
           bit-mod (v * 2 ^ 1) 64 (1 + i) (omega arith),
           bit-shl_high v 1 i (omega arith),
           none,
-        ) (or_false (bit u (1 + i)))
+        ) (or-false (bit u (1 + i)))
 
     at_odd : (i : ℕ) → i < 63 → i % 2 ≡ 0 → bit (bit_or u (v * 2 % 18446744073709551616)) (1 + i) ≡ bit v i
     at_odd i l even = joined_first u v i l (first_none (1 + i) (omega arith) (omega arith))
@@ -176,10 +158,6 @@ joined_same a u v first second j l = by_eq_or_not (j % 2) 0
     let e : j ≡ 1 + i = omega arith in
     rw e (at_odd i (omega arith) (omega arith)))
   where
-    or_false : (x : Bool) → (x || false) ≡ x
-    or_false true = refl
-    or_false false = refl
-
     at_even : (j : ℕ) → j < 64 → j % 2 ≡ 0 → bit (bit_or u (v * 2 % 18446744073709551616)) j ≡ bit a j
     at_even zero l even = joined_zero u v ∙ first 0 l ∙ kept_first a 0 l even
     at_even (suc i) l even = let e : suc i ≡ 1 + i = omega arith in rw e (at_later i (omega arith) (omega arith))
@@ -192,7 +170,7 @@ joined_same a u v first second j l = by_eq_or_not (j % 2) 0
               bit-mod (v * 2 ^ 1) 64 (1 + i) (omega arith),
               bit-shl_high v 1 i (omega arith),
               none,
-            ) (or_false (bit u (1 + i))) ∙ first (1 + i) (omega arith)
+            ) (or-false (bit u (1 + i))) ∙ first (1 + i) (omega arith)
             ∙ kept_first a (1 + i) (omega arith) (omega arith)
 
     at_odd : (i : ℕ) → i < 63 → i % 2 ≡ 0 → bit (bit_or u (v * 2 % 18446744073709551616)) (1 + i) ≡ bit a (1 + i)
@@ -213,10 +191,6 @@ pub window_is : (words : List ℕ) (i : ℕ) → get_or words i 0 < 2 ^ 64 →
 window_is words i small =
     record { cells = λ j l. by_lt_or_le j 63 (λ low. at_low j low) (λ high. at_high j (omega arith)) }
   where
-    or_false : (x : Bool) → (x || false) ≡ x
-    or_false true = refl
-    or_false false = refl
-
     a : ℕ
     a = get_or words i 0
 
@@ -235,7 +209,7 @@ window_is words i small =
           bit-shr (get_or words i 0) 1 j,
           bit-mod (get_or words (i + 1) 0 * 2 ^ 63) 64 j (omega arith),
           bit-shl_low (get_or words (i + 1) 0) 63 j l,
-        ) (or_false (bit (get_or words i 0) (1 + j)))
+        ) (or-false (bit (get_or words i 0) (1 + j)))
 
     at_high : (j : ℕ) → j ≡ 63 → bit
         (bit_or (get_or words i 0 / 2) (get_or words (i + 1) 0 * 9223372036854775808 % 18446744073709551616)) j
@@ -274,28 +248,16 @@ bit_rest : (j : ℕ) → j < 64 → bit 18446744073709551614 j ≡ nat_eq (min j
 bit_rest j l = same_bool-true _ _
     (below_from_test (λ j. same_bool (bit 18446744073709551614 j) (nat_eq (min j 1) 1)) 64 rest_tested j l)
 
-and_true : (b : Bool) → (b && true) ≡ b
-and_true true = refl
-and_true false = refl
-
-and_false : (b : Bool) → (b && false) ≡ false
-and_false true = refl
-and_false false = refl
-
-or_false : (x : Bool) → (x || false) ≡ x
-or_false true = refl
-or_false false = refl
-
 -- the word that keeps its first cell, and that which keeps all but the first
 low_joined : (w v j : ℕ) → j < 63 → bit (bit_or (bit_and w 1) (v * 2 % 18446744073709551616)) (1 + j) ≡ bit v j
 low_joined w v j l = joined_first (bit_and w 1) v j l
-    (rw (bit-and w 1 (1 + j), bit_one (1 + j) (omega arith), not_first j) (and_false (bit w (1 + j))))
+    (rw (bit-and w 1 (1 + j), bit_one (1 + j) (omega arith), not_first j) (and-false (bit w (1 + j))))
   where
     not_first : (j : ℕ) → nat_eq (1 + j) 0 ≡ false
     not_first j = grind (arith, nat_tests)
 
 low_kept : (w v : ℕ) → bit (bit_or (bit_and w 1) (v * 2 % 18446744073709551616)) 0 ≡ bit w 0
-low_kept w v = joined_zero (bit_and w 1) v ∙ (rw (bit-and w 1 0, bit_one 0 (omega arith)) (and_true (bit w 0)))
+low_kept w v = joined_zero (bit_and w 1) v ∙ (rw (bit-and w 1 0, bit_one 0 (omega arith)) (and-true (bit w 0)))
 
 high_joined : (w v : ℕ) → bit (bit_or (bit_and w 18446744073709551614) (v / 9223372036854775808)) 0 ≡ bit v 63
 high_joined w v = rw (
@@ -303,7 +265,7 @@ high_joined w v = rw (
   bit-and w 18446744073709551614 0,
   bit_rest 0 (omega arith),
   bit-shr v 63 0,
-  and_false (bit w 0),
+  and-false (bit w 0),
 ) refl
 
 high_kept : (w v j : ℕ) → v < 2 ^ 64 → 0 < j → j < 64 →
@@ -317,8 +279,8 @@ high_kept w v j small positive l =
       one,
       bit-shr v 63 j,
       bit_above v 64 (63 + j) small (omega arith),
-      or_false (bit w j && true),
-    ) (and_true (bit w j))
+      or-false (bit w j && true),
+    ) (and-true (bit w j))
 
 abbrev low : List ℕ → ℕ → ℕ → ℕ
 low words i v = bit_or (bit_and (get_or words i 0) 1) (v * 2 % 18446744073709551616)

@@ -18,9 +18,7 @@ use Rattle.border_match.specs.declared.borders.Borders.{Borders}
 use Rattle.border_match.specs.declared.fault.BorderFault.{BorderFault}
 use Rattle.border_match.proofs.Modules.{there}
 use Rattle.border_match.proofs.Steps.{fault_covered, same_fault}
-
-lower_or_same : (i m : ℕ) → i < m + 1 → (i < m) ⊎ (i ≡ m)
-lower_or_same i m h = grind arith
+use Rattle.border_match.proofs.NearModules.{lower_or_same}
 
 -- ---- one mark more
 

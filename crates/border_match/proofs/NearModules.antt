@@ -52,7 +52,7 @@ pub noted_still : (b : Borders) (old new : List ℕ) (x y : ℤ) → KeepsNumber
     IsNoted b new x y
 noted_still b old new x y keeps noted there = keeps _ (noted there)
 
-lower_or_same : (i m : ℕ) → i < m + 1 → (i < m) ⊎ (i ≡ m)
+pub lower_or_same : (i m : ℕ) → i < m + 1 → (i < m) ⊎ (i ≡ m)
 lower_or_same i m h = grind arith
 
 before_at_after : (i m : ℕ) → (i < m) ⊎ ((i ≡ m) ⊎ (m < i))

@@ -26,12 +26,9 @@ use Rattle.border_match.specs.Boards.{IsReady, IsStarred, IsStarredAmong, IsStar
 use Rattle.border_match.specs.declared.borders.Borders.{Borders}
 use Rattle.border_match.specs.declared.fault.BorderFault.{BorderFault}
 use Rattle.border_match.proofs.Cells.{fault_around, reached}
-use Rattle.border_match.proofs.NearModules.{among_more}
+use Rattle.border_match.proofs.NearModules.{among_more, lower_or_same}
 
 -- ---- one more line
-
-lower_or_same : (i m : ℕ) → i < m + 1 → (i < m) ⊎ (i ≡ m)
-lower_or_same i m h = grind arith
 
 -- the cell of the line at this place, moved
 star_at : (dx dy : ℤ) (b : Borders) (stars : List AllTimes) (k : ℕ) (d : AllTimes) (f : BorderFault) →

@@ -6,6 +6,7 @@ use Rattle.std.specs.Cmp.{IsTotalOrder}
 use Rattle.std.specs.Ordering.{is_lt}
 use Rattle.std.proofs.lemmas.Bool.{and_parts}
 use Rattle.std.proofs.lemmas.Cmp.{then_total, on_total, nat_cmp_total}
+use Rattle.std.proofs.Math.Bool.{and-true}
 use Rattle.module_box.proofs.Rising.{cell_total}
 use Rattle.certificate_lines.specs.declared.certificate_line.CertificateLine.{CertificateLine}
 use Rattle.certificate_lines.specs.declared.certificate_line.CertificateLine.TheVariants.{Module, Cut, Use, Keep, Edge}
@@ -103,10 +104,6 @@ last_passes p i [] l all last =
     ap p (sym same) ∙ (and_parts (p i) true all).0
 last_passes p i (j ∷ lines) l all last = last_passes p j lines l (and_parts (p i) (list_all p (j ∷ lines)) all).1 last
 
-and_true : (a : Bool) → (a && true) ≡ a
-and_true true = refl
-and_true false = refl
-
 and_same : (a b : Bool) → (b ≡ true → a ≡ true) → (a && b) ≡ b
 and_same a true h = rw (h refl) refl
 and_same true false h = refl
@@ -118,7 +115,7 @@ follows : (x : CertificateLine) (lines : List CertificateLine) (l i : Certificat
 unfolding AreInOrder may_follow last_of
 follows x [] l i order last =
     let same : x ≡ l = cc in
-    and_true (may_precede x i) ∙ ap (λ (z : CertificateLine). may_precede z i) same
+    and-true (may_precede x i) ∙ ap (λ (z : CertificateLine). may_precede z i) same
 follows x (y ∷ lines) l i order last =
     let rest : may_follow (y ∷ lines) i ≡ may_precede l i = follows y lines l i order.1 last in
     let first : may_precede x l ≡ true = last_passes (may_precede x) y lines l order.0 last in

@@ -15,6 +15,7 @@ use Rattle.std.proofs.lemmas.List.{get_or-drop, length-set, length-replicate, ge
 use Rattle.std.proofs.lemmas.List.{get_or-set_other}
 use Rattle.std.proofs.lemmas.List.Folds.{list_any-append}
 use Rattle.std.proofs.lemmas.Option.{slice_get-get_or, slice_get_within}
+use Rattle.std.proofs.Math.Bool.{or-false}
 use Rattle.bbm_rule.specs.Plane.{is_at}
 use Rattle.bbm_rule.specs.declared.block.Cell.{Cell}
 use Rattle.pattern.specs.Layout.{HaveOwnCells, cell, row_cells}
@@ -87,17 +88,13 @@ or_again : (a b c : Bool) → ((a || b) || c) ≡ (a || (b || c))
 or_again true b c = refl
 or_again false b c = refl
 
-or_false : (a : Bool) → (a || false) ≡ a
-or_false true = refl
-or_false false = refl
-
 -- the names of the ports at one cell more
 pub row_named : (test : Cell → Bool) (old mid new here : Bool) (x y k : ℕ) → x ≤ k → k < 512 → y < 512 →
     mid ≡ (old || list_any test (row_cells x (k - x) y)) → new ≡ (mid || here) →
     here ≡ test (record { x = to_z w32 k; y = to_z w32 y }) → new ≡ (old || list_any test (row_cells x (k + 1 - x) y))
 row_named test old mid new here x y k from low row was now is =
     let n : k + 1 - x ≡ (k - x) + 1 = omega arith in
-    now ∙ ap₂ (λ a b. a || b) was (is ∙ ap test (cast_cell k y low row) ∙ sym (or_false (test (cell k y))))
+    now ∙ ap₂ (λ a b. a || b) was (is ∙ ap test (cast_cell k y low row) ∙ sym (or-false (test (cell k y))))
     ∙ or_again old (list_any test (row_cells x (k - x) y)) (test (cell k y) || false)
     ∙ ap (λ b. old || b) (sym (list_any-append test (row_cells x (k - x) y) (cell k y ∷ []))
     ∙ ap (list_any test) (sym (row_more x (k - x) y k (omega arith)))
@@ -106,7 +103,7 @@ row_named test old mid new here x y k from low row was now is =
 -- at no cell of a row
 pub row_nameless : (test : Cell → Bool) (old : Bool) (x n y : ℕ) → ((k : ℕ) → k < n → test (cell (x + k) y) ≡ false) →
     old ≡ (old || list_any test (row_cells x n y))
-row_nameless test old x n y none = sym (ap (λ b. old || b) (none_in_row test x n y none) ∙ or_false old)
+row_nameless test old x n y none = sym (ap (λ b. old || b) (none_in_row test x n y none) ∙ or-false old)
 
 -- and at the cells of one row more
 pub rows_named : (test : Cell → Bool) (old mid new : Bool) (x w y k : ℕ) → y ≤ k →

@@ -9,6 +9,7 @@ use Rattle.std.proofs.lemmas.List.{append-nil}
 use Rattle.std.proofs.lemmas.List.Sums.{sum_by-cons}
 use Rattle.std.proofs.lemmas.Bool.{cases_Bool, cases_lt, le-ltb}
 use Rattle.std.proofs.lemmas.List.Folds.{list_any-append}
+use Rattle.std.proofs.Math.Bool.{or-true}
 use Rattle.circuit.specs.Entries.{defined}
 use Rattle.circuit.specs.declared.circuit_line.Kind.{Kind}
 use Rattle.circuit.specs.declared.circuit_line.Kind.TheVariants.{Input, Output, Spill}
@@ -197,14 +198,9 @@ own_push d n own new w m at = elim (cases_lt w (length d)) [
       let last = slice_last d n m w large at in
       subst (λ (k : List ℕ). (number (d ++ n ∷ []) k ≡ w) × (has (d ++ n ∷ []) k ≡ true)) last.0 (
         number_new d [] n new (bytes_same n) ∙ last.1,
-        rw (list_any-append (bytes_eq n) d (n ∷ []), bytes_same n) (or_true (has d n)),
+        rw (list_any-append (bytes_eq n) d (n ∷ []), bytes_same n) (or-true (has d n)),
       )
 ]
-  where
-    or_true : (b : Bool) → (b || true) ≡ true
-    or_true true = refl
-    or_true false = refl
-
 own_all : (d ns : List (List ℕ)) → AreOwn d → define d ns ≡ None → AreOwn (d ++ ns)
 own_all d [] own h = subst AreOwn (sym (append-nil d)) own
 own_all d (n ∷ ns) own h =

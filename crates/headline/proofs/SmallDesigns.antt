@@ -72,6 +72,7 @@ use Rattle.audit_core.specs.declared.verdict.Verdict.TheVariants as verdict
 use Rattle.headline.proofs.PlainLines.{all_inner, among_range, none_of, own_of, is_one, plain_lines_decide}
 use Rattle.std.proofs.lemmas.Grind.{flat_map-append}
 use Rattle.std.proofs.lemmas.Bool.Decides.{nat_tests}
+use Rattle.std.proofs.Math.Bool.{and-false, or-true}
 use Rattle.module_box.specs.Moments.{cell_cmp}
 
 -- ---- numbers in a range
@@ -224,16 +225,12 @@ all_anything : {X : Type 0} (xs : List X) → All (λ x. Unit {0}) xs
 all_anything [] = All-nil (λ x. Unit {0})
 all_anything (x ∷ xs) = All-cons (λ x. Unit {0}) x xs tt (all_anything xs)
 
-or_true : (a : Bool) → (a || true) ≡ true
-or_true true = refl
-or_true false = refl
-
 less : (a b : ℕ) → a < b → nat_cmp a b ≡ Less
 less a b lt = grind (arith, lt)
 
 cut_cut : (a b : List ℕ) → may_precede (Cut a) (Cut b) ≡ true
 unfolding may_precede is_cut
-cut_cut a b = or_true (is_lt (line_cmp (Cut a) (Cut b)))
+cut_cut a b = or-true (is_lt (line_cmp (Cut a) (Cut b)))
 
 cut_use : (a : List ℕ) (k : ℕ) → may_precede (Cut a) (Use k) ≡ true
 unfolding may_precede is_cut line_cmp rank_of
@@ -576,10 +573,6 @@ all_pass : {X : Type 0} (test : X → Bool) (xs : List X) → ((k : ℕ) (x : X)
 all_pass test [] h = refl
 all_pass test (x ∷ xs) h = ap₂ (λ a b. a && b) (h 0 x refl) (all_pass test xs (λ k. h (suc k)))
 
-and_false : (a : Bool) → (a && false) ≡ false
-and_false true = refl
-and_false false = refl
-
 length_taken : {X : Type 0} (n : ℕ) (xs : List X) → n ≤ length xs → length (take n xs) ≡ n
 length_taken zero xs h = refl
 length_taken (suc n) [] h = absurd (omega (arith, h))
@@ -675,9 +668,9 @@ module _ (circuit : List CircuitLine) (p : Pattern) (good : AreGood circuit)
       list_any-append _ p.ins p.outs
       ∙ ap₂ (λ a b. a || b)
       (none_any _ p.ins (λ k q at. ap (λ b. in_box (whole p.size) q.cell.x q.cell.y && not b) (in_local k q at) ∙
-      and_false _))
+      and-false _))
       (none_any _ p.outs (λ k q at. ap (λ b. in_box (whole p.size) q.cell.x q.cell.y && not b) (out_local k q at) ∙
-      and_false _))
+      and-false _))
 
   no_gap : leaves_gap p.size (whole p.size ∷ []) ≡ false
   no_gap = ap not (all_pass _ (box_cells (whole p.size)) (λ k d at.

@@ -4,6 +4,7 @@ use Rattle.std.proofs.Common.{List, ◌&&◌, length, bit_and}
 use Rattle.std.specs.Prelude.{slice_index}
 use Rattle.std.proofs.Math.Nat.{mul_comm}
 use Rattle.std.proofs.lemmas.Nat.{mod-mul-add}
+use Rattle.std.proofs.Math.Bool.{and-true}
 use Rattle.bbm_rule.specs.Bits.{bit}
 use Rattle.bbm_rule.proofs.BitLemmas.{by_lt_or_le, bit-and}
 use Rattle.circuit.specs.Meaning.{Netlist, Satisfies, Valuation}
@@ -18,10 +19,6 @@ pub record AreCleared (defined : List ℕ) (place : ℕ) (old new : List ℕ) : 
       slice_index new k ≡ bit_and (slice_index old k) (slice_index defined (k % length defined))
   pub above : (k : ℕ) → place ≤ k → slice_index new k ≡ slice_index old k
 
-and_true : (b : Bool) → (b && true) ≡ b
-and_true true = refl
-and_true false = refl
-
 -- a bit of a defined assignment stays
 pub cleared_keeps : (defined : List ℕ) (place : ℕ) (old new : List ℕ) → AreCleared defined place old new →
     KeepsDefined defined old new
@@ -30,7 +27,7 @@ cleared_keeps defined place old new c a w small is = by_lt_or_le at place
     (λ l. ap (λ n. bit n (a % 64))
     (c.below at l ∙ ap (λ k. bit_and (slice_index old at) (slice_index defined k)) column)
     ∙ bit-and (slice_index old at) (slice_index defined (a / 64)) (a % 64)
-    ∙ ap (λ b. bit (slice_index old at) (a % 64) && b) is ∙ and_true _)
+    ∙ ap (λ b. bit (slice_index old at) (a % 64) && b) is ∙ and-true _)
     (λ g. ap (λ n. bit n (a % 64)) (c.above at g))
   where
     at : ℕ

@@ -14,6 +14,7 @@ use Rattle.module_job.specs.Signals.{IsBelow, is_live}
 use Rattle.module_box.specs.declared.schedules.Signal.{Signal}
 use Rattle.module_box.specs.declared.schedules.Signal.TheVariants.{Zero, One, Wire}
 use Rattle.std.proofs.Math.Nat.{mul-le-mul_left}
+use Rattle.std.proofs.Math.Bool.{and-true}
 use Rattle.module_box.specs.LocalValues.{bit_of_row, value_of}
 use Rattle.local_run.specs.Scans.{HasRow, IsShown, is_defined, valuation}
 use Rattle.local_run.specs.Lanes.{lane, plane_of, SetsWord}
@@ -156,13 +157,8 @@ differs_is vs p x y s a e = let parts = and_parts _ _ e in (parts.1, xor_differ 
 pub differs_not : (vs : Values) (p : Planes) (x y : ℕ) (s : Signal) (a : ℕ) → differs vs p x y s a ≡ false →
     ¬ ((is_defined vs a ≡ true) × (lane p a x y ≢ is_live (valuation vs a) s))
 differs_not vs p x y s a e h =
-    h.1 (xor_same _ _ (sym (and_true _)
+    h.1 (xor_same _ _ (sym (and-true _)
     ∙ ap (λ (v : Bool). xor (lane p a x y) (is_live (valuation vs a) s) && v) (sym h.0) ∙ e))
-  where
-    and_true : (b : Bool) → (b && true) ≡ b
-    and_true true = refl
-    and_true false = refl
-
 -- ---- the row of a signal
 pub row_from : (vs : Values) (n : ℕ) (s : Signal) → IsBelow n s → vs.words * n ≤ length vs.rows.values.items →
     HasRow vs s

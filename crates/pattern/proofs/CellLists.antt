@@ -11,12 +11,9 @@ use Rattle.std.proofs.lemmas.List.Elements.{filter-append}
 use Rattle.std.proofs.lemmas.List.Concat.{flat_map-append}
 use Rattle.std.proofs.lemmas.List.FromFn.{map-range_with_len_more, filter_of_map_range_with_len_more}
 use Rattle.std.proofs.lemmas.List.{map-id}
+use Rattle.std.proofs.Math.Bool.{or-true}
 use Rattle.bbm_rule.specs.declared.block.Cell.{Cell}
 use Rattle.pattern.specs.Layout.{cell, row_cells}
-
-or_true : (a : Bool) → (a || true) ≡ true
-or_true true = refl
-or_true false = refl
 
 pub row_more : (x n y j : ℕ) → x + n ≡ j → row_cells x (n + 1) y ≡ row_cells x n y ++ cell j y ∷ []
 row_more x n y j e = map-range_with_len_more (λ c. cell c y) x n j e
@@ -70,7 +67,7 @@ any_in_row test x (suc n) y zero l t =
 any_in_row test x (suc n) y (suc k) l t =
     let e : x + suc k ≡ x + 1 + k = omega arith in
     let t = rw e at t in
-    rw (any_in_row test (x + 1) n y k (omega arith) t) (or_true (test (cell x y)))
+    rw (any_in_row test (x + 1) n y k (omega arith) t) (or-true (test (cell x y)))
 
 pub none_in_row : (test : Cell → Bool) (x n y : ℕ) → ((k : ℕ) → k < n → test (cell (x + k) y) ≡ false) →
     list_any test (row_cells x n y) ≡ false
