@@ -47,8 +47,10 @@ all_dead = refl
 -- a bit of a word that keeps the first of each pair
 kept_first : (n j : ℕ) → j < 64 → j % 2 ≡ 0 → bit (bit_and n first_mask) j ≡ bit n j
 kept_first n j l even = rw (bit-and n first_mask j, bit_mask j l, even) (and-true (bit n j))
+
 kept_second : (n j : ℕ) → j < 64 → j % 2 ≡ 1 → bit (bit_and n first_mask) j ≡ false
 kept_second n j l odd = rw (bit-and n first_mask j, bit_mask j l, odd) (and-false (bit n j))
+
 -- a word that is joined from first and second cells of pairs
 joined_first : (f s j : ℕ) → j < 63 → bit f (1 + j) ≡ false →
     bit (bit_or f (s * 2 % 18446744073709551616)) (1 + j) ≡ bit s j
@@ -59,6 +61,7 @@ joined_zero : (f s : ℕ) → bit (bit_or f (s * 2 % 18446744073709551616)) 0 �
 joined_zero f s =
     rw (bit-or f (s * 2 % 2 ^ 64) 0, bit-mod (s * 2 ^ 1) 64 0 (omega arith), bit-shl_low s 1 0 (omega arith))
     (or-false (bit f 0))
+
 pub mate_even : (j : ℕ) → j % 2 ≡ 0 → mate j ≡ 1 + j
 unfolding mate
 mate_even j even = rw even (omega arith)

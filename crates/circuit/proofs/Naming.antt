@@ -201,6 +201,7 @@ own_push d n own new w m at = elim (cases_lt w (length d)) [
         rw (list_any-append (bytes_eq n) d (n ∷ []), bytes_same n) (or-true (has d n)),
       )
 ]
+
 own_all : (d ns : List (List ℕ)) → AreOwn d → define d ns ≡ None → AreOwn (d ++ ns)
 own_all d [] own h = subst AreOwn (sym (append-nil d)) own
 own_all d (n ∷ ns) own h =

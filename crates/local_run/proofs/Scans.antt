@@ -159,6 +159,7 @@ pub differs_not : (vs : Values) (p : Planes) (x y : ℕ) (s : Signal) (a : ℕ) 
 differs_not vs p x y s a e h =
     h.1 (xor_same _ _ (sym (and-true _)
     ∙ ap (λ (v : Bool). xor (lane p a x y) (is_live (valuation vs a) s) && v) (sym h.0) ∙ e))
+
 -- ---- the row of a signal
 pub row_from : (vs : Values) (n : ℕ) (s : Signal) → IsBelow n s → vs.words * n ≤ length vs.rows.values.items →
     HasRow vs s
