@@ -6,7 +6,8 @@ use Rattle.certificate_lines.proofs.BorderLines.{long_form_is, short_form_is}
 use Rattle.certificate_lines.proofs.form.line_form.Goals as goal
 
 pub returns-in-Some : goal.returns-in-Some
-returns-in-Some c = c.long_form.ensures ∙ long_form_is (words_of (line_bytes c.args.feed.now c.args.line.now)) c.in-Some.words
+returns-in-Some c = c.long_form.ensures
+    ∙ long_form_is (words_of (line_bytes c.args.feed.now c.args.line.now)) c.in-Some.words
     (ap (option_map listed) (sym c.in-Some.is) ∙ c.five_words.ensures)
 
 pub returns-in-None : goal.returns-in-None
