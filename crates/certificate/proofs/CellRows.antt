@@ -101,9 +101,9 @@ pub add_none : (c : Circuit) (p : Pattern) (l : LocalNet) (first : CellLists) (x
 add_none c p l first x y =
     let n : x - x ≡ 0 = omega arith in
     rw n (record {
-      starts = sym (append-nil (map (renumber_signal (circuit_wire l)) first.starts.items));
+      starts = sym (append-nil (map (renumber_signal (circuit_wire l)) first.starts));
       starts_own = λ own. own;
-      demands = sym (append-nil (map (renumber_demand (circuit_wire l)) first.demands.items));
+      demands = sym (append-nil (map (renumber_demand (circuit_wire l)) first.demands));
       demands_own = λ own. own;
     })
 
@@ -115,37 +115,37 @@ module _ (c : Circuit) (p : Pattern) (l : LocalNet) (first old new : CellLists) 
   abbrev demands_at : Cell → Demand
   demands_at d = end_demand c p d.x d.y
 
-  pub add_dead : (n : ℕ) → k ≤ n → new.starts.items ≡ old.starts.items ++ replicate (n - k) Zero →
-      new.demands.items ≡ old.demands.items ++ replicate (n - k) Demanded.Dead →
+  pub add_dead : (n : ℕ) → k ≤ n → new.starts ≡ old.starts ++ replicate (n - k) Zero →
+      new.demands ≡ old.demands ++ replicate (n - k) Demanded.Dead →
       ((j : ℕ) → k ≤ j → j < n → start_signal c p (pos j) (pos y) ≡ Zero) →
       ((j : ℕ) → k ≤ j → j < n → end_demand c p (pos j) (pos y) ≡ Demanded.Dead) →
       AddsCells c p l (row_cells x (n - x) y) first new
   add_dead n le starts demands no_start no_demand = record {
-    starts = grow_same (renumber_signal (circuit_wire l)) starts_at first.starts.items old.starts.items new.starts.items
+    starts = grow_same (renumber_signal (circuit_wire l)) starts_at first.starts old.starts new.starts
         x k y from was.starts Zero n le starts no_start;
-    starts_own = λ own. all_same (IsBelow (wires l.netlist)) old.starts.items new.starts.items (n - k) Zero starts tt
+    starts_own = λ own. all_same (IsBelow (wires l.netlist)) old.starts new.starts (n - k) Zero starts tt
         (was.starts_own own);
-    demands = grow_same (renumber_demand (circuit_wire l)) demands_at first.demands.items old.demands.items
-        new.demands.items x k y from was.demands Demanded.Dead n le demands no_demand;
-    demands_own = λ own. all_same (IsDemandBelow (wires l.netlist)) old.demands.items new.demands.items (n - k)
+    demands = grow_same (renumber_demand (circuit_wire l)) demands_at first.demands old.demands
+        new.demands x k y from was.demands Demanded.Dead n le demands no_demand;
+    demands_own = λ own. all_same (IsDemandBelow (wires l.netlist)) old.demands new.demands (n - k)
         Demanded.Dead demands tt (was.demands_own own);
   }
 
   pub add_cell : (start : Signal) (demand : Demand) → k < 512 → y < 512 →
-      new.starts.items ≡ old.starts.items ++ start ∷ [] → new.demands.items ≡ old.demands.items ++ demand ∷ [] →
+      new.starts ≡ old.starts ++ start ∷ [] → new.demands ≡ old.demands ++ demand ∷ [] →
       renumber_signal (circuit_wire l) start ≡ start_signal c p (to_z w32 k) (to_z w32 y) →
       IsBelow (wires l.netlist) start →
       renumber_demand (circuit_wire l) demand ≡ end_demand c p (to_z w32 k) (to_z w32 y) →
       IsDemandBelow (wires l.netlist) demand → AddsCells c p l (row_cells x (k + 1 - x) y) first new
   add_cell start demand low row starts demands own_start start_below own_demand demand_below = record {
-    starts = grow_cell (renumber_signal (circuit_wire l)) starts_at first.starts.items old.starts.items new.starts.items
+    starts = grow_cell (renumber_signal (circuit_wire l)) starts_at first.starts old.starts new.starts
         x k y from was.starts start low row starts own_start;
     starts_own = λ own. subst (All (IsBelow (wires l.netlist))) (sym starts)
-        (All-push (IsBelow (wires l.netlist)) old.starts.items start (was.starts_own own) start_below);
-    demands = grow_cell (renumber_demand (circuit_wire l)) demands_at first.demands.items old.demands.items
-        new.demands.items x k y from was.demands demand low row demands own_demand;
+        (All-push (IsBelow (wires l.netlist)) old.starts start (was.starts_own own) start_below);
+    demands = grow_cell (renumber_demand (circuit_wire l)) demands_at first.demands old.demands
+        new.demands x k y from was.demands demand low row demands own_demand;
     demands_own = λ own. subst (All (IsDemandBelow (wires l.netlist))) (sym demands)
-        (All-push (IsDemandBelow (wires l.netlist)) old.demands.items demand (was.demands_own own) demand_below);
+        (All-push (IsDemandBelow (wires l.netlist)) old.demands demand (was.demands_own own) demand_below);
   }
 
 -- a cell of a box, whose numbers were cast

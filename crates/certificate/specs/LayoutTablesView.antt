@@ -64,10 +64,10 @@ KnowsPorts c local ports b = (x y : ℤ) → IsTrue (in_box b x y) → KnowsPort
 -- The lists get what the cells carry at time 0, and what they must be at the last time. The signals and demands
 -- name wires by the module's own numbers.
 pub record AddsCells (c : Circuit) (p : Pattern) (l : LocalNet) (cells : List Cell) (old new : CellLists) : Type 0 where
-  pub starts : map (renumber_signal (circuit_wire l)) new.starts.items
-      ≡ map (renumber_signal (circuit_wire l)) old.starts.items ++ map (λ d. start_signal c p d.x d.y) cells
-  pub starts_own : All (IsBelow (wires l.netlist)) old.starts.items → All (IsBelow (wires l.netlist)) new.starts.items
-  pub demands : map (renumber_demand (circuit_wire l)) new.demands.items
-      ≡ map (renumber_demand (circuit_wire l)) old.demands.items ++ map (λ d. end_demand c p d.x d.y) cells
-  pub demands_own : All (IsDemandBelow (wires l.netlist)) old.demands.items →
-      All (IsDemandBelow (wires l.netlist)) new.demands.items
+  pub starts : map (renumber_signal (circuit_wire l)) new.starts
+      ≡ map (renumber_signal (circuit_wire l)) old.starts ++ map (λ d. start_signal c p d.x d.y) cells
+  pub starts_own : All (IsBelow (wires l.netlist)) old.starts → All (IsBelow (wires l.netlist)) new.starts
+  pub demands : map (renumber_demand (circuit_wire l)) new.demands
+      ≡ map (renumber_demand (circuit_wire l)) old.demands ++ map (λ d. end_demand c p d.x d.y) cells
+  pub demands_own : All (IsDemandBelow (wires l.netlist)) old.demands →
+      All (IsDemandBelow (wires l.netlist)) new.demands

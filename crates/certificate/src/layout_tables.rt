@@ -18,7 +18,7 @@ use bbm_rule::{Cell, Grid};
 use certificate_lines::{PortTable, is_live, port_tables};
 use circuit::{Circuit, WireNo};
 use module_box::{Box2, Locals, Signal};
-use module_job::Demand;
+use module_job::{Demand, Demands, Starts};
 use pattern::{Layout, LayoutHeader, Port, Rectangle, make_live, push_rectangle};
 use section_text::Name;
 use std::alloc::{AllocError, Global};
@@ -55,25 +55,25 @@ impl<'a> Model for LayoutTables<'a> {
 // What cells carry at time 0, and what they must be at the last time, one cell after the other.
 #[derive(Drop)]
 struct CellLists {
-    starts: Vec<Signal>,
-    demands: Vec<Demand>,
+    starts: Starts,
+    demands: Demands,
 }
 
 impl CellLists {
     fn new(alloc: Global, count: usize) -> Result<CellLists, AllocError>
-        ensures starts { IfOk result (λ lists. lists.starts.items ≡ []) }
-        ensures demands { IfOk result (λ lists. lists.demands.items ≡ []) }
+        ensures starts { IfOk result (λ lists. lists.starts ≡ []) }
+        ensures demands { IfOk result (λ lists. lists.demands ≡ []) }
     {
         Ok(CellLists {
-            starts: Vec::with_capacity(alloc, count)?,
-            demands: Vec::with_capacity(alloc, count)?,
+            starts: Starts::new(alloc, count)?,
+            demands: Demands::new(alloc, count)?,
         })
     }
 
     fn push(&mut self, start: Signal, demand: Demand) -> Result<(), AllocError>
-        ensures starts { OnOk result (self.new.starts.items ≡ self.old.starts.items ++ start ∷ []) }
-        ensures demands { OnOk result (self.new.demands.items
-            ≡ self.old.demands.items ++ demand ∷ []) }
+        ensures starts { OnOk result (self.new.starts ≡ self.old.starts ++ start ∷ []) }
+        ensures demands { OnOk result (self.new.demands
+            ≡ self.old.demands ++ demand ∷ []) }
     {
         self.starts.push(start)?;
         self.demands.push(demand)?;
@@ -82,15 +82,13 @@ impl CellLists {
 
     // Adds cells that are dead at time 0 and at the last time.
     fn push_dead(&mut self, count: u32) -> Result<(), AllocError>
-        ensures starts { OnOk result (self.new.starts.items
-            ≡ self.old.starts.items ++ replicate count Signal.Zero) }
-        ensures demands { OnOk result (self.new.demands.items
-            ≡ self.old.demands.items ++ replicate count Demand.Dead) }
+        ensures starts { OnOk result (self.new.starts
+            ≡ self.old.starts ++ replicate count Signal.Zero) }
+        ensures demands { OnOk result (self.new.demands
+            ≡ self.old.demands ++ replicate count Demand.Dead) }
     {
-        let starts = self.starts.len() + count as usize;
-        let demands = self.demands.len() + count as usize;
-        self.starts.resize(starts, Signal::Zero)?;
-        self.demands.resize(demands, Demand::Dead)?;
+        self.starts.push_dead(count as usize)?;
+        self.demands.push_dead(count as usize)?;
         Ok(())
     }
 }
@@ -365,26 +363,26 @@ impl<'a> LayoutTables<'a> {
         alloc: Global,
         area: Box2,
         locals: &Locals,
-    ) -> Result<(Vec<Signal>, Vec<Demand>), AllocError>
+    ) -> Result<(Starts, Demands), AllocError>
         requires columns { (area.x + area.w ≤ self.now.layout.size.w) × (area.x + area.w ≤ 512) }
         requires rows { (area.y + area.h ≤ self.now.layout.size.h) × (area.y + area.h ≤ 512) }
         requires ins { KnowsPorts (circuit_of self.now.circuit) locals.now.circuit_wires
             self.now.layout.ins area }
         requires outs { KnowsPorts (circuit_of self.now.circuit) locals.now.circuit_wires
             self.now.layout.outs area }
-        ensures starts_count { IfOk result (λ lists. length lists.0.items ≡ area.w * area.h) }
+        ensures starts_count { IfOk result (λ lists. length lists.0 ≡ area.w * area.h) }
         ensures starts_own { IfOk result (λ lists. All (IsBelow (wires locals.now.netlist))
-            lists.0.items) }
+            lists.0) }
         ensures starts { IfOk result (λ lists. (x y : ℤ) → IsTrue (in_box area x y) →
             renumber_signal (circuit_wire locals.now)
-            (unwrap_or (slice_get lists.0.items (place_in area x y)) Signal.Zero)
+            (unwrap_or (slice_get lists.0 (place_in area x y)) Signal.Zero)
             ≡ start_signal (circuit_of self.now.circuit) self.now.layout x y) }
-        ensures demands_count { IfOk result (λ lists. length lists.1.items ≡ area.w * area.h) }
+        ensures demands_count { IfOk result (λ lists. length lists.1 ≡ area.w * area.h) }
         ensures demands_own { IfOk result (λ lists. All (IsDemandBelow (wires locals.now.netlist))
-            lists.1.items) }
+            lists.1) }
         ensures demands { IfOk result (λ lists. (x y : ℤ) → IsTrue (in_box area x y) →
             renumber_demand (circuit_wire locals.now)
-            (unwrap_or (slice_get lists.1.items (place_in area x y)) Demand.Dead)
+            (unwrap_or (slice_get lists.1 (place_in area x y)) Demand.Dead)
             ≡ end_demand (circuit_of self.now.circuit) self.now.layout x y) }
     {
         let mut lists = CellLists::new(alloc, area.w as usize * area.h as usize)?;

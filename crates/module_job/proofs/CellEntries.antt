@@ -1,10 +1,9 @@
--- The entries of cells tell what the cells carry, and grow cell by cell.
-use Rattle.std.proofs.Common.{◌≡◌, ℕ, ◌+◌, ◌<◌, ◌≤◌, List, [], ◌∷◌, ◌++◌, true, false, length, map, take, get_or}
+-- The entries of cells tell what the cells carry, and those of more cells follow them.
+use Rattle.std.proofs.Common.{◌≡◌, ℕ, ◌+◌, ◌<◌, ◌≤◌, List, [], ◌∷◌, ◌++◌, length, map}
 use Rattle.std.proofs.Common.{nat_eq, refl, sym, ap, ap₂, ◌∙◌, arith, inl, inr, ◌⊎◌}
 use Rattle.std.proofs.lemmas.Bool.{cases_Bool, cond-true, cond-false}
 use Rattle.std.proofs.lemmas.Bool.Decides.{nat_tests}
-use Rattle.std.proofs.lemmas.List.{append_assoc, append-nil, length-map, length-take-le, map-append, take_all}
-use Rattle.std.proofs.lemmas.List.{take_more}
+use Rattle.std.proofs.lemmas.List.{append_assoc, length-map}
 use Rattle.module_box.specs.Numbers.{AreTelling}
 use Rattle.module_box.proofs.Telling.{same_head, same_tail}
 use Rattle.module_job.specs.Keys.{cell_entry, cells_numbers, entries_from}
@@ -12,10 +11,10 @@ use Rattle.module_job.specs.Keys.{cell_entry, cells_numbers, entries_from}
 -- ---- one cell
 
 -- a cell has the number 0 and no entry, or another number and an entry
-abbrev Forms : ℕ → ℕ → Type 0
+abbrev pub Forms : ℕ → ℕ → Type 0
 Forms place n = ((n ≡ 0) × (cell_entry place n ≡ [])) ⊎ ((0 < n) × (cell_entry place n ≡ (place + 1) ∷ n ∷ []))
 
-forms : (place n : ℕ) → Forms place n
+pub forms : (place n : ℕ) → Forms place n
 forms place n = elim (cases_Bool (nat_eq n 0)) [
   | inl zero ↦ inl (grind (arith, nat_tests, zero), cond-true _ _ _ zero)
   | inr more ↦ inr (grind (arith, nat_tests, more), cond-false _ _ _ more)
@@ -106,9 +105,9 @@ cells_tell_all f tells xs ys r s e =
     ∙ append_assoc (entries_from 0 (map f ys)) (0 ∷ []) s) in
     (numbers_told_by f tells xs ys both.0, both.1)
 
--- ---- one cell more
+-- ---- more cells
 
-entries_append : (p : ℕ) (ns ms : List ℕ) →
+pub entries_append : (p : ℕ) (ns ms : List ℕ) →
     entries_from p (ns ++ ms) ≡ entries_from p ns ++ entries_from (p + length ns) ms
 unfolding entries_from
 entries_append p [] ms = ap (λ q. entries_from q ms) (omega arith)
@@ -117,43 +116,3 @@ entries_append p (n ∷ ns) ms =
     ap (λ l. cell_entry p n ++ l)
     (entries_append (p + 1) ns ms ∙ ap (λ q. entries_from (p + 1) ns ++ entries_from q ms) place)
     ∙ sym (append_assoc (cell_entry p n) (entries_from (p + 1) ns) (entries_from (p + length (n ∷ ns)) ms))
-
-none_entered : {A : Type 0} (f : A → ℕ) (old before : List ℕ) (xs : List A) → before ≡ old ++ length xs ∷ [] →
-    before ≡ old ++ length xs ∷ entries_from 0 (map f (take 0 xs))
-unfolding entries_from
-none_entered f old before xs e = e
-
-one_more : {A : Type 0} (f : A → ℕ) (xs : List A) (i : ℕ) (d : A) → i < length xs →
-    entries_from 0 (map f (take (i + 1) xs)) ≡ entries_from 0 (map f (take i xs)) ++ cell_entry i (f (get_or xs i d))
-unfolding entries_from
-one_more f xs i d lt =
-    let number = length-map (take i xs) f ∙ length-take-le i xs (omega (arith, lt)) in
-    let count : 0 + length (map f (take i xs)) ≡ i = omega (arith, number) in
-    ap (λ l. entries_from 0 (map f l)) (take_more xs i d lt)
-    ∙ ap (entries_from 0) (map-append f (take i xs) (get_or xs i d ∷ []))
-    ∙ entries_append 0 (map f (take i xs)) (f (get_or xs i d) ∷ [])
-    ∙ ap (λ p. entries_from 0 (map f (take i xs)) ++ entries_from p (f (get_or xs i d) ∷ [])) count
-    ∙ ap (λ l. entries_from 0 (map f (take i xs)) ++ l) (append-nil (cell_entry i (f (get_or xs i d))))
-
--- the numbers pushed so far
-abbrev pub AreEntered : {A : Type 0} → (A → ℕ) → List A → ℕ → List ℕ → List ℕ → Type 0
-AreEntered f xs i old now = now ≡ old ++ length xs ∷ entries_from 0 (map f (take i xs))
-
-pub none_entered_yet : {A : Type 0} (f : A → ℕ) (xs : List A) (old now : List ℕ) → now ≡ old ++ length xs ∷ [] →
-    AreEntered f xs 0 old now
-none_entered_yet f xs old now e = none_entered f old now xs e
-
-pub one_more_entered : {A : Type 0} (f : A → ℕ) (xs : List A) (i n : ℕ) (d : A) (old now next : List ℕ) →
-    i < length xs → n ≡ f (get_or xs i d) →
-    AreEntered f xs i old now → next ≡ now ++ cell_entry i n → AreEntered f xs (i + 1) old next
-one_more_entered f xs i n d old now next lt is before after =
-    after ∙ ap (λ l. l ++ cell_entry i n) before
-    ∙ append_assoc old (length xs ∷ entries_from 0 (map f (take i xs))) (cell_entry i n)
-    ∙ ap (λ m. old ++ length xs ∷ (entries_from 0 (map f (take i xs)) ++ cell_entry i m)) is
-    ∙ ap (λ l. old ++ length xs ∷ l) (sym (one_more f xs i d lt))
-
-pub all_entered : {A : Type 0} (f : A → ℕ) (xs : List A) (i : ℕ) (old now new : List ℕ) → length xs ≤ i →
-    AreEntered f xs i old now → new ≡ now ++ 0 ∷ [] → new ≡ old ++ cells_numbers f xs
-all_entered f xs i old now new le before after =
-    after ∙ ap (λ l. l ++ 0 ∷ []) (before ∙ ap (λ l. old ++ length xs ∷ entries_from 0 (map f l)) (take_all i xs le))
-    ∙ append_assoc old (length xs ∷ entries_from 0 (map f xs)) (0 ∷ [])

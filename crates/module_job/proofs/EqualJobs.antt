@@ -8,9 +8,6 @@ use Rattle.module_box.proofs.EqualTests.{both, lists, options, signal_decides, c
 use Rattle.module_box.proofs.EqualTests.{locals_decides, netlists_decide}
 use Rattle.module_box.specs.Equality.{same_cell, same_signal}
 use Rattle.module_box.specs.declared.boxes.Box2.{Box2}
-use Rattle.module_box.specs.declared.schedules.Signal.{Signal}
-use Rattle.module_box.specs.declared.schedules.Signal.TheVariants.{Zero, One, Wire}
-use Rattle.module_box.specs.contracts.schedules.SignalPartialEq.TheImpl as signals
 use Rattle.module_job.specs.Equality.{same_box, demand_place, wire_asked, same_demand, same_job, same_shape, same_stop}
 use Rattle.module_job.specs.Laws.{JobEqualityDecides, ShapeEqualityDecides}
 use Rattle.module_job.specs.Shapes.{ShapeView, placed, shape_of}
@@ -18,45 +15,9 @@ use Rattle.module_job.specs.declared.job.Demand.{Demand}
 use Rattle.module_job.specs.declared.job.Demand.TheVariants as Demanded
 use Rattle.module_job.specs.declared.job.Stop.{Stop}
 use Rattle.module_job.proofs.ShapeParts.{shape_placed}
-use Rattle.module_job.specs.contracts.job.DemandPartialEq.TheImpl as demands
 use Rattle.module_job.specs.contracts.job.StopPartialEq.TheImpl as stops
 
--- the derived tests are these
-signal_test : (a b : Signal) → signals.eq-value.it a b ≡ same_signal a b
-signal_test Zero Zero = refl
-signal_test Zero One = refl
-signal_test Zero (Wire v) = refl
-signal_test One Zero = refl
-signal_test One One = refl
-signal_test One (Wire v) = refl
-signal_test (Wire w) Zero = refl
-signal_test (Wire w) One = refl
-signal_test (Wire w) (Wire v) = refl
-
-pub signal_tests : (xs ys : List Signal) → pointwise signals.eq-value.it xs ys ≡ pointwise same_signal xs ys
-signal_tests xs ys i = pointwise (λ a b. signal_test a b i) xs ys
-
-demand_test : (a b : Demand) → demands.eq-value.it a b ≡ same_demand a b
-demand_test Demanded.Dead Demanded.Dead = refl
-demand_test Demanded.Dead Demanded.Live = refl
-demand_test Demanded.Dead (Demanded.Wire v) = refl
-demand_test Demanded.Dead Demanded.Any = refl
-demand_test Demanded.Live Demanded.Dead = refl
-demand_test Demanded.Live Demanded.Live = refl
-demand_test Demanded.Live (Demanded.Wire v) = refl
-demand_test Demanded.Live Demanded.Any = refl
-demand_test (Demanded.Wire w) Demanded.Dead = refl
-demand_test (Demanded.Wire w) Demanded.Live = refl
-demand_test (Demanded.Wire w) (Demanded.Wire v) = refl
-demand_test (Demanded.Wire w) Demanded.Any = refl
-demand_test Demanded.Any Demanded.Dead = refl
-demand_test Demanded.Any Demanded.Live = refl
-demand_test Demanded.Any (Demanded.Wire v) = refl
-demand_test Demanded.Any Demanded.Any = refl
-
-pub demand_tests : (xs ys : List Demand) → pointwise demands.eq-value.it xs ys ≡ pointwise same_demand xs ys
-demand_tests xs ys i = pointwise (λ a b. demand_test a b i) xs ys
-
+-- the derived test is this
 and_apart : (p q r : Bool) → ((p && q) && r) ≡ (p && (q && r))
 and_apart true q r = refl
 and_apart false q r = refl
@@ -93,7 +54,7 @@ demand_back Demanded.Live = refl
 demand_back (Demanded.Wire w) = refl
 demand_back Demanded.Any = refl
 
-demand_decides : (a b : Demand) → Decides (same_demand a b) (a ≡ b)
+pub demand_decides : (a b : Demand) → Decides (same_demand a b) (a ≡ b)
 demand_decides a b =
     both _ _ (Decides-eqb (demand_place a) (demand_place b)) (options nat_eq Decides-eqb (wire_asked a) (wire_asked b))
     (λ place wire. sym (demand_back a) ∙ ap₂ demand_from place wire ∙ demand_back b) (λ e. ap demand_place e)

@@ -2,5 +2,7 @@ pub mod CellEntries
 pub mod EqualJobs
 pub mod FirstKeys
 pub mod FirstShapes
+pub mod NumberedCells
 pub mod ShapeParts
+pub mod SparseLists
 pub mod TellingShapes

@@ -15,7 +15,7 @@ use Rattle.module_box.proofs.Telling.{counted_tell, listed, lists_tell, netlists
 use Rattle.module_box.proofs.Telling.{same_tail}
 use Rattle.module_job.specs.Keys.{BytesTellNumbers, NumbersTellShapes, cell_numbers, cells_numbers, demand_number}
 use Rattle.module_job.specs.Keys.{event_numbers, all_times_numbers, integer_number, number_bytes, shape_numbers}
-use Rattle.module_job.specs.Keys.{signal_number, signal_numbers, signals_numbers, stop_numbers}
+use Rattle.module_job.specs.Keys.{signal_number, signals_numbers, stop_numbers}
 use Rattle.module_job.proofs.CellEntries.{cells_tell_all}
 use Rattle.module_job.specs.Shapes.{ShapeView}
 use Rattle.module_job.specs.declared.job.Demand.{Demand}

@@ -69,7 +69,7 @@ box_equivalence =
     (on_equiv (λ b. b.w) nat_eq_equiv)) (on_equiv (λ b. b.h) nat_eq_equiv)
 
 -- the test on demands is an equivalence
-demand_equivalence : IsEquivalence same_demand
+pub demand_equivalence : IsEquivalence same_demand
 demand_equivalence = and_equiv (on_equiv demand_place nat_eq_equiv) (on_equiv wire_asked (options_equiv nat_eq_equiv))
 
 -- the test on stops is an equivalence

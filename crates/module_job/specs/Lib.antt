@@ -1,3 +1,4 @@
+pub mod CellLists
 pub mod Equality
 pub mod Groups
 pub mod JobView
@@ -7,3 +8,4 @@ pub mod Laws
 pub mod ShapeView
 pub mod Shapes
 pub mod Signals
+pub mod SparseNumbers

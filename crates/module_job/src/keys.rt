@@ -1,8 +1,8 @@
 //! The numbers of shapes, which differ for different shapes, and their keys.
-ghost use Rattle.std.specs.Prelude.{◌≡◌, ◌+◌, ◌^◌, ◌<◌, ◌++◌, [], ◌∷◌, length, IfOk, OnOk};
+ghost use Rattle.std.specs.Prelude.{◌≡◌, ◌^◌, ◌<◌, ◌++◌, [], ◌∷◌, length, IfOk, OnOk};
 ghost use Rattle.std.specs.List.{All, flat_map};
 ghost use Rattle.module_box.specs.Numbers.{counted};
-ghost use Rattle.module_job.specs.Keys.{cell_entry, cell_numbers, cells_numbers, demand_number, event_numbers, all_times_numbers, integer_number, number_bytes, shape_key, shape_numbers, signal_number, signal_numbers, signals_numbers, stop_numbers};
+ghost use Rattle.module_job.specs.Keys.{cell_numbers, cells_numbers, demand_number, event_numbers, all_times_numbers, integer_number, number_bytes, shape_key, shape_numbers, signal_number, signal_numbers, signals_numbers, stop_numbers};
 
 use crate::job::{Demand, Stop};
 use crate::shape::Shape;
@@ -11,8 +11,10 @@ use module_box::{AllTimes, Event, Schedule, Signal};
 use sha2::{Digest, Sha256};
 use std::alloc::{AllocError, Global};
 
-fn signal_number(signal: Signal) -> u64
-    ensures { result ≡ signal_number signal }
+/// Returns the number of a signal.
+pub(crate) fn signal_number(signal: Signal) -> u64
+    ensures number_is_exact { result ≡ signal_number signal }
+    ensures below_65538 { result < 65538 }
 {
     match signal {
         Signal::Zero => 0,
@@ -21,8 +23,10 @@ fn signal_number(signal: Signal) -> u64
     }
 }
 
-fn demand_number(demand: Demand) -> u64
-    ensures { result ≡ demand_number demand }
+/// Returns the number of a demand.
+pub(crate) fn demand_number(demand: Demand) -> u64
+    ensures number_is_exact { result ≡ demand_number demand }
+    ensures below_65539 { result < 65539 }
 {
     match demand {
         Demand::Dead => 0,
@@ -73,45 +77,6 @@ fn push_stop(numbers: &mut Vec<u64>, stop: Stop) -> Result<(), AllocError>
     numbers.push(stop.at.time as u64)?;
     push_cell(numbers, stop.at.cell)?;
     numbers.push(stop.wire as u64)?;
-    Ok(())
-}
-
-// Adds the entry of a cell.
-fn push_entry(numbers: &mut Vec<u64>, place: usize, number: u64) -> Result<(), AllocError>
-    requires { place + 1 < 2 ^ 64 }
-    ensures { OnOk result (numbers.new.items ≡ numbers.old.items ++ cell_entry place number) }
-{
-    if number == 0 {
-        return Ok(());
-    }
-    numbers.push(place as u64 + 1)?;
-    numbers.push(number)?;
-    Ok(())
-}
-
-// Adds how many cells there are, the entries of what they carry at time 0, and a 0.
-fn push_starts(numbers: &mut Vec<u64>, starts: &[Signal]) -> Result<(), AllocError>
-    ensures { OnOk result (numbers.new.items
-        ≡ numbers.old.items ++ cells_numbers signal_number starts.now) }
-{
-    numbers.push(starts.len() as u64)?;
-    'cells: for (place, start) in starts.iter().enumerate() {
-        push_entry(numbers, place, signal_number(*start))?;
-    }
-    numbers.push(0)?;
-    Ok(())
-}
-
-// Adds how many cells there are, the entries of what they are to be, and a 0.
-fn push_demands(numbers: &mut Vec<u64>, demands: &[Demand]) -> Result<(), AllocError>
-    ensures { OnOk result (numbers.new.items
-        ≡ numbers.old.items ++ cells_numbers demand_number demands.now) }
-{
-    numbers.push(demands.len() as u64)?;
-    'cells: for (place, demand) in demands.iter().enumerate() {
-        push_entry(numbers, place, demand_number(*demand))?;
-    }
-    numbers.push(0)?;
     Ok(())
 }
 
@@ -177,8 +142,8 @@ fn push_cells(numbers: &mut Vec<u64>, shape: &Shape) -> Result<(), AllocError>
     numbers.push(shape.width as u64)?;
     numbers.push(shape.height as u64)?;
     numbers.push(shape.steps as u64)?;
-    push_starts(numbers, &shape.starts)?;
-    push_demands(numbers, &shape.demands)
+    shape.starts.push_numbers(numbers)?;
+    shape.demands.push_numbers(numbers)
 }
 
 // The bytes of a number.

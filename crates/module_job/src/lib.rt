@@ -4,14 +4,17 @@
 //! `specs/Jobs.antt` defines jobs, and `specs/Shapes.antt` the job that a shape becomes when it is placed.
 #![tactic(auto)]
 
+mod cell_lists;
 mod equality;
 mod groups;
 mod job;
 mod keys;
 pub mod laws;
 mod shape;
+mod sparse_numbers;
 mod stops;
 
+pub use cell_lists::{Demands, Starts};
 pub use groups::{job_groups, shape_groups};
 pub use job::{Demand, Job, Stop, shift_to_origin};
 pub use shape::Shape;

@@ -2,6 +2,7 @@
 ghost use Rattle.std.specs.Prelude.{◌≡◌, slice_get, unwrap_or};
 ghost use Rattle.module_box.specs.Locals.{is_among};
 
+use crate::cell_lists::{Demands, Starts};
 use crate::job::{Demand, Stop};
 use module_box::{Schedule, Signal, Wiring};
 use std::marker::Model;
@@ -21,9 +22,9 @@ pub struct Shape {
     /// The gates, over wires of its own.
     pub wiring: Wiring,
     /// The signals of the cells at time 0, row by row.
-    pub starts: Vec<Signal>,
+    pub starts: Starts,
     /// The demands on the cells at the last time, row by row.
-    pub demands: Vec<Demand>,
+    pub demands: Demands,
     /// The signals of the cells of the ring at odd times.
     pub edges: Schedule,
     /// The signals of the cells of the halo at odd times.
@@ -77,14 +78,14 @@ impl Shape {
     pub(crate) fn start(&self, place: usize) -> Signal
         ensures { result ≡ unwrap_or (slice_get self.now.starts place) Signal.Zero }
     {
-        self.starts.get(place).copied().unwrap_or(Signal::Zero)
+        self.starts.at(place)
     }
 
     /// Returns what the cell at a place of the box must be at the last time.
     pub(crate) fn demand(&self, place: usize) -> Demand
         ensures { result ≡ unwrap_or (slice_get self.now.demands place) Demand.Dead }
     {
-        self.demands.get(place).copied().unwrap_or(Demand::Dead)
+        self.demands.at(place)
     }
 
     /// Returns what the cells of the ring carry at odd times.

@@ -148,7 +148,7 @@ invariant_of-result c =
     (record { area = area; lines = c.args.lines.now }) c.size-size.result
     (c.size-size.ensures.size ∙ ap (λ p. p.size) c.layout.ensures) c.size-size.ensures.limits c.requires.module in
     let l = c.in_ok-locals.locals in
-    let s = shape_with area c.size-size.result.steps l.netlist c.in_ok-starts.starts.items c.in_ok-starts.demands.items
+    let s = shape_with area c.size-size.result.steps l.netlist c.in_ok-starts.starts c.in_ok-starts.demands
     c.in_ok-edges.edges c.in_ok-edges.halos c.in_ok-stops.stops.items c.in_ok-locals.kept.items in
     let shape_is : arc_value c.in_ok-new.field-0 ≡ s =
     c.in_ok-new.ensures.ok ∙ (λ i. record s { netlist = c.into_parts-wiring.ensures.wiring i }) in
@@ -202,7 +202,7 @@ returns c =
     let m : ModuleLines = record { area = area; lines = c.args.lines.now } in
     let l = c.in_ok-locals.locals in
     let circuit_is = c.circuit-circuit.ensures in
-    let s = shape_with area c.size-size.result.steps l.netlist c.in_ok-starts.starts.items c.in_ok-starts.demands.items
+    let s = shape_with area c.size-size.result.steps l.netlist c.in_ok-starts.starts c.in_ok-starts.demands
     c.in_ok-edges.edges c.in_ok-edges.halos c.in_ok-stops.stops.items c.in_ok-locals.kept.items in
     let shape_is : arc_value c.in_ok-new.field-0 ≡ s =
     c.in_ok-new.ensures.ok ∙ (λ i. record s { netlist = c.into_parts-wiring.ensures.wiring i }) in

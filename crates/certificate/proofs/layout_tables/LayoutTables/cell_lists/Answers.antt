@@ -23,11 +23,11 @@ rows-preserved c =
     let added = c.in_ok-push_row.ensures in
     record {
       starts = grow_row (renumber_signal known) (λ (d : Cell). start_signal circuit layout d.x d.y)
-          c.rows.lists.starts.items c.push_row.new.lists.starts.items c.args.area.x c.args.area.w c.args.area.y c.rows.y
+          c.rows.lists.starts c.push_row.new.lists.starts c.args.area.x c.args.area.w c.args.area.y c.rows.y
           (omega arith) so_far.starts added.starts;
       starts_own = added.starts_own so_far.starts_own;
       demands = grow_row (renumber_demand known) (λ (d : Cell). end_demand circuit layout d.x d.y)
-          c.rows.lists.demands.items c.push_row.new.lists.demands.items c.args.area.x c.args.area.w c.args.area.y
+          c.rows.lists.demands c.push_row.new.lists.demands c.args.area.x c.args.area.w c.args.area.y
           c.rows.y (omega arith) so_far.demands added.demands;
       demands_own = added.demands_own so_far.demands_own;
     }
@@ -41,23 +41,23 @@ all_rows f b n all = ap (λ (k : ℕ). map f (flat_map (row_cells b.x b.w) (rang
 pub returns-clause-starts_count : goal.returns-clause-starts_count
 returns-clause-starts_count c =
     let f = λ (d : Cell). start_signal (circuit_of c.args.self.now.circuit) c.args.self.now.layout d.x d.y in
-    same_count (renumber_signal (circuit_wire c.args.locals.now)) f c.args.area c.rows.lists.starts.items
+    same_count (renumber_signal (circuit_wire c.args.locals.now)) f c.args.area c.rows.lists.starts
     (c.rows.invariant.starts ∙ all_rows f c.args.area (c.rows.y - c.args.area.y) (omega arith))
 
 pub returns-clause-starts : goal.returns-clause-starts
 returns-clause-starts c =
     let f = λ (d : Cell). start_signal (circuit_of c.args.self.now.circuit) c.args.self.now.layout d.x d.y in
-    found_at (renumber_signal (circuit_wire c.args.locals.now)) f c.args.area c.rows.lists.starts.items Zero
+    found_at (renumber_signal (circuit_wire c.args.locals.now)) f c.args.area c.rows.lists.starts Zero
     (c.rows.invariant.starts ∙ all_rows f c.args.area (c.rows.y - c.args.area.y) (omega arith))
 
 pub returns-clause-demands_count : goal.returns-clause-demands_count
 returns-clause-demands_count c =
     let f = λ (d : Cell). end_demand (circuit_of c.args.self.now.circuit) c.args.self.now.layout d.x d.y in
-    same_count (renumber_demand (circuit_wire c.args.locals.now)) f c.args.area c.rows.lists.demands.items
+    same_count (renumber_demand (circuit_wire c.args.locals.now)) f c.args.area c.rows.lists.demands
     (c.rows.invariant.demands ∙ all_rows f c.args.area (c.rows.y - c.args.area.y) (omega arith))
 
 pub returns-clause-demands : goal.returns-clause-demands
 returns-clause-demands c =
     let f = λ (d : Cell). end_demand (circuit_of c.args.self.now.circuit) c.args.self.now.layout d.x d.y in
-    found_at (renumber_demand (circuit_wire c.args.locals.now)) f c.args.area c.rows.lists.demands.items Dead
+    found_at (renumber_demand (circuit_wire c.args.locals.now)) f c.args.area c.rows.lists.demands Dead
     (c.rows.invariant.demands ∙ all_rows f c.args.area (c.rows.y - c.args.area.y) (omega arith))

@@ -11,12 +11,12 @@ use Rattle.certificate.proofs.layout_tables.LayoutTables.cell_lists.Given as goa
 
 abbrev pub invariant-rows : goal.invariant-rows
 invariant-rows l = record {
-  starts : map (renumber_signal (circuit_wire l.locals)) l.lists.starts.items
+  starts : map (renumber_signal (circuit_wire l.locals)) l.lists.starts
       ≡ map (λ c. start_signal (circuit_of l.self.circuit) l.self.layout c.x c.y)
       (flat_map (row_cells l.area.x l.area.w) (range_with_len l.area.y (l.y - l.area.y)));
-  starts_own : All (IsBelow (wires l.locals.netlist)) l.lists.starts.items;
-  demands : map (renumber_demand (circuit_wire l.locals)) l.lists.demands.items
+  starts_own : All (IsBelow (wires l.locals.netlist)) l.lists.starts;
+  demands : map (renumber_demand (circuit_wire l.locals)) l.lists.demands
       ≡ map (λ c. end_demand (circuit_of l.self.circuit) l.self.layout c.x c.y)
       (flat_map (row_cells l.area.x l.area.w) (range_with_len l.area.y (l.y - l.area.y)));
-  demands_own : All (IsDemandBelow (wires l.locals.netlist)) l.lists.demands.items;
+  demands_own : All (IsDemandBelow (wires l.locals.netlist)) l.lists.demands;
 }

@@ -2,7 +2,7 @@ use Rattle.std.proofs.Common.{◌≡◌, ◌&&◌, nat_eq, rules, ap₂, ◌∙�
 use Rattle.std.specs.Cmp.Lexicographic.{pointwise}
 use Rattle.module_box.specs.Equality.{same_netlist, same_signal, same_signals}
 use Rattle.module_job.specs.Equality.{same_demand, same_shape, same_stop}
-use Rattle.module_job.proofs.EqualJobs.{demand_tests, signal_tests, stop_tests}
+use Rattle.module_job.proofs.EqualJobs.{stop_tests}
 use Rattle.module_job.proofs.equality.ShapePartialEq.eq.Goals as goal
 
 pub returns : goal.returns
@@ -10,10 +10,8 @@ returns c =
     let a = c.self.inside in
     let b = c.other.inside in
     let wiring : c.eq-wiring.result ≡ same_netlist a.wiring b.wiring = search rules in
-    let starts : c.eq-starts.result ≡ pointwise same_signal a.starts.items b.starts.items =
-    c.eq-starts.ensures ∙ signal_tests a.starts.items b.starts.items in
-    let demands : c.eq-demands.result ≡ pointwise same_demand a.demands.items b.demands.items =
-    c.eq-demands.ensures ∙ demand_tests a.demands.items b.demands.items in
+    let starts : c.eq-starts.result ≡ pointwise same_signal a.starts b.starts = search rules in
+    let demands : c.eq-demands.result ≡ pointwise same_demand a.demands b.demands = search rules in
     let edges : c.eq-edges.result ≡ same_signals a.edges b.edges = search rules in
     let halos : c.eq-halos.result ≡ same_signals a.halos b.halos = search rules in
     let stops : c.eq-stops.result ≡ pointwise same_stop a.stops.items b.stops.items =

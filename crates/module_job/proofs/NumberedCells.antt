@@ -1,0 +1,135 @@
+-- Lists of what cells carry or must be, by their numbers.
+use Rattle.std.proofs.Common.{◌≡◌, ℕ, zero, suc, ◌+◌, ◌<◌, Bool, List, [], ◌∷◌, ◌++◌, length, map, replicate, nat_eq}
+use Rattle.std.proofs.Common.{refl, sym, ap, ap₂, subst, ◌∙◌, arith}
+use Rattle.std.specs.Prelude.{slice_get, unwrap_or}
+use Rattle.std.specs.Bool.{Decides}
+use Rattle.std.specs.Cmp.Lexicographic.{pointwise}
+use Rattle.std.specs.List.{All}
+use Rattle.std.proofs.lemmas.Bool.Decides.{Decides-eqb, same_from_decides}
+use Rattle.std.proofs.lemmas.List.{get_or-replicate, length-map, length-replicate, map-append}
+use Rattle.std.proofs.lemmas.List.Elements.{All-append, All-head, All-tail}
+use Rattle.module_box.proofs.EqualTests.{lists, signal_decides}
+use Rattle.module_box.specs.Equality.{same_signal}
+use Rattle.module_box.specs.declared.schedules.Signal.{Signal}
+use Rattle.module_box.specs.declared.schedules.Signal.TheVariants.{Zero, One, Wire}
+use Rattle.module_job.specs.CellLists.{numbered_demand, numbered_signal}
+use Rattle.module_job.specs.Equality.{same_demand}
+use Rattle.module_job.specs.Keys.{cells_numbers, demand_number, entries_from, signal_number}
+use Rattle.module_job.specs.declared.job.Demand.{Demand}
+use Rattle.module_job.specs.declared.job.Demand.TheVariants as Demanded
+use Rattle.module_job.proofs.EqualJobs.{demand_decides}
+
+-- ---- one signal, one demand
+
+signal_back : (n : ℕ) → signal_number (numbered_signal n) ≡ n
+signal_back zero = refl
+signal_back (suc zero) = refl
+signal_back (suc (suc w)) = omega arith
+
+demand_back : (n : ℕ) → demand_number (numbered_demand n) ≡ n
+demand_back zero = refl
+demand_back (suc zero) = refl
+demand_back (suc (suc zero)) = refl
+demand_back (suc (suc (suc w))) = omega arith
+
+signal_again : (s : Signal) → numbered_signal (signal_number s) ≡ s
+signal_again Zero = refl
+signal_again One = refl
+signal_again (Wire w) = let e : w + 2 ≡ suc (suc w) = omega arith in ap numbered_signal e
+
+demand_again : (d : Demand) → numbered_demand (demand_number d) ≡ d
+demand_again Demanded.Dead = refl
+demand_again Demanded.Live = refl
+demand_again Demanded.Any = refl
+demand_again (Demanded.Wire w) = let e : w + 3 ≡ suc (suc (suc w)) = omega arith in ap numbered_demand e
+
+-- ---- lists
+
+map_zeros : {A : Type 0} (of : ℕ → A) (count : ℕ) → map of (replicate count 0) ≡ replicate count (of 0)
+map_zeros of zero = refl
+map_zeros of (suc count) = ap (λ xs. of 0 ∷ xs) (map_zeros of count)
+
+at_place : {A : Type 0} (of : ℕ → A) (ns : List ℕ) (place : ℕ) →
+    of (unwrap_or (slice_get ns place) 0) ≡ unwrap_or (slice_get (map of ns) place) (of 0)
+at_place of [] place = refl
+at_place of (n ∷ ns) zero = refl
+at_place of (n ∷ ns) (suc place) = at_place of ns place
+
+pub below : (bound : ℕ) (ns : List ℕ) (place : ℕ) → 0 < bound → All (λ n. n < bound) ns →
+    unwrap_or (slice_get ns place) 0 < bound
+below bound [] place some all = some
+below bound (n ∷ ns) zero some all = All-head (λ m. m < bound) n ns all
+below bound (n ∷ ns) (suc place) some all = below bound ns place some (All-tail (λ m. m < bound) n ns all)
+
+pub zeros_below : (bound count : ℕ) (ns : List ℕ) → 0 < bound → All (λ n. n < bound) ns →
+    All (λ n. n < bound) (ns ++ replicate count 0)
+zeros_below bound count ns some all =
+    All-append (λ n. n < bound) ns (replicate count 0) all
+    (λ k d l. subst (λ n. n < bound)
+    (sym (get_or-replicate count k 0 d (omega (arith, l, length-replicate {A = ℕ} count 0))))
+    some)
+
+module _ {A : Type 0} (of : ℕ → A) (number : A → ℕ) (exact : (n : ℕ) → number (of n) ≡ n) where
+  numbers_again : (ns : List ℕ) → map number (map of ns) ≡ ns
+  numbers_again [] = refl
+  numbers_again (n ∷ ns) = ap₂ (λ m ms. m ∷ ms) (exact n) (numbers_again ns)
+
+  counted : (ns : List ℕ) → cells_numbers number (map of ns) ≡ length ns ∷ entries_from 0 ns ++ 0 ∷ []
+  counted ns = ap₂ (λ (count : ℕ) (ms : List ℕ). count ∷ entries_from 0 ms ++ 0 ∷ []) (length-map ns of)
+      (numbers_again ns)
+
+  same_tests : (E : A → A → Bool) → ((a b : A) → Decides (E a b) (a ≡ b)) → (ns ms : List ℕ) →
+      pointwise nat_eq ns ms ≡ pointwise E (map of ns) (map of ms)
+  same_tests E decides ns ms =
+      let cells = lists E decides (map of ns) (map of ms) in
+      same_from_decides _ _ (lists nat_eq Decides-eqb ns ms)
+      (λ h. sym (numbers_again ns) ∙ ap (map number) (cells.0 h) ∙ numbers_again ms, λ e. cells.1 (ap (map of) e))
+
+-- ---- what the cells carry at time 0
+
+pub start_pushed : (ns : List ℕ) (s : Signal) →
+    map numbered_signal (ns ++ signal_number s ∷ []) ≡ map numbered_signal ns ++ s ∷ []
+start_pushed ns s = map-append numbered_signal ns (signal_number s ∷ [])
+    ∙ ap (λ t. map numbered_signal ns ++ t ∷ []) (signal_again s)
+
+pub dead_pushed : (ns : List ℕ) (count : ℕ) →
+    map numbered_signal (ns ++ replicate count 0) ≡ map numbered_signal ns ++ replicate count Zero
+dead_pushed ns count = map-append numbered_signal ns (replicate count 0)
+    ∙ ap (λ ts. map numbered_signal ns ++ ts) (map_zeros numbered_signal count)
+
+pub start_found : (ns : List ℕ) (place : ℕ) →
+    numbered_signal (unwrap_or (slice_get ns place) 0) ≡ unwrap_or (slice_get (map numbered_signal ns) place) Zero
+start_found = at_place numbered_signal
+
+pub start_numbers : (ns : List ℕ) →
+    cells_numbers signal_number (map numbered_signal ns) ≡ length ns ∷ entries_from 0 ns ++ 0 ∷ []
+start_numbers = counted numbered_signal signal_number signal_back
+
+pub start_tests : (ns ms : List ℕ) →
+    pointwise nat_eq ns ms ≡ pointwise same_signal (map numbered_signal ns) (map numbered_signal ms)
+start_tests = same_tests numbered_signal signal_number signal_back same_signal signal_decides
+
+-- ---- what they must be at the last time
+
+pub demand_pushed : (ns : List ℕ) (d : Demand) →
+    map numbered_demand (ns ++ demand_number d ∷ []) ≡ map numbered_demand ns ++ d ∷ []
+demand_pushed ns d = map-append numbered_demand ns (demand_number d ∷ [])
+    ∙ ap (λ t. map numbered_demand ns ++ t ∷ []) (demand_again d)
+
+pub dead_demands_pushed : (ns : List ℕ) (count : ℕ) →
+    map numbered_demand (ns ++ replicate count 0) ≡ map numbered_demand ns ++ replicate count Demanded.Dead
+dead_demands_pushed ns count = map-append numbered_demand ns (replicate count 0)
+    ∙ ap (λ ts. map numbered_demand ns ++ ts) (map_zeros numbered_demand count)
+
+pub demand_found : (ns : List ℕ) (place : ℕ) →
+    numbered_demand (unwrap_or (slice_get ns place) 0)
+    ≡ unwrap_or (slice_get (map numbered_demand ns) place) Demanded.Dead
+demand_found = at_place numbered_demand
+
+pub demand_numbers : (ns : List ℕ) →
+    cells_numbers demand_number (map numbered_demand ns) ≡ length ns ∷ entries_from 0 ns ++ 0 ∷ []
+demand_numbers = counted numbered_demand demand_number demand_back
+
+pub demand_tests : (ns ms : List ℕ) →
+    pointwise nat_eq ns ms ≡ pointwise same_demand (map numbered_demand ns) (map numbered_demand ms)
+demand_tests = same_tests numbered_demand demand_number demand_back same_demand demand_decides

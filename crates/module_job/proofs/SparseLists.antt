@@ -1,0 +1,379 @@
+-- A list of numbers from the entries of those that are not 0, and the search for an entry.
+use Rattle.std.proofs.Common.{◌≡◌, ◌≢◌, ℕ, zero, suc, ◌+◌, ◌-◌, ◌*◌, ◌/◌, ◌<◌, ◌≤◌, List, [], ◌∷◌, ◌++◌, true, false}
+use Rattle.std.proofs.Common.{length, take, drop, get_or, replicate, nat_eq, refl, sym, ap, ap₂, subst, ◌∙◌, arith}
+use Rattle.std.proofs.Common.{◌&&◌, inl, inr, ◌⊎◌}
+use Rattle.std.specs.Cmp.Lexicographic.{pointwise}
+use Rattle.std.specs.Prelude.{slice_get, unwrap_or}
+use Rattle.std.proofs.lemmas.Bool.{cases_Bool, cases_lt, cond-true, cond-false}
+use Rattle.std.proofs.lemmas.Bool.Decides.{Decides-eqb, nat_tests, same_from_decides}
+use Rattle.std.proofs.lemmas.List.{append_assoc, append-nil, drop_more, get_or_append_left, get_or-append-add}
+use Rattle.std.proofs.lemmas.List.{get_or-append_right}
+use Rattle.std.proofs.lemmas.List.{get_or_past, length-append, length-drop, length-replicate, length-take}
+use Rattle.std.proofs.lemmas.List.{length-take-le, take-append-drop}
+use Rattle.std.proofs.lemmas.Option.{unwrap_or-slice_get}
+use Rattle.module_box.proofs.EqualTests.{both, lists}
+use Rattle.module_job.specs.Keys.{cell_entry, entries_from}
+use Rattle.module_job.specs.SparseNumbers.{numbers_from}
+use Rattle.module_job.proofs.CellEntries.{entries_append, forms}
+
+-- ---- the list of its own entries
+
+-- all entries are of places from this one on
+abbrev AreFrom : ℕ → List ℕ → Type 0
+AreFrom place es = (n : ℕ) (r : List ℕ) → es ≡ n ∷ r → place < n
+
+are_from : (place p : ℕ) (ns : List ℕ) → place ≤ p → AreFrom place (entries_from p ns)
+unfolding entries_from
+are_from place p [] le n r e = absurd cc
+are_from place p (m ∷ ns) le n r e = elim (forms p m) [
+  | inl none ↦ are_from place (p + 1) ns (omega (arith, le)) n r
+      (sym (ap (λ (l : List ℕ). l ++ entries_from (p + 1) ns) none.1) ∙ e)
+  | inr some ↦
+      let same = sym (ap (λ (l : List ℕ). l ++ entries_from (p + 1) ns) some.1) ∙ e in
+      let head : p + 1 ≡ n = cc in
+      omega (arith, le, head)
+]
+
+-- a place before that of the first entry has the number 0
+passed : (count place : ℕ) (es : List ℕ) → AreFrom (place + 1) es →
+    numbers_from (suc count) place es ≡ 0 ∷ numbers_from count (place + 1) es
+unfolding numbers_from
+passed count place [] from = refl
+passed zero place (p ∷ []) from = refl
+passed (suc count) place (p ∷ []) from = refl
+passed count place (p ∷ n ∷ es) from =
+    let above = from p (n ∷ es) refl in
+    let other : nat_eq p (place + 1) ≡ false = grind (arith, nat_tests, above) in
+    cond-false _ _ _ other
+
+found : (count place n : ℕ) (es : List ℕ) →
+    numbers_from (suc count) place ((place + 1) ∷ n ∷ es) ≡ n ∷ numbers_from count (place + 1) es
+unfolding numbers_from
+found count place n es =
+    let here : nat_eq (place + 1) (place + 1) ≡ true = grind (arith, nat_tests) in
+    cond-true _ _ _ here
+
+pub numbers_back : (place : ℕ) (ns : List ℕ) → numbers_from (length ns) place (entries_from place ns) ≡ ns
+unfolding numbers_from entries_from
+numbers_back place [] = refl
+numbers_back place (n ∷ ns) = elim (forms place n) [
+  | inl none ↦
+      ap (λ (l : List ℕ). numbers_from (suc (length ns)) place (l ++ entries_from (place + 1) ns)) none.1
+      ∙ passed (length ns) place (entries_from (place + 1) ns) (are_from (place + 1) (place + 1) ns (omega arith))
+      ∙ ap₂ (λ x xs. x ∷ xs) (sym none.0) (numbers_back (place + 1) ns)
+  | inr some ↦
+      ap (λ (l : List ℕ). numbers_from (suc (length ns)) place (l ++ entries_from (place + 1) ns)) some.1
+      ∙ found (length ns) place n (entries_from (place + 1) ns)
+      ∙ ap (λ (xs : List ℕ). n ∷ xs) (numbers_back (place + 1) ns)
+]
+
+pub count_numbers : (count place : ℕ) (es : List ℕ) → length (numbers_from count place es) ≡ count
+unfolding numbers_from
+count_numbers zero place es = refl
+count_numbers (suc count) place [] = ap suc (count_numbers count (place + 1) [])
+count_numbers (suc count) place (p ∷ []) = ap suc (count_numbers count (place + 1) [])
+count_numbers (suc count) place (p ∷ n ∷ es) = elim (cases_Bool (nat_eq p (place + 1))) [
+  | inl there ↦ ap length (cond-true _ _ _ there) ∙ ap suc (count_numbers count (place + 1) es)
+  | inr other ↦ ap length (cond-false _ _ _ other) ∙ ap suc (count_numbers count (place + 1) (p ∷ n ∷ es))
+]
+
+pub no_numbers : (es : List ℕ) → numbers_from 0 0 es ≡ []
+unfolding numbers_from
+no_numbers es = refl
+
+pub no_number : (es : List ℕ) (u : ℕ) → get_or (numbers_from 0 0 es) u 0 ≡ 0
+unfolding numbers_from
+no_number es u = refl
+
+pub no_entries : entries_from 0 [] ≡ []
+unfolding entries_from
+no_entries = refl
+
+-- ---- more numbers
+
+pub entries_zeros : (place count : ℕ) → entries_from place (replicate count 0) ≡ []
+unfolding entries_from
+entries_zeros place zero = refl
+entries_zeros place (suc count) = entries_zeros (place + 1) count
+
+-- the entries are those of the list
+abbrev pub AreEntries : ℕ → List ℕ → Type 0
+AreEntries count es = es ≡ entries_from 0 (numbers_from count 0 es)
+
+-- the list and its entries, if there are more numbers, with these entries
+abbrev Grown : ℕ → List ℕ → List ℕ → List ℕ → Type 0
+Grown count es added ns = (numbers_from (count + length ns) 0 (es ++ added) ≡ numbers_from count 0 es ++ ns)
+    × (es ++ added ≡ entries_from 0 (numbers_from count 0 es ++ ns))
+
+grown : (count : ℕ) (es added ns : List ℕ) → AreEntries count es → added ≡ entries_from count ns →
+    Grown count es added ns
+grown count es added ns are more =
+    let v = numbers_from count 0 es in
+    let start : length v ≡ count = count_numbers count 0 es in
+    let entries : es ++ added ≡ entries_from 0 (v ++ ns) =
+    ap₂ (λ (xs ys : List ℕ). xs ++ ys) are (more ∙ ap (λ (p : ℕ). entries_from p ns) (omega (arith, start)))
+    ∙ sym (entries_append 0 v ns) in
+    let sum : count + length ns ≡ length (v ++ ns) = omega (arith, start, length-append v ns) in
+    (ap₂ (λ (n : ℕ) (l : List ℕ). numbers_from n 0 l) sum entries ∙ numbers_back 0 (v ++ ns), entries)
+
+pub zeros_grow : (count n : ℕ) (es : List ℕ) → AreEntries count es →
+    (numbers_from (count + n) 0 es ≡ numbers_from count 0 es ++ replicate n 0) × AreEntries (count + n) es
+zeros_grow count n es are =
+    let both = grown count es [] (replicate n 0) are (sym (entries_zeros count n)) in
+    let list : numbers_from (count + n) 0 es ≡ numbers_from count 0 es ++ replicate n 0 =
+    ap₂ (λ (m : ℕ) (l : List ℕ). numbers_from m 0 l)
+    (ap (λ (m : ℕ). count + m) (sym (length-replicate n 0))) (sym (append-nil es)) ∙ both.0 in
+    (list, sym (append-nil es) ∙ both.1 ∙ ap (entries_from 0) (sym list))
+
+one_entry : (place n : ℕ) → 0 < n → entries_from place (n ∷ []) ≡ (place + 1) ∷ n ∷ []
+unfolding entries_from
+one_entry place n more =
+    let other : nat_eq n 0 ≡ false = grind (arith, nat_tests, more) in
+    append-nil (cell_entry place n) ∙ cond-false _ _ _ other
+
+pub number_grows : (count n : ℕ) (es : List ℕ) → 0 < n → AreEntries count es →
+    (numbers_from (count + 1) 0 (es ++ (count + 1) ∷ n ∷ []) ≡ numbers_from count 0 es ++ n ∷ [])
+    × AreEntries (count + 1) (es ++ (count + 1) ∷ n ∷ [])
+number_grows count n es more are =
+    let both = grown count es ((count + 1) ∷ n ∷ []) (n ∷ []) are (sym (one_entry count n more)) in
+    (both.0, both.1 ∙ ap (entries_from 0) (sym both.0))
+
+pub all_entered : (count : ℕ) (es old : List ℕ) → AreEntries count es →
+    ((old ++ count ∷ []) ++ es) ++ 0 ∷ []
+    ≡ old ++ (length (numbers_from count 0 es) ∷ entries_from 0 (numbers_from count 0 es) ++ 0 ∷ [])
+all_entered count es old are =
+    append_assoc (old ++ count ∷ []) es (0 ∷ []) ∙ append_assoc old (count ∷ []) (es ++ 0 ∷ [])
+    ∙ ap₂ (λ (n : ℕ) (l : List ℕ). old ++ (n ∷ l ++ 0 ∷ [])) (sym (count_numbers count 0 es)) are
+
+-- ---- equal fields make equal lists
+
+pub same_fields : (n m : ℕ) (es fs : List ℕ) → AreEntries n es → AreEntries m fs →
+    (nat_eq n m && pointwise nat_eq es fs) ≡ pointwise nat_eq (numbers_from n 0 es) (numbers_from m 0 fs)
+same_fields n m es fs are are' =
+    same_from_decides {P = numbers_from n 0 es ≡ numbers_from m 0 fs} _ _
+    (both _ _ (Decides-eqb n m) (lists nat_eq Decides-eqb es fs)
+    (λ count entries. ap₂ (λ (k : ℕ) (l : List ℕ). numbers_from k 0 l) count entries)
+    (λ e. sym (count_numbers n 0 es) ∙ ap length e ∙ count_numbers m 0 fs)
+    (λ e. are ∙ ap (entries_from 0) e ∙ sym are'))
+    (lists nat_eq Decides-eqb (numbers_from n 0 es) (numbers_from m 0 fs))
+
+-- ---- places with the number 0
+
+zeros_only : (n i : ℕ) → ◌≡◌ {A = ℕ} (get_or (replicate n 0) i 0) 0
+zeros_only zero i = refl
+zeros_only (suc n) zero = refl
+zeros_only (suc n) (suc i) = zeros_only n i
+
+zero_stays : (ns : List ℕ) (n u : ℕ) → get_or ns u 0 ≡ 0 → get_or (ns ++ replicate n 0) u 0 ≡ 0
+zero_stays ns n u none = elim (cases_lt u (length ns)) [
+  | inl lt ↦ get_or_append_left ns (replicate n 0) 0 u lt ∙ none
+  | inr le ↦ get_or-append_right ns (replicate n 0) (length ns) u 0 refl le ∙ zeros_only n (u - length ns)
+]
+
+zero_elsewhere : (ns : List ℕ) (n u : ℕ) → u ≢ length ns → get_or ns u 0 ≡ 0 → get_or (ns ++ n ∷ []) u 0 ≡ 0
+zero_elsewhere ns n u other none = elim (cases_lt u (length ns)) [
+  | inl lt ↦ get_or_append_left ns (n ∷ []) 0 u lt ∙ none
+  | inr le ↦ get_or_past (ns ++ n ∷ []) u 0 (omega (arith, le, other, length-append ns (n ∷ [])))
+]
+
+pub zeros_unmarked : (count n u : ℕ) (es : List ℕ) → AreEntries count es → get_or (numbers_from count 0 es) u 0 ≡ 0 →
+    get_or (numbers_from (count + n) 0 es) u 0 ≡ 0
+zeros_unmarked count n u es are none =
+    ap (λ (ns : List ℕ). get_or ns u 0) (zeros_grow count n es are).0 ∙ zero_stays (numbers_from count 0 es) n u none
+
+pub number_unmarked : (count n u : ℕ) (es : List ℕ) → 0 < n → AreEntries count es → u ≢ count →
+    get_or (numbers_from count 0 es) u 0 ≡ 0 →
+    get_or (numbers_from (count + 1) 0 (es ++ (count + 1) ∷ n ∷ [])) u 0 ≡ 0
+number_unmarked count n u es more are other none =
+    ap (λ (ns : List ℕ). get_or ns u 0) (number_grows count n es more are).0
+    ∙ zero_elsewhere (numbers_from count 0 es) n u (λ e. other (e ∙ count_numbers count 0 es)) none
+
+pub past : (count place : ℕ) (es : List ℕ) → count ≤ place →
+    0 ≡ unwrap_or (slice_get (numbers_from count 0 es) place) 0
+past count place es le =
+    sym (unwrap_or-slice_get (numbers_from count 0 es) place 0
+    ∙ get_or_past (numbers_from count 0 es) place 0 (omega (arith, le, count_numbers count 0 es)))
+
+-- ---- the search for an entry
+
+even : (place : ℕ) (ns : List ℕ) → length (entries_from place ns) ≡ 2 * (length (entries_from place ns) / 2)
+unfolding entries_from
+even place [] = refl
+even place (n ∷ ns) =
+    let rest = even (place + 1) ns in
+    elim (forms place n) [
+      | inl none ↦
+          let same : length (entries_from place (n ∷ ns)) ≡ length (entries_from (place + 1) ns) =
+          ap (λ (l : List ℕ). length (l ++ entries_from (place + 1) ns)) none.1 in
+          omega (arith, same, rest)
+      | inr some ↦
+          let more : length (entries_from place (n ∷ ns)) ≡ suc (suc (length (entries_from (place + 1) ns))) =
+          ap (λ (l : List ℕ). length (l ++ entries_from (place + 1) ns)) some.1 in
+          omega (arith, more, rest)
+    ]
+
+-- at most one entry for each number
+few : (place : ℕ) (ns : List ℕ) → length (entries_from place ns) ≤ 2 * length ns
+unfolding entries_from
+few place [] = omega arith
+few place (n ∷ ns) =
+    let rest = few (place + 1) ns in
+    elim (forms place n) [
+      | inl none ↦
+          let same : length (entries_from place (n ∷ ns)) ≡ length (entries_from (place + 1) ns) =
+          ap (λ (l : List ℕ). length (l ++ entries_from (place + 1) ns)) none.1 in
+          omega (arith, same, rest)
+      | inr some ↦
+          let more : length (entries_from place (n ∷ ns)) ≡ suc (suc (length (entries_from (place + 1) ns))) =
+          ap (λ (l : List ℕ). length (l ++ entries_from (place + 1) ns)) some.1 in
+          omega (arith, more, rest)
+    ]
+
+-- entries of places among so many from this one on
+abbrev AreWithin : ℕ → ℕ → List ℕ → Type 0
+AreWithin place count es =
+    (i : ℕ) → 2 * i < length es → (place < get_or es (2 * i) 0) × (get_or es (2 * i) 0 ≤ place + count)
+
+one_within : (place count n : ℕ) (es : List ℕ) → AreWithin (place + 1) count es →
+    AreWithin place (suc count) ((place + 1) ∷ n ∷ es)
+one_within place count n es rest zero lt = (omega arith, omega arith)
+one_within place count n es rest (suc j) lt =
+    let index : 2 * suc j ≡ suc (suc (2 * j)) = omega arith in
+    let shorter : 2 * j < length es = omega (arith, lt) in
+    let both = rest j shorter in
+    rw index (omega (arith, both), omega (arith, both))
+
+none_within : (place count : ℕ) (es : List ℕ) → AreWithin (place + 1) count es → AreWithin place (suc count) es
+none_within place count es rest i lt = let both = rest i lt in (omega (arith, both), omega (arith, both))
+
+within : (place : ℕ) (ns : List ℕ) → AreWithin place (length ns) (entries_from place ns)
+unfolding entries_from
+within place [] = λ i lt. absurd (omega (arith, lt))
+within place (n ∷ ns) = elim (forms place n) [
+  | inl none ↦ subst (AreWithin place (suc (length ns)))
+      (sym (ap (λ (l : List ℕ). l ++ entries_from (place + 1) ns) none.1))
+      (none_within place (length ns) (entries_from (place + 1) ns) (within (place + 1) ns))
+  | inr some ↦ subst (AreWithin place (suc (length ns)))
+      (sym (ap (λ (l : List ℕ). l ++ entries_from (place + 1) ns) some.1))
+      (one_within place (length ns) n (entries_from (place + 1) ns) (within (place + 1) ns))
+]
+
+-- how many numbers the entries of places before this one have
+abbrev pub rank : ℕ → List ℕ → ℕ
+rank place ns = length (entries_from 0 (take place ns))
+
+split : (place : ℕ) (ns : List ℕ) →
+    entries_from 0 ns ≡ entries_from 0 (take place ns) ++ entries_from (length (take place ns)) (drop place ns)
+split place ns =
+    ap (entries_from 0) (sym (take-append-drop place ns)) ∙ entries_append 0 (take place ns) (drop place ns)
+    ∙ ap (λ (p : ℕ). entries_from 0 (take place ns) ++ entries_from p (drop place ns)) (omega arith)
+
+pub rank_below : (place : ℕ) (ns : List ℕ) → rank place ns ≤ 2 * (length (entries_from 0 ns) / 2)
+rank_below place ns =
+    let parts = ap length (split place ns) in
+    let sum = length-append (entries_from 0 (take place ns)) (entries_from (length (take place ns)) (drop place ns)) in
+    let whole = even 0 ns in
+    omega (arith, parts, sum, whole)
+
+pub low_moves : (place m : ℕ) (ns : List ℕ) → 2 * m < length (entries_from 0 ns) →
+    get_or (entries_from 0 ns) (2 * m) 0 ≤ place → 2 * (m + 1) ≤ rank place ns
+low_moves place m ns lt le = elim (cases_lt (2 * m) (rank place ns)) [
+  | inl below ↦ let half = even 0 (take place ns) in omega (arith, below, half)
+  | inr above ↦
+      let first = entries_from 0 (take place ns) in
+      let second = entries_from (length (take place ns)) (drop place ns) in
+      let half = even 0 (take place ns) in
+      let parts = split place ns in
+      let sum = length-append first second in
+      let k = m - rank place ns / 2 in
+      let index : 2 * m ≡ length first + 2 * k = omega (arith, above, half) in
+      let count = ap length parts in
+      let inside : 2 * k < length second = omega (arith, lt, count, sum, index) in
+      let bounds = within (length (take place ns)) (drop place ns) k inside in
+      let few_left = few (length (take place ns)) (drop place ns) in
+      let left = length-drop place ns in
+      let taken = length-take place ns in
+      let value : get_or (entries_from 0 ns) (2 * m) 0 ≡ get_or second (2 * k) 0 =
+      ap₂ (λ (l : List ℕ) (i : ℕ). get_or l i 0) parts index ∙ get_or-append-add first second (2 * k) 0 in
+      absurd (omega (arith, value, bounds, le, few_left, left, taken, inside))
+]
+
+pub high_moves : (place m : ℕ) (ns : List ℕ) → place < get_or (entries_from 0 ns) (2 * m) 0 → rank place ns ≤ 2 * m
+high_moves place m ns above = elim (cases_lt (2 * m) (rank place ns)) [
+  | inr under ↦ under
+  | inl over ↦
+      let first = entries_from 0 (take place ns) in
+      let second = entries_from (length (take place ns)) (drop place ns) in
+      let lt : 2 * m < length first = omega (arith, over) in
+      let value : get_or (entries_from 0 ns) (2 * m) 0 ≡ get_or first (2 * m) 0 =
+      ap (λ (l : List ℕ). get_or l (2 * m) 0) (split place ns) ∙ get_or_append_left first second 0 (2 * m) lt in
+      let bounds = within 0 (take place ns) m lt in
+      let taken = length-take place ns in
+      absurd (omega (arith, value, bounds, above, taken))
+]
+
+-- ---- what is found
+
+first_other : (place : ℕ) (es : List ℕ) → AreFrom (place + 1) es → get_or es 0 0 ≢ place + 1
+first_other place [] from e = omega (arith, e)
+first_other place (p ∷ es) from e = let above = from p es refl in omega (arith, above, e)
+
+-- the number at a place is 0 and has no entry, or has one
+abbrev Found : ℕ → List ℕ → List ℕ → Type 0
+Found place ns es = ((get_or ns place 0 ≡ 0) × (get_or es (rank place ns) 0 ≢ place + 1))
+    ⊎ ((rank place ns + 1 < length es) × (get_or es (rank place ns) 0 ≡ place + 1)
+    × (get_or es (rank place ns + 1) 0 ≡ get_or ns place 0))
+
+finds : (place : ℕ) (ns : List ℕ) → place < length ns → Found place ns (entries_from 0 ns)
+unfolding entries_from
+finds place ns lt =
+    let n = get_or ns place 0 in
+    let first = entries_from 0 (take place ns) in
+    let rest = entries_from (place + 1) (drop (place + 1) ns) in
+    let start : length (take place ns) ≡ place = length-take-le place ns (omega (arith, lt)) in
+    let parts : entries_from 0 ns ≡ first ++ (cell_entry place n ++ rest) =
+    split place ns
+    ∙ ap₂ (λ (p : ℕ) (l : List ℕ). first ++ entries_from p l) start (drop_more ns place 0 lt) in
+    elim (forms place n) [
+      | inl none ↦
+          let same : entries_from 0 ns ≡ first ++ rest = parts ∙ ap (λ (l : List ℕ). first ++ (l ++ rest)) none.1 in
+          let value : get_or (entries_from 0 ns) (length first) 0 ≡ get_or rest 0 0 =
+          ap₂ (λ (l : List ℕ) (i : ℕ). get_or l i 0) same (omega arith) ∙ get_or-append-add first rest 0 0 in
+          inl (
+            none.0,
+            λ e. first_other place rest
+                (are_from (place + 1) (place + 1) (drop (place + 1) ns) (omega arith)) (sym value ∙ e),
+          )
+      | inr some ↦
+          let tail = (place + 1) ∷ n ∷ rest in
+          let same : entries_from 0 ns ≡ first ++ tail = parts ∙ ap (λ (l : List ℕ). first ++ (l ++ rest)) some.1 in
+          let count = ap length same ∙ length-append first tail in
+          let value : get_or (entries_from 0 ns) (length first) 0 ≡ place + 1 =
+          ap₂ (λ (l : List ℕ) (i : ℕ). get_or l i 0) same (omega arith) ∙ get_or-append-add first tail 0 0 in
+          let next : get_or (entries_from 0 ns) (length first + 1) 0 ≡ n =
+          ap (λ (l : List ℕ). get_or l (length first + 1) 0) same ∙ get_or-append-add first tail 1 0 in
+          inr (omega (arith, count), value, next)
+    ]
+
+module _ (place at : ℕ) (ns es : List ℕ) (lt : place < length ns) (are : es ≡ entries_from 0 ns)
+    (start : at ≡ rank place ns) where
+  found_there : Found place ns es
+  found_there = subst (Found place ns) (sym are) (finds place ns lt)
+
+  pub number_found : get_or es at 0 ≡ place + 1 → get_or es (at + 1) 0 ≡ unwrap_or (slice_get ns place) 0
+  number_found here = elim found_there [
+    | inl none ↦ absurd (none.1 (ap (λ i. get_or es i 0) (sym start) ∙ here))
+    | inr some ↦ ap (λ i. get_or es (i + 1) 0) start ∙ some.2 ∙ sym (unwrap_or-slice_get ns place 0)
+  ]
+
+  pub none_left : length es ≤ at + 1 → 0 ≡ unwrap_or (slice_get ns place) 0
+  none_left le = elim found_there [
+    | inl none ↦ sym (unwrap_or-slice_get ns place 0 ∙ none.0)
+    | inr some ↦ let more = some.0 in absurd (omega (arith, le, more, start))
+  ]
+
+  pub none_there : get_or es at 0 ≢ place + 1 → 0 ≡ unwrap_or (slice_get ns place) 0
+  none_there other = elim found_there [
+    | inl none ↦ sym (unwrap_or-slice_get ns place 0 ∙ none.0)
+    | inr some ↦ absurd (other (ap (λ i. get_or es i 0) start ∙ some.1))
+  ]

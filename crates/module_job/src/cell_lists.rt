@@ -1,0 +1,191 @@
+//! The cells of a box: their signals at time 0, and the demands on them at the last time.
+ghost use Rattle.std.specs.Prelude.{◌≡◌, ◌<◌, ◌++◌, [], ◌∷◌, IfOk, OnOk, replicate, slice_get, unwrap_or};
+ghost use Rattle.std.specs.Cmp.{partial_equiv_from_equiv};
+ghost use Rattle.std.specs.Cmp.Lexicographic.{lists_equiv, pointwise};
+ghost use Rattle.module_box.specs.Equality.{same_signal, signal_equivalence};
+ghost use Rattle.module_job.specs.Equality.{demand_equivalence, same_demand};
+ghost use Rattle.module_job.specs.Keys.{cells_numbers, demand_number, signal_number};
+
+use crate::job::Demand;
+use crate::keys::{demand_number, signal_number};
+use crate::sparse_numbers::SparseNumbers;
+use module_box::Signal;
+use std::alloc::{AllocError, Global};
+use std::marker::Model;
+
+/// A list of what the cells of a box carry at time 0, row by row. Contracts see the signals.
+///
+/// A dead cell takes no memory but a bit.
+#[derive(Drop)]
+pub struct Starts {
+    numbers: SparseNumbers,
+}
+
+impl Model for Starts {
+    ghost use Rattle.std.specs.Prelude.{List};
+    ghost use Rattle.module_box.specs.declared.schedules.Signal.{Signal};
+
+    ghost Value = { List Signal };
+
+    ghost use Rattle.module_job.specs.CellLists.{AreSignals, starts_view};
+
+    ghost view = { starts_view };
+
+    ghost invariant = { AreSignals };
+}
+
+/// A list of what the cells of a box must be at the last time, row by row. Contracts see the demands.
+///
+/// A cell that must be dead takes no memory but a bit.
+#[derive(Drop)]
+pub struct Demands {
+    numbers: SparseNumbers,
+}
+
+impl Model for Demands {
+    ghost use Rattle.std.specs.Prelude.{List};
+    ghost use Rattle.module_job.specs.declared.job.Demand.{Demand};
+
+    ghost Value = { List Demand };
+
+    ghost use Rattle.module_job.specs.CellLists.{AreDemands, demands_view};
+
+    ghost view = { demands_view };
+
+    ghost invariant = { AreDemands };
+}
+
+impl Starts {
+    ghost use Rattle.module_job.specs.CellLists.{numbered_signal};
+
+    // The signal of a number.
+    fn numbered(number: u64) -> Signal
+        requires { number < 65538 }
+        ensures { result ≡ numbered_signal number }
+    {
+        match number {
+            0 => Signal::Zero,
+            1 => Signal::One,
+            _ => Signal::Wire((number - 2) as u16),
+        }
+    }
+
+    /// Creates an empty list, with bits for the first cells.
+    pub fn new(alloc: Global, room: usize) -> Result<Starts, AllocError>
+        ensures { IfOk result (λ starts. starts ≡ []) }
+    {
+        Ok(Starts {
+            numbers: SparseNumbers::new(alloc, room)?,
+        })
+    }
+
+    /// Adds what one more cell carries.
+    pub fn push(&mut self, start: Signal) -> Result<(), AllocError>
+        ensures { OnOk result (self.new ≡ self.old ++ start ∷ []) }
+    {
+        self.numbers.push(signal_number(start))?;
+        Ok(())
+    }
+
+    /// Adds cells that are dead.
+    pub fn push_dead(&mut self, count: usize) -> Result<(), AllocError>
+        ensures { OnOk result (self.new ≡ self.old ++ replicate count Signal.Zero) }
+    {
+        self.numbers.push_zeros(count)?;
+        Ok(())
+    }
+
+    /// Returns what the cell at a place carries, or `Zero` behind the last one.
+    pub(crate) fn at(&self, place: usize) -> Signal
+        ensures { result ≡ unwrap_or (slice_get self.now place) Signal.Zero }
+    {
+        Starts::numbered(self.numbers.at(place))
+    }
+
+    /// Adds how many cells there are, the entries of what they carry, and a 0.
+    pub(crate) fn push_numbers(&self, numbers: &mut Vec<u64>) -> Result<(), AllocError>
+        ensures { OnOk result (numbers.new.items
+            ≡ numbers.old.items ++ cells_numbers signal_number self.now) }
+    {
+        self.numbers.push_entries(numbers)?;
+        Ok(())
+    }
+}
+
+impl PartialEq for Starts {
+    ghost eq = { pointwise same_signal };
+
+    ghost laws = { partial_equiv_from_equiv (lists_equiv signal_equivalence) };
+
+    fn eq(&self, other: &Starts) -> bool {
+        self.numbers == other.numbers
+    }
+}
+
+impl Demands {
+    ghost use Rattle.module_job.specs.CellLists.{numbered_demand};
+
+    // The demand of a number.
+    fn numbered(number: u64) -> Demand
+        requires { number < 65539 }
+        ensures { result ≡ numbered_demand number }
+    {
+        match number {
+            0 => Demand::Dead,
+            1 => Demand::Live,
+            2 => Demand::Any,
+            _ => Demand::Wire((number - 3) as u16),
+        }
+    }
+
+    /// Creates an empty list, with bits for the first cells.
+    pub fn new(alloc: Global, room: usize) -> Result<Demands, AllocError>
+        ensures { IfOk result (λ demands. demands ≡ []) }
+    {
+        Ok(Demands {
+            numbers: SparseNumbers::new(alloc, room)?,
+        })
+    }
+
+    /// Adds what one more cell must be.
+    pub fn push(&mut self, demand: Demand) -> Result<(), AllocError>
+        ensures { OnOk result (self.new ≡ self.old ++ demand ∷ []) }
+    {
+        self.numbers.push(demand_number(demand))?;
+        Ok(())
+    }
+
+    /// Adds cells that must be dead.
+    pub fn push_dead(&mut self, count: usize) -> Result<(), AllocError>
+        ensures { OnOk result (self.new ≡ self.old ++ replicate count Demand.Dead) }
+    {
+        self.numbers.push_zeros(count)?;
+        Ok(())
+    }
+
+    /// Returns what the cell at a place must be, or `Dead` behind the last one.
+    pub(crate) fn at(&self, place: usize) -> Demand
+        ensures { result ≡ unwrap_or (slice_get self.now place) Demand.Dead }
+    {
+        Demands::numbered(self.numbers.at(place))
+    }
+
+    /// Adds how many cells there are, the entries of what they must be, and a 0.
+    pub(crate) fn push_numbers(&self, numbers: &mut Vec<u64>) -> Result<(), AllocError>
+        ensures { OnOk result (numbers.new.items
+            ≡ numbers.old.items ++ cells_numbers demand_number self.now) }
+    {
+        self.numbers.push_entries(numbers)?;
+        Ok(())
+    }
+}
+
+impl PartialEq for Demands {
+    ghost eq = { pointwise same_demand };
+
+    ghost laws = { partial_equiv_from_equiv (lists_equiv demand_equivalence) };
+
+    fn eq(&self, other: &Demands) -> bool {
+        self.numbers == other.numbers
+    }
+}

@@ -1,0 +1,159 @@
+//! Lists of numbers of which most are 0.
+ghost use Rattle.std.specs.Prelude.{◌≡◌, ◌≢◌, ◌*◌, ◌/◌, ◌<◌, ◌≤◌, ◌++◌, [], ◌∷◌, ℕ, List, IfOk, OnErr, OnOk, length, replicate, slice_get, take, unwrap_or};
+ghost use Rattle.std.specs.Cmp.{nat_eq_equiv, partial_equiv_from_equiv};
+ghost use Rattle.std.specs.Cmp.Lexicographic.{lists_equiv, pointwise};
+ghost use Rattle.bbm_rule.specs.Marks.{IsUnmarked};
+ghost use Rattle.bbm_rule.specs.Rows.{cell_at};
+ghost use Rattle.module_job.specs.Keys.{entries_from};
+
+use bbm_rule::marks::mark;
+use std::alloc::{AllocError, Global};
+use std::marker::Model;
+
+/// A list of numbers of which most are 0. Contracts see the list.
+// It is kept as its length and its entries, which are those of a shape's key: for each number that is not 0 its place
+// plus one, and then the number. Marks pass over most of the other places without a search.
+#[derive(Drop)]
+pub(crate) struct SparseNumbers {
+    count: usize,
+    entries: Vec<u64>,
+    // a bit for each of the first places: a place without a mark has the number 0
+    marks: Vec<u64>,
+}
+
+impl Model for SparseNumbers {
+    ghost use Rattle.std.specs.Prelude.{List, ℕ};
+
+    ghost Value = { List ℕ };
+
+    ghost use Rattle.module_job.specs.SparseNumbers.{AreSparse, sparse_view};
+
+    ghost view = { sparse_view };
+
+    ghost invariant = { AreSparse };
+}
+
+// Whether a place has a mark.
+fn is_marked(marks: &[u64], at: usize) -> bool
+    requires { at / 64 < length marks.now }
+    ensures { result ≡ cell_at marks.now at }
+{
+    (marks[at / 64] >> (at % 64)) & 1 == 1
+}
+
+// Marks a place, if the marks have room for it.
+fn mark_within(marks: &mut [u64], at: usize)
+    ensures { (u : ℕ) → u / 64 < length marks.new → IsUnmarked marks.new u →
+        IsUnmarked marks.old u × (u ≢ at) }
+{
+    if at / 64 < marks.len() {
+        mark(marks, at);
+    }
+}
+
+// How many entries are of places before this one.
+fn entries_before(entries: &[u64], place: usize) -> usize
+    ensures bound { 2 * result ≤ length entries.now }
+    ensures counted { (numbers : List ℕ) → entries.now ≡ entries_from 0 numbers →
+        2 * result ≡ length (entries_from 0 (take place numbers)) }
+{
+    let mut low = 0;
+    let mut high = entries.len() / 2;
+    'search: while low < high {
+        let middle = low + (high - low) / 2;
+        if entries[2 * middle] <= place as u64 {
+            low = middle + 1;
+        } else {
+            high = middle;
+        }
+    }
+    low
+}
+
+impl SparseNumbers {
+    /// Creates an empty list, with room for marks on the first places.
+    pub(crate) fn new(alloc: Global, room: usize) -> Result<SparseNumbers, AllocError>
+        ensures { IfOk result (λ numbers. numbers ≡ []) }
+    {
+        Ok(SparseNumbers {
+            count: 0,
+            entries: Vec::new(alloc),
+            marks: vec![in alloc; 0u64; room.div_ceil(64)]?,
+        })
+    }
+
+    /// Adds zeros.
+    pub(crate) fn push_zeros(&mut self, count: usize) -> Result<(), AllocError>
+        ensures added { OnOk result (self.new ≡ self.old ++ replicate count 0) }
+        ensures unchanged { OnErr result (self.new ≡ self.old) }
+    {
+        match self.count.checked_add(count) {
+            Some(sum) => {
+                self.count = sum;
+                Ok(())
+            }
+            None => Err(AllocError),
+        }
+    }
+
+    /// Adds a number.
+    pub(crate) fn push(&mut self, number: u64) -> Result<(), AllocError>
+        ensures added { OnOk result (self.new ≡ self.old ++ number ∷ []) }
+        ensures unchanged { OnErr result (self.new ≡ self.old) }
+    {
+        if number == 0 {
+            return self.push_zeros(1);
+        }
+        let place = self.count;
+        if place == usize::MAX {
+            return Err(AllocError);
+        }
+        self.entries.extend_from_slice(&[place as u64 + 1, number])?;
+        mark_within(&mut self.marks, place);
+        self.count = place + 1;
+        Ok(())
+    }
+
+    /// Returns the number at a place, or 0 behind the last one.
+    pub(crate) fn at(&self, place: usize) -> u64
+        ensures { result ≡ unwrap_or (slice_get self.now place) 0 }
+    {
+        if self.count <= place {
+            return 0;
+        }
+        if place / 64 < self.marks.len() && !is_marked(&self.marks, place) {
+            return 0;
+        }
+        let at = 2 * entries_before(&self.entries, place);
+        if at + 1 < self.entries.len() && self.entries[at] == place as u64 + 1 {
+            return self.entries[at + 1];
+        }
+        0
+    }
+
+    /// Adds to the numbers how many there are, the entries, and a 0.
+    pub(crate) fn push_entries(&self, numbers: &mut Vec<u64>) -> Result<(), AllocError>
+        ensures { OnOk result (numbers.new.items
+            ≡ numbers.old.items ++ (length self.now ∷ entries_from 0 self.now ++ 0 ∷ [])) }
+    {
+        numbers.push(self.count as u64)?;
+        numbers.extend_from_slice(&self.entries)?;
+        numbers.push(0)?;
+        Ok(())
+    }
+}
+
+impl PartialEq for SparseNumbers {
+    ghost use Rattle.std.specs.Prelude.{nat_eq};
+
+    ghost eq = { pointwise nat_eq };
+
+    ghost laws = { partial_equiv_from_equiv (lists_equiv nat_eq_equiv) };
+
+    // The marks follow from the entries.
+    fn eq(&self, other: &SparseNumbers) -> bool {
+        let count = self.count == other.count;
+        let entries = self.entries == other.entries;
+        count & entries
+    }
+}
