@@ -60,7 +60,7 @@ impl<'a> Section for Reading<'a> {
         if let Some(code) = self.builder.missing() {
             return Some(code);
         }
-        if self.version == VERSION_WITHOUT_HALOS && self.builder.lacks_wire() {
+        if self.version == VERSION_WITHOUT_HALOS && self.builder.lacks_wire(self.alloc) {
             return Some(11);
         }
         None

@@ -2,18 +2,24 @@
 use Rattle.std.proofs.Common.{◌≡◌, ℕ, zero, suc, ◌+◌, ◌<◌, ◌≤◌, Bool, true, false, ◌&&◌, ◌||◌, List, [], ◌∷◌, ◌++◌}
 use Rattle.std.proofs.Common.{length, map, drop, inl, inr, Some, get_or, option_map, refl, sym, ap, ap₂, subst, ◌∙◌}
 use Rattle.std.proofs.Common.{arith}
-use Rattle.std.specs.Prelude.{nat_lt, slice_get}
+use Rattle.std.specs.Prelude.{ℤ, pos, nat_lt, slice_get}
 use Rattle.std.specs.List.{filter, flat_map, list_any}
-use Rattle.std.proofs.lemmas.Bool.{cond-true, cond-false}
+use Rattle.std.proofs.lemmas.Bool.{and_from, cond-true, cond-false}
 use Rattle.std.proofs.lemmas.Option.{get_or_from_slice_get, slice_get-map}
 use Rattle.std.proofs.lemmas.List.{length-map, length_push, map-append, same_from_push}
 use Rattle.circuit.specs.Meaning.{Circuit}
-use Rattle.module_box.specs.Boxes.{in_halo}
+use Rattle.module_box.specs.Boxes.{in_box, in_halo}
 use Rattle.module_box.specs.declared.boxes.Box2.{Box2}
+use Rattle.module_box.specs.Tiling.{IsInside, rectangle_of}
+use Rattle.module_box.proofs.BoxCells.{in_box_nats}
+use Rattle.bbm_rule.specs.Spans.{in_span}
+use Rattle.bbm_rule.proofs.Spans.{span_from}
 use Rattle.certificate_lines.specs.BuilderView.{AreSound, AreWires, lacks_edge}
 use Rattle.certificate_lines.specs.Entries.{ModuleLines, Setting, change_last, counts_of, edge_in, edges, known}
 use Rattle.certificate_lines.specs.Entries.{last_of, modules_of}
 use Rattle.certificate_lines.specs.ModuleParts.{AreInBox, inner}
+use Rattle.certificate_lines.specs.Modules.{IsModule}
+use Rattle.certificate_lines.specs.Rules.{whole}
 use Rattle.certificate_lines.specs.Versions.{beside, is_strange, lacks_wire}
 use Rattle.certificate_lines.specs.declared.certificate_line.Border.{Border}
 use Rattle.certificate_lines.specs.declared.certificate_line.Counts.{Counts}
@@ -38,20 +44,20 @@ or_exchange false false true d = refl
 or_exchange false false false d = refl
 
 module _ {X : Type 0} where
-  any_either : (f g : X → Bool) (xs : List X) → list_any (λ x. f x || g x) xs ≡ (list_any f xs || list_any g xs)
+  pub any_either : (f g : X → Bool) (xs : List X) → list_any (λ x. f x || g x) xs ≡ (list_any f xs || list_any g xs)
   any_either f g [] = refl
   any_either f g (x ∷ xs) = ap (λ b. (f x || g x) || b) (any_either f g xs)
       ∙ or_exchange (f x) (g x) (list_any f xs) (list_any g xs)
 
-  none_any : (xs : List X) → list_any (λ x. false) xs ≡ false
+  pub none_any : (xs : List X) → list_any (λ x. false) xs ≡ false
   none_any [] = refl
   none_any (x ∷ xs) = none_any xs
 
-  any_same : (f g : X → Bool) (xs : List X) → ((x : X) → f x ≡ g x) → list_any f xs ≡ list_any g xs
+  pub any_same : (f g : X → Bool) (xs : List X) → ((x : X) → f x ≡ g x) → list_any f xs ≡ list_any g xs
   any_same f g [] h = refl
   any_same f g (x ∷ xs) h = ap₂ (λ a b. a || b) (h x) (any_same f g xs h)
 
-any_swap : {X Y : Type 0} (f : X → Y → Bool) (xs : List X) (ys : List Y) →
+pub any_swap : {X Y : Type 0} (f : X → Y → Bool) (xs : List X) (ys : List Y) →
     list_any (λ x. list_any (λ y. f x y) ys) xs ≡ list_any (λ y. list_any (λ x. f x y) xs) ys
 any_swap f [] ys = sym (none_any ys)
 any_swap f (x ∷ xs) ys = ap (λ b. list_any (λ y. f x y) ys || b) (any_swap f xs ys)
@@ -162,6 +168,21 @@ area_counted ms counts k m of are at is =
     ap (λ (n : Counts). n.area) (is ∙ ap (λ l. get_or l k of) are
     ∙ get_or_from_slice_get (map counts_of ms) k (counts_of m) of there)
 
+-- ---- boxes in the rectangle
+
+-- a cell of a box is a cell of the rectangle that has the box
+pub in_rectangle : (w h : ℕ) (b : Box2) (x y : ℤ) → IsInside w h b → in_box b x y ≡ true →
+    in_box (rectangle_of w h) x y ≡ true
+unfolding in_box
+in_rectangle w h b x y inside here =
+    let p = in_box_nats b x y here in
+    let px = p.0 in let py = p.1 in
+    let right = inside.right in let bottom = inside.bottom in
+    ap₂ (λ u v. in_span 0 w u && in_span 0 h v) px.1 py.1
+    ∙ and_from (in_span 0 w (pos px.0)) (in_span 0 h (pos py.0))
+    (span_from 0 w px.0 (omega arith) (omega (arith, px.3, right)))
+    (span_from 0 h py.0 (omega arith) (omega (arith, py.3, bottom)))
+
 -- ---- a module that is read
 
 in_rest : (es : List CertificateLine) (place : ℕ) (m : ModuleLines) → In m (modules_of (drop place es)) →
@@ -177,15 +198,29 @@ in_rest (Edge e ∷ es) (suc n) m i = subst (In m) (sym (split_other (Edge e) es
 in_rest (Halo e ∷ es) (suc n) m i = subst (In m) (sym (split_other (Halo e) es refl)) (in_rest es n m i)
 in_rest (Stop s ∷ es) (suc n) m i = subst (In m) (sym (split_other (Stop s) es refl)) (in_rest es n m i)
 
--- its edge lines are for cells of its box
-pub lines_inside : (g : Setting) (es : List CertificateLine) (place : ℕ) (area : Box2) → AreSound g (modules_of es) →
+-- it is a good module
+line_module : (g : Setting) (es : List CertificateLine) (place : ℕ) (area : Box2) → AreSound g (modules_of es) →
     place < length es → Module area ≡ get_or es place (Module area) →
-    AreInBox area (flat_map edge_in (inner (drop (place + 1) es)))
+    IsModule g (record { area = area; lines = inner (drop (place + 1) es) })
 unfolding In
-lines_inside g es place area sound lt at =
+line_module g es place area sound lt at =
     let m : ModuleLines = record { area = area; lines = inner (drop (place + 1) es) } in
     let here : In m (modules_of (drop place es)) =
     subst (In m) (sym (ap modules_of (line_here es place (Module area) lt at)
     ∙ split_module area (drop (place + 1) es))) (inl refl) in
     let p = placed m (modules_of es) (in_rest es place m here) in
-    own_lines g m (sound.each p.0 m p.1).good
+    (sound.each p.0 m p.1).good
+
+module _ (g : Setting) (es : List CertificateLine) (place : ℕ) (area : Box2) (sound : AreSound g (modules_of es))
+    (lt : place < length es) (at : Module area ≡ get_or es place (Module area)) where
+  -- its edge lines are for cells of its box
+  pub lines_inside : AreInBox area (flat_map edge_in (inner (drop (place + 1) es)))
+  lines_inside = own_lines g (record { area = area; lines = inner (drop (place + 1) es) })
+      (line_module g es place area sound lt at)
+
+  -- and of the rectangle
+  pub lines_on_layout : AreInBox (whole g.size) (flat_map edge_in (inner (drop (place + 1) es)))
+  lines_on_layout k d lower =
+      let e = get_or (flat_map edge_in (inner (drop (place + 1) es))) k d in
+      in_rectangle g.size.w g.size.h area e.cell.x e.cell.y (line_module g es place area sound lt at).inside
+      (lines_inside k d lower)

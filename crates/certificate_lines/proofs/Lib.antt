@@ -16,9 +16,11 @@ pub mod LineOrder
 pub mod LinesLeft
 pub mod Lists
 pub mod LocalLemmas
+pub mod ModuleBoxes
 pub mod ModuleLemmas
 pub mod ModulePushes
 pub mod ModuleSplit
+pub mod OddBlocks
 pub mod OrderLemmas
 pub mod Pairs
 pub mod PortLemmas

@@ -1,12 +1,13 @@
 -- The fields of a certificate that is being read, and its view
-use Rattle.std.specs.Prelude.{◌≡◌, ℕ, ◌+◌, ◌<◌, ◌≤◌, ℤ, ◌&&◌, Bool, false, List, [], ◌∷◌, ◌++◌, map, length, Option}
+use Rattle.std.specs.Prelude.{◌≡◌, ℕ, ◌+◌, ◌<◌, ◌≤◌, ℤ, ◌&&◌, Bool, not, false, List, [], ◌∷◌, ◌++◌, map, length, Option}
 use Rattle.std.specs.Prelude.{Some, None, slice_get, IsTrue}
 use Rattle.std.specs.Option.{option_to_list}
 use Rattle.circuit.specs.Meaning.{Circuit, Gate, wire_of}
 use Rattle.std.specs.List.{filter, list_any}
 use Rattle.bbm_rule.specs.Board.{Board, live}
 use Rattle.bbm_rule.specs.declared.block.Cell.{Cell}
-use Rattle.module_box.specs.Boxes.{in_box, in_halo}
+use Rattle.module_box.specs.Boxes.{in_box, in_halo, IsEven}
+use Rattle.module_box.specs.Tiling.{AreOwners, Owning}
 use Rattle.module_box.specs.declared.boxes.Box2.{Box2}
 use Rattle.certificate_lines.specs.Entries.{Setting, ModuleLines, modules_of, last_of, areas, counts_of, known, edges}
 use Rattle.certificate_lines.specs.Entries.{halos}
@@ -79,6 +80,22 @@ pub record IsTracked (g : Setting) (es : List CertificateLine) (covered : Board)
 abbrev pub lacks_edge : Circuit → List Border → ModuleLines → Bool
 lacks_edge c es m = list_any (λ e. is_strange c (known c m) e.signal)
     (filter (λ e. in_halo m.area e.cell.x e.cell.y) es)
+
+-- the cell of an edge line is outside the module, and its wire is not local there
+abbrev pub is_strange_outside : Circuit → Border → ModuleLines → Bool
+is_strange_outside c e m = not (in_box m.area e.cell.x e.cell.y) && is_strange c (known c m) e.signal
+
+-- some module has the cell of an edge line in its halo, and its wire is not local there
+abbrev pub is_lacked : Circuit → List ModuleLines → Border → Bool
+is_lacked c ms e = list_any (λ m. in_halo m.area e.cell.x e.cell.y && is_strange c (known c m) e.signal) ms
+
+-- the table is of the whole rectangle, its numbers are those of the modules that have the cells, and the boxes are even
+pub record AreModuleOwners (b : BuilderView) (o : Owning) : Type 0 where
+  pub width : o.width ≡ b.setting.size.w
+  pub height : o.height ≡ b.setting.size.h
+  pub small : (o.width ≤ 512) × (o.height ≤ 512)
+  pub owners : AreOwners o (areas (modules_of b.entries))
+  pub even : (k : ℕ) (m : ModuleLines) → slice_get (modules_of b.entries) k ≡ Some m → IsEven m.area
 
 -- The local wires of each module, behind none: `earlier` has those of all modules but the last, and `local` has its.
 abbrev pub AreWires : Circuit → List ModuleLines → List (List ℕ) → List ℕ → Type 0

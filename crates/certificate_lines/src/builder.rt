@@ -1,20 +1,21 @@
 //! A certificate that is read, line by line.
-ghost use Rattle.std.specs.Prelude.{◌≡◌, ◌+◌, ◌≤◌, ◌<◌, ◌++◌, ◌∷◌, [], not, map, ◌&&◌, Bool, None, Some, List, ℕ, length, slice_get, OnOk, OnErr, IfOk, IfErr};
+ghost use Rattle.std.specs.Prelude.{◌≡◌, ◌+◌, ◌≤◌, ◌<◌, ◌++◌, ◌∷◌, [], not, map, ◌&&◌, Bool, None, Some, List, ℕ, length, slice_get, OnOk, OnErr, IfOk, IfErr, IfSome, IsTrue};
 ghost use Rattle.section_text.specs.Adding.{FaultIs};
 ghost use Rattle.pattern.specs.Lines.{size_fault};
 ghost use Rattle.std.specs.List.{flat_map, list_any};
-ghost use Rattle.certificate_lines.specs.Entries.{ModuleLines, counts_of, edge_in, known, modules_of, last_module};
+ghost use Rattle.certificate_lines.specs.Entries.{ModuleLines, areas, counts_of, edge_in, known, modules_of, last_module};
 ghost use Rattle.certificate_lines.specs.ModuleParts.{AreInBox};
-ghost use Rattle.certificate_lines.specs.Rules.{entry_fault, end_fault, box_fault, module_fault, inner_fault, words_fault, is_incomplete, is_local, leaves_gap};
+ghost use Rattle.certificate_lines.specs.Rules.{entry_fault, end_fault, box_fault, module_fault, inner_fault, words_fault, is_incomplete, is_local, leaves_gap, whole};
 ghost use Rattle.module_box.specs.Boxes.{in_box};
-ghost use Rattle.certificate_lines.specs.BuilderView.{BuilderView, IsInner, IsSmall, lacks_edge};
+ghost use Rattle.certificate_lines.specs.BuilderView.{AreModuleOwners, BuilderView, IsInner, IsSmall, is_lacked, is_strange_outside, lacks_edge};
 ghost use Rattle.certificate_lines.specs.Versions.{lacks_wire};
 ghost use Rattle.certificate_lines.specs.declared.certificate_line.CertificateLine.TheVariants.{Module};
 
-use crate::certificate_line::{CertificateLine, Counts};
+use crate::blocks::odd_partner;
+use crate::certificate_line::{Border, CertificateLine, Counts};
 use crate::counts::{count_in_last, last_counts, pop_module, push_entry, push_module};
 use crate::known::{learn_line, make_room_for_wires, put_away};
-use crate::lacks::has_unknown;
+use crate::lacks::{has_unknown, is_unknown};
 use crate::line_tables::LineTables;
 use crate::lines::inner_lines;
 use crate::order::does_follow;
@@ -23,10 +24,10 @@ use crate::rules::{
     may_be_halo, may_be_stop, use_code,
 };
 use crate::stars::{has_star, make_room_for_stars, note_stars};
-use crate::tiles::is_full;
+use crate::tiles::{is_full, whole_of};
 use bbm_rule::{Cell, Grid};
 use indexmap::IndexSet;
-use module_box::Box2;
+use module_box::{Box2, Owners, owner_table};
 use pattern::{Rectangle, fill_rectangle, is_any_live_in};
 use section_text::{LineFault, Name};
 use std::alloc::{AllocError, Global};
@@ -356,8 +357,8 @@ impl<'a> Builder<'a> {
         has_unknown(&self.tables, self.wires_of(number), own, lines)
     }
 
-    // The same of some module.
-    fn lacks_some_in(&self, area: Box2, lines: &[CertificateLine]) -> bool
+    // The same of some module. It asks each module, and takes no memory.
+    fn lacks_some_of_all(&self, area: Box2, lines: &[CertificateLine]) -> bool
         requires inside { AreInBox area (flat_map edge_in lines.now) }
         ensures { result
             ≡ list_any (lacks_edge self.now.setting.circuit (flat_map edge_in lines.now))
@@ -370,22 +371,155 @@ impl<'a> Builder<'a> {
         }
         false
     }
+}
 
-    /// Returns whether some module lacks the wire of an edge line beside it. It takes no memory.
-    pub fn lacks_wire(&self) -> bool
+impl<'a> Builder<'a> {
+    // The boxes of the modules.
+    fn boxes(&self, alloc: Global) -> Result<Vec<Box2>, AllocError>
+        ensures { IfOk result (λ boxes. boxes.items ≡ areas (modules_of self.now.entries)) }
+    {
+        let mut boxes = Vec::new(alloc);
+        'modules: for number in 0..self.modules.len() {
+            boxes.push(self.modules[number].area)?;
+        }
+        Ok(boxes)
+    }
+
+    // Which module has each cell, or `None` if there is no memory or the boxes leave a gap.
+    fn owners(&self, alloc: Global) -> Option<Owners>
+        ensures { IfSome result (AreModuleOwners self.now) }
+    {
+        let Ok(boxes) = self.boxes(alloc) else {
+            return None;
+        };
+        let size = self.tables.size();
+        match owner_table(alloc, size.w, size.h, boxes.as_slice()) {
+            Ok(owners) => Some(owners),
+            Err(_) => None,
+        }
+    }
+
+    // Whether the wire of an edge line is not local in the module of this number, and its cell is outside that module.
+    fn is_unknown_in(&self, number: usize, border: &Border) -> bool
+        requires { number < length (modules_of self.now.entries) }
+        ensures { (m : ModuleLines) → slice_get (modules_of self.now.entries) number ≡ Some m →
+            result ≡ is_strange_outside self.now.setting.circuit border.now m }
+    {
+        if self.modules[number].area.holds(border.cell) {
+            return false;
+        }
+        is_unknown(&self.tables, self.wires_of(number), border.signal)
+    }
+
+    // The same of the module that has this cell, if one has it.
+    fn is_unknown_at(&self, owners: &Owners, border: &Border, cell: Cell) -> bool
+        requires { AreModuleOwners self.now owners.now }
+        ensures { result
+            ≡ list_any (λ m. in_box m.area cell.x cell.y
+            && is_strange_outside self.now.setting.circuit border.now m)
+            (modules_of self.now.entries) }
+    {
+        if !whole_of(self.tables.size()).holds(cell) {
+            return false;
+        }
+        self.is_unknown_in(owners.owner(cell), border)
+    }
+
+    // Whether some module has the cell of an edge line in its halo, and lacks its wire.
+    fn is_unknown_beside(&self, owners: &Owners, border: &Border) -> bool
+        requires owners { AreModuleOwners self.now owners.now }
+        requires inside { IsTrue
+            (in_box (whole self.now.setting.size) border.now.cell.x border.now.cell.y) }
+        ensures { result
+            ≡ is_lacked self.now.setting.circuit (modules_of self.now.entries) border.now }
+    {
+        let Cell { x, y } = border.cell;
+        // Corners and sides are even, so a box with a neighbour of the cell has it or one of these.
+        let column = odd_partner(x);
+        let row = odd_partner(y);
+        let beside = self.is_unknown_at(owners, border, Cell { x: column, y });
+        let above = self.is_unknown_at(owners, border, Cell { x, y: row });
+        let corner = self.is_unknown_at(owners, border, Cell { x: column, y: row });
+        beside | above | corner
+    }
+}
+
+impl<'a> Builder<'a> {
+    // The same of a line, if it is an edge line.
+    fn is_unknown_line_beside(&self, owners: &Owners, line: &CertificateLine) -> bool
+        requires owners { AreModuleOwners self.now owners.now }
+        requires inside { AreInBox (whole self.now.setting.size) (edge_in line.now) }
+        ensures { result
+            ≡ list_any (is_lacked self.now.setting.circuit (modules_of self.now.entries))
+            (edge_in line.now) }
+    {
+        match line {
+            CertificateLine::Edge(border) => self.is_unknown_beside(owners, border),
+            _ => false,
+        }
+    }
+
+    // Whether some module lacks the wire of one of the edge lines, by the modules beside each of them.
+    fn lacks_some_beside(&self, owners: &Owners, lines: &[CertificateLine]) -> bool
+        requires owners { AreModuleOwners self.now owners.now }
+        requires inside { AreInBox (whole self.now.setting.size) (flat_map edge_in lines.now) }
+        ensures { result
+            ≡ list_any (lacks_edge self.now.setting.circuit (flat_map edge_in lines.now))
+            (modules_of self.now.entries) }
+    {
+        'lines: for line in lines {
+            if self.is_unknown_line_beside(owners, line) {
+                return true;
+            }
+        }
+        false
+    }
+
+    // The same of the edge lines of a module, by a table of owners if there is one.
+    fn lacks_some_in(&self, owners: &Option<Owners>, area: Box2, lines: &[CertificateLine]) -> bool
+        requires owners { IfSome owners.now (AreModuleOwners self.now) }
+        requires inside { AreInBox area (flat_map edge_in lines.now) }
+        requires on_layout { AreInBox (whole self.now.setting.size) (flat_map edge_in lines.now) }
+        ensures { result
+            ≡ list_any (lacks_edge self.now.setting.circuit (flat_map edge_in lines.now))
+            (modules_of self.now.entries) }
+    {
+        match owners {
+            Some(owners) => self.lacks_some_beside(owners, lines),
+            None => self.lacks_some_of_all(area, lines),
+        }
+    }
+
+    // The same of the edge lines of all modules, if there are odd times.
+    fn lacks_some_wire(&self, owners: &Option<Owners>) -> bool
+        requires owners { IfSome owners.now (AreModuleOwners self.now) }
+        requires long { 1 < self.now.setting.size.steps }
+        ensures { result ≡ lacks_wire self.now.setting (modules_of self.now.entries) }
+    {
+        'lines: for (place, entry) in self.entries.iter().enumerate() {
+            if let CertificateLine::Module(area) = entry {
+                if self.lacks_some_in(owners, *area, inner_lines(&self.entries[place + 1..])) {
+                    return true;
+                }
+            }
+        }
+        false
+    }
+}
+
+impl<'a> Builder<'a> {
+    /// Returns whether some module lacks the wire of an edge line beside it.
+    ///
+    /// It takes memory for a table of the modules that have the cells. With the table it asks at most three modules for
+    /// each edge line. If there is no memory for the table, it asks each module.
+    pub fn lacks_wire(&self, alloc: Global) -> bool
         ensures { result ≡ lacks_wire self.now.setting (modules_of self.now.entries) }
     {
         let size = self.tables.size();
         if size.steps <= 1 {
             return false;
         }
-        'lines: for (place, entry) in self.entries.iter().enumerate() {
-            if let CertificateLine::Module(area) = entry {
-                if self.lacks_some_in(*area, inner_lines(&self.entries[place + 1..])) {
-                    return true;
-                }
-            }
-        }
-        false
+        let owners = self.owners(alloc);
+        self.lacks_some_wire(&owners)
     }
 }

@@ -12,8 +12,8 @@ use indexmap::IndexSet;
 use module_box::Box2;
 use section_text::Name;
 
-// Whether a signal is neither `1` nor one of the local wires.
-fn is_unknown(tables: &LineTables, known: &IndexSet<u16>, signal: Option<Name>) -> bool
+/// Returns whether a signal is neither `1` nor one of the local wires.
+pub(crate) fn is_unknown(tables: &LineTables, known: &IndexSet<u16>, signal: Option<Name>) -> bool
     ensures { result ≡ is_strange tables.now.circuit known.now.keys signal }
 {
     match signal {
@@ -22,7 +22,7 @@ fn is_unknown(tables: &LineTables, known: &IndexSet<u16>, signal: Option<Name>) 
     }
 }
 
-// The same of an edge line, where it is for a cell of the halo.
+// Whether the signal of an edge line is such, and the line is for a cell of the halo.
 fn is_unknown_line(
     tables: &LineTables,
     known: &IndexSet<u16>,

@@ -4,6 +4,7 @@
 //! which, and `specs/Modules.antt` what is known of the modules of good lines.
 #![tactic(auto)]
 
+mod blocks;
 mod builder;
 mod certificate_line;
 mod counts;
@@ -18,6 +19,7 @@ mod rules;
 mod stars;
 mod tiles;
 
+pub use blocks::odd_partner;
 pub use builder::Builder;
 pub use certificate_line::{Border, CertificateLine, Counts, StopLine};
 pub use counts::push_entry;

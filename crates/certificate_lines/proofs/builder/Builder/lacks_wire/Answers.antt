@@ -1,33 +1,14 @@
-use Rattle.std.proofs.Common.{◌≡◌, ◌∙◌, ◌+◌, ◌<◌, ◌≤◌, ◌||◌, Bool, ℕ, true, false, get_or, drop, length, refl}
-use Rattle.std.proofs.Common.{sym, ap, subst, arith}
+use Rattle.std.proofs.Common.{◌≡◌, ◌∙◌, ◌<◌, ◌≤◌, ℕ, false, ap, subst, arith}
 use Rattle.std.specs.Prelude.{nat_lt}
-use Rattle.std.specs.List.{flat_map, list_any}
 use Rattle.std.proofs.lemmas.Bool.Decides.{nat_tests}
 use Rattle.pattern.specs.declared.layout_line.LayoutHeader.{LayoutHeader}
-use Rattle.certificate_lines.specs.BuilderView.{BuilderView, lacks_edge}
-use Rattle.certificate_lines.specs.Entries.{ModuleLines, edge_in, edges, modules_of}
-use Rattle.certificate_lines.specs.ModuleParts.{AreInBox, inner}
-use Rattle.certificate_lines.specs.declared.certificate_line.CertificateLine.TheVariants.{Module}
-use Rattle.certificate_lines.proofs.AnyLines.{any_end, any_module, any_other}
-use Rattle.certificate_lines.proofs.LinesLeft.{rest_of_lines}
-use Rattle.certificate_lines.proofs.LackedWires.{lacked, lines_inside, none_lacked}
-use Rattle.certificate_lines.proofs.ModuleSplit.{no_module}
-use Rattle.certificate_lines.proofs.builder.Builder.lacks_wire.Goals.{in-Module+else-lacks_some_in, in_default}
+use Rattle.certificate_lines.specs.BuilderView.{BuilderView}
+use Rattle.certificate_lines.specs.Entries.{modules_of}
+use Rattle.certificate_lines.proofs.LackedWires.{none_lacked}
 use Rattle.certificate_lines.proofs.builder.Builder.lacks_wire.Goals as goal
-
--- some module lacks a wire of this module
-abbrev lacks : BuilderView → ModuleLines → Bool
-lacks b n = list_any (lacks_edge b.setting.circuit (edges n)) (modules_of b.entries)
-
-long : (steps : ℕ) → 1 < steps → nat_lt 1 steps ≡ true
-long steps lt = grind (arith, nat_tests)
 
 short : (steps : ℕ) → steps ≤ 1 → nat_lt 1 steps ≡ false
 short steps le = grind (arith, nat_tests)
-
-first_true : (a b : Bool) → a ≡ true → (a || b) ≡ true
-first_true true b h = refl
-first_true false b h = absurd cc
 
 pub returns-then-size-le1 : goal.returns-then-size-le1
 returns-then-size-le1 c =
@@ -38,80 +19,11 @@ returns-then-size-le1 c =
     none_lacked v.setting (modules_of v.entries)
     (short v.setting.size.steps (subst (λ n. n ≤ 1) steps c.if-size-le1.true))
 
-pub lacks_some_in-requires : goal.lacks_some_in-requires
-lacks_some_in-requires c =
-    let es = c.self.inside.entries.items in
-    let here : c.deref-entry-items.result.now ≡ es = c.deref-entry-items.ensures.value in
-    let line_is : Module c.in-Module.area ≡ get_or es c.lines.place (Module c.in-Module.area) =
-    subst (λ e. e ≡ get_or es c.lines.place e) c.in-Module.is
-    (c.entry-item.is ∙ ap (λ l. get_or l c.lines.place c.entry-item.result) here) in
-    let inner_is : c.inner_lines.result.now ≡ inner (drop (c.lines.place + 1) es) =
-    c.inner_lines.ensures ∙ ap inner (rest_of_lines c.deref.result.now (c.lines.place + 1))
-    ∙ ap (λ l. inner (drop (c.lines.place + 1) l)) c.deref.ensures.value in
-    record {
-      inside = subst (λ ls. AreInBox c.in-Module.area (flat_map edge_in ls)) (sym inner_is)
-          (lines_inside c.self.inside.tables es c.lines.place c.in-Module.area c.self.invariant.kept.built.sound
-          (subst (λ l. c.lines.place < length l) here c.lines-test.true) line_is);
-    }
-
-pub returns-then-lacks_some_in : goal.returns-then-lacks_some_in
-returns-then-lacks_some_in c =
-    let v = c.args.self.now in let es = v.entries in
-    let same : c.self.inside.entries.items ≡ es = ap (λ (s : BuilderView). s.entries) c.self.view_is in
-    let here : c.deref-entry-items.result.now ≡ es = c.deref-entry-items.ensures.value ∙ same in
-    let line_is : Module c.in-Module.area ≡ get_or es c.lines.place (Module c.in-Module.area) =
-    subst (λ e. e ≡ get_or es c.lines.place e) c.in-Module.is
-    (c.entry-item.is ∙ ap (λ l. get_or l c.lines.place c.entry-item.result) here) in
-    let inner_is : c.inner_lines.result.now ≡ inner (drop (c.lines.place + 1) es) =
-    c.inner_lines.ensures ∙ ap inner (rest_of_lines c.deref.result.now (c.lines.place + 1))
-    ∙ ap (λ l. inner (drop (c.lines.place + 1) l)) (c.deref.ensures.value ∙ same) in
+pub lacks_some_wire-requires-clause-long : goal.lacks_some_wire-requires-clause-long
+lacks_some_wire-requires-clause-long c =
+    let v = c.args.self.now in
     let steps : c.size-size.result.steps ≡ v.setting.size.steps =
     ap (λ (s : LayoutHeader). s.steps) c.size-size.ensures.size
     ∙ ap (λ (s : BuilderView). s.setting.size.steps) c.self.view_is in
     let more = c.if-size-le1.false in
-    let many : nat_lt 1 v.setting.size.steps ≡ true =
-    long v.setting.size.steps (subst (λ n. 1 < n) steps (omega (arith, more))) in
-    let found : lacks v (record { area = c.in-Module.area; lines = inner (drop (c.lines.place + 1) es) }) ≡ true =
-    ap (λ ls. list_any (lacks_edge v.setting.circuit (flat_map edge_in ls)) (modules_of es)) (sym inner_is)
-    ∙ sym c.lacks_some_in.ensures ∙ c.if-lacks_some_in.true in
-    sym (sym (lacked v.setting (modules_of es) many) ∙ c.lines.invariant
-    ∙ any_module (lacks v) es c.lines.place c.in-Module.area
-    (subst (λ l. c.lines.place < length l) here c.lines-test.true) line_is ∙ first_true _ _ found)
-
-pub lines-preserved : goal.lines-preserved
-lines-preserved c =
-    let v = c.args.self.now in let es = v.entries in
-    let same : c.self.inside.entries.items ≡ es = ap (λ (s : BuilderView). s.entries) c.self.view_is in
-    let here : c.deref-entry-items.result.now ≡ es = c.deref-entry-items.ensures.value ∙ same in
-    let lt = subst (λ l. c.lines.place < length l) here c.lines-test.true in
-    c.lines.invariant ∙ (elim c.match-entry.branch [
-      | in-Module+else-lacks_some_in w ↦
-          let line_is : Module w.in-Module.area ≡ get_or es c.lines.place (Module w.in-Module.area) =
-          subst (λ e. e ≡ get_or es c.lines.place e) w.in-Module.is
-          (c.entry-item.is ∙ ap (λ l. get_or l c.lines.place c.entry-item.result) here) in
-          let inner_is : w.inner_lines.result.now ≡ inner (drop (c.lines.place + 1) es) =
-          w.inner_lines.ensures ∙ ap inner (rest_of_lines w.deref.result.now (c.lines.place + 1))
-          ∙ ap (λ l. inner (drop (c.lines.place + 1) l)) (w.deref.ensures.value ∙ same) in
-          let none : lacks v (record { area = w.in-Module.area; lines = inner (drop (c.lines.place + 1) es) }) ≡ false =
-          ap (λ ls. list_any (lacks_edge v.setting.circuit (flat_map edge_in ls)) (modules_of es)) (sym inner_is)
-          ∙ sym w.lacks_some_in.ensures ∙ w.if-lacks_some_in.false in
-          any_module (lacks v) es c.lines.place w.in-Module.area lt line_is
-          ∙ ap (λ b. b || list_any (lacks v) (modules_of (drop (c.lines.place + 1) es))) none
-      | in_default w ↦ any_other (lacks v) es c.lines.place c.entry-item.result lt
-          (c.entry-item.is ∙ ap (λ l. get_or l c.lines.place c.entry-item.result) here)
-          (no_module c.entry-item.result w.in_default.not-Module)
-    ])
-
-pub returns : goal.returns
-returns c =
-    let v = c.args.self.now in let es = v.entries in
-    let here : c.deref-entry-items.result.now ≡ es =
-    c.deref-entry-items.ensures.value ∙ ap (λ (s : BuilderView). s.entries) c.self.view_is in
-    let steps : c.size-size.result.steps ≡ v.setting.size.steps =
-    ap (λ (s : LayoutHeader). s.steps) c.size-size.ensures.size
-    ∙ ap (λ (s : BuilderView). s.setting.size.steps) c.self.view_is in
-    let more = c.if-size-le1.false in
-    let many : nat_lt 1 v.setting.size.steps ≡ true =
-    long v.setting.size.steps (subst (λ n. 1 < n) steps (omega (arith, more))) in
-    sym (sym (lacked v.setting (modules_of es) many) ∙ c.lines.invariant
-    ∙ any_end (lacks v) es c.lines.place (subst (λ l. length l ≤ c.lines.place) here c.lines-test.false))
+    subst (λ n. 1 < n) steps (omega (arith, more))

@@ -1,0 +1,225 @@
+-- The modules beside the cell of an edge line, by the cells of its block at odd times
+use Rattle.std.proofs.Common.{◌≡◌, ℕ, zero, suc, ◌+◌, ◌%◌, ◌<◌, ◌≤◌, Bool, true, false, not, ◌&&◌, ◌||◌, eqb}
+use Rattle.std.proofs.Common.{List, [], ◌∷◌, length, map, Some, refl, sym, ap, ap₂, subst, ◌∙◌, inl, inr, ◌⊎◌, arith}
+use Rattle.std.proofs.Common.{eq-eqb}
+use Rattle.std.specs.Prelude.{ℤ, pos, negsuc, ◌+ℤ◌, ◌-ℤ◌, ◌≤ℤ◌, slice_get}
+use Rattle.std.specs.List.{list_any}
+use Rattle.std.proofs.lemmas.Bool.{cases_Bool, cond-true, cond-false, ne_eqb, eqb-true, eqb-false, false≢true}
+use Rattle.std.proofs.lemmas.Int.{ints}
+use Rattle.std.proofs.lemmas.Option.{slice_get_within}
+use Rattle.bbm_rule.specs.Plane.{parity, partner}
+use Rattle.bbm_rule.specs.Spans.{in_span}
+use Rattle.bbm_rule.proofs.Spans.{even_span}
+use Rattle.circuit.specs.Meaning.{Circuit}
+use Rattle.module_box.specs.Boxes.{in_box, in_halo, IsEven}
+use Rattle.module_box.specs.Tiling.{AreOwners, Owning, owner_of, rectangle, rectangle_of}
+use Rattle.module_box.specs.declared.boxes.Box2.{Box2}
+use Rattle.module_box.proofs.BoxCells.{in_box_nats}
+use Rattle.module_box.proofs.RingTests.{halo_read}
+use Rattle.certificate_lines.specs.BuilderView.{is_lacked, is_strange_outside, lacks_edge}
+use Rattle.certificate_lines.specs.Entries.{ModuleLines, areas, known}
+use Rattle.certificate_lines.specs.Versions.{is_strange}
+use Rattle.certificate_lines.specs.declared.certificate_line.Border.{Border}
+use Rattle.certificate_lines.proofs.AnyLines.{any_filter}
+use Rattle.certificate_lines.proofs.LackedWires.{any_either, any_same, any_swap}
+use Rattle.certificate_lines.proofs.Lists.{some_is}
+
+-- ---- columns and rows
+
+parity_cases : (z : ℤ) → (parity z ≡ 0) ⊎ (parity z ≡ 1)
+parity_cases (pos n) = elim (cases_Bool (eqb (n % 2) 0)) [
+  | inl e ↦ inl (eqb-true (n % 2) 0 e)
+  | inr e ↦ let other = eqb-false (n % 2) 0 e in inr (omega (arith, other))
+]
+parity_cases (negsuc n) = elim (cases_Bool (eqb ((n + 1) % 2) 0)) [
+  | inl e ↦ inl (eqb-true ((n + 1) % 2) 0 e)
+  | inr e ↦ let other = eqb-false ((n + 1) % 2) 0 e in inr (omega (arith, other))
+]
+
+partner_up : (t : ℕ) (z : ℤ) → parity z ≡ t % 2 → partner t z ≡ z +ℤ pos 1
+unfolding partner
+partner_up t z e = cond-true _ _ _ (eq-eqb (parity z) (t % 2) e)
+
+partner_down : (t : ℕ) (z : ℤ) → (parity z ≡ t % 2 → ⊥) → partner t z ≡ z -ℤ pos 1
+unfolding partner
+partner_down t z e = cond-false _ _ _ (ne_eqb (parity z) (t % 2) e)
+
+above_is_here : (a b c : Bool) → c ≡ b → (a || b || c) ≡ (b || a)
+above_is_here a b c e = grind arith
+
+below_is_here : (a b c : Bool) → a ≡ b → (a || b || c) ≡ (b || c)
+below_is_here a b c e = grind arith
+
+not_odd : (n : ℕ) → n ≡ 0 → n ≡ 1 → ⊥
+not_odd n e f = omega arith
+
+not_even : (n : ℕ) → n ≡ 1 → n ≡ 0 → ⊥
+not_even n e f = omega arith
+
+-- of the three places beside each other, two are in one block at even times
+near_either : (f n : ℕ) (z : ℤ) → f % 2 ≡ 0 → n % 2 ≡ 0 →
+    (in_span f n (z -ℤ pos 1) || in_span f n z || in_span f n (z +ℤ pos 1))
+    ≡ (in_span f n z || in_span f n (partner 1 z))
+near_either f n z pf pn = elim (parity_cases z) [
+  | inl even ↦
+      above_is_here (in_span f n (z -ℤ pos 1)) (in_span f n z) (in_span f n (z +ℤ pos 1))
+      (ap (in_span f n) (sym (partner_up 0 z even)) ∙ even_span f n 0 z pf pn refl)
+      ∙ ap (λ p. in_span f n z || in_span f n p) (sym (partner_down 1 z (not_odd (parity z) even)))
+  | inr odd ↦
+      below_is_here (in_span f n (z -ℤ pos 1)) (in_span f n z) (in_span f n (z +ℤ pos 1))
+      (ap (in_span f n) (sym (partner_down 0 z (not_even (parity z) odd))) ∙ even_span f n 0 z pf pn refl)
+      ∙ ap (λ p. in_span f n z || in_span f n p) (sym (partner_up 1 z odd))
+]
+
+-- ---- halos
+
+three_cells : (a a' b b' s : Bool) →
+    (((a' && b) && (not (a && b) && s)) || ((a && b') && (not (a && b) && s)) || ((a' && b') && (not (a && b) && s)))
+    ≡ ((not (a && b) && ((a || a') && (b || b'))) && s)
+three_cells a a' b b' s = grind arith
+
+halo_either : (b : Box2) (x y : ℤ) → IsEven b →
+    (not (in_box b x y) && ((in_span b.x b.w x || in_span b.x b.w (partner 1 x))
+    && (in_span b.y b.h y || in_span b.y b.h (partner 1 y))))
+    ≡ in_halo b x y
+halo_either b x y even = halo_read b x y (in_box b x y) _ _ refl
+    (sym (near_either b.x b.w x even.x even.w)) (sym (near_either b.y b.h y even.y even.h))
+
+-- a cell is in the halo of a box if it is outside, and the box has one of the other cells of its block
+pub odd_halo : (b : Box2) (x y : ℤ) (s : Bool) → IsEven b →
+    ((in_box b (partner 1 x) y && (not (in_box b x y) && s)) || (in_box b x (partner 1 y) && (not (in_box b x y) && s))
+    || (in_box b (partner 1 x) (partner 1 y) && (not (in_box b x y) && s)))
+    ≡ (in_halo b x y && s)
+unfolding in_box
+odd_halo b x y s even =
+    three_cells (in_span b.x b.w x) (in_span b.x b.w (partner 1 x)) (in_span b.y b.h y) (in_span b.y b.h (partner 1 y)) s
+    ∙ ap (λ h. h && s) (halo_either b x y even)
+
+-- ---- one element at most passes a test
+
+false_and : (p q : Bool) → (p ≡ true → ⊥) → (p && q) ≡ false
+false_and true q h = absurd (h refl)
+false_and false q h = refl
+
+true_and : (p q : Bool) → p ≡ true → (p && q) ≡ q
+true_and true q h = refl
+true_and false q h = absurd cc
+
+or_false : (b : Bool) → (b || false) ≡ b
+or_false true = refl
+or_false false = refl
+
+pub none_passes : {X : Type 0} (p q : X → Bool) (xs : List X) →
+    ((i : ℕ) (x : X) → slice_get xs i ≡ Some x → p x ≡ true → ⊥) → list_any (λ x. p x && q x) xs ≡ false
+none_passes p q [] none = refl
+none_passes p q (x ∷ xs) none =
+    ap₂ (λ a b. a || b) (false_and (p x) (q x) (none 0 x refl)) (none_passes p q xs (λ i z at. none (suc i) z at))
+
+zero_other : (k : ℕ) → zero ≡ suc k → ⊥
+zero_other k e = omega arith
+
+one_less : (i k : ℕ) → suc i ≡ suc k → i ≡ k
+one_less i k e = omega arith
+
+pub one_passes : {X : Type 0} (p q : X → Bool) (xs : List X) (k : ℕ) (x : X) → slice_get xs k ≡ Some x → p x ≡ true →
+    ((i : ℕ) (z : X) → slice_get xs i ≡ Some z → p z ≡ true → i ≡ k) → list_any (λ z. p z && q z) xs ≡ q x
+one_passes p q [] k x at here only = absurd cc
+one_passes p q (y ∷ xs) zero x at here only =
+    let same = some_is y x at in
+    ap₂ (λ a b. a || b)
+    (ap (λ z. p z && q z) same ∙ true_and (p x) (q x) here)
+    (none_passes p q xs (λ i z there passes. zero_other i (sym (only (suc i) z there passes))))
+    ∙ or_false (q x)
+one_passes p q (y ∷ xs) (suc k) x at here only =
+    ap₂ (λ a b. a || b) (false_and (p y) (q y) (λ passes. zero_other k (only 0 y refl passes)))
+    (one_passes p q xs k x at here (λ i z there passes. one_less i k (only (suc i) z there passes)))
+
+pub same_at : {X : Type 0} (f g : X → Bool) (xs : List X) →
+    ((i : ℕ) (x : X) → slice_get xs i ≡ Some x → f x ≡ g x) → list_any f xs ≡ list_any g xs
+same_at f g [] h = refl
+same_at f g (x ∷ xs) h = ap₂ (λ a b. a || b) (h 0 x refl) (same_at f g xs (λ i z at. h (suc i) z at))
+
+-- ---- the owner of a cell
+
+pub mapped_at : {A B : Type 0} (f : A → B) (xs : List A) (k : ℕ) (b : B) → slice_get (map f xs) k ≡ Some b →
+    (a : A) × (slice_get xs k ≡ Some a) × (f a ≡ b)
+mapped_at f [] k b at = absurd cc
+mapped_at f (x ∷ xs) zero b at = (x, refl, some_is (f x) b at)
+mapped_at f (x ∷ xs) (suc k) b at = mapped_at f xs k b at
+
+pub area_of : (ms : List ModuleLines) (k : ℕ) (m : ModuleLines) → slice_get ms k ≡ Some m →
+    slice_get (areas ms) k ≡ Some m.area
+area_of [] k m at = absurd cc
+area_of (n ∷ ms) zero m at = ap (λ (z : ModuleLines). Some z.area) (some_is n m at)
+area_of (n ∷ ms) (suc k) m at = area_of ms k m at
+
+module _ (ms : List ModuleLines) (o : Owning) (good : AreOwners o (areas ms)) (x y : ℤ) where
+  owner_at : in_box (rectangle o) x y ≡ true →
+      (m : ModuleLines) × (slice_get ms (owner_of o x y) ≡ Some m) × (in_box m.area x y ≡ true)
+  owner_at inside =
+      let named = good.named x y inside in
+      let m = mapped_at (λ (n : ModuleLines). n.area) ms (owner_of o x y) named.0 named.1 in
+      (m.0, m.1, ap (λ (b : Box2). in_box b x y) m.2 ∙ named.2)
+
+  pub owner_within : in_box (rectangle o) x y ≡ true → owner_of o x y < length ms
+  owner_within inside = let m = owner_at inside in slice_get_within ms (owner_of o x y) m.0 m.1
+
+  pub asked_owner : (q : ModuleLines → Bool) (r : Bool) → in_box (rectangle o) x y ≡ true →
+      ((m : ModuleLines) → slice_get ms (owner_of o x y) ≡ Some m → r ≡ q m) →
+      r ≡ list_any (λ (m : ModuleLines). in_box m.area x y && q m) ms
+  asked_owner q r inside answer =
+      let m = owner_at inside in
+      answer m.0 m.1
+      ∙ sym (one_passes (λ (n : ModuleLines). in_box n.area x y) q ms (owner_of o x y) m.0 m.1 m.2
+      (λ i n at here. good.tile.once x y i (owner_of o x y) n.area m.0.area (area_of ms i n at)
+      (area_of ms (owner_of o x y) m.0 m.1) here m.2))
+
+  pub asked_none : (q : ModuleLines → Bool) → in_box (rectangle o) x y ≡ false →
+      false ≡ list_any (λ (m : ModuleLines). in_box m.area x y && q m) ms
+  asked_none q outside =
+      sym (none_passes (λ (n : ModuleLines). in_box n.area x y) q ms
+      (λ i n at here. false≢true (sym outside ∙ good.tile.inside x y i n.area (area_of ms i n at) here)))
+
+-- ---- the modules that lack the wire of an edge line
+
+module _ (c : Circuit) (ms : List ModuleLines) where
+  pub lacked_beside : (e : Border) → ((k : ℕ) (m : ModuleLines) → slice_get ms k ≡ Some m → IsEven m.area) →
+      (list_any (λ (m : ModuleLines). in_box m.area (partner 1 e.cell.x) e.cell.y && is_strange_outside c e m) ms
+      || list_any (λ (m : ModuleLines). in_box m.area e.cell.x (partner 1 e.cell.y) && is_strange_outside c e m) ms
+      || list_any (λ (m : ModuleLines). in_box m.area (partner 1 e.cell.x) (partner 1 e.cell.y)
+      && is_strange_outside c e m) ms)
+      ≡ is_lacked c ms e
+  lacked_beside e even =
+      let x = e.cell.x in let y = e.cell.y in
+      let at : ℤ → ℤ → ModuleLines → Bool = λ u v m. in_box m.area u v && is_strange_outside c e m in
+      ap (λ b. b || list_any (at (partner 1 x) (partner 1 y)) ms)
+      (sym (any_either (at (partner 1 x) y) (at x (partner 1 y)) ms))
+      ∙ sym (any_either (λ m. at (partner 1 x) y m || at x (partner 1 y) m) (at (partner 1 x) (partner 1 y)) ms)
+      ∙ same_at (λ m. (at (partner 1 x) y m || at x (partner 1 y) m) || at (partner 1 x) (partner 1 y) m)
+      (λ m. in_halo m.area x y && is_strange c (known c m) e.signal) ms
+      (λ k m here. odd_halo m.area x y (is_strange c (known c m) e.signal) (even k m here))
+
+  -- the same, line by line or module by module
+  pub lacked_by_lines : (es : List Border) → list_any (is_lacked c ms) es ≡ list_any (lacks_edge c es) ms
+  lacked_by_lines es =
+      any_swap (λ (e : Border) (m : ModuleLines). in_halo m.area e.cell.x e.cell.y && is_strange c (known c m) e.signal)
+      es ms
+      ∙ any_same (λ m. list_any
+      (λ (e : Border). in_halo m.area e.cell.x e.cell.y && is_strange c (known c m) e.signal) es)
+      (lacks_edge c es) ms
+      (λ m. sym (any_filter (λ (e : Border). in_halo m.area e.cell.x e.cell.y)
+      (λ (e : Border). is_strange c (known c m) e.signal) es))
+
+-- ---- places in the rectangle
+
+low_number : (z : ℤ) (k : ℕ) → z ≡ pos k → k < 512 → (pos 0 ≤ℤ z) × (z ≤ℤ pos 1023)
+low_number z k e lt = (omega (arith, ints, e, lt), omega (arith, ints, e, lt))
+
+pub low_cell : (w h : ℕ) (x y : ℤ) → w ≤ 512 → h ≤ 512 → in_box (rectangle_of w h) x y ≡ true →
+    ((pos 0 ≤ℤ x) × (x ≤ℤ pos 1023)) × ((pos 0 ≤ℤ y) × (y ≤ℤ pos 1023))
+low_cell w h x y wide high inside =
+    let p = in_box_nats (rectangle_of w h) x y inside in
+    let px = p.0 in let py = p.1 in (
+      low_number x px.0 px.1 (let lt = px.3 in omega (arith, lt, wide)),
+      low_number y py.0 py.1 (let lt = py.3 in omega (arith, lt, high)),
+    )

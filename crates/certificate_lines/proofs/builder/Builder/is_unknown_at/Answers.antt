@@ -1,0 +1,41 @@
+use Rattle.std.proofs.Common.{◌≡◌, ◌∙◌, ◌<◌, length, sym, ap, ap₂, subst}
+use Rattle.std.specs.Prelude.{slice_get}
+use Rattle.module_box.specs.Boxes.{in_box}
+use Rattle.module_box.specs.Tiling.{rectangle, rectangle_of}
+use Rattle.module_box.specs.declared.boxes.Box2.{Box2}
+use Rattle.certificate_lines.specs.BuilderView.{BuilderView, is_strange_outside}
+use Rattle.certificate_lines.specs.Entries.{modules_of}
+use Rattle.certificate_lines.specs.Rules.{whole}
+use Rattle.certificate_lines.proofs.OddBlocks.{asked_none, asked_owner, owner_within}
+use Rattle.certificate_lines.proofs.builder.Builder.is_unknown_at.Goals as goal
+
+pub returns-then-not-holds : goal.returns-then-not-holds
+returns-then-not-holds c =
+    let v = c.args.self.now in let o = c.args.owners.now in
+    let same : c.whole_of.result ≡ rectangle o =
+    c.whole_of.ensures ∙ ap whole (c.size.ensures.size ∙ ap (λ (s : BuilderView). s.setting.size) c.self.view_is)
+    ∙ sym (ap₂ rectangle_of c.requires.width c.requires.height) in
+    asked_none (modules_of v.entries) o c.requires.owners c.args.cell.x c.args.cell.y
+    (is_strange_outside v.setting.circuit c.args.border.now)
+    (ap (λ (b : Box2). in_box b c.args.cell.x c.args.cell.y) (sym same) ∙ sym c.holds.ensures ∙ c.if-not-holds.true)
+
+pub is_unknown_in-requires : goal.is_unknown_in-requires
+is_unknown_in-requires c =
+    let v = c.args.self.now in let o = c.args.owners.now in
+    let same : c.whole_of.result ≡ rectangle o =
+    c.whole_of.ensures ∙ ap whole (c.size.ensures.size ∙ ap (λ (s : BuilderView). s.setting.size) c.self.view_is)
+    ∙ sym (ap₂ rectangle_of c.requires.width c.requires.height) in
+    subst (λ n. n < length (modules_of v.entries)) (sym c.owner.ensures)
+    (owner_within (modules_of v.entries) o c.requires.owners c.args.cell.x c.args.cell.y
+    (ap (λ (b : Box2). in_box b c.args.cell.x c.args.cell.y) (sym same) ∙ sym c.holds.ensures ∙ c.if-not-holds.false))
+
+pub returns : goal.returns
+returns c =
+    let v = c.args.self.now in let o = c.args.owners.now in
+    let same : c.whole_of.result ≡ rectangle o =
+    c.whole_of.ensures ∙ ap whole (c.size.ensures.size ∙ ap (λ (s : BuilderView). s.setting.size) c.self.view_is)
+    ∙ sym (ap₂ rectangle_of c.requires.width c.requires.height) in
+    asked_owner (modules_of v.entries) o c.requires.owners c.args.cell.x c.args.cell.y
+    (is_strange_outside v.setting.circuit c.args.border.now) c.is_unknown_in.result
+    (ap (λ (b : Box2). in_box b c.args.cell.x c.args.cell.y) (sym same) ∙ sym c.holds.ensures ∙ c.if-not-holds.false)
+    (λ m at. c.is_unknown_in.ensures m (ap (slice_get (modules_of v.entries)) c.owner.ensures ∙ at))

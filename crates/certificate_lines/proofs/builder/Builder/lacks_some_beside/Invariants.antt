@@ -1,0 +1,10 @@
+-- None of the lines so far.
+use Rattle.std.proofs.Common.{◌≡◌, false, take}
+use Rattle.std.specs.List.{flat_map, list_any}
+use Rattle.certificate_lines.specs.BuilderView.{is_lacked}
+use Rattle.certificate_lines.specs.Entries.{edge_in, modules_of}
+use Rattle.certificate_lines.proofs.builder.Builder.lacks_some_beside.Given as goal
+
+abbrev pub invariant-lines : goal.invariant-lines
+invariant-lines l = list_any (is_lacked l.self.setting.circuit (modules_of l.self.entries))
+    (flat_map edge_in (take l.line-index l.lines)) ≡ false
