@@ -13,15 +13,16 @@ use Rattle.certificate_lines.specs.Entries.{ModuleLines, Setting, modules_of}
 use Rattle.certificate.specs.Jobs.{AreJobsOf, IsJobOf}
 use Rattle.module_job.specs.Jobs.{JobView}
 use Rattle.certificate_lines.specs.ModuleParts.{inner, is_module}
+use Rattle.certificate.specs.HaloPlaces.{AreHaloPlaces, edges_at, list_at}
 use Rattle.certificate.specs.SliceLines.{slice_lines}
-use Rattle.certificate_lines.specs.Versions.{with_halos}
+use Rattle.certificate_lines.specs.Modules.{AreModules}
+use Rattle.certificate_lines.specs.Versions.{beside, with_halos}
 use Rattle.certificate.specs.declared.beside.ModuleSlice.{ModuleSlice}
 use Rattle.certificate_lines.specs.declared.certificate_line.CertificateLine.{CertificateLine}
 use Rattle.certificate_lines.specs.declared.certificate_line.CertificateLine.TheVariants.{Module}
 use Rattle.certificate.proofs.FullModules.{mapped_at, mapped_from}
 use Rattle.certificate_lines.proofs.Lists.{some_is}
 use Rattle.certificate_lines.proofs.ModuleSplit.{split_module, split_other}
-use Rattle.certificate.proofs.TimetableLemmas.{next_line}
 use Rattle.certificate_lines.proofs.LinesLeft.{line_here, nothing_left}
 
 cond_append : {A : Type 0} (b : Bool) (x : A) (xs ys : List A) →
@@ -35,22 +36,6 @@ filter-append test [] ys = refl
 filter-append test (x ∷ xs) ys =
     ap (λ l. if test x then x ∷ l else l) (filter-append test xs ys)
     ∙ cond_append (test x) x (filter test xs) (filter test ys)
-
--- what passes of one line more
-pub next_passed : {A X : Type 0} (test : A → Bool) (f : X → List A) (xs : List X) (i : ℕ) (x : X)
-    (old now next : List A) → i < length xs → x ≡ get_or xs i x →
-    now ≡ old ++ filter test (flat_map f (take i xs)) → next ≡ now ++ filter test (f x) →
-    next ≡ old ++ filter test (flat_map f (take (i + 1) xs))
-next_passed test f xs i x old now next lt e before after =
-    after ∙ ap (λ l. l ++ filter test (f x)) before
-    ∙ append_assoc old (filter test (flat_map f (take i xs))) (filter test (f x))
-    ∙ ap (λ l. old ++ l) (sym (filter-append test (flat_map f (take i xs)) (f x))
-    ∙ ap (filter test) (next_line f xs i x lt e))
-
-pub all_passed : {A X : Type 0} (test : A → Bool) (f : X → List A) (xs : List X) (i : ℕ) (old now : List A) →
-    length xs ≤ i →
-    now ≡ old ++ filter test (flat_map f (take i xs)) → now ≡ old ++ filter test (flat_map f xs)
-all_passed test f xs i old now le h = h ∙ ap (λ l. old ++ filter test (flat_map f l)) (take_all i xs le)
 
 -- ---- the modules of lines
 
@@ -91,6 +76,30 @@ all_parts es place ps le h = sym (append-nil (map slice_lines ps))
 pub part_at : (parts : List ModuleSlice) (i : ℕ) (part : ModuleSlice) → i < length parts → part ≡ get_or parts i part →
     slice_get (map slice_lines parts) i ≡ Some (slice_lines part)
 part_at parts i part lt is = mapped_at slice_lines parts i part (slice_get_read parts (length parts) i part refl lt is)
+
+-- each module has a list of places
+pub within_places : {X : Type 0} (f : X → List ℕ) (es : List CertificateLine) (parts : List ModuleSlice)
+    (places : List X) (k : ℕ) → map slice_lines parts ≡ modules_of es →
+    length (map f places) ≡ length (modules_of es) → k < length parts → k < length places
+within_places f es parts places k are count lt =
+    let a = length-map parts slice_lines in
+    let b = length-map places f in
+    let same = ap length are in
+    omega (arith, a, b, same, count, lt)
+
+-- the lines of a module with its halo lines, by the places of these
+pub full_part : (g : Setting) (es : List CertificateLine) (ms : List ModuleLines) (lists : List (List ℕ)) (number : ℕ)
+    (part : ModuleSlice) (places : List ℕ) (lines : List CertificateLine) → ms ≡ modules_of es → AreModules g ms →
+    AreHaloPlaces g es lists → slice_get ms number ≡ Some (slice_lines part) → list_at lists number ≡ places →
+    ((h : Setting) → AreModules h (modules_of es) → edges_at es places ≡ beside h (modules_of es) part.area →
+    ◌≡◌ {A = ModuleLines} (record { area = part.area; lines = lines })
+    (with_halos h (modules_of es) (slice_lines part))) →
+    ◌≡◌ {A = ModuleLines} (record { area = part.area; lines = lines }) (with_halos g ms (slice_lines part))
+full_part g es ms lists number part places lines are good near at here full =
+    full g (subst (AreModules g) are good)
+    (ap (edges_at es) (sym here)
+    ∙ near.each number (slice_lines part) (ap (λ ns. slice_get ns number) (sym are) ∙ at))
+    ∙ ap (λ ns. with_halos g ns (slice_lines part)) (sym are)
 
 pub record PartJobs (c : Circuit) (p : Pattern) (g : Setting) (ms : List ModuleLines) (done : ℕ)
     (js : List JobView) : Type 0 where

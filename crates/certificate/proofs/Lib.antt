@@ -9,7 +9,9 @@ pub mod SeenLaws
 pub mod ArrivalLemmas
 pub mod BorderOrder
 pub mod FullModules
+pub mod HaloLists
 pub mod HaloSignals
+pub mod HaloTables
 pub mod LineSignals
 pub mod SortedLines
 pub mod BesideLines

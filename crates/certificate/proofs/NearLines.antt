@@ -73,7 +73,7 @@ low_stops g m s is limits h k d lt =
     low_in_box m.area e.cell w.0 w.1 (h.stop_lines k d lt).inside
 
 -- ---- what holds of the cells of lines holds of those of their signals
-flat_all : {X A : Type 0} (P : A → Type 0) (f : X → List A) (Q : X → Type 0) → ((x : X) → Q x → All P (f x)) →
+pub flat_all : {X A : Type 0} (P : A → Type 0) (f : X → List A) (Q : X → Type 0) → ((x : X) → Q x → All P (f x)) →
     (xs : List X) → All Q xs → All P (flat_map f xs)
 flat_all P f Q each [] all = All-nil P
 flat_all P f Q each (x ∷ xs) all =

@@ -11,3 +11,4 @@ pub mod SeenTimes
 pub mod Laws
 pub mod LayoutTablesView
 pub mod SliceLines
+pub mod HaloPlaces

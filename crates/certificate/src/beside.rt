@@ -1,16 +1,15 @@
 //! The halo lines that the edge lines of version 2 mean.
-ghost use Rattle.std.specs.Prelude.{◌≡◌, ◌++◌, ◌∷◌, [], map, if◌then◌else◌, nat_lt, IfOk, OnOk};
-ghost use Rattle.std.specs.List.{All, filter, flat_map};
-ghost use Rattle.module_box.specs.Boxes.{in_halo};
-ghost use Rattle.certificate_lines.specs.Entries.{ModuleLines, edge_in, edges, modules_of, stop_in};
-ghost use Rattle.certificate_lines.specs.Settings.{setting_of};
+ghost use Rattle.std.specs.Prelude.{◌≡◌, ◌++◌, ◌∷◌, [], map, slice_get, IfOk, OnOk};
+ghost use Rattle.std.specs.List.{filter, flat_map};
+ghost use Rattle.std.specs.Option.{option_to_list};
+ghost use Rattle.module_box.specs.declared.boxes.Box2.{Box2};
+ghost use Rattle.certificate_lines.specs.Entries.{Setting, edge_in, modules_of, stop_in};
 ghost use Rattle.certificate_lines.specs.Modules.{AreModules};
-ghost use Rattle.certificate_lines.specs.ModuleParts.{AreInBox};
+ghost use Rattle.certificate.specs.HaloPlaces.{edges_at};
 ghost use Rattle.certificate.specs.SliceLines.{slice_lines};
 ghost use Rattle.certificate_lines.specs.Versions.{beside, in_order, is_early, is_halo, with_halos};
 ghost use Rattle.certificate_lines.specs.declared.certificate_line.CertificateLine.TheVariants.{Halo, Stop};
 
-use crate::layout_tables::LayoutTables;
 use certificate_lines::{Border, CertificateLine, compare_borders, inner_lines, push_entry};
 use module_box::Box2;
 use std::alloc::{AllocError, Global};
@@ -49,94 +48,57 @@ fn push_border(halos: &mut Vec<Border>, border: Border) -> Result<(), AllocError
     Ok(())
 }
 
-// Adds an edge line for a cell in the halo of the box.
-fn push_line(halos: &mut Vec<Border>, area: Box2, line: &CertificateLine) -> Result<(), AllocError>
-    ensures { OnOk result (halos.new.items
-        ≡ halos.old.items ++ filter (λ e. in_halo area e.cell.x e.cell.y) (edge_in line.now)) }
+// Adds a line that is an edge line.
+fn push_edge(halos: &mut Vec<Border>, line: &CertificateLine) -> Result<(), AllocError>
+    ensures { OnOk result (halos.new.items ≡ halos.old.items ++ edge_in line.now) }
 {
     match line {
-        CertificateLine::Edge(border) if area.in_halo(border.cell) => push_border(halos, *border),
+        CertificateLine::Edge(border) => push_border(halos, *border),
         _ => Ok(()),
     }
 }
 
-fn push_lines(
+// Adds the line at this place, if there is one and it is an edge line.
+fn push_edge_at(
     halos: &mut Vec<Border>,
-    area: Box2,
-    lines: &[CertificateLine],
+    entries: &[CertificateLine],
+    place: u32,
 ) -> Result<(), AllocError>
     ensures { OnOk result (halos.new.items
-        ≡ halos.old.items ++ filter (λ e. in_halo area e.cell.x e.cell.y)
-        (flat_map edge_in lines.now)) }
+        ≡ halos.old.items ++ flat_map edge_in (option_to_list (slice_get entries.now place))) }
 {
-    'lines: for line in lines {
-        push_line(halos, area, line)?;
+    match entries.get(place as usize) {
+        Some(line) => push_edge(halos, line),
+        None => Ok(()),
     }
-    Ok(())
 }
 
-// Adds the edge lines of a module, which are for cells of its box.
-fn push_slice(halos: &mut Vec<Border>, area: Box2, part: &ModuleSlice) -> Result<(), AllocError>
-    requires { AreInBox part.now.area (edges (slice_lines part.now)) }
-    ensures { OnOk result (halos.new.items
-        ≡ halos.old.items ++ filter (λ e. in_halo area e.cell.x e.cell.y)
-        (edges (slice_lines part.now))) }
-{
-    if !area.is_near(part.area) {
-        return Ok(());
-    }
-    push_lines(halos, area, part.lines)
-}
-
-fn push_slices(halos: &mut Vec<Border>, area: Box2, parts: &[ModuleSlice]) -> Result<(), AllocError>
-    requires { All (λ p. AreInBox p.area (edges (slice_lines p))) parts.now }
-    ensures { OnOk result (halos.new.items
-        ≡ halos.old.items ++ filter (λ e. in_halo area e.cell.x e.cell.y)
-        (flat_map edges (map slice_lines parts.now))) }
-{
-    'parts: for part in parts {
-        push_slice(halos, area, part)?;
-    }
-    Ok(())
-}
-
-// The edge lines of the modules for the cells in the halo of a box.
-#[tactic(auto, unfolding(certificate_lines::specs::Versions::beside))]
-fn lines_beside(
+fn lines_at(
     alloc: Global,
-    tables: &LayoutTables,
-    parts: &[ModuleSlice],
-    area: Box2,
+    entries: &[CertificateLine],
+    places: &[u32],
 ) -> Result<Vec<Border>, AllocError>
-    requires { AreModules (setting_of tables.now.circuit tables.now.layout)
-        (map slice_lines parts.now) }
-    ensures { IfOk result (λ halos. halos.items
-        ≡ beside (setting_of tables.now.circuit tables.now.layout) (map slice_lines parts.now)
-        area) }
+    ensures { IfOk result (λ halos. halos.items ≡ edges_at entries.now places.now) }
 {
     let mut halos = Vec::new(alloc);
-    let size = tables.layout().size();
-    if size.steps <= 1 {
-        return Ok(halos);
+    'places: for place in places {
+        push_edge_at(&mut halos, entries, *place)?;
     }
-    push_slices(&mut halos, area, parts)?;
     Ok(halos)
 }
 
-// The same in order.
-fn halos_beside(
+// The edge lines at these places, in order, if they are those beside a box.
+fn halos_at(
     alloc: Global,
-    tables: &LayoutTables,
-    parts: &[ModuleSlice],
-    area: Box2,
+    entries: &[CertificateLine],
+    places: &[u32],
 ) -> Result<Vec<Border>, AllocError>
-    requires { AreModules (setting_of tables.now.circuit tables.now.layout)
-        (map slice_lines parts.now) }
-    ensures { IfOk result (λ halos. halos.items
-        ≡ in_order (beside (setting_of tables.now.circuit tables.now.layout)
-        (map slice_lines parts.now) area)) }
+    ensures { IfOk result (λ halos. (g : Setting) (area : Box2) →
+        AreModules g (modules_of entries.now) →
+        edges_at entries.now places.now ≡ beside g (modules_of entries.now) area →
+        halos.items ≡ in_order (beside g (modules_of entries.now) area)) }
 {
-    let mut halos = lines_beside(alloc, tables, parts, area)?;
+    let mut halos = lines_at(alloc, entries, places)?;
     halos.sort_by(|a, b| compare_borders(a, b))?;
     Ok(halos)
 }
@@ -216,20 +178,21 @@ fn push_stops(full: &mut Vec<CertificateLine>, lines: &[CertificateLine]) -> Res
 }
 
 /// Returns the lines of a module with the halo lines that the edge lines beside it mean.
+///
+/// Those edge lines have these places among the lines of the certificate.
 #[tactic(auto, unfolding(certificate_lines::specs::Versions::with_halos))]
 pub(crate) fn full_lines(
     alloc: Global,
-    tables: &LayoutTables,
-    parts: &[ModuleSlice],
+    entries: &[CertificateLine],
+    places: &[u32],
     part: &ModuleSlice,
 ) -> Result<Vec<CertificateLine>, AllocError>
-    requires { AreModules (setting_of tables.now.circuit tables.now.layout)
-        (map slice_lines parts.now) }
-    ensures { IfOk result (λ lines. record { area = part.now.area; lines = lines.items }
-        ≡ with_halos (setting_of tables.now.circuit tables.now.layout) (map slice_lines parts.now)
-        (slice_lines part.now)) }
+    ensures { IfOk result (λ lines. (g : Setting) → AreModules g (modules_of entries.now) →
+        edges_at entries.now places.now ≡ beside g (modules_of entries.now) part.now.area →
+        record { area = part.now.area; lines = lines.items }
+        ≡ with_halos g (modules_of entries.now) (slice_lines part.now)) }
 {
-    let halos = halos_beside(alloc, tables, parts, part.area)?;
+    let halos = halos_at(alloc, entries, places)?;
     let mut full = Vec::new(alloc);
     push_early(&mut full, part.lines)?;
     push_halos(&mut full, halos.as_slice())?;

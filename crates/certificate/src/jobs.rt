@@ -23,6 +23,7 @@ ghost use Rattle.certificate_lines.specs.Versions.{is_haloless, lacks_wire, mean
 
 use crate::beside::{ModuleSlice, full_lines, module_slices};
 use crate::cert::Cert;
+use crate::halo_places::halo_places;
 use crate::layout_tables::LayoutTables;
 use crate::stops::stops_of;
 use crate::timetable::{Side, signals_of};
@@ -227,8 +228,10 @@ fn jobs_of_lines(
 fn jobs_of_parts(
     alloc: Global,
     tables: &LayoutTables,
+    entries: &[CertificateLine],
     parts: &[ModuleSlice],
 ) -> Result<Vec<Arc<Job>>, AllocError>
+    requires parts { map slice_lines parts.now ≡ modules_of entries.now }
     requires modules { AreModules (setting_of tables.now.circuit tables.now.layout)
         (map slice_lines parts.now) }
     requires complete { lacks_wire (setting_of tables.now.circuit tables.now.layout)
@@ -237,9 +240,10 @@ fn jobs_of_parts(
         (map (with_halos (setting_of tables.now.circuit tables.now.layout)
         (map slice_lines parts.now)) (map slice_lines parts.now)) (map arc_value js.items)) }
 {
+    let places = halo_places(alloc, tables, entries, parts)?;
     let mut jobs = Vec::new(alloc);
-    'parts: for part in parts {
-        let lines = full_lines(alloc, tables, parts, part)?;
+    'parts: for (number, part) in parts.iter().enumerate() {
+        let lines = full_lines(alloc, entries, places[number].as_slice(), part)?;
         let made = make_job(alloc, tables, part.area, lines.as_slice())?;
         let job = Arc::new(alloc, made)?;
         jobs.push(job)?;
@@ -265,7 +269,7 @@ fn jobs_of_version(
 {
     if version == 2 {
         let parts = module_slices(alloc, entries)?;
-        return jobs_of_parts(alloc, tables, parts.as_slice());
+        return jobs_of_parts(alloc, tables, entries, parts.as_slice());
     }
     jobs_of_lines(alloc, tables, entries)
 }

@@ -9,6 +9,7 @@
 mod beside;
 mod cert;
 mod digest;
+mod halo_places;
 mod jobs;
 mod kept;
 pub mod laws;

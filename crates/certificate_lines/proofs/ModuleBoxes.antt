@@ -12,6 +12,7 @@ use Rattle.module_box.specs.Tiling.{IsTask}
 use Rattle.module_box.specs.declared.boxes.Box2.{Box2}
 use Rattle.certificate_lines.specs.BuilderView.{AreSound}
 use Rattle.certificate_lines.specs.Entries.{ModuleLines, Setting, areas, counts_of}
+use Rattle.certificate_lines.specs.Modules.{IsModule}
 use Rattle.certificate_lines.specs.declared.certificate_line.Counts.{Counts}
 use Rattle.certificate_lines.proofs.LackedWires.{area_counted}
 use Rattle.certificate_lines.proofs.OddBlocks.{area_of, mapped_at}
@@ -40,20 +41,21 @@ all_areas ms counts k some are le h =
     h ∙ take_all k (areas ms) (omega (arith, le, all, mapped))
 
 pub is_task : (g : Setting) (ms : List ModuleLines) (s : LayoutHeader) (boxes : List Box2) → s ≡ g.size →
-    size_fault s ≡ None → AreSound g ms → boxes ≡ areas ms → IsTask s.w s.h boxes
-is_task g ms s boxes same limits sound are =
+    size_fault s ≡ None → ((k : ℕ) (m : ModuleLines) → slice_get ms k ≡ Some m → IsModule g m) → boxes ≡ areas ms →
+    IsTask s.w s.h boxes
+is_task g ms s boxes same limits good are =
     let sized = is_sized s limits in
     subst (λ bs. IsTask s.w s.h bs) (sym are) (record {
       width = sized.width;
       height = sized.height;
       even = λ k b e.
           let m = mapped_at (λ (m : ModuleLines). m.area) ms k b e in
-          let is = (sound.each k m.0 m.1).good.even in
+          let is = (good k m.0 m.1).even in
           let P : Box2 → Type 0 = IsEven in
           subst P m.2 is;
       sides = λ k b e.
           let m = mapped_at (λ (m : ModuleLines). m.area) ms k b e in
-          let is = (sound.each k m.0 m.1).good in
+          let is = good k m.0 m.1 in
           let P : Box2 → Type 0 = λ b. (2 ≤ b.w) × (2 ≤ b.h) in
           subst P m.2 (is.wide.0, is.high.0);
     })

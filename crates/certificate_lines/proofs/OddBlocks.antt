@@ -78,7 +78,7 @@ three_cells : (a a' b b' s : Bool) →
     ≡ ((not (a && b) && ((a || a') && (b || b'))) && s)
 three_cells a a' b b' s = grind arith
 
-halo_either : (b : Box2) (x y : ℤ) → IsEven b →
+pub halo_either : (b : Box2) (x y : ℤ) → IsEven b →
     (not (in_box b x y) && ((in_span b.x b.w x || in_span b.x b.w (partner 1 x))
     && (in_span b.y b.h y || in_span b.y b.h (partner 1 y))))
     ≡ in_halo b x y
@@ -92,7 +92,8 @@ pub odd_halo : (b : Box2) (x y : ℤ) (s : Bool) → IsEven b →
     ≡ (in_halo b x y && s)
 unfolding in_box
 odd_halo b x y s even =
-    three_cells (in_span b.x b.w x) (in_span b.x b.w (partner 1 x)) (in_span b.y b.h y) (in_span b.y b.h (partner 1 y)) s
+    three_cells (in_span b.x b.w x) (in_span b.x b.w (partner 1 x)) (in_span b.y b.h y)
+    (in_span b.y b.h (partner 1 y)) s
     ∙ ap (λ h. h && s) (halo_either b x y even)
 
 -- ---- one element at most passes a test

@@ -1,5 +1,6 @@
 -- The fields of a certificate that is being read, and its view
-use Rattle.std.specs.Prelude.{◌≡◌, ℕ, ◌+◌, ◌<◌, ◌≤◌, ℤ, ◌&&◌, Bool, not, false, List, [], ◌∷◌, ◌++◌, map, length, Option}
+use Rattle.std.specs.Prelude.{◌≡◌, ℕ, ◌+◌, ◌<◌, ◌≤◌, ℤ, ◌&&◌, Bool, not, false, List, [], ◌∷◌, ◌++◌, map, length}
+use Rattle.std.specs.Prelude.{Option}
 use Rattle.std.specs.Prelude.{Some, None, slice_get, IsTrue}
 use Rattle.std.specs.Option.{option_to_list}
 use Rattle.circuit.specs.Meaning.{Circuit, Gate, wire_of}

@@ -9,4 +9,4 @@ use Rattle.certificate.proofs.jobs.jobs_of_parts.Given as goal
 
 abbrev pub invariant-parts : goal.invariant-parts
 invariant-parts l = PartJobs (circuit_of l.tables.circuit) l.tables.layout (setting_of l.tables.circuit l.tables.layout)
-    (map slice_lines l.parts) l.part-index (map arc_value l.jobs.items)
+    (map slice_lines l.parts) l.number (map arc_value l.jobs.items)

@@ -39,7 +39,8 @@ lacks_some_in-requires c =
     record {
       owners = c.requires.owners;
       on_layout = subst
-          (λ (z : BuilderView). AreInBox (whole z.setting.size) (flat_map edge_in c.inner_lines.result.now)) c.self.view_is
+          (λ (z : BuilderView). AreInBox (whole z.setting.size) (flat_map edge_in c.inner_lines.result.now))
+          c.self.view_is
           (subst (λ ls. AreInBox (whole c.self.inside.tables.size) (flat_map edge_in ls)) (sym inner_is)
           (lines_on_layout c.self.inside.tables es c.lines.place c.in-Module.area c.self.invariant.kept.built.sound
           (subst (λ l. c.lines.place < length l) here c.lines-test.true) line_is));

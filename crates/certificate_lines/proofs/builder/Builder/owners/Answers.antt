@@ -10,7 +10,7 @@ pub owner_table-requires : goal.owner_table-requires
 owner_table-requires c =
     let same = ap (λ (v : BuilderView). areas (modules_of v.entries)) c.self.view_is in
     is_task c.self.inside.tables (modules_of c.self.inside.entries.items) c.size-size.result c.as_slice.result.now
-    c.size-size.ensures.size c.size-size.ensures.limits c.self.invariant.kept.built.sound
+    c.size-size.ensures.size c.size-size.ensures.limits (λ k m at. (c.self.invariant.kept.built.sound.each k m at).good)
     (c.as_slice.ensures.value ∙ c.in-Ok.ensures ∙ sym same)
 
 pub returns-in-Ok-owner_table : goal.returns-in-Ok-owner_table

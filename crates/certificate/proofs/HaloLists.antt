@@ -1,0 +1,280 @@
+-- Lists of the places of edge lines, as places are added
+use Rattle.std.proofs.Common.{◌≡◌, ℕ, zero, suc, ◌+◌, ◌<◌, ◌≤◌, Bool, true, false, not, ◌&&◌, ◌||◌, if◌then◌else◌, eqb}
+use Rattle.std.proofs.Common.{List, [], ◌∷◌, ◌++◌, length, map, get_or, Option, Some, refl, sym, ap, ap₂, subst, ◌∙◌}
+use Rattle.std.proofs.Common.{inl, inr}
+use Rattle.std.proofs.Common.{◌⊎◌, arith, append_assoc}
+use Rattle.std.specs.Prelude.{ℤ, pos, ◌+ℤ◌, ◌-ℤ◌, ◌≤ℤ◌, slice_get, slice_set}
+use Rattle.std.specs.List.{filter, flat_map, list_any}
+use Rattle.std.specs.Option.{option_to_list}
+use Rattle.std.proofs.lemmas.Bool.{cases_Bool, cond-true, cond-false, eqb-true, eqb-false, false≢true, and_parts}
+use Rattle.std.proofs.lemmas.Bool.{and_from}
+use Rattle.std.proofs.lemmas.List.{append-nil}
+use Rattle.std.proofs.lemmas.Option.{slice_get_within}
+use Rattle.std.proofs.lemmas.Grind.{flat_map-append}
+use Rattle.bbm_rule.specs.Plane.{partner}
+use Rattle.bbm_rule.specs.Spans.{in_span}
+use Rattle.bbm_rule.specs.declared.block.Cell.{Cell}
+use Rattle.bbm_rule.proofs.Spans.{partner_near}
+use Rattle.module_box.specs.Boxes.{in_box, in_halo, in_ring, IsEven}
+use Rattle.module_box.specs.Tiling.{AreOwners, Owning, owner_of, rectangle}
+use Rattle.module_box.specs.declared.boxes.Box2.{Box2}
+use Rattle.module_box.proofs.BoxCells.{in_box_nats}
+use Rattle.module_box.proofs.RingTests.{ring_read}
+use Rattle.certificate_lines.specs.Entries.{edge_in}
+use Rattle.certificate_lines.specs.declared.certificate_line.Border.{Border}
+use Rattle.certificate_lines.specs.declared.certificate_line.CertificateLine.{CertificateLine}
+use Rattle.certificate_lines.specs.declared.certificate_line.CertificateLine.TheVariants.{Edge}
+use Rattle.certificate_lines.proofs.Lists.{some_is}
+use Rattle.certificate_lines.proofs.OddBlocks.{halo_either}
+use Rattle.certificate.specs.HaloPlaces.{AreReady, HaveEdges, HavePlace, IsInnerCell, edges_at, list_at}
+use Rattle.certificate.proofs.BesideLines.{filter-append}
+
+-- ---- one list of several
+
+module _ {X : Type 0} (f : X → List ℕ) where
+  pub list_written : (xs : List X) (n : ℕ) (v : X) → n < length xs → list_at (map f (slice_set xs n v)) n ≡ f v
+  list_written [] n v lt = absurd (omega arith)
+  list_written (x ∷ xs) zero v lt = refl
+  list_written (x ∷ xs) (suc n) v lt = list_written xs n v (omega arith)
+
+  pub list_left : (xs : List X) (n i : ℕ) (v : X) → (i ≡ n → ⊥) →
+      list_at (map f (slice_set xs n v)) i ≡ list_at (map f xs) i
+  list_left [] n i v ne = refl
+  list_left (x ∷ xs) zero zero v ne = absurd (ne refl)
+  list_left (x ∷ xs) zero (suc i) v ne = refl
+  list_left (x ∷ xs) (suc n) zero v ne = refl
+  list_left (x ∷ xs) (suc n) (suc i) v ne = list_left xs n i v (λ e. ne (ap suc e))
+
+  pub list_read : (xs : List X) (n : ℕ) (v : X) → n < length xs → v ≡ get_or xs n v → list_at (map f xs) n ≡ f v
+  list_read [] n v lt is = absurd (omega arith)
+  list_read (x ∷ xs) zero v lt is = ap f (sym is)
+  list_read (x ∷ xs) (suc n) v lt is = list_read xs n v (omega arith) is
+
+  -- one more empty list
+  pub list_pushed : (xs : List X) (y : X) → ((i : ℕ) → list_at (map f xs) i ≡ []) → f y ≡ [] → (i : ℕ) →
+      list_at (map f (xs ++ y ∷ [])) i ≡ []
+  list_pushed [] y h e zero = e
+  list_pushed [] y h e (suc i) = refl
+  list_pushed (x ∷ xs) y h e zero = h 0
+  list_pushed (x ∷ xs) y h e (suc i) = list_pushed xs y (λ j. h (suc j)) e i
+
+-- ---- a place more for the box that has a cell
+
+pub owner_within : (boxes : List Box2) (o : Owning) (x y : ℤ) → AreOwners o boxes →
+    in_box (rectangle o) x y ≡ true → owner_of o x y < length boxes
+owner_within boxes o x y good inside =
+    let named = good.named x y inside in slice_get_within boxes (owner_of o x y) named.0 named.1
+
+module _ (boxes : List Box2) (o : Owning) (good : AreOwners o boxes) (x y : ℤ)
+    (inside : in_box (rectangle o) x y ≡ true) where
+  owner_is : (i : ℕ) (b : Box2) → slice_get boxes i ≡ Some b → in_box b x y ≡ true → i ≡ owner_of o x y
+  owner_is i b at here =
+      let named = good.named x y inside in
+      good.tile.once x y i (owner_of o x y) b named.0 at named.1 here named.2
+
+  owner_box : (b : Box2) → slice_get boxes (owner_of o x y) ≡ Some b → in_box b x y ≡ true
+  owner_box b at =
+      let named = good.named x y inside in
+      subst (λ (z : Box2). in_box z x y ≡ true) (some_is named.0 b (sym named.1 ∙ at)) named.2
+
+  same_box : (i : ℕ) (b a : Box2) → slice_get boxes i ≡ Some b → slice_get boxes (owner_of o x y) ≡ Some a →
+      i ≡ owner_of o x y → b ≡ a
+  same_box i b a at own is = some_is b a (sym at ∙ ap (slice_get boxes) is ∙ own)
+
+  module _ (q : Box2 → Bool) (a : Box2) (own : slice_get boxes (owner_of o x y) ≡ Some a) (place : ℕ) where
+    -- if that box is to have none
+    pub no_place : (lists : List (List ℕ)) → q a ≡ true →
+        HavePlace boxes (λ b. in_box b x y && not (q b)) place lists lists
+    no_place lists taken = record {
+      count = refl;
+      each = λ i b at.
+          let none : (in_box b x y && not (q b)) ≡ false = elim (cases_Bool (in_box b x y)) [
+            | inl here ↦ ap (λ t. in_box b x y && not t)
+                (ap q (same_box i b a at own (owner_is i b at here)) ∙ taken) ∙ and_none (in_box b x y)
+            | inr out ↦ ap (λ t. t && not (q b)) out
+          ] in
+          sym (append-nil (list_at lists i))
+          ∙ ap (λ l. list_at lists i ++ l) (sym (cond-false _ _ _ none));
+    }
+      where
+        and_none : (t : Bool) → (t && false) ≡ false
+        and_none true = refl
+        and_none false = refl
+
+    pub one_place : (old new : List (List ℕ)) → q a ≡ false → length new ≡ length old →
+        list_at new (owner_of o x y) ≡ list_at old (owner_of o x y) ++ place ∷ [] →
+        ((i : ℕ) → (i ≡ owner_of o x y → ⊥) → list_at new i ≡ list_at old i) →
+        HavePlace boxes (λ b. in_box b x y && not (q b)) place old new
+    one_place old new free count here others = record {
+      count = count;
+      each = λ i b at. elim (cases_Bool (eqb i (owner_of o x y))) [
+        | inl e ↦
+            let is : i ≡ owner_of o x y = eqb-true i (owner_of o x y) e in
+            let box : b ≡ a = same_box i b a at own is in
+            let yes : (in_box b x y && not (q b)) ≡ true =
+            ap₂ (λ s t. s && not t)
+            (ap (λ (z : Box2). in_box z x y) box ∙ owner_box a own) (ap q box ∙ free) in
+            ap (list_at new) is ∙ here ∙ ap (λ k. list_at old k ++ place ∷ []) (sym is)
+            ∙ ap (λ l. list_at old i ++ l) (sym (cond-true _ _ _ yes))
+        | inr e ↦
+            let other : i ≡ owner_of o x y → ⊥ = eqb-false i (owner_of o x y) e in
+            let no : (in_box b x y && not (q b)) ≡ false = elim (cases_Bool (in_box b x y)) [
+              | inl h ↦ absurd (other (owner_is i b at h))
+              | inr out ↦ ap (λ t. t && not (q b)) out
+            ] in
+            others i other ∙ sym (append-nil (list_at old i))
+            ∙ ap (λ l. list_at old i ++ l) (sym (cond-false _ _ _ no))
+      ];
+    }
+
+pub same_test : (boxes : List Box2) (p q : Box2 → Bool) (place : ℕ) (old new : List (List ℕ)) →
+    ((b : Box2) → p b ≡ q b) → HavePlace boxes p place old new → HavePlace boxes q place old new
+same_test boxes p q place old new same h = record {
+  count = h.count;
+  each = λ i b at. h.each i b at ∙ ap (λ t. list_at old i ++ (if t then place ∷ [] else [])) (same b);
+}
+
+-- ---- a place more for each box that has a cell in its halo
+
+at_most_one : (r s t : Bool) (p : ℕ) (l : List ℕ) → (r && s) ≡ false → (r && t) ≡ false → (s && t) ≡ false →
+    ((l ++ (if r then p ∷ [] else [])) ++ (if s then p ∷ [] else [])) ++ (if t then p ∷ [] else [])
+    ≡ l ++ (if r || s || t then p ∷ [] else [])
+at_most_one true true t p l e f g = absurd cc
+at_most_one true false true p l e f g = absurd cc
+at_most_one true false false p l e f g = append-nil ((l ++ p ∷ []) ++ []) ∙ append-nil (l ++ p ∷ [])
+at_most_one false true true p l e f g = absurd cc
+at_most_one false true false p l e f g = append-nil ((l ++ []) ++ p ∷ []) ∙ ap (λ k. k ++ p ∷ []) (append-nil l)
+at_most_one false false true p l e f g =
+    ap (λ k. k ++ p ∷ []) (append-nil (l ++ []) ∙ append-nil l)
+at_most_one false false false p l e f g = append-nil ((l ++ []) ++ []) ∙ append-nil (l ++ [])
+
+first_bit : Bool → Bool → Bool → Bool → Bool
+first_bit a a' b b' = (a' && b) && not ((a && b) || false)
+
+first_second : (a a' b b' : Bool) →
+    (((a' && b) && not ((a && b) || false)) && ((a && b') && not ((a && b) || ((a' && b) || false)))) ≡ false
+first_second a a' b b' = grind arith
+
+first_third : (a a' b b' : Bool) →
+    (((a' && b) && not ((a && b) || false))
+    && ((a' && b') && not ((a && b) || ((a' && b) || ((a && b') || false))))) ≡ false
+first_third a a' b b' = grind arith
+
+second_third : (a a' b b' : Bool) →
+    (((a && b') && not ((a && b) || ((a' && b) || false)))
+    && ((a' && b') && not ((a && b) || ((a' && b) || ((a && b') || false))))) ≡ false
+second_third a a' b b' = grind arith
+
+one_of_three : (a a' b b' : Bool) →
+    (((a' && b) && not ((a && b) || false)) || ((a && b') && not ((a && b) || ((a' && b) || false)))
+    || ((a' && b') && not ((a && b) || ((a' && b) || ((a && b') || false)))))
+    ≡ (not (a && b) && ((a || a') && (b || b')))
+one_of_three a a' b b' = grind arith
+
+module _ (x y : ℤ) where
+  abbrev x' : ℤ
+  x' = partner 1 x
+
+  abbrev y' : ℤ
+  y' = partner 1 y
+
+  abbrev pub side : Box2 → Bool
+  side b = in_box b x' y && not (in_box b x y || false)
+
+  abbrev pub above : Box2 → Bool
+  above b = in_box b x y' && not (in_box b x y || (in_box b x' y || false))
+
+  abbrev pub corner : Box2 → Bool
+  corner b = in_box b x' y' && not (in_box b x y || (in_box b x' y || (in_box b x y' || false)))
+
+  pub beside_places : (boxes : List Box2) (place : ℕ) (old l m new : List (List ℕ)) →
+      ((k : ℕ) (b : Box2) → slice_get boxes k ≡ Some b → IsEven b) →
+      HavePlace boxes side place old l → HavePlace boxes above place l m → HavePlace boxes corner place m new →
+      HavePlace boxes (λ b. in_halo b x y) place old new
+  unfolding in_box
+  beside_places boxes place old l m new even s a c = record {
+    count = c.count ∙ a.count ∙ s.count;
+    each = λ i b at.
+        let u = in_span b.x b.w x in let u' = in_span b.x b.w x' in
+        let v = in_span b.y b.h y in let v' = in_span b.y b.h y' in
+        c.each i b at ∙ ap (λ k. k ++ (if corner b then place ∷ [] else [])) (a.each i b at
+        ∙ ap (λ k. k ++ (if above b then place ∷ [] else [])) (s.each i b at))
+        ∙ at_most_one (side b) (above b) (corner b) place (list_at old i)
+        (first_second u u' v v') (first_third u u' v v') (second_third u u' v v')
+        ∙ ap (λ t. list_at old i ++ (if t then place ∷ [] else []))
+        (one_of_three u u' v v' ∙ halo_either b x y (even i b at));
+  }
+
+-- ---- cells that are not in the ring
+
+not_true : (t : Bool) → not t ≡ false → t ≡ true
+not_true true h = refl
+not_true false h = absurd cc
+
+partner_in : (f n : ℕ) (z : ℤ) → in_span f n (z -ℤ pos 1) ≡ true → in_span f n (z +ℤ pos 1) ≡ true →
+    in_span f n (partner 1 z) ≡ true
+partner_in f n z below above = elim (partner_near 1 z) [
+  | inl e ↦ ap (in_span f n) e ∙ above
+  | inr e ↦ ap (in_span f n) e ∙ below
+]
+
+-- the cells of its block at odd times are in the box too
+pub inner_block : (b : Box2) (c : Cell) → IsInnerCell b c →
+    (in_box b (partner 1 c.x) c.y ≡ true) × (in_box b c.x (partner 1 c.y) ≡ true)
+    × (in_box b (partner 1 c.x) (partner 1 c.y) ≡ true)
+unfolding in_box
+inner_block b c inner =
+    let here = and_parts (in_span b.x b.w c.x) (in_span b.y b.h c.y) inner.0 in
+    let all = not_true _ (ap (λ t. t && not ((in_span b.x b.w (c.x -ℤ pos 1) && in_span b.x b.w (c.x +ℤ pos 1))
+    && (in_span b.y b.h (c.y -ℤ pos 1) && in_span b.y b.h (c.y +ℤ pos 1)))) (sym inner.0)
+    ∙ ring_read b c.x c.y (in_box b c.x c.y) _ _ refl refl refl ∙ inner.1) in
+    let both = and_parts _ _ all in
+    let px = and_parts _ _ both.0 in let py = and_parts _ _ both.1 in
+    let ax = partner_in b.x b.w c.x px.0 px.1 in let ay = partner_in b.y b.h c.y py.0 py.1 in
+    (and_from _ _ ax here.1, and_from _ _ here.0 ay, and_from _ _ ax ay)
+
+-- ---- the edge lines at the places
+
+edges_more : (es : List CertificateLine) (l : List ℕ) (t : Bool) (place : ℕ) (e : Border) →
+    slice_get es place ≡ Some (Edge e) →
+    edges_at es (l ++ (if t then place ∷ [] else [])) ≡ edges_at es l ++ (if t then e ∷ [] else [])
+edges_more es l true place e at =
+    let line = λ (k : ℕ). flat_map edge_in (option_to_list (slice_get es k)) in
+    let grown : edges_at es (l ++ place ∷ []) ≡ edges_at es l ++ (line place ++ []) =
+    flat_map-append line l (place ∷ []) in
+    grown ∙ ap (λ (m : Option CertificateLine). edges_at es l ++ (flat_map edge_in (option_to_list m) ++ [])) at
+edges_more es l false place e at = ap (edges_at es) (append-nil l) ∙ sym (append-nil (edges_at es l))
+
+module _ (es : List CertificateLine) (boxes : List Box2) where
+  pub edge_placed : (place : ℕ) (e : Border) (old new : List (List ℕ)) → slice_get es place ≡ Some (Edge e) →
+      HavePlace boxes (λ b. in_halo b e.cell.x e.cell.y) place old new → HaveEdges es boxes (e ∷ []) old new
+  edge_placed place e old new at h = record {
+    count = h.count;
+    each = λ i b box. ap (edges_at es) (h.each i b box)
+        ∙ edges_more es (list_at old i) (in_halo b e.cell.x e.cell.y) place e at;
+  }
+
+  pub no_edges : (lists : List (List ℕ)) → HaveEdges es boxes [] lists lists
+  no_edges lists = record { count = refl; each = λ i b box. sym (append-nil (edges_at es (list_at lists i))) }
+
+  pub edges_then : (more next : List Border) (old l new : List (List ℕ)) → HaveEdges es boxes more old l →
+      HaveEdges es boxes next l new → HaveEdges es boxes (more ++ next) old new
+  edges_then more next old l new h k = record {
+    count = k.count ∙ h.count;
+    each = λ i b box.
+        let keep = λ (e : Border). in_halo b e.cell.x e.cell.y in
+        k.each i b box ∙ ap (λ m. m ++ filter keep next) (h.each i b box)
+        ∙ append_assoc (edges_at es (list_at old i)) (filter keep more) (filter keep next)
+        ∙ ap (λ m. edges_at es (list_at old i) ++ m) (sym (filter-append keep more next));
+  }
+
+-- ---- tables and lists
+
+pub still_ready : (boxes : List Box2) (o : Owning) (old new : List (List ℕ)) → AreReady boxes o old →
+    length new ≡ length old → AreReady boxes o new
+still_ready boxes o old new h same = record {
+  small = h.small;
+  owners = h.owners;
+  even = h.even;
+  count = same ∙ h.count;
+}

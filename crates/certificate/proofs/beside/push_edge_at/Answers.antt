@@ -1,0 +1,13 @@
+use Rattle.std.proofs.Common.{◌++◌, ◌∙◌, sym, ap}
+use Rattle.std.specs.List.{flat_map}
+use Rattle.std.specs.Option.{option_to_list}
+use Rattle.std.proofs.lemmas.List.{append-nil}
+use Rattle.std.proofs.lemmas.Option.{slice_get_past}
+use Rattle.certificate_lines.specs.Entries.{edge_in}
+use Rattle.certificate.proofs.beside.push_edge_at.Goals as goal
+
+pub returns-in-None : goal.returns-in-None
+returns-in-None c =
+    sym (append-nil c.args.halos.now.items)
+    ∙ ap (λ o. c.args.halos.now.items ++ flat_map edge_in (option_to_list o))
+    (sym (slice_get_past c.args.entries.now c.args.place c.in-None.ensures.lookup.3))

@@ -1,0 +1,69 @@
+use Rattle.std.proofs.Common.{◌≡◌, ◌∙◌, ◌<◌, ◌≤◌, List, length, map, sym, ap, subst, arith}
+use Rattle.std.specs.Prelude.{slice_get}
+use Rattle.std.specs.List.{All, flat_map}
+use Rattle.std.proofs.lemmas.List.{length-map}
+use Rattle.module_box.specs.Tiling.{AreOwners}
+use Rattle.module_box.specs.declared.boxes.Box2.{Box2}
+use Rattle.certificate_lines.specs.Entries.{ModuleLines, areas, edges, modules_of}
+use Rattle.certificate_lines.specs.Settings.{setting_of}
+use Rattle.certificate_lines.specs.declared.certificate_line.Border.{Border}
+use Rattle.certificate.specs.HaloPlaces.{IsInnerCell}
+use Rattle.certificate.proofs.HaloTables.{all_placed, even_areas, inner_edges, none_placed}
+use Rattle.certificate.proofs.halo_places.halo_places.Goals as goal
+
+pub returns-then-size-le1 : goal.returns-then-size-le1
+returns-then-size-le1 c =
+    let p = c.args.tables.now in let g = setting_of p.circuit p.layout in
+    let es = c.args.entries.now in
+    let boxes_are : c.in_ok-boxes.boxes.items ≡ areas (modules_of es) =
+    c.in_ok-boxes.ensures ∙ ap areas c.requires.parts in
+    let steps : c.size-size.result.steps ≡ g.size.steps =
+    ap (λ s. s.steps) (c.size-size.ensures.size ∙ ap (λ q. q.size) c.layout.ensures) in
+    let same_count : length c.in_ok-lists.lists.items ≡ length c.in_ok-boxes.boxes.items =
+    omega (arith, c.in_ok-lists.ensures.count, c.len.ensures, c.in_ok-boxes.boxes.ok) in
+    none_placed g es (map (λ l. l.items) c.in_ok-lists.lists.items) (subst (λ n. n ≤ 1) steps c.if-size-le1.true)
+    (length-map c.in_ok-lists.lists.items (λ l. l.items) ∙ same_count
+    ∙ ap length boxes_are ∙ length-map (modules_of es) (λ (m : ModuleLines). m.area)) c.in_ok-lists.ensures.empty
+
+pub push_modules-requires-clause-table : goal.push_modules-requires-clause-table
+push_modules-requires-clause-table c =
+    let p = c.args.tables.now in let g = setting_of p.circuit p.layout in
+    let es = c.args.entries.now in
+    let boxes_are : c.as_slice-2.result.now ≡ areas (modules_of es) =
+    c.as_slice-2.ensures.value ∙ c.in_ok-boxes.ensures ∙ ap areas c.requires.parts in
+    let same_count : length c.in_ok-lists.lists.items ≡ length c.in_ok-boxes.boxes.items =
+    omega (arith, c.in_ok-lists.ensures.count, c.len.ensures, c.in_ok-boxes.boxes.ok) in
+    record {
+      small = c.in_ok-owners.ensures.small;
+      owners = subst (λ (bs : List Box2). AreOwners c.in_ok-owners.owners bs)
+          (c.as_slice.ensures.value ∙ sym c.as_slice-2.ensures.value) c.in_ok-owners.ensures.owners;
+      even = λ k b at. even_areas g (modules_of es) c.requires.modules k b
+          (ap (λ (bs : List Box2). slice_get bs k) (sym boxes_are) ∙ at);
+      count = length-map c.in_ok-lists.lists.items (λ l. l.items) ∙ same_count
+          ∙ sym (ap length c.as_slice-2.ensures.value);
+    }
+
+pub push_modules-requires-clause-inner : goal.push_modules-requires-clause-inner
+push_modules-requires-clause-inner c =
+    let p = c.args.tables.now in let g = setting_of p.circuit p.layout in
+    let ms = modules_of c.args.entries.now in
+    subst (λ (b : Box2). All (λ (e : Border). IsInnerCell b e.cell) (flat_map edges ms))
+    (sym c.in_ok-owners.ensures.rectangle) (inner_edges g ms c.requires.modules)
+
+pub returns : goal.returns
+returns c =
+    let p = c.args.tables.now in let g = setting_of p.circuit p.layout in
+    let es = c.args.entries.now in
+    let boxes_are : c.as_slice-2.result.now ≡ areas (modules_of es) =
+    c.as_slice-2.ensures.value ∙ c.in_ok-boxes.ensures ∙ ap areas c.requires.parts in
+    let steps : c.size-size.result.steps ≡ g.size.steps =
+    ap (λ s. s.steps) (c.size-size.ensures.size ∙ ap (λ q. q.size) c.layout.ensures) in
+    let more = c.if-size-le1.false in
+    let same_count : length c.in_ok-lists.lists.items ≡ length c.in_ok-boxes.boxes.items =
+    omega (arith, c.in_ok-lists.ensures.count, c.len.ensures, c.in_ok-boxes.boxes.ok) in
+    all_placed g es c.as_slice-2.result.now (map (λ l. l.items) c.in_ok-lists.lists.items)
+    (map (λ l. l.items) c.push_modules.new.lists.items) (subst (λ n. 1 < n) steps (omega (arith, more))) boxes_are
+    (length-map c.in_ok-lists.lists.items (λ l. l.items) ∙ same_count
+    ∙ sym (ap length c.as_slice-2.ensures.value) ∙ ap length boxes_are
+    ∙ length-map (modules_of es) (λ (m : ModuleLines). m.area)) c.in_ok-lists.ensures.empty
+    c.in_ok-push_modules.ensures
