@@ -4,7 +4,7 @@ and how many of these are definitions that the statement reaches. A file comes a
 
 usage: tools/docs/reading_list.py [--definitions] [--check PAGE] [FILE]
 
-FILE is headline/specs/Headline.antt if it is left out. --definitions names the definitions that are reached, and the definitions of the kit's
+FILE is meaning/specs/Headline.antt if it is left out. --definitions names the definitions that are reached, and the definitions of the kit's
 library that these name. --check compares a page: each row of its table that begins with the path of a file must have that file's count, and so
 must each "N files" behind the name of this command with a FILE. It also looks for definitions of specs/ that this script does not find.
 """
@@ -13,7 +13,7 @@ import sys
 from pathlib import Path
 
 CRATES = Path(__file__).resolve().parent.parent.parent / "crates"
-STATEMENT = "headline/specs/Headline.antt"
+STATEMENT = "meaning/specs/Headline.antt"
 HEAD = re.compile(r"^(?:(?:abbrev|unfoldable|pub|infixl|infixr)\s+)*(\S+)\s*(?:\{[^}]*\}|\([^)]*\)|\s)*:(?:\s|$)")
 # A record has its name before its parameters, which may take more lines and may have parentheses in parentheses.
 RECORD = re.compile(r"^(?:(?:abbrev|unfoldable|pub)\s+)*(?:record|data)\s+(\S+)")

@@ -45,7 +45,7 @@ use Rattle.local_run.specs.declared.fault.Kind.TheVariants.{Edge, End, Stop as A
 use Rattle.local_run.proofs.Decided.{fault_same}
 use Rattle.border_match.proofs.Modules.{there}
 use Rattle.audit_core.specs.HeadlineLaws.{BelongTogether, HasInputNames, IsRunOfJobs}
-use Rattle.audit_core.specs.Implements.{IsCorrect, LooksAsAsked, in_ports, run_under}
+use Rattle.meaning.specs.Implements.{IsCorrect, LooksAsAsked, in_ports, run_under}
 use Rattle.audit_core.specs.FirstFaults.{EndFaultMeansIncorrect, FirstFaultIsReal, HasAssignment, HasGoodBorders}
 use Rattle.audit_core.specs.FirstFaults.{IsAsCertified, IsAssignmentOf, IsFirstFault, IsReal}
 use Rattle.audit_core.proofs.InputRuns.{at_place, inputs_decide}

@@ -33,7 +33,7 @@ use Rattle.module_box.specs.declared.schedules.Signal.TheVariants.{One}
 use Rattle.certificate_lines.proofs.Lists.{any_at, kept, passed, same_truth}
 use Rattle.certificate_lines.proofs.LayoutPorts.{port_stands, none_stands}
 use Rattle.bbm_rule.proofs.SameCells.{cell_same, cell_itself}
-use Rattle.audit_core.specs.Implements.{in_ports}
+use Rattle.meaning.specs.Implements.{in_ports}
 
 -- ---- the ports at a cell
 

@@ -60,7 +60,7 @@ use Rattle.border_match.proofs.Modules.{there}
 use Rattle.certificate.specs.Keeps as keeping
 use Rattle.certificate.specs.Keeps.{unkept, unkept_from}
 use Rattle.audit_core.specs.HeadlineLaws.{BelongTogether, HasInputNames, IsAcceptedBundle, IsInputName, IsRunOfJobs}
-use Rattle.audit_core.specs.Implements.{IsCorrect, run_under}
+use Rattle.meaning.specs.Implements.{IsCorrect, run_under}
 use Rattle.audit_core.specs.FirstFaults.{HasGoodBorders, IsAsCertified, IsAssignmentOf, IsFirstFault, HasAssignment}
 use Rattle.audit_core.specs.PlainCertificates.{IsPlain, IsWrongDesign, PlainCertificateDecides, PlainNoMeansWrong}
 use Rattle.audit_core.specs.PlainCertificates.{TouchesRim, UntimedIsOnTime, IsLiveOnRim, LacksValues, LineMeans}

@@ -43,7 +43,7 @@ use Rattle.local_run.proofs.LocalRuns.{even_or_odd, local_even, local_odd}
 use Rattle.local_run.proofs.OwnWires as own
 use Rattle.border_match.proofs.Modules.{area_at, there}
 use Rattle.border_match.proofs.SameSignals.{same_at}
-use Rattle.audit_core.specs.Implements.{LooksAsAsked, run_under}
+use Rattle.meaning.specs.Implements.{LooksAsAsked, run_under}
 use Rattle.audit_core.specs.FirstFaults.{HasGoodBorders, IsAssignmentOf, StepsWithGoodBorders}
 use Rattle.audit_core.specs.PlainCertificates.{AcceptedKeepsOffRim}
 use Rattle.audit_core.specs.OnTime.{StopHolds}

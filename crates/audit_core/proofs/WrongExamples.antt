@@ -10,7 +10,7 @@ use Rattle.circuit.specs.declared.circuit_line.Kind.TheVariants.{Input, Output}
 use Rattle.pattern.specs.Layout.{Pattern, start}
 use Rattle.pattern.specs.declared.layout_line.Port.{Port}
 use Rattle.audit_core.specs.HeadlineLaws.{WrongExample}
-use Rattle.audit_core.specs.Implements.{IsCorrect, run_under}
+use Rattle.meaning.specs.Implements.{IsCorrect, run_under}
 
 abbrev name_a : List ℕ
 name_a = 97 ∷ []

@@ -11,7 +11,7 @@ use Rattle.module_job.specs.Jobs.{JobView}
 use Rattle.certificate_lines.specs.Modules.{AreModules}
 use Rattle.audit_core.specs.Concluding.{AreOwnJobs, modules, port_names_of, setting}
 use Rattle.audit_core.specs.HeadlineLaws.{BelongTogether, IsAcceptedBundle}
-use Rattle.audit_core.specs.Implements.{IsCorrect}
+use Rattle.meaning.specs.Implements.{IsCorrect}
 use Rattle.audit_core.specs.OnTime.{IsOnTime}
 use Rattle.audit_core.specs.Verdicts.{IsVerdict}
 use Rattle.audit_core.specs.declared.verdict.Verdict.TheVariants.{Yes}

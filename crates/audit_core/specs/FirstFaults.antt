@@ -1,6 +1,7 @@
 -- The meaning of the first fault: the whole run has it too. The jobs run as the plane does while no border has a fault.
 --
--- Read before: Implements.antt; certificate_lines/specs/Entries.antt up to `stop_in` (the lines of a module).
+-- Read before: meaning/specs/Implements.antt; certificate_lines/specs/Entries.antt up to `stop_in` (the lines of a
+-- module).
 use Rattle.std.specs.Prelude.{◌≡◌, ℕ, suc, ℤ, ◌<◌, ◌≤◌, List, Some, Contains, slice_get}
 use Rattle.std.specs.declared.vec.Vec.{Vec}
 use Rattle.std.specs.declared.alloc.Global.{Global}
@@ -23,7 +24,7 @@ use Rattle.local_run.specs.declared.fault.Kind.TheVariants.{Edge, Stop, End}
 use Rattle.border_match.specs.BorderFaults.{IsBorderFault, edge_signal}
 use Rattle.border_match.specs.declared.fault.BorderFault.{BorderFault}
 use Rattle.audit_core.specs.HeadlineLaws.{BelongTogether, HasInputNames, IsRunOfJobs}
-use Rattle.audit_core.specs.Implements.{IsCorrect, LooksAsAsked, run_under}
+use Rattle.meaning.specs.Implements.{IsCorrect, LooksAsAsked, run_under}
 use Rattle.audit_core.specs.Verdicts.{IsVerdict}
 use Rattle.audit_core.specs.declared.verdict.Verdict.TheVariants.{No}
 use Rattle.audit_core.specs.declared.verdict.ReportLine.{ReportLine}

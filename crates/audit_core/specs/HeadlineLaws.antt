@@ -21,7 +21,7 @@ use Rattle.local_run.specs.declared.fault.Fault.{Fault}
 use Rattle.local_run.specs.declared.fault.Kind.TheVariants.{End}
 use Rattle.border_match.specs.BorderFaults.{IsBorderFault}
 use Rattle.border_match.specs.declared.fault.BorderFault.{BorderFault}
-use Rattle.audit_core.specs.Implements.{IsCorrect, IsNamed, LooksAsAsked, run_under}
+use Rattle.meaning.specs.Implements.{IsCorrect, IsNamed, LooksAsAsked, run_under}
 use Rattle.audit_core.specs.OnTime.{IsOnTime}
 use Rattle.audit_core.specs.Verdicts.{Accepts}
 

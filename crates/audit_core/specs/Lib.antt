@@ -10,7 +10,6 @@ pub mod Verdicts
 pub mod Filling
 pub mod Concluding
 pub mod CoreLaws
-pub mod Implements
 pub mod OnTime
 pub mod HeadlineLaws
 pub mod ModuleLaws

@@ -7,7 +7,7 @@ use Rattle.certificate_lines.specs.Entries.{ModuleLines}
 use Rattle.certificate.specs.Arrivals.{AreOnTime}
 use Rattle.certificate.specs.Times.{all_stops}
 use Rattle.certificate_lines.specs.declared.certificate_line.StopLine.{StopLine}
-use Rattle.audit_core.specs.Implements.{run_under}
+use Rattle.meaning.specs.Implements.{run_under}
 
 -- for all values of the inputs, the cell of the stop is live at its time exactly if its wire is true
 abbrev pub StopHolds : Circuit → Pattern → StopLine → Type 0

@@ -1,6 +1,6 @@
 -- The meaning of a no under a plain certificate, of one module that is the whole rectangle: `check` decides the layout.
 --
--- Read before: Implements.antt, OnTime.antt, FirstFaults.antt.
+-- Read before: meaning/specs/Implements.antt, OnTime.antt, FirstFaults.antt.
 use Rattle.std.specs.Prelude.{◌≡◌, ◌≢◌, ℕ, ℤ, ◌<◌, ◌%◌, ◌↔◌, ◌⊎◌, List, [], ◌∷◌, Some, None, slice_get, IsTrue}
 use Rattle.std.specs.List.{All}
 use Rattle.std.specs.declared.vec.Vec.{Vec}
@@ -22,7 +22,7 @@ use Rattle.local_run.specs.declared.fault.Fault.{Fault}
 use Rattle.local_run.specs.declared.fault.Kind.TheVariants.{Edge, Stop}
 use Rattle.audit_core.specs.FirstFaults.{HasAssignment, IsReal}
 use Rattle.audit_core.specs.HeadlineLaws.{BelongTogether, HasInputNames, IsInputName}
-use Rattle.audit_core.specs.Implements.{IsCorrect, IsNamed, run_under}
+use Rattle.meaning.specs.Implements.{IsCorrect, IsNamed, run_under}
 use Rattle.audit_core.specs.OnTime.{IsOnTime, StopHolds}
 use Rattle.audit_core.specs.Verdicts.{Accepts, IsVerdict}
 use Rattle.audit_core.specs.declared.verdict.Verdict.TheVariants.{No}

@@ -8,7 +8,7 @@ ghost use Rattle.pattern.specs.Lines.{AreNamed};
 ghost use Rattle.border_match.specs.BorderFaults.{AreBorderFaultsOf};
 ghost use Rattle.certificate.specs.Times.{are_all_obeyed};
 ghost use Rattle.audit_core.specs.Concluding.{AreOwnJobs, modules, port_names_of, setting};
-ghost use Rattle.audit_core.specs.Implements.{IsCorrect};
+ghost use Rattle.meaning.specs.Implements.{IsCorrect};
 ghost use Rattle.audit_core.specs.OnTime.{IsOnTime};
 ghost use Rattle.audit_core.specs.Verdicts.{AreHeldBelow, AreLeastFaults, IsFirstMissing, IsToldOf, IsVerdict, border_line, keep_line, lines_from, local_line, timing};
 ghost use Rattle.local_run.specs.Shown.{job_of};
@@ -34,7 +34,7 @@ use std::sync::Arc;
 /// - nothing leaves its rectangle,
 /// - each stop holds on the whole layout, and the rules on delays and meetings are kept.
 ///
-/// `specs/Implements.antt` and `specs/OnTime.antt` define this.
+/// `meaning/specs/Implements.antt` and `specs/OnTime.antt` define this.
 ///
 /// # Errors
 ///

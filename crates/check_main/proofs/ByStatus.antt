@@ -9,7 +9,7 @@ use Rattle.command_line.specs.CommandLine.{AsksForHelp, IsAccepted, IsHelpAlone,
 use Rattle.command_line.specs.declared.Request.TheVariants.{Check}
 use Rattle.answers.specs.declared.outcome.Outcome.{Outcome}
 use Rattle.answers.specs.declared.outcome.Outcome.TheVariants.{Yes, No, Refused}
-use Rattle.headline.specs.Headline.{Gives, IsRight, YesMeans}
+use Rattle.meaning.specs.Headline.{Gives, IsRight, YesMeans}
 use Rattle.headline.specs.Stops.{HasRightStops}
 use Rattle.headline.specs.Plain.{IsWrongIfPlain}
 use Rattle.headline.specs.SmallDesigns.{IsNoSmallDesign}

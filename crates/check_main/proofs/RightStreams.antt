@@ -8,7 +8,7 @@ use Rattle.section_text.specs.Words.{lines_of}
 use Rattle.answers.specs.CheckText.{IsReportOf}
 use Rattle.answers.specs.declared.outcome.Outcome.{Outcome}
 use Rattle.answers.specs.declared.outcome.Outcome.TheVariants.{Yes}
-use Rattle.headline.specs.Headline.{Gives, SaysYes, YesMeans}
+use Rattle.meaning.specs.Headline.{Gives, SaysYes, YesMeans}
 use Rattle.headline.specs.ReportLines.{Relates}
 use Rattle.headline.proofs.FourthLines.{says_on}
 use Rattle.headline.proofs.YesIsRight.{by_line}

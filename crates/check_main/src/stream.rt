@@ -2,7 +2,7 @@
 ghost use Rattle.std.specs.Prelude.{◌≡◌, ◌≢◌, ◌<◌, ◌≤◌, true, false, Ok, IfOk, IfErr, IsErrOf, OnOk, length};
 ghost use Rattle.std.specs.Io.KnownBytes.{Appends};
 ghost use Rattle.answers.specs.CheckText.{IsReportOf};
-ghost use Rattle.headline.specs.Headline.{Gives, IsRight};
+ghost use Rattle.meaning.specs.Headline.{Gives, IsRight};
 ghost use Rattle.headline.specs.Stops.{HasRightStops};
 ghost use Rattle.headline.specs.Plain.{IsWrongIfPlain};
 ghost use Rattle.headline.specs.SmallDesigns.{IsNoSmallDesign};
@@ -36,7 +36,7 @@ const MAX_READ_BYTES: usize = 65_536;
 /// If the verdict is `Yes`, or `verdict yes` is the fourth line of the output,
 ///
 /// - the text begins with a circuit and a layout, and the whole layout computes the circuit
-///   (`headline/specs/Headline.antt`);
+///   (`meaning/specs/Headline.antt`);
 /// - it goes on with a certificate whose stops hold on the whole layout (`headline/specs/Stops.antt`).
 ///
 /// If it is `No`, and the certificate is one plain module, the whole rectangle, the text is wrong

@@ -11,7 +11,7 @@ use Rattle.circuit.specs.declared.circuit_line.CircuitLine.{CircuitLine}
 use Rattle.pattern.specs.Grammars.{layout_grammar, layout_value}
 use Rattle.pattern.specs.Forms.{form_of as layout_form}
 use Rattle.pattern.specs.Layout.{Pattern, parts_of}
-use Rattle.headline.specs.Design.{SaysDesign}
+use Rattle.meaning.specs.Design.{SaysDesign}
 use Rattle.certificate_lines.specs.Entries.{Setting}
 use Rattle.certificate_lines.specs.Forms.{form_of as certificate_form}
 use Rattle.certificate.specs.Grammars.{certificate_grammar}

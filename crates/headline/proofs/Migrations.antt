@@ -50,7 +50,7 @@ use Rattle.answers.specs.MigrateText.{IsMigrationOf, SaysMigration, bundle_text,
 use Rattle.answers.specs.MigrateText.{layout_lines, migrate_of}
 use Rattle.answers.specs.declared.outcome.Outcome.TheVariants.{Yes, Refused}
 use Rattle.headline.specs.Migration.{KeepsVersionTwo, MigratesOnce, MigrationSaysTheSame}
-use Rattle.headline.specs.Design.{SaysDesign}
+use Rattle.meaning.specs.Design.{SaysDesign}
 use Rattle.headline.specs.Stops.{SaysBundle}
 use Rattle.headline.proofs.YesIsRight.{went_on}
 

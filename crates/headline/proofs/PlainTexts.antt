@@ -38,7 +38,7 @@ use Rattle.headline.specs.PlainLaws.{NoLinesTell, PlainIsDecided, PlainNoMeansWr
 use Rattle.audit_core.specs.declared.verdict.ReportLine.TheVariants.{Local, Keep, Border, Unkept, Delay, Meet}
 use Rattle.audit_core.specs.FirstFaults.{HasAssignment, IsAsCertified, IsEarliestLine, IsReal}
 use Rattle.audit_core.specs.HeadlineLaws.{BelongTogether, HasInputNames, IsInputName}
-use Rattle.audit_core.specs.Implements.{IsCorrect}
+use Rattle.meaning.specs.Implements.{IsCorrect}
 use Rattle.audit_core.specs.PlainCertificates.{IsPlain, IsWrongDesign, TouchesRim, LineMeans}
 use Rattle.audit_core.specs.OnTime.{IsOnTime, StopHolds}
 use Rattle.audit_core.specs.Verdicts.{Accepts, IsVerdict}
@@ -54,8 +54,8 @@ use Rattle.answers.specs.BundleText.{Bundle, bundle_of}
 use Rattle.answers.specs.CheckText.{SaysReport, verdict_outcome}
 use Rattle.answers.specs.declared.outcome.Outcome.{Outcome}
 use Rattle.answers.specs.declared.outcome.Outcome.TheVariants.{Yes, No, Refused}
-use Rattle.headline.specs.Design.{SaysDesign}
-use Rattle.headline.specs.Headline.{IsRight}
+use Rattle.meaning.specs.Design.{SaysDesign}
+use Rattle.meaning.specs.Headline.{IsRight}
 use Rattle.headline.specs.Stops.{HasRightStops, SaysBundle}
 use Rattle.headline.proofs.Designs.{one_certificate, one_design}
 use Rattle.headline.proofs.YesIsRight.{bundle_good, by_outcome, certificate_faultless, known, yes_has_right_stops}

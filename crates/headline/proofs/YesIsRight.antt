@@ -48,7 +48,7 @@ use Rattle.certificate.proofs.MeantLines.{stops_meant}
 use Rattle.certificate.proofs.TimeLemmas.{all_in_modules}
 use Rattle.audit_core.specs.OnTime.{StopHolds}
 use Rattle.audit_core.specs.Concluding.{port_names_of}
-use Rattle.audit_core.specs.Implements.{IsCorrect}
+use Rattle.meaning.specs.Implements.{IsCorrect}
 use Rattle.audit_core.specs.Verdicts.{IsVerdict}
 use Rattle.report.specs.ReportText.{report_lines}
 use Rattle.audit_core.specs.declared.verdict.Verdict.{Verdict}
@@ -58,8 +58,8 @@ use Rattle.answers.specs.Answers.{Answered}
 use Rattle.pattern.specs.FromLines.{layout_of}
 use Rattle.answers.specs.BundleText.{Bundle, bundle_of}
 use Rattle.answers.specs.CheckText.{IsReportOf, SaysReport, verdict_outcome}
-use Rattle.headline.specs.Design.{SaysDesign}
-use Rattle.headline.specs.Headline.{IsRight, SaysYes}
+use Rattle.meaning.specs.Design.{SaysDesign}
+use Rattle.meaning.specs.Headline.{IsRight, SaysYes}
 use Rattle.headline.specs.Laws.{FourthLineTells, IsGoodDesign, ReportsOnGoodDesigns, YesHasOneValuation, YesMeansRight}
 use Rattle.headline.specs.Laws.{YesMeansRightStops}
 use Rattle.answers.proofs.Bundles.{same_setting}

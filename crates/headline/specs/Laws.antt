@@ -11,10 +11,10 @@ use Rattle.pattern.specs.Text.{layout_text}
 use Rattle.answers.specs.declared.outcome.Outcome.{Outcome}
 use Rattle.answers.specs.declared.outcome.Outcome.TheVariants.{Yes, Refused}
 use Rattle.answers.specs.CheckText.{IsReportOf}
-use Rattle.headline.specs.Design.{SaysDesign}
+use Rattle.meaning.specs.Design.{SaysDesign}
 use Rattle.headline.specs.ThereAndBack.{there_and_back}
 use Rattle.headline.specs.TimedModules.{timed_modules}
-use Rattle.headline.specs.Headline.{IsRight, SaysYes}
+use Rattle.meaning.specs.Headline.{IsRight, SaysYes}
 use Rattle.headline.specs.Stops.{HasRightStops, SaysBundle}
 
 -- a command has at most one answer to each text

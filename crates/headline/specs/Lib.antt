@@ -1,5 +1,3 @@
-pub mod Design
-pub mod Headline
 pub mod Stops
 pub mod ThereAndBack
 pub mod TimedModules

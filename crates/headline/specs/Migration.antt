@@ -7,7 +7,7 @@ use Rattle.certificate_lines.specs.declared.certificate_line.CertificateLine.{Ce
 use Rattle.answers.specs.declared.outcome.Outcome.TheVariants.{Yes}
 use Rattle.answers.specs.CheckText.{IsReportOf}
 use Rattle.answers.specs.MigrateText.{IsMigrationOf}
-use Rattle.headline.specs.Design.{SaysDesign}
+use Rattle.meaning.specs.Design.{SaysDesign}
 use Rattle.headline.specs.Stops.{SaysBundle}
 
 -- the text says this circuit, this layout and these lines of a certificate of this version

@@ -7,7 +7,7 @@ use Rattle.clap.specs.declared.error.kind.ErrorKind.TheVariants.{DisplayHelp, Di
 use Rattle.device.specs.declared.streams.Source.{Ghosts as Source}
 use Rattle.device.specs.declared.streams.Sink.{Ghosts as Sink}
 use Rattle.command_line.specs.declared.Request.{Request}
-use Rattle.headline.specs.Headline.{IsRight}
+use Rattle.meaning.specs.Headline.{IsRight}
 use Rattle.headline.specs.Stops.{HasRightStops}
 use Rattle.answers.specs.declared.outcome.Outcome.{Outcome}
 use Rattle.answers.specs.declared.outcome.Outcome.TheVariants.{Yes, No, Refused}

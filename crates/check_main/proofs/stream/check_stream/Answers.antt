@@ -1,6 +1,6 @@
 -- What was written is the report on what was read, or its first bytes, or nothing.
 use Rattle.std.proofs.Common.{refl}
-use Rattle.headline.specs.Headline.{IsRight}
+use Rattle.meaning.specs.Headline.{IsRight}
 use Rattle.headline.specs.Stops.{HasRightStops}
 use Rattle.headline.specs.Plain.{IsWrongIfPlain}
 use Rattle.headline.specs.SmallDesigns.{IsNoSmallDesign}

@@ -3,16 +3,16 @@
 -- Read before, in this order: section_text/specs/Words.antt (lines and words of bytes);
 -- bbm_rule/specs/{Plane,Spans}.antt (a step, a run, a rectangle); pattern/specs/Layout.antt (a layout, and its plane);
 -- circuit/specs/{Entries,Gates,Meaning,Bridge}.antt (the lines of a circuit, its gates, valuations);
--- audit_core/specs/Implements.antt (a layout computes a circuit); section_text/specs/SaidSection.antt,
--- circuit/specs/Forms.antt and pattern/specs/Forms.antt (a section, and what its lines say); Design.antt (what a text
--- says). The types that they name are in circuit/src/circuit_line.rt, bbm_rule/src/block.rt, pattern/src/layout_line.rt
--- and section_text/src/section.rt. `tools/docs/reading_list.py --definitions` names the definitions that are meant.
+-- Implements.antt (a layout computes a circuit); section_text/specs/SaidSection.antt, circuit/specs/Forms.antt and
+-- pattern/specs/Forms.antt (a section, and what its lines say); Design.antt (what a text says). The types that they
+-- name are in circuit/src/circuit_line.rt, bbm_rule/src/block.rt, pattern/src/layout_line.rt and
+-- section_text/src/section.rt. `tools/docs/reading_list.py --definitions` names the definitions that are meant.
 use Rattle.std.specs.Prelude.{◌≡◌, ℕ, List, ◌++◌, Option, Some, slice_get, codes}
 use Rattle.section_text.specs.Words.{lines_of}
 use Rattle.circuit.specs.declared.circuit_line.CircuitLine.{CircuitLine}
 use Rattle.pattern.specs.Layout.{Pattern}
-use Rattle.audit_core.specs.Implements.{IsCorrect}
-use Rattle.headline.specs.Design.{SaysDesign}
+use Rattle.meaning.specs.Implements.{IsCorrect}
+use Rattle.meaning.specs.Design.{SaysDesign}
 
 -- the text says a circuit and then a layout, and the layout computes the circuit
 pub record IsRight (text : List ℕ) : Type 0 where

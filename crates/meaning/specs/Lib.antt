@@ -1,0 +1,3 @@
+pub mod Implements
+pub mod Design
+pub mod Headline
