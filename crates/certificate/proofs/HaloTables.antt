@@ -1,40 +1,33 @@
 -- The lists of the edge lines beside each module, from the modules of a certificate
-use Rattle.std.proofs.Common.{◌≡◌, ℕ, zero, suc, ◌+◌, ◌<◌, ◌≤◌, Bool, ℤ, inl, inr, true, false, List, [], ◌∷◌, ◌++◌}
-use Rattle.std.proofs.Common.{length, map, take}
-use Rattle.std.proofs.Common.{drop, get_or, Some, refl, sym, ap, ap₂, subst, ◌∙◌, arith}
+use Rattle.std.proofs.Common.{◌≡◌, ℕ, zero, suc, ◌+◌, ◌<◌, ◌≤◌, ℤ, inl, inr, true, false, List, [], ◌∷◌, ◌++◌}
+use Rattle.std.proofs.Common.{length}
+use Rattle.std.proofs.Common.{drop, get_or, Some, refl, sym, ap, subst, ◌∙◌, arith}
 use Rattle.std.specs.Prelude.{slice_get, nat_lt}
 use Rattle.std.specs.List.{All, filter, flat_map}
 use Rattle.std.proofs.lemmas.Bool.{and_parts, cases_Bool, cond-true, cond-false}
-use Rattle.std.proofs.lemmas.List.{append-nil, drop_all, length-drop, length-map, take_all, take_more}
-use Rattle.std.proofs.lemmas.Option.{slice_get-get_or, slice_get_within}
+use Rattle.std.proofs.lemmas.List.{append-nil, drop_all, length-drop}
+use Rattle.std.proofs.lemmas.Option.{slice_get-get_or}
 use Rattle.std.proofs.lemmas.Bool.Decides.{nat_tests}
-use Rattle.pattern.specs.Lines.{size_fault}
-use Rattle.pattern.specs.declared.layout_line.LayoutHeader.{LayoutHeader}
-use Rattle.bbm_rule.specs.declared.block.Cell.{Cell}
 use Rattle.module_box.specs.Boxes.{in_box, in_halo, in_ring, IsEven}
-use Rattle.module_box.specs.Tiling.{AreOwners, IsTask, Owning, rectangle, rectangle_of}
 use Rattle.module_box.specs.declared.boxes.Box2.{Box2}
-use Rattle.certificate_lines.specs.Entries.{ModuleLines, Setting, areas, edge_in, edges, known, modules_of}
+use Rattle.certificate_lines.specs.Entries.{ModuleLines, Setting, areas, edge_in, edges, modules_of}
 use Rattle.certificate_lines.specs.ModuleParts.{inner, is_module}
-use Rattle.certificate_lines.specs.Modules.{AreModules, IsEdge, IsModule}
+use Rattle.certificate_lines.specs.Modules.{AreModules, IsModule}
 use Rattle.certificate_lines.specs.Rules.{whole}
 use Rattle.certificate_lines.specs.Versions.{beside}
 use Rattle.certificate_lines.specs.declared.certificate_line.Border.{Border}
 use Rattle.certificate_lines.specs.declared.certificate_line.CertificateLine.{CertificateLine}
 use Rattle.certificate_lines.specs.declared.certificate_line.CertificateLine.TheVariants.{Module, Cut, Use, Keep, Edge}
 use Rattle.certificate_lines.specs.declared.certificate_line.CertificateLine.TheVariants.{Halo, Stop}
-use Rattle.certificate_lines.proofs.FlatParts.{all_left, all_right}
 use Rattle.certificate_lines.proofs.InnerLines.{inner_module, inner_other}
 use Rattle.certificate_lines.proofs.LackedWires.{in_rectangle}
 use Rattle.certificate_lines.proofs.LinesLeft.{line_here, nothing_left}
-use Rattle.certificate_lines.proofs.Lists.{some_is}
 use Rattle.certificate_lines.proofs.ModuleSplit.{split_module, split_other}
 use Rattle.certificate_lines.proofs.OddBlocks.{area_of, mapped_at}
-use Rattle.certificate.specs.HaloPlaces.{AreHaloPlaces, AreLinesFrom, AreReady, HaveEdges, IsInnerCell, edges_at}
+use Rattle.certificate.specs.HaloPlaces.{AreHaloPlaces, AreLinesFrom, HaveEdges, IsInnerCell, edges_at}
 use Rattle.certificate.specs.HaloPlaces.{list_at}
 use Rattle.certificate.proofs.NearLines.{flat_all}
 use Rattle.certificate.proofs.TimeLemmas.{inner_within}
-use Rattle.certificate_lines.proofs.LinesLeft.{rest_of_lines}
 
 -- ---- the lines of a module among all lines
 

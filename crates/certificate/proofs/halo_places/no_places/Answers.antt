@@ -1,4 +1,4 @@
-use Rattle.std.proofs.Common.{◌≡◌, ◌∙◌, ◌++◌, ◌∷◌, [], List, map, ap, arith}
+use Rattle.std.proofs.Common.{◌∙◌, map, ap, arith}
 use Rattle.certificate.specs.HaloPlaces.{list_at}
 use Rattle.certificate.proofs.HaloLists.{list_pushed}
 use Rattle.certificate.proofs.halo_places.no_places.Goals as goal

@@ -1,5 +1,4 @@
 use Rattle.std.proofs.Common.{◌≤◌, ◌∙◌, ap, ap₂, subst, sym}
-use Rattle.pattern.specs.declared.layout_line.LayoutHeader.{LayoutHeader}
 use Rattle.module_box.specs.Tiling.{rectangle_of}
 use Rattle.certificate_lines.specs.Entries.{modules_of}
 use Rattle.certificate_lines.specs.Rules.{whole}

@@ -1,4 +1,4 @@
-use Rattle.std.proofs.Common.{◌≡◌, ◌∙◌, ◌++◌, ◌∷◌, [], ◌<◌, List, length, map, sym, ap, subst, arith}
+use Rattle.std.proofs.Common.{◌≡◌, ◌∙◌, ◌++◌, ◌∷◌, [], ◌<◌, length, map, sym, ap, subst, arith}
 use Rattle.std.specs.Prelude.{Some, slice_get}
 use Rattle.std.specs.List.{list_any}
 use Rattle.std.proofs.lemmas.List.{length-map}
@@ -6,7 +6,6 @@ use Rattle.std.proofs.lemmas.Option.{slice_get_within}
 use Rattle.bbm_rule.specs.declared.block.Cell.{Cell}
 use Rattle.module_box.specs.Boxes.{in_box}
 use Rattle.module_box.specs.Tiling.{owner_of}
-use Rattle.module_box.specs.declared.boxes.Box2.{Box2}
 use Rattle.certificate.specs.HaloPlaces.{list_at}
 use Rattle.certificate.proofs.HaloLists.{no_place, one_place, owner_within}
 use Rattle.certificate.proofs.halo_places.push_at.Goals as goal

@@ -1,4 +1,4 @@
-use Rattle.std.proofs.Common.{◌∙◌, ◌&&◌, ◌||◌, Bool, false, not, List, map, ap₂}
+use Rattle.std.proofs.Common.{◌∙◌, ◌&&◌, ◌||◌, Bool, false, not, map, ap₂}
 use Rattle.module_box.specs.Boxes.{in_box}
 use Rattle.module_box.specs.Tiling.{rectangle}
 use Rattle.certificate_lines.proofs.OddBlocks.{low_cell}

@@ -1,9 +1,9 @@
-use Rattle.std.proofs.Common.{◌≡◌, ◌∙◌, List, length, map, Some, sym, ap, subst}
+use Rattle.std.proofs.Common.{◌∙◌, map, Some, sym, ap, subst}
 use Rattle.std.proofs.lemmas.List.{length-map}
 use Rattle.certificate_lines.specs.Entries.{edge_in}
 use Rattle.certificate_lines.specs.declared.certificate_line.CertificateLine.{CertificateLine}
 use Rattle.certificate.specs.HaloPlaces.{HaveEdges}
-use Rattle.certificate.proofs.HaloLists.{edge_placed, no_edges}
+use Rattle.certificate.proofs.HaloLists.{edge_placed}
 use Rattle.certificate.proofs.halo_places.push_line.Goals as goal
 
 pub returns-in-Edge-clause-count : goal.returns-in-Edge-clause-count

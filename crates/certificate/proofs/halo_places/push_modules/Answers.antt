@@ -1,9 +1,9 @@
-use Rattle.std.proofs.Common.{◌≡◌, ◌∙◌, ◌+◌, ◌++◌, List, map, drop, true, sym, ap, subst, append_assoc}
+use Rattle.std.proofs.Common.{◌≡◌, ◌∙◌, ◌+◌, ◌++◌, List, map, drop, sym, ap, subst, append_assoc}
 use Rattle.std.specs.List.{All, flat_map}
 use Rattle.std.proofs.lemmas.List.{length-map}
 use Rattle.module_box.specs.Tiling.{rectangle}
 use Rattle.certificate_lines.specs.Entries.{edge_in, edges, modules_of}
-use Rattle.certificate_lines.specs.ModuleParts.{inner, is_module}
+use Rattle.certificate_lines.specs.ModuleParts.{inner}
 use Rattle.certificate_lines.specs.declared.certificate_line.Border.{Border}
 use Rattle.certificate_lines.proofs.FlatParts.{all_left, all_right}
 use Rattle.certificate_lines.proofs.LinesLeft.{rest_of_lines}

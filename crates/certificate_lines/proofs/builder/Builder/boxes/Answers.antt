@@ -1,5 +1,4 @@
-use Rattle.std.proofs.Common.{◌≡◌, ◌∙◌, ◌+◌, ◌<◌, ◌≤◌, length, take, sym, ap, subst, arith}
-use Rattle.module_box.specs.declared.boxes.Box2.{Box2}
+use Rattle.std.proofs.Common.{◌≡◌, ◌∙◌, ◌+◌, take, sym, ap, subst, arith}
 use Rattle.certificate_lines.specs.BuilderView.{BuilderView}
 use Rattle.certificate_lines.specs.Entries.{areas, modules_of}
 use Rattle.certificate_lines.proofs.ModuleBoxes.{all_areas, more_areas}

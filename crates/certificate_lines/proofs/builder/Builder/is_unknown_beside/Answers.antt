@@ -1,4 +1,4 @@
-use Rattle.std.proofs.Common.{◌≡◌, ◌∙◌, ◌&&◌, ◌||◌, Bool, ℤ, true, SFits, w32, rules, to_z-of_z, sym, ap, ap₂}
+use Rattle.std.proofs.Common.{◌≡◌, ◌∙◌, ◌&&◌, ◌||◌, Bool, ℤ, true, SFits, w32, rules, to_z-of_z, ap, ap₂}
 use Rattle.std.specs.List.{list_any}
 use Rattle.bbm_rule.specs.Plane.{partner}
 use Rattle.module_box.specs.Boxes.{in_box}
