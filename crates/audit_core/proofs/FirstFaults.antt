@@ -4,7 +4,7 @@ use Rattle.std.proofs.Common.{Some, None}
 use Rattle.std.proofs.Common.{refl, sym, ap, ap₂, subst, ◌∙◌, inl, inr, arith}
 use Rattle.std.specs.Prelude.{ℤ, Contains, slice_get, slice_index, if◌then◌else◌}
 use Rattle.std.specs.List.{All, flat_map}
-use Rattle.std.specs.Option.{option_to_list}
+use Rattle.std.specs.Option.{option_to_list, option_map_or}
 use Rattle.std.proofs.Props.{props}
 use Rattle.std.proofs.Math.Logic.{∥∥₁_elim}
 use Rattle.std.proofs.lemmas.Bool.{and_parts, cases_Bool}
@@ -15,7 +15,7 @@ use Rattle.bbm_rule.specs.Plane.{State, is_at}
 use Rattle.bbm_rule.specs.declared.block.Cell.{Cell}
 use Rattle.bbm_rule.proofs.SameCells.{cell_same}
 use Rattle.circuit.specs.Bridge.{circuit_of, netlist_of}
-use Rattle.circuit.specs.Meaning.{Circuit, Satisfies, Valuation, values_by_name, wire_of, wire_value}
+use Rattle.circuit.specs.Meaning.{Circuit, Satisfies, Valuation, values_by_name, wire_of}
 use Rattle.circuit.specs.declared.circuit_line.CircuitLine.{CircuitLine}
 use Rattle.pattern.specs.Layout.{Pattern, in_cells, in_rectangles}
 use Rattle.pattern.specs.declared.layout_line.Port.{Port}
@@ -133,7 +133,7 @@ real lines p ms jobs inputs v i m j t AtStop x y b atm atj s good f said =
       time = line.time;
       inside = line.inside;
       same = λ time column row. said s (k, slice_get_within (stops m) k s at, get_or_from_slice_get (stops m) k s s at)
-          time column row ∙ ap (λ o. wire_value o v) named;
+          time column row ∙ ap (λ o. option_map_or v o false) named;
     }) f.stop f.is_listed in
     let inside : in_box j.area x y ≡ true =
     ap (λ a. in_box a x y) is.area ∙ ap₂ (in_box m.area) (sym f.column) (sym f.row) ∙ its.inside in
@@ -174,7 +174,7 @@ first_is_real lines p ms jobs inputs v i m f first said =
 
 -- ---- a plane that looks as asked meets each demand
 
-meets_wire : (v : Valuation) (o : Option ℕ) (live : Bool) → live ≡ wire_value o v → Meets v (demand_of o) live
+meets_wire : (v : Valuation) (o : Option ℕ) (live : Bool) → live ≡ option_map_or v o false → Meets v (demand_of o) live
 meets_wire v None live h = h
 meets_wire v (Some w) live h = h
 
@@ -318,4 +318,4 @@ assigned lines p m j v a good is has k lt =
     let at : slice_get (known c m) k ≡ Some w.wire = kept (cut_wires c m) _ k w.wire w.placed in
     let number : circuit_wire j.locals k ≡ w.wire =
     ap (λ ws. slice_index ws k) is.wires ∙ get_or_from_slice_get (known c m) k w.wire 0 at in
-    sym (has k n.0 n.1) ∙ ap (λ o. wire_value o v) w.named ∙ sym (ap v number)
+    sym (has k n.0 n.1) ∙ ap (λ o. option_map_or v o false) w.named ∙ sym (ap v number)

@@ -7,6 +7,7 @@ use Rattle.std.specs.List.{All}
 use Rattle.std.specs.Str.{bytes_eq}
 use Rattle.std.proofs.lemmas.Bool.{cases_Bool, false≢true}
 use Rattle.std.proofs.lemmas.Option.{slice_get-map, slice_get_within, get_or_from_slice_get}
+use Rattle.std.specs.Option.{option_map_or}
 use Rattle.circuit.specs.Entries.{defined}
 use Rattle.bbm_rule.specs.Plane.{run, is_at}
 use Rattle.bbm_rule.proofs.Steps.{step_same}
@@ -14,7 +15,7 @@ use Rattle.section_text.specs.Codes.{code_where}
 use Rattle.section_text.specs.Ports.{Named}
 use Rattle.section_text.specs.Words.{has}
 use Rattle.circuit.specs.Bridge.{circuit_of, input_names, netlist_of, output_names}
-use Rattle.circuit.specs.Meaning.{Valuation, number, place_of, wire_of, wire_value}
+use Rattle.circuit.specs.Meaning.{Valuation, number, place_of, wire_of}
 use Rattle.pattern.specs.Layout.{Pattern, in_cells, in_ports_on, in_rectangles, start, parts_of}
 use Rattle.pattern.specs.Lines.{name_fault}
 use Rattle.pattern.specs.declared.layout_line.LayoutLine.{LayoutLine}
@@ -95,8 +96,10 @@ read_layout-names lines p first named i q e =
 
 -- ---- the run by the inputs alone
 
-same_value : (o : Option ℕ) (w : ℕ) (u v : Valuation) → o ≡ Some w → v w ≡ u w → wire_value o v ≡ wire_value o u
-same_value o w u v e h = ap (λ (o : Option ℕ). wire_value o v) e ∙ h ∙ sym (ap (λ (o : Option ℕ). wire_value o u) e)
+same_value : (o : Option ℕ) (w : ℕ) (u v : Valuation) → o ≡ Some w → v w ≡ u w →
+    option_map_or v o false ≡ option_map_or u o false
+same_value o w u v e h = ap (λ (o : Option ℕ). option_map_or v o false) e ∙ h
+    ∙ sym (ap (λ (o : Option ℕ). option_map_or u o false) e)
 
 same_ports : (f g : List ℕ → Bool) (ports : List Port) (x y : ℤ) →
     ((i : ℕ) (q : Port) → slice_get ports i ≡ Some q → f q.name ≡ g q.name) →

@@ -4,10 +4,11 @@ use Rattle.std.proofs.Common.{Some, None, refl, sym, ap, subst, ◌∙◌, appen
 use Rattle.std.specs.Prelude.{ℤ, slice_get, option_map, if◌then◌else◌}
 use Rattle.std.proofs.lemmas.Bool.{false≢true, true≢false, and_parts, and_from}
 use Rattle.std.proofs.lemmas.Option.{same_Some, slice_get-map}
+use Rattle.std.specs.Option.{option_map_or}
 use Rattle.bbm_rule.specs.Plane.{is_at}
 use Rattle.bbm_rule.specs.declared.block.Cell.{Cell}
 use Rattle.section_text.specs.Codes.{code_where}
-use Rattle.circuit.specs.Meaning.{Circuit, Valuation, wire_of, wire_value, values_by_name}
+use Rattle.circuit.specs.Meaning.{Circuit, Valuation, wire_of, values_by_name}
 use Rattle.pattern.specs.Layout.{Pattern, HaveOwnCells, in_cells, in_layout, in_rectangle, in_rectangles, in_ports_on}
 use Rattle.pattern.specs.Layout.{start, parts_of}
 use Rattle.pattern.specs.Lines.{AreGoodAfter, begins, cell_fault, cells_of, ended, ends, holds, is_inside, is_taken}
@@ -93,7 +94,7 @@ no_port ports x y (Some n) none e =
 
 -- ---- the start
 
-live_cases : (v : Valuation) (o : Option ℕ) → is_live v (signal_of o) ≡ wire_value o v
+live_cases : (v : Valuation) (o : Option ℕ) → is_live v (signal_of o) ≡ option_map_or v o false
 live_cases v None = refl
 live_cases v (Some w) = refl
 
@@ -239,7 +240,7 @@ met_mirror c p v x y live e h =
     (if b then Demanded.Live else demand_elsewhere c (port_at p.outs x y) (in_cells p.wastes x y)) live in
     subst P e h
 
-by_wire : (v : Valuation) (o : Option ℕ) (live : Bool) → Meets v (demand_of o) live → live ≡ wire_value o v
+by_wire : (v : Valuation) (o : Option ℕ) (live : Bool) → Meets v (demand_of o) live → live ≡ option_map_or v o false
 by_wire v None live h = h
 by_wire v (Some w) live h = h
 

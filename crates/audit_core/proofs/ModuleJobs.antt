@@ -6,7 +6,10 @@ use Rattle.std.specs.List.{All, range_with_len}
 use Rattle.std.proofs.lemmas.Bool.{cases_Bool, cases_lt, cond-true}
 use Rattle.std.proofs.lemmas.List.Elements.{All-head, All-tail}
 use Rattle.std.proofs.lemmas.Option.{same_Some, slice_get-get_or}
-use Rattle.circuit.specs.Gates.{Rule, Source, Fredkin, Cswap, Interact, Switch, Delay, Unswitch, Uninteract, defines}
+use Rattle.circuit.specs.declared.circuit_line.GateKind.{GateKind}
+use Rattle.circuit.specs.declared.circuit_line.GateKind.TheVariants.{Source, Fredkin, Cswap, Interact, Switch, Delay}
+use Rattle.circuit.specs.declared.circuit_line.GateKind.TheVariants.{Unswitch, Uninteract}
+use Rattle.circuit.specs.Gates.{defines}
 use Rattle.circuit.specs.Meaning.{Circuit, Gate, Netlist, AreOrdered, wires, wires_after}
 use Rattle.pattern.specs.Layout.{Pattern}
 use Rattle.module_box.specs.Boxes.{in_box}
@@ -131,7 +134,7 @@ module _ (ws : List ℕ) (different : AreDifferent ws) where
 
   -- ---- gates
 
-  defines_some : (k : Rule) → 1 ≤ defines k
+  defines_some : (k : GateKind) → 1 ≤ defines k
   defines_some (Source b) = omega arith
   defines_some Fredkin = omega arith
   defines_some Cswap = omega arith

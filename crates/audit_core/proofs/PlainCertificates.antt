@@ -4,7 +4,7 @@ use Rattle.std.proofs.Common.{◌∷◌, length, Option, Some, None, refl, sym, 
 use Rattle.std.proofs.Common.{if◌then◌else◌, not, ◌&&◌, append-nil}
 use Rattle.std.specs.Prelude.{ℤ, Contains, slice_get}
 use Rattle.std.specs.List.{All, list_all, range_with_len}
-use Rattle.std.specs.Option.{option_to_list, option_map}
+use Rattle.std.specs.Option.{option_to_list, option_map, option_map_or}
 use Rattle.std.specs.Ordering.{nat_cmp, ordering_then}
 use Rattle.std.specs.declared.cmp.Ordering.TheVariants.{Greater}
 use Rattle.std.proofs.Props.{props}
@@ -15,8 +15,9 @@ use Rattle.std.proofs.lemmas.List.Elements.{All-append}
 use Rattle.std.proofs.lemmas.Option.{same_Some, slice_get_within}
 use Rattle.bbm_rule.specs.Bits.{bit}
 use Rattle.circuit.specs.Bridge.{circuit_of, netlist_of}
-use Rattle.circuit.specs.Gates.{Delay, defines, uses, is_inverse}
-use Rattle.circuit.specs.Meaning.{AreOrdered, Circuit, Gate, Satisfies, Valuation, wire_of, wire_value}
+use Rattle.circuit.specs.declared.circuit_line.GateKind.TheVariants.{Delay}
+use Rattle.circuit.specs.Gates.{defines, uses, is_inverse}
+use Rattle.circuit.specs.Meaning.{AreOrdered, Circuit, Gate, Satisfies, Valuation, wire_of}
 use Rattle.circuit.specs.declared.circuit_line.CircuitLine.{CircuitLine}
 use Rattle.circuit.proofs.Undefined.{has_valuation, undefined_has_none, only_inverse}
 use Rattle.pattern.specs.Layout.{Pattern}
@@ -322,7 +323,7 @@ module _ (lines : List CircuitLine) (p : Pattern) (m : ModuleLines) (jobs : List
   its_assignment a k n at =
       let good = b.are_modules.each 0 m refl in
       let w : IsPlacedWire (wire_of c) (cuts m) k n = placed_wire (wire_of c) (cuts m) n k good.named at in
-      ap (λ o. wire_value o (inputs_of (known c m) a)) w.named
+      ap (λ o. option_map_or (inputs_of (known c m) a) o false) w.named
       ∙ value_there (known c m) a k w.wire good.local.different (kept (cut_wires c m) _ k w.wire w.placed)
 
   -- values that agree with these on the inputs have the assignment too
@@ -332,8 +333,8 @@ module _ (lines : List CircuitLine) (p : Pattern) (m : ModuleLines) (jobs : List
     in_range = small;
     bits = assigned lines p m j v a (b.are_modules.each 0 m refl) is (λ k n at.
         let is_input : IsInputName lines n = at_place (IsInputName lines) (cuts m) k n plain.inputs at in
-        ap (λ o. wire_value o v) is_input.named ∙ same is_input.wire is_input.is_given
-        ∙ sym (ap (λ o. wire_value o (its_inputs a)) is_input.named) ∙ its_assignment a k n at);
+        ap (λ o. option_map_or v o false) is_input.named ∙ same is_input.wire is_input.is_given
+        ∙ sym (ap (λ o. option_map_or (its_inputs a) o false) is_input.named) ∙ its_assignment a k n at);
   }
 
   induced : (j : JobView) (a : ℕ) (v : Valuation) → IsJobOf c p m j → a < assignments j →

@@ -12,7 +12,10 @@ use Rattle.std.proofs.lemmas.Option.{slice_get_within}
 use Rattle.section_text.specs.Codes.{code_where, or_else}
 use Rattle.circuit.specs.Bridge.{AreGood, AreGoodAfter, circuit_of, netlist_of}
 use Rattle.circuit.specs.Entries.{defined}
-use Rattle.circuit.specs.Gates.{is_inverse, Rule, Source, Fredkin, Cswap, Interact, Switch, Delay, Unswitch, Uninteract}
+use Rattle.circuit.specs.declared.circuit_line.GateKind.{GateKind}
+use Rattle.circuit.specs.declared.circuit_line.GateKind.TheVariants.{Source, Fredkin, Cswap, Interact, Switch, Delay}
+use Rattle.circuit.specs.declared.circuit_line.GateKind.TheVariants.{Unswitch, Uninteract}
+use Rattle.circuit.specs.Gates.{is_inverse}
 use Rattle.circuit.specs.Meaning.{AreOrdered, Gate}
 use Rattle.circuit.specs.Rules.{add_fault, gate_count, is_gate, is_wrong_delay, passes_limit}
 use Rattle.circuit.specs.declared.circuit_line.CircuitLine.{CircuitLine}
@@ -101,7 +104,7 @@ line_each f few k (g ∷ gs) =
     let here = few k g in
     omega (arith, more, sum, here)
 
-few_delays : (k : ℕ) (rule : Rule) (gap : StopGap) → length (delay_by k rule gap) ≤ 1
+few_delays : (k : ℕ) (kind : GateKind) (gap : StopGap) → length (delay_by k rule gap) ≤ 1
 few_delays k (Source b) gap = omega arith
 few_delays k Fredkin gap = omega arith
 few_delays k Cswap gap = omega arith

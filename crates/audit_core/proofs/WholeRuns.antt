@@ -6,10 +6,11 @@ use Rattle.std.specs.List.{All}
 use Rattle.std.proofs.lemmas.List.Elements.{All-contains_itself}
 use Rattle.std.proofs.lemmas.Option.{slice_get-get_or, slice_get_within}
 use Rattle.std.proofs.lemmas.Bool.{and_parts, cases_Bool, false≢true, true≢false, not_from_false, not-true}
+use Rattle.std.specs.Option.{option_map_or}
 use Rattle.bbm_rule.specs.Plane.{State, step, run}
 use Rattle.bbm_rule.proofs.Steps.{step_dead}
 use Rattle.circuit.specs.Bridge.{circuit_of, netlist_of}
-use Rattle.circuit.specs.Meaning.{Satisfies, Valuation, wire_value, values_by_name, wire_of}
+use Rattle.circuit.specs.Meaning.{Satisfies, Valuation, values_by_name, wire_of}
 use Rattle.circuit.specs.declared.circuit_line.CircuitLine.{CircuitLine}
 use Rattle.pattern.specs.Layout.{Pattern}
 use Rattle.module_box.specs.Boxes.{in_box, some_neighbour, in_ring, in_halo}
@@ -480,7 +481,7 @@ stop_holds lines p ms jobs named all i k m s at has line inputs v satisfied =
     sym (inputs_decide lines p inputs v s.time s.cell.x s.cell.y named satisfied)
     ∙ (all_times lines p ms jobs inputs v s.time all satisfied line.time).inside i j.0 j.1 s.cell.x s.cell.y inside
     ∙ no_line_fault lines p ms jobs inputs v i m j.0 k w.0 s set j.1 is has w.1
-    ∙ sym (ap (λ o. wire_value o v) w.1)
+    ∙ sym (ap (λ o. option_map_or v o false) w.1)
 
 pub on_time : AcceptedIsOnTime
 on_time lines p ms jobs named all = record {

@@ -5,7 +5,8 @@ use Rattle.std.specs.Prelude.{◌≡◌, ◌≢◌, ℕ, ℤ, ◌<◌, ◌%◌, 
 use Rattle.std.specs.List.{All}
 use Rattle.std.specs.declared.vec.Vec.{Vec}
 use Rattle.std.specs.declared.alloc.Global.{Global}
-use Rattle.circuit.specs.Gates.{Delay, is_inverse}
+use Rattle.circuit.specs.declared.circuit_line.GateKind.TheVariants.{Delay}
+use Rattle.circuit.specs.Gates.{is_inverse}
 use Rattle.circuit.specs.Bridge.{circuit_of, netlist_of}
 use Rattle.circuit.specs.Meaning.{Gate, Satisfies, Valuation}
 use Rattle.circuit.specs.declared.circuit_line.CircuitLine.{CircuitLine}

@@ -10,7 +10,9 @@ use Rattle.std.proofs.lemmas.List.Elements.{All-nil, All-cons, All-head, All-tai
 use Rattle.std.proofs.lemmas.List.Elements.{Contains-append_left, Contains-append_right}
 use Rattle.std.proofs.lemmas.List.Folds.{list_all-append}
 use Rattle.std.proofs.lemmas.Option.{same_Some}
-use Rattle.circuit.specs.Gates.{Rule, Source, Fredkin, Cswap, Interact, Switch, Delay, Unswitch, Uninteract}
+use Rattle.circuit.specs.declared.circuit_line.GateKind.{GateKind}
+use Rattle.circuit.specs.declared.circuit_line.GateKind.TheVariants.{Source, Fredkin, Cswap, Interact, Switch, Delay}
+use Rattle.circuit.specs.declared.circuit_line.GateKind.TheVariants.{Unswitch, Uninteract}
 use Rattle.circuit.specs.Meaning.{Circuit, Gate}
 use Rattle.certificate.specs.Arrivals.{IsFirstTime, IsLastTime, MeetAt, TakesSteps, Tells, TellsOfDelay}
 use Rattle.certificate.specs.Arrivals.{TellsOfMeeting}
@@ -216,7 +218,7 @@ meet_tells c ss ws None some e = λ t meet. none_agreed _ t some e (all_meet c s
 
 -- ---- the lines of all gates
 
-delay_lines_tell : (c : Circuit) (ss : List StopLine) (k : ℕ) (r : Rule) (g : Gate) →
+delay_lines_tell : (c : Circuit) (ss : List StopLine) (k : ℕ) (r : GateKind) (g : Gate) →
     slice_get c.netlist.gates k ≡ Some g → g.kind ≡ r →
     All (Tells c ss) (delay_by k r (gap_between (of_wire (last_seen c ss) g.ins) (of_wire (first_seen c ss) g.outs)))
 delay_lines_tell c ss k (Source b) g at is = All-nil (Tells c ss)

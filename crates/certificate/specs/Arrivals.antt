@@ -1,7 +1,7 @@
 -- The meaning of delays and meetings, gate by gate
 use Rattle.std.specs.Prelude.{◌≡◌, ℕ, ◌+◌, ◌<◌, ◌≤◌, List, [], ◌∷◌, Option, Some, None, slice_get, Contains}
 use Rattle.std.specs.List.{All}
-use Rattle.circuit.specs.Gates.{Delay}
+use Rattle.circuit.specs.declared.circuit_line.GateKind.TheVariants.{Delay}
 use Rattle.circuit.specs.Meaning.{Circuit, Gate}
 use Rattle.certificate.specs.Times.{times_of}
 use Rattle.certificate_lines.specs.declared.certificate_line.StopLine.{StopLine}

@@ -45,9 +45,8 @@ said_right : (P : List ℕ → Type 0) → Holds P →
     (left left' written_bytes written_bytes' : Option (List ℕ)) (text output taken rest : List ℕ) (outcome : Outcome) →
     ReadsAll left left' text → IsReportOf text output outcome
     → output ≡ taken ++ rest → Appends written_bytes written_bytes' taken → YesMeans P left written_bytes written_bytes'
-said_right P holds left left' written_bytes written_bytes' text output taken rest outcome read says whole appended known
-    before more e f g
-    line =
+said_right P holds left left' written_bytes written_bytes' text output taken rest outcome read says whole appended
+    before more f g line known e =
     let is = taken_is written_bytes written_bytes' before more taken f g appended in
     given P left left' text read (holds text output
     (by_line text output outcome says (subst SaysYes (sym whole) (says_on taken rest (subst SaysYes is line))))) known e
@@ -69,7 +68,7 @@ nothing_says e = cc
 -- nothing was
 nothing_said : (P : List ℕ → Type 0) (left written_bytes written_bytes' : Option (List ℕ)) →
     written_bytes' ≡ written_bytes → YesMeans P left written_bytes written_bytes'
-nothing_said P left written_bytes written_bytes' same text before more e f g line =
+nothing_said P left written_bytes written_bytes' same before more f g line text e =
     let both : ◌≡◌ {A = Option (List ℕ)} (Some (before ++ more)) (Some before) = sym g ∙ same ∙ f in
     let own : before ++ more ≡ before = cc in
     absurd (nothing_says (subst SaysYes (append_cancel_left before more [] (own ∙ sym (append-nil before))) line))

@@ -15,7 +15,6 @@ use Rattle.circuit.specs.declared.circuit_line.CircuitLine.{CircuitLine}
 use Rattle.section_text.specs.Words.{has}
 use Rattle.circuit.specs.Rules.{consumed, consume, define, is_gate, gate_count, add_fault, limit_fault, name_fault}
 use Rattle.section_text.specs.Codes.{or_else}
-use Rattle.circuit.specs.Gates.{rule_of}
 use Rattle.circuit.specs.Meaning.{AreOrdered, Gate, number}
 use Rattle.circuit.specs.Wiring.{gate_at}
 use Rattle.circuit.specs.Bridge.{is_input, input_count, gate_in, gates_of, IsGoodAfter, AreGoodAfter, AreGood}
@@ -251,7 +250,7 @@ line_keeps before rest e (GateLine k) ins outs good =
     let outs_same : map (number ((d ++ later) ++ e)) outs ≡ map (number (d ++ later)) outs =
     ap (λ (l : List (List ℕ)). map (number l) outs) longer ∙ numbers_new d outs (defined rest ++ e) pass.1
     ∙ sym (numbers_new d outs (defined rest) pass.1) in
-    ap₂ (λ (i o : List ℕ). record { kind = rule_of k; ins = i; outs = o } ∷ []) ins_same outs_same
+    ap₂ (λ (i o : List ℕ). record { kind = k; ins = i; outs = o } ∷ []) ins_same outs_same
 
 gates_keep : (names e : List (List ℕ)) (before rest : List CircuitLine) → AreGoodAfter before rest →
     names ≡ defined (before ++ rest) → gates_of (names ++ e) rest ≡ gates_of names rest
@@ -276,7 +275,7 @@ line_added entries numbers Spill ins outs good same = refl
 line_added entries numbers (GateLine k) ins outs good same =
     let pass = names_pass entries _ good.adds in
     let have : Have (defined entries) ins = consume_have (defined entries) (consumed entries) ins pass.0 in
-    ap₂ (λ (i o : List ℕ). record { kind = rule_of k; ins = i; outs = o } ∷ [])
+    ap₂ (λ (i o : List ℕ). record { kind = k; ins = i; outs = o } ∷ [])
     (numbers_left (defined entries) outs ins have ∙ sym same ∙ ap (λ (n : ℕ). take n numbers) good.fits.0)
     (ap (λ (l : List (List ℕ)). map (number (defined entries ++ l)) outs) (sym (append-nil outs))
     ∙ numbers_new (defined entries) outs [] pass.1 ∙ ap (range_with_len (length (defined entries))) good.fits.1)

@@ -1,6 +1,8 @@
 -- Gates keep the number of ones, and inverse gates undo others.
 use Rattle.std.proofs.Common.{◌≡◌, ℕ, Bool, true, false, List, [], ◌∷◌, Option, Some, None, refl, sym, ap, subst}
-use Rattle.circuit.specs.Gates.{Source, Fredkin, Cswap, Interact, Switch, Delay, Unswitch, Uninteract, row}
+use Rattle.circuit.specs.declared.circuit_line.GateKind.TheVariants.{Source, Fredkin, Cswap, Interact, Switch, Delay}
+use Rattle.circuit.specs.declared.circuit_line.GateKind.TheVariants.{Unswitch, Uninteract}
+use Rattle.circuit.specs.Gates.{row}
 use Rattle.circuit.specs.Laws.{ones, GatesKeepOnes, InverseGatesUndo}
 
 none : {outs : List Bool} → ◌≡◌ {A = Option (List Bool)} None (Some outs) → ⊥

@@ -15,7 +15,7 @@ use Rattle.circuit.specs.declared.circuit_line.Kind.{Kind}
 use Rattle.circuit.specs.declared.circuit_line.Kind.TheVariants.{Input, Output, Spill}
 use Rattle.circuit.specs.declared.circuit_line.Kind.TheVariants.{Gate as GateLine}
 use Rattle.circuit.specs.declared.circuit_line.CircuitLine.{CircuitLine}
-use Rattle.circuit.specs.Gates.{rule_of, defines}
+use Rattle.circuit.specs.Gates.{defines}
 use Rattle.section_text.specs.Words.{has}
 use Rattle.circuit.specs.Rules.{define, gate_count, is_gate}
 use Rattle.circuit.specs.Meaning.{Gate, place_of, wires_after, number}
@@ -71,7 +71,7 @@ wires_line names n (GateLine k) ins outs rest fits more =
       input_cons (record { kind = GateLine k; ins = ins; outs = outs }) rest,
       length-append outs (defined rest),
       fits.1,
-      more (n + defines (rule_of k)),
+      more (n + defines k),
     )
 wires_line names n Output ins outs rest fits more =
     omega (

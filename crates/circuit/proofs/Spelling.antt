@@ -16,11 +16,11 @@ use Rattle.circuit.specs.declared.circuit_line.GateKind.TheVariants.{Uninteract}
 use Rattle.circuit.specs.declared.circuit_line.Kind.TheVariants.{Input, Gate, Output, Spill}
 use Rattle.circuit.specs.declared.circuit_line.CircuitLine.{CircuitLine}
 use Rattle.circuit.specs.Entries.{entry}
-use Rattle.circuit.specs.Gates.{rule_of, uses, defines}
+use Rattle.circuit.specs.Gates.{uses, defines}
 use Rattle.section_text.proofs.Spellings.{chosen, passed, one_word, two_words, number_at_spelled}
-use Rattle.circuit.specs.Forms.{Line, bit_at, gate_kind, words_before, gate_names, gate_entry, form_of}
+use Rattle.circuit.specs.Forms.{bit_at, gate_kind, words_before, gate_names, gate_entry, form_of}
 use Rattle.circuit.specs.Text.{bit_word, gate_word, gate_number, first_word, words_by, more_words, entry_text}
-use Rattle.circuit.specs.Text.{form_text}
+use Rattle.circuit.specs.Text.{Line, form_text}
 
 -- the first word of a form, and the others
 first_of : Line → List ℕ
@@ -118,21 +118,21 @@ gate_spelled : (ws : List (List ℕ)) (r : CircuitLine) → gate_entry ws ≡ So
 unfolding gate_entry gate_names first_word more_words
 gate_spelled ws r e =
     option_and_then_some (λ kind.
-    cond (eqb (length ws) (words_before kind + uses (rule_of kind) + 1 + defines (rule_of kind)))
-    (cond (is_word_at ws (words_before kind + uses (rule_of kind)) (codes "->")) (gate_names ws kind) None) None)
+    cond (eqb (length ws) (words_before kind + uses kind + 1 + defines kind))
+    (cond (is_word_at ws (words_before kind + uses kind) (codes "->")) (gate_names ws kind) None) None)
     (gate_kind ws) r e (λ kind known rest.
-    let count = passed (eqb (length ws) (words_before kind + uses (rule_of kind) + 1 + defines (rule_of kind)))
-    (cond (is_word_at ws (words_before kind + uses (rule_of kind)) (codes "->")) (gate_names ws kind) None) r rest in
-    let arrow = passed (is_word_at ws (words_before kind + uses (rule_of kind)) (codes "->"))
+    let count = passed (eqb (length ws) (words_before kind + uses kind + 1 + defines kind))
+    (cond (is_word_at ws (words_before kind + uses kind) (codes "->")) (gate_names ws kind) None) r rest in
+    let arrow = passed (is_word_at ws (words_before kind + uses kind) (codes "->"))
     (gate_names ws kind) r count.1 in
-    option_and_then_some (λ ins. names_at ws (words_before kind + uses (rule_of kind) + 1)
-    (defines (rule_of kind)) >>= λ outs. Some (entry (Gate kind) ins outs))
-    (names_at ws (words_before kind) (uses (rule_of kind))) r arrow.1 (λ ins some_ins rest_ins.
+    option_and_then_some (λ ins. names_at ws (words_before kind + uses kind + 1)
+    (defines kind) >>= λ outs. Some (entry (Gate kind) ins outs))
+    (names_at ws (words_before kind) (uses kind)) r arrow.1 (λ ins some_ins rest_ins.
     option_and_then_some (λ outs. Some (entry (Gate kind) ins outs))
-    (names_at ws (words_before kind + uses (rule_of kind) + 1) (defines (rule_of kind))) r rest_ins
+    (names_at ws (words_before kind + uses kind + 1) (defines kind)) r rest_ins
     (λ outs some_outs made.
     let whole = assembled ws (gate_word kind ∷ gate_number kind) ins outs (codes "->") (words_before kind)
-    (uses (rule_of kind)) (defines (rule_of kind)) (head_spelled ws kind known) (names_at_are ws _ _ ins some_ins)
+    (uses kind) (defines kind) (head_spelled ws kind known) (names_at_are ws _ _ ins some_ins)
     (is_at_is ws _ (codes "->") arrow.0) (names_at_are ws _ _ outs some_outs) (eqb-true _ _ count.0) in
     subst (λ (x : CircuitLine). ws ≡ first_word x.kind ∷ words_by x.ins x.outs x.kind)
     (same_Some (entry (Gate kind) ins outs) r made) whole)))

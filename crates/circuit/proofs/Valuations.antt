@@ -7,7 +7,10 @@ use Rattle.std.specs.List.{All, range_with_len}
 use Rattle.std.proofs.lemmas.List.{length-map, get_or_append_left}
 use Rattle.std.proofs.lemmas.List.FromFn.{get_or-map-range_with_len}
 use Rattle.std.proofs.lemmas.Bool.{cases_lt, true≢false}
-use Rattle.circuit.specs.Gates.{Rule, Source, Fredkin, Cswap, Interact, Switch, Delay, Unswitch, Uninteract, row, uses}
+use Rattle.circuit.specs.declared.circuit_line.GateKind.{GateKind}
+use Rattle.circuit.specs.declared.circuit_line.GateKind.TheVariants.{Source, Fredkin, Cswap, Interact, Switch, Delay}
+use Rattle.circuit.specs.declared.circuit_line.GateKind.TheVariants.{Unswitch, Uninteract}
+use Rattle.circuit.specs.Gates.{row, uses}
 use Rattle.circuit.specs.Gates.{defines, is_inverse}
 use Rattle.circuit.specs.Meaning.{Gate, Netlist, Valuation, HasRow, Satisfies, AreOrdered, wires_after, wires}
 use Rattle.circuit.specs.Bridge.{read, AreValues}
@@ -36,10 +39,10 @@ len_4 : (xs : List Bool) → length xs ≡ 4 → (a b c d : Bool) × (xs ≡ a �
 len_4 [] h = absurd (omega arith)
 len_4 (a ∷ xs) h = let r = len_3 xs (omega arith) in (a, r.0, r.1, r.2, ap (λ l. a ∷ l) r.3)
 
-abbrev pub RowOf : Rule → List Bool → Type 0
+abbrev pub RowOf : GateKind → List Bool → Type 0
 RowOf kind xs = (r : List Bool) × (row kind xs ≡ Some r) × (length r ≡ defines kind)
 
-pub row_of : (kind : Rule) (xs : List Bool) → is_inverse kind ≡ false → length xs ≡ uses kind → RowOf kind xs
+pub row_of : (kind : GateKind) (xs : List Bool) → is_inverse kind ≡ false → length xs ≡ uses kind → RowOf kind xs
 unfolding row
 row_of (Source b) xs f h = (b ∷ [], ap (row (Source b)) (len_0 xs h), refl)
 row_of Fredkin xs f h = let r = len_3 xs h in (_, ap (row Fredkin) r.3, refl)
@@ -71,7 +74,7 @@ uninteract_cases true false false true = inr (_, refl, refl)
 uninteract_cases _ _ _ _ = inl refl
 
 -- a gate has a row, or none
-pub row_cases : (kind : Rule) (xs : List Bool) → length xs ≡ uses kind → (row kind xs ≡ None) ⊎ RowOf kind xs
+pub row_cases : (kind : GateKind) (xs : List Bool) → length xs ≡ uses kind → (row kind xs ≡ None) ⊎ RowOf kind xs
 row_cases Unswitch xs h =
     let r = len_3 xs h in
     let P : List Bool → Type 0 = λ l. (row Unswitch l ≡ None) ⊎ RowOf Unswitch l in

@@ -9,16 +9,14 @@ use Rattle.circuit.specs.declared.circuit_line.Kind.TheVariants.{Gate as GateLin
 use Rattle.circuit.specs.declared.circuit_line.CircuitLine.{CircuitLine}
 use Rattle.circuit.specs.declared.netlist.ValuesFault.{ValuesFault}
 use Rattle.circuit.specs.declared.netlist.ValuesFault.TheVariants.{OutOfDomain, Memory}
-use Rattle.circuit.specs.Gates.{row, rule_of, uses, defines}
+use Rattle.circuit.specs.Gates.{row, uses, defines}
 use Rattle.circuit.specs.Rules.{gate_count, add_fault}
 use Rattle.circuit.specs.Meaning.{Gate, Netlist, Circuit, Valuation, Satisfies, first_gates, number, wires}
 
 -- whether the line is an input
 abbrev pub is_input : Kind → Bool
 is_input Input = true
-is_input (GateLine k) = false
-is_input Output = false
-is_input Spill = false
+is_input _ = false
 
 -- how many inputs there are
 abbrev pub input_count : List CircuitLine → ℕ
@@ -26,11 +24,9 @@ input_count entries = count_by (λ r. is_input r.kind) entries
 
 -- the gate of a line, if the wires have these names
 abbrev pub gate_in : List (List ℕ) → List (List ℕ) → List (List ℕ) → Kind → List Gate
-gate_in names ins outs Input = []
 gate_in names ins outs (GateLine k) =
-    record { kind = rule_of k; ins = map (number names) ins; outs = map (number names) outs } ∷ []
-gate_in names ins outs Output = []
-gate_in names ins outs Spill = []
+    record { kind = k; ins = map (number names) ins; outs = map (number names) outs } ∷ []
+gate_in names ins outs _ = []
 
 -- the gates of lines, over the numbers of names
 abbrev pub gates_of : List (List ℕ) → List CircuitLine → List Gate
@@ -48,12 +44,10 @@ circuit_of entries = record { netlist = netlist_of entries; names = defined entr
 abbrev pub input_names : List CircuitLine → List (List ℕ)
 input_names entries = flat_map (λ r. if is_input r.kind then r.outs else []) entries
 
--- the names of the outputs, in the order of their lines
+-- whether the line is an output
 abbrev pub is_output : Kind → Bool
-is_output Input = false
-is_output (GateLine k) = false
 is_output Output = true
-is_output Spill = false
+is_output _ = false
 
 -- the names of the outputs, in the order of their lines
 abbrev pub output_names : List CircuitLine → List (List ℕ)
@@ -63,14 +57,14 @@ output_names entries = flat_map (λ r. if is_output r.kind then r.ins else []) e
 -- how many wires a line of a kind consumes
 abbrev pub kind_ins : Kind → ℕ
 kind_ins Input = 0
-kind_ins (GateLine k) = uses (rule_of k)
+kind_ins (GateLine k) = uses k
 kind_ins Output = 1
 kind_ins Spill = 1
 
 -- how many wires a line of a kind defines
 abbrev pub kind_outs : Kind → ℕ
 kind_outs Input = 1
-kind_outs (GateLine k) = defines (rule_of k)
+kind_outs (GateLine k) = defines k
 kind_outs Output = 0
 kind_outs Spill = 0
 

@@ -11,7 +11,7 @@ use Rattle.circuit.specs.declared.circuit_line.GateKind.TheVariants.{Uninteract}
 use Rattle.circuit.specs.declared.circuit_line.Kind.TheVariants.{Input, Gate, Output, Spill}
 use Rattle.circuit.specs.declared.circuit_line.CircuitLine.{CircuitLine}
 use Rattle.circuit.specs.Entries.{entry}
-use Rattle.circuit.specs.Gates.{rule_of, uses, defines}
+use Rattle.circuit.specs.Gates.{uses, defines}
 
 -- a word that is a bit
 unfoldable pub bit_at : List (List ℕ) → ℕ → Option Bool
@@ -34,35 +34,25 @@ gate_kind ws =
 -- how many words are before the names
 abbrev pub words_before : GateKind → ℕ
 words_before (Source b) = 2
-words_before Fredkin = 1
-words_before Cswap = 1
-words_before Interact = 1
-words_before Switch = 1
 words_before (Delay n) = 2
-words_before Unswitch = 1
-words_before Uninteract = 1
+words_before _ = 1
 
 -- the gate line of this kind by its words
 unfoldable pub gate_names : List (List ℕ) → GateKind → Option CircuitLine
 gate_names ws kind = do
-  ins ← names_at ws (words_before kind) (uses (rule_of kind))
-  outs ← names_at ws (words_before kind + uses (rule_of kind) + 1) (defines (rule_of kind))
+  ins ← names_at ws (words_before kind) (uses kind)
+  outs ← names_at ws (words_before kind + uses kind + 1) (defines kind)
   Some (entry (Gate kind) ins outs)
 
 -- a gate: its kind, the names that it consumes, an arrow, the names that it defines
 unfoldable pub gate_entry : List (List ℕ) → Option CircuitLine
 gate_entry ws = do
   kind ← gate_kind ws
-  if length ws == words_before kind + uses (rule_of kind) + 1 + defines (rule_of kind) then
-      (if is_word_at ws (words_before kind + uses (rule_of kind)) (codes "->") then gate_names ws kind else None) else
-      None
+  if length ws == words_before kind + uses kind + 1 + defines kind then
+      (if is_word_at ws (words_before kind + uses kind) (codes "->") then gate_names ws kind else None) else None
 
--- a line of the circuit section: its header has no content
-abbrev pub Line : Type 0
-Line = Form (Unit {0}) CircuitLine
-
--- the form of a line by its words, if it has one
-unfoldable pub form_of : List (List ℕ) → Option Line
+-- the form of a line by its words, if it has one; the header has no content
+unfoldable pub form_of : List (List ℕ) → Option (Form (Unit {0}) CircuitLine)
 form_of ws =
     if is_word_at ws 0 (codes "circuit") then lone ws (Header tt)
     else if is_word_at ws 0 (codes "end") then lone ws End

@@ -1,21 +1,11 @@
 -- The gates of conservative logic (Fredkin and Toffoli 1982), and the inverses of two of them.
 use Rattle.std.specs.Prelude.{ℕ, ◌&&◌, ◌||◌, Bool, true, false, not, if◌then◌else◌, List, [], ◌∷◌, Option, Some, None}
 use Rattle.circuit.specs.declared.circuit_line.GateKind.{GateKind}
-use Rattle.circuit.specs.declared.circuit_line.GateKind.TheVariants as Kept
-
--- what a gate does: a source has its bit, a delay its number
-pub data Rule : Type 0 where
-  Source : Bool → Rule
-  Fredkin : Rule
-  Cswap : Rule
-  Interact : Rule
-  Switch : Rule
-  Delay : ℕ → Rule
-  Unswitch : Rule
-  Uninteract : Rule
+use Rattle.circuit.specs.declared.circuit_line.GateKind.TheVariants.{Source, Fredkin, Cswap, Interact, Switch, Delay}
+use Rattle.circuit.specs.declared.circuit_line.GateKind.TheVariants.{Unswitch, Uninteract}
 
 -- the outputs of a gate at its inputs. `None`: the gate has no row there
-unfoldable pub row : Rule → List Bool → Option (List Bool)
+unfoldable pub row : GateKind → List Bool → Option (List Bool)
 row (Source b) [] = Some (b ∷ [])
 row Fredkin (c ∷ x ∷ y ∷ []) = Some (c ∷ (if c then x else y) ∷ (if c then y else x) ∷ [])
 row Cswap (c ∷ x ∷ y ∷ []) = Some (c ∷ (if c then y else x) ∷ (if c then x else y) ∷ [])
@@ -30,7 +20,7 @@ row Uninteract (true ∷ false ∷ false ∷ true ∷ []) = Some (true ∷ true 
 row _ _ = None
 
 -- how many wires a gate uses
-abbrev pub uses : Rule → ℕ
+abbrev pub uses : GateKind → ℕ
 uses (Source b) = 0
 uses Fredkin = 3
 uses Cswap = 3
@@ -41,7 +31,7 @@ uses Unswitch = 3
 uses Uninteract = 4
 
 -- how many wires a gate defines
-abbrev pub defines : Rule → ℕ
+abbrev pub defines : GateKind → ℕ
 defines (Source b) = 1
 defines Fredkin = 3
 defines Cswap = 3
@@ -52,7 +42,7 @@ defines Unswitch = 2
 defines Uninteract = 2
 
 -- an inverse gate has no row at some inputs
-abbrev pub is_inverse : Rule → Bool
+abbrev pub is_inverse : GateKind → Bool
 is_inverse (Source b) = false
 is_inverse Fredkin = false
 is_inverse Cswap = false
@@ -61,14 +51,3 @@ is_inverse Switch = false
 is_inverse (Delay n) = false
 is_inverse Unswitch = true
 is_inverse Uninteract = true
-
--- what a gate of this kind does
-abbrev pub rule_of : GateKind → Rule
-rule_of (Kept.Source b) = Source b
-rule_of Kept.Fredkin = Fredkin
-rule_of Kept.Cswap = Cswap
-rule_of Kept.Interact = Interact
-rule_of Kept.Switch = Switch
-rule_of (Kept.Delay n) = Delay n
-rule_of Kept.Unswitch = Unswitch
-rule_of Kept.Uninteract = Uninteract

@@ -1,7 +1,9 @@
 -- Laws of the circuit section.
 use Rattle.std.specs.Prelude.{◌≡◌, ℕ, ◌+◌, ◌<◌, Bool, List, length, map, take, drop, Some, Ok, slice_get, IsTrue}
 use Rattle.section_text.specs.Words.{lines_of}
-use Rattle.circuit.specs.Gates.{Rule, Source, Switch, Unswitch, Interact, Uninteract, is_inverse, row}
+use Rattle.circuit.specs.declared.circuit_line.GateKind.{GateKind}
+use Rattle.circuit.specs.declared.circuit_line.GateKind.TheVariants.{Source, Switch, Unswitch, Interact, Uninteract}
+use Rattle.circuit.specs.Gates.{is_inverse, row}
 use Rattle.std.specs.List.{count_by, flat_map, range_with_len}
 use Rattle.circuit.specs.Entries.{defined}
 use Rattle.section_text.specs.Section.{section_of, ended_line}
@@ -91,11 +93,11 @@ ones bits = count_by (λ b. b) bits
 
 -- conservative logic: every gate but a source keeps the number of ones
 abbrev pub GatesKeepOnes : Type 0
-GatesKeepOnes = (rule : Rule) (ins outs : List Bool) → ((b : Bool) → rule ≡ Source b → ⊥) → row rule ins ≡ Some outs →
-    ones outs ≡ ones ins
+GatesKeepOnes = (kind : GateKind) (ins outs : List Bool) → ((b : Bool) → kind ≡ Source b → ⊥) →
+    row kind ins ≡ Some outs → ones outs ≡ ones ins
 
 -- one gate turns back what another does, and has no row but for that
-pub record Undoes (gate inverse : Rule) : Type 0 where
+pub record Undoes (gate inverse : GateKind) : Type 0 where
   pub undone : (ins outs : List Bool) → row gate ins ≡ Some outs → row inverse outs ≡ Some ins
   pub only : (ins outs : List Bool) → row inverse ins ≡ Some outs → row gate outs ≡ Some ins
 

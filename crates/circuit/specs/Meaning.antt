@@ -2,13 +2,15 @@
 use Rattle.std.specs.Prelude.{◌≡◌, ℕ, ◌+◌, ◌<◌, Bool, false, if◌then◌else◌, List, [], ◌∷◌, map, take, length, Option}
 use Rattle.std.specs.Prelude.{Some, None, ⊤, slice_get}
 use Rattle.std.specs.List.{All, range_with_len}
+use Rattle.std.specs.Option.{option_map_or}
 use Rattle.std.specs.Str.{bytes_eq}
 use Rattle.section_text.specs.Words.{has}
-use Rattle.circuit.specs.Gates.{Rule, row, uses, defines, is_inverse}
+use Rattle.circuit.specs.declared.circuit_line.GateKind.{GateKind}
+use Rattle.circuit.specs.Gates.{row, uses, defines, is_inverse}
 
 -- a gate, by the numbers of its wires
 pub record Gate : Type 0 where
-  pub kind : Rule
+  pub kind : GateKind
   pub ins : List ℕ
   pub outs : List ℕ
 
@@ -52,14 +54,9 @@ pub record Satisfies (n : Netlist) (a v : Valuation) : Type 0 where
   pub given : (i : ℕ) → i < n.given → v i ≡ a i
   pub rows : All (HasRow v) n.gates
 
--- the value of a wire, by its name
-abbrev pub wire_value : Option ℕ → Valuation → Bool
-wire_value None v = false
-wire_value (Some w) v = v w
-
 -- the values of wires by their names, and a name without a wire is false
 abbrev pub values_by_name : Circuit → Valuation → List ℕ → Bool
-values_by_name c v n = wire_value (wire_of c n) v
+values_by_name c v n = option_map_or v (place_of n c.names) false
 
 -- n wires are defined so far. Each gate uses wires that are defined before it, and defines the next ones
 unfoldable pub AreOrdered : ℕ → List Gate → Type 0

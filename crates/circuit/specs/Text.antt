@@ -9,9 +9,9 @@ use Rattle.circuit.specs.declared.circuit_line.GateKind.TheVariants.{Uninteract}
 use Rattle.circuit.specs.declared.circuit_line.Kind.{Kind}
 use Rattle.circuit.specs.declared.circuit_line.Kind.TheVariants.{Input, Gate, Output, Spill}
 use Rattle.circuit.specs.declared.circuit_line.CircuitLine.{CircuitLine}
+use Rattle.section_text.specs.declared.section.Form.{Form}
 use Rattle.section_text.specs.declared.section.Form.TheVariants.{Header, Item, End}
 use Rattle.section_text.specs.Spelling.{line_text}
-use Rattle.circuit.specs.Forms.{Line}
 
 -- the word for a bit
 abbrev pub bit_word : Bool → List ℕ
@@ -65,6 +65,10 @@ entry_text r = line_text (first_word r.kind) (more_words r)
 -- the text of a circuit, from its header line to its `end` line
 unfoldable pub circuit_text : List CircuitLine → List ℕ
 circuit_text entries = line_text (codes "circuit") [] ++ flat_map entry_text entries ++ line_text (codes "end") []
+
+-- the form of a line of the circuit section: its header has no content
+abbrev pub Line : Type 0
+Line = Form (Unit {0}) CircuitLine
 
 -- the text of a line, by its form
 abbrev pub form_text : Line → List ℕ

@@ -5,23 +5,23 @@ use Rattle.circuit.specs.declared.circuit_line.Kind.{Kind}
 use Rattle.circuit.specs.declared.circuit_line.Kind.TheVariants.{Input, Output, Spill}
 use Rattle.circuit.specs.declared.circuit_line.Kind.TheVariants.{Gate as GateLine}
 use Rattle.circuit.specs.declared.wiring.GateWires.{GateWires}
-use Rattle.circuit.specs.Gates.{rule_of, uses, defines}
+use Rattle.circuit.specs.Gates.{uses, defines}
 use Rattle.circuit.specs.Meaning.{Gate}
 
 -- the gate that is kept
 abbrev pub gate_of : GateWires → Gate
 gate_of g =
     record {
-      kind = rule_of g.kind;
-      ins = take (uses (rule_of g.kind)) g.ins;
-      outs = take (defines (rule_of g.kind)) g.outs;
+      kind = g.kind;
+      ins = take (uses g.kind) g.ins;
+      outs = take (defines g.kind) g.outs;
     }
 
 -- the gate of a line of this kind, if it is a gate's line
 abbrev pub gate_at : Kind → List ℕ → ℕ → List Gate
 gate_at Input ins first = []
 gate_at (GateLine k) ins first =
-    record { kind = rule_of k; ins = take (uses (rule_of k)) ins; outs = range_with_len first (defines (rule_of k)) }
+    record { kind = k; ins = take (uses k) ins; outs = range_with_len first (defines k) }
     ∷ []
 gate_at Output ins first = []
 gate_at Spill ins first = []

@@ -1,7 +1,7 @@
 //! The lines of a circuit.
 ghost use Rattle.std.specs.Prelude.{◌≡◌, ◌≤◌, [], ◌∷◌};
 ghost use Rattle.circuit.specs.Entries.{rank_of, entry};
-ghost use Rattle.circuit.specs.Gates.{is_inverse, rule_of, uses, defines};
+ghost use Rattle.circuit.specs.Gates.{is_inverse, uses, defines};
 ghost use Rattle.circuit.specs.declared.circuit_line.Kind.TheVariants.{Input, Gate, Output, Spill};
 ghost use Rattle.circuit.specs.declared.circuit_line.GateKind.TheVariants.{Source};
 
@@ -9,8 +9,7 @@ use section_text::{Name, Names};
 
 /// The kind of a gate (Fredkin and Toffoli 1982), with the order of its wires.
 ///
-/// A source has no input, and all others keep the number of ones. The last two are inverse gates: they have no row at
-/// some inputs.
+/// A source has no input. All others keep the number of ones. The last two, inverse gates, lack a row at some inputs.
 #[derive(Clone, Copy, Debug, PartialEq, Eq)]
 pub enum GateKind {
     /// One wire, which has this value.
@@ -25,8 +24,7 @@ pub enum GateKind {
     Switch,
     /// `a -> b`: b is a. The number, 1..4096, is the delay in steps.
     Delay(u32),
-    /// `c y z -> d x`: undoes `switch`. d is c, and x is y if c is true, z if it is false. There is no row if the other
-    /// one of y and z is true.
+    /// `c y z -> d x`: undoes `switch`. d is c; x is y if c is true, else z. There is no row if the other one is true.
     Unswitch,
     /// `a b c d -> p q`: undoes `interact`. There is no row at inputs that `interact` never gives.
     Uninteract,
@@ -52,7 +50,7 @@ pub struct CircuitLine {
 impl GateKind {
     /// Returns how many wires a gate of this kind consumes.
     pub fn ins(self) -> usize
-        ensures count { result ≡ uses (rule_of self) }
+        ensures count { result ≡ uses self }
         ensures at_most_4 { result ≤ 4 }
     {
         match self {
@@ -69,7 +67,7 @@ impl GateKind {
 
     /// Returns whether a gate of this kind has no row at some inputs.
     pub fn is_inverse(self) -> bool
-        ensures { result ≡ is_inverse (rule_of self) }
+        ensures { result ≡ is_inverse self }
     {
         match self {
             GateKind::Unswitch => true,
@@ -80,7 +78,7 @@ impl GateKind {
 
     /// Returns how many wires a gate of this kind defines.
     pub fn outs(self) -> usize
-        ensures count { result ≡ defines (rule_of self) }
+        ensures count { result ≡ defines self }
         ensures at_most_4 { result ≤ 4 }
     {
         match self {

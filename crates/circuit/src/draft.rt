@@ -1,7 +1,7 @@
 //! Circuits, line by line.
 ghost use Rattle.std.specs.Prelude.{◌≡◌, ◌==◌, ◌+◌, ◌-◌, true, [], ◌∷◌, ◌++◌, ◌≤◌, map, length, Option, None, Some, OnOk, OnErr, IfOk, IfErr};
 ghost use Rattle.circuit.specs.Entries.{entry, defined};
-ghost use Rattle.circuit.specs.Gates.{rule_of, uses, defines};
+ghost use Rattle.circuit.specs.Gates.{uses, defines};
 ghost use Rattle.circuit.specs.declared.circuit_line.Kind.TheVariants.{Input, Gate, Output, Spill};
 ghost use Rattle.circuit.specs.declared.circuit_line.GateKind.TheVariants.{Source};
 ghost use Rattle.circuit.specs.Rules.{add_fault, passes_limit, is_wrong_delay, is_gate, gate_count, consumed, consume, define, unused};
@@ -248,8 +248,8 @@ impl Draft {
     /// - then, from left to right, 3: a name of `ins` is not defined, and 5: it is consumed already;
     /// - 4: a name of `outs` is defined already.
     pub fn add_gate(&mut self, kind: GateKind, ins: &[Name], outs: &[Name]) -> Result<(), LineFault>
-        requires ins { length ins.now ≡ uses (rule_of kind) }
-        requires outs { length outs.now ≡ defines (rule_of kind) }
+        requires ins { length ins.now ≡ uses kind }
+        requires outs { length outs.now ≡ defines kind }
         ensures ok { OnOk result ((add_fault self.old (entry (Gate kind) ins.now outs.now) ≡ None)
             × (self.new ≡ self.old ++ entry (Gate kind) ins.now outs.now ∷ [])) }
         ensures err { OnErr result (self.new ≡ self.old) }

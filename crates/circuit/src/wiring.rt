@@ -2,7 +2,7 @@
 ghost use Rattle.std.specs.Prelude.{◌≡◌, ◌≤◌, ◌++◌, Bool, List, Some, None, Ok, true, false, map, length, take, option_map, OnOk, OnErr, IfErr, IfOk};
 ghost use Rattle.std.specs.List.{range_with_len};
 ghost use Rattle.circuit.specs.Meaning.{number};
-ghost use Rattle.circuit.specs.Gates.{row, rule_of, uses};
+ghost use Rattle.circuit.specs.Gates.{row, uses};
 ghost use Rattle.circuit.specs.Bridge.{read};
 ghost use Rattle.circuit.specs.Evaluate.{evaluate, IsEvaluateFault};
 ghost use Rattle.circuit.specs.Wiring.{gate_of, gate_at};
@@ -26,7 +26,7 @@ impl GateWires {
     /// Returns the kind of the gate.
     pub fn kind(&self) -> GateKind
         ensures kind { result ≡ self.now.kind }
-        ensures rule { rule_of result ≡ (gate_of self.now).kind }
+        ensures same_kind { result ≡ (gate_of self.now).kind }
     {
         self.kind
     }
@@ -132,12 +132,12 @@ fn value_at(values: &[bool], wire: WireNo) -> bool
 fn push_outs(values: &mut Vec<bool>, gate: GateWires) -> Result<bool, AllocError>
     ensures found { result ≡ Ok true →
         option_map (λ (r : List Bool). values.old.items ++ r)
-        (row (rule_of gate.kind)
-        (map (read values.old.items) (take (uses (rule_of gate.kind)) gate.ins)))
+        (row gate.kind
+        (map (read values.old.items) (take (uses gate.kind) gate.ins)))
         ≡ Some values.new.items }
     ensures none { result ≡ Ok false →
-        row (rule_of gate.kind)
-        (map (read values.old.items) (take (uses (rule_of gate.kind)) gate.ins)) ≡ None }
+        row gate.kind
+        (map (read values.old.items) (take (uses gate.kind) gate.ins)) ≡ None }
     ensures values_unchanged { result ≡ Ok false → values.new.items ≡ values.old.items }
 {
     let [x, y, z, w] = gate.ins;

@@ -21,7 +21,7 @@ use Rattle.circuit.specs.Meaning as meaning
 use Rattle.certificate_lines.specs.Orders as orders
 use Rattle.certificate_lines.specs.Rules as rules
 use Rattle.circuit.specs.Bridge.{circuit_of, netlist_of, read}
-use Rattle.circuit.specs.Gates.{is_inverse, row, Switch as Switches, Unswitch as Unswitches}
+use Rattle.circuit.specs.Gates.{is_inverse, row}
 use Rattle.circuit.specs.Meaning.{AreOrdered, Gate as NetGate, HasRow, Valuation, place_of, wires_after, number}
 use Rattle.circuit.specs.declared.circuit_line.CircuitLine.{CircuitLine}
 use Rattle.circuit.specs.declared.circuit_line.GateKind.TheVariants.{Switch, Unswitch}
@@ -136,10 +136,10 @@ reads = refl
 -- ---- the job
 
 abbrev switch : NetGate
-switch = record { kind = Switches; ins = 0 ∷ 1 ∷ []; outs = 2 ∷ 3 ∷ 4 ∷ [] }
+switch = record { kind = Switch; ins = 0 ∷ 1 ∷ []; outs = 2 ∷ 3 ∷ 4 ∷ [] }
 
 abbrev unswitch : NetGate
-unswitch = record { kind = Unswitches; ins = 2 ∷ 3 ∷ 4 ∷ []; outs = 5 ∷ 6 ∷ [] }
+unswitch = record { kind = Unswitch; ins = 2 ∷ 3 ∷ 4 ∷ []; outs = 5 ∷ 6 ∷ [] }
 
 abbrev net : LocalNet
 net = record {

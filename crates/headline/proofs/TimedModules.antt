@@ -15,7 +15,7 @@ use Rattle.circuit.specs.Forms as circuit_forms
 use Rattle.circuit.specs.Rules as circuit_rules
 use Rattle.circuit.specs.Meaning as meaning
 use Rattle.circuit.specs.Bridge.{circuit_of, netlist_of, read}
-use Rattle.circuit.specs.Gates.{is_inverse, row, Interact as Interacts, Delay as Delays}
+use Rattle.circuit.specs.Gates.{is_inverse, row}
 use Rattle.circuit.specs.Meaning.{AreOrdered, Gate as NetGate, HasRow, Valuation, place_of, wires_after, number}
 use Rattle.circuit.specs.declared.circuit_line.CircuitLine.{CircuitLine}
 use Rattle.circuit.specs.declared.circuit_line.GateKind.TheVariants.{Delay, Interact}
@@ -207,7 +207,7 @@ event x y w = record { at = record { time = 1; cell = at x y }; signal = Wire w 
 
 -- each module cuts p and q and uses the gate
 abbrev gate : NetGate
-gate = record { kind = Interacts; ins = 0 ∷ 1 ∷ []; outs = 2 ∷ 3 ∷ 4 ∷ 5 ∷ [] }
+gate = record { kind = Interact; ins = 0 ∷ 1 ∷ []; outs = 2 ∷ 3 ∷ 4 ∷ 5 ∷ [] }
 
 abbrev net : LocalNet
 net = record {
@@ -218,10 +218,10 @@ net = record {
 
 -- the third one cuts r too, and uses the delay
 abbrev third_gate : NetGate
-third_gate = record { kind = Interacts; ins = 0 ∷ 1 ∷ []; outs = 3 ∷ 4 ∷ 5 ∷ 6 ∷ [] }
+third_gate = record { kind = Interact; ins = 0 ∷ 1 ∷ []; outs = 3 ∷ 4 ∷ 5 ∷ 6 ∷ [] }
 
 abbrev delay : NetGate
-delay = record { kind = Delays 3; ins = 2 ∷ []; outs = 7 ∷ [] }
+delay = record { kind = Delay 3; ins = 2 ∷ []; outs = 7 ∷ [] }
 
 abbrev third_net : LocalNet
 third_net = record {

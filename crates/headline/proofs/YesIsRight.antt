@@ -11,7 +11,7 @@ use Rattle.section_text.specs.Codes.{or_else, code_where}
 use Rattle.section_text.specs.Words.{lines_of, rest_of, words_of}
 use Rattle.section_text.specs.Section.{ended_line, unless, line_after, header_line, section_of, body_of}
 use Rattle.section_text.proofs.Lines.{whole_text as no_byte_lost}
-use Rattle.circuit.specs.Text.{circuit_text}
+use Rattle.circuit.specs.Text.{Line, circuit_text}
 use Rattle.circuit.proofs.RoundTrip.{prints_what_is_read as circuit_printed}
 use Rattle.pattern.specs.Text.{layout_text}
 use Rattle.pattern.proofs.RoundTrip.{prints_what_is_read as layout_printed}
@@ -21,7 +21,7 @@ use Rattle.section_text.specs.declared.section.Form.TheVariants.{Header, Item, E
 use Rattle.section_text.proofs.Good.{AreFaultless, IsFaultless, read_faultless}
 use Rattle.circuit.specs.Bridge.{AreGoodAfter, AreGood, circuit_of, netlist_of}
 use Rattle.circuit.specs.Entries.{rank_of}
-use Rattle.circuit.specs.Forms.{Line, form_of}
+use Rattle.circuit.specs.Forms.{form_of}
 use Rattle.circuit.specs.Grammars.{circuit_grammar}
 use Rattle.circuit.specs.Rules.{add_fault, gate_count, is_gate, last_rank, order_fault}
 use Rattle.circuit.specs.declared.circuit_line.CircuitLine.{CircuitLine}

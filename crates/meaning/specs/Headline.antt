@@ -25,13 +25,11 @@ pub record IsRight (text : List ℕ) : Type 0 where
 abbrev pub SaysYes : List ℕ → Type 0
 SaysYes output = slice_get (lines_of output) 3 ≡ Some (codes "verdict yes")
 
--- The bytes of a reader are known, and so are those of a writer before and after: if the output says yes, P
--- holds of what there was to read.
-abbrev pub YesMeans : (List ℕ → Type 0) → Option (List ℕ) → Option (List ℕ) → Option (List ℕ) → Type 0
-YesMeans P left written_bytes written_bytes' =
-    (text before output : List ℕ) → left ≡ Some text → written_bytes ≡ Some before →
-    written_bytes' ≡ Some (before ++ output) → SaysYes output → P text
-
 -- P holds of what there is to read, if that is known
 abbrev pub Gives : (List ℕ → Type 0) → Option (List ℕ) → Type 0
 Gives P left = (text : List ℕ) → left ≡ Some text → P text
+
+-- A writer's bytes are known, before and after. If the output says yes, P holds of what there was to read, if known.
+abbrev pub YesMeans : (List ℕ → Type 0) → Option (List ℕ) → Option (List ℕ) → Option (List ℕ) → Type 0
+YesMeans P left written_bytes written_bytes' = (before output : List ℕ) → written_bytes ≡ Some before →
+    written_bytes' ≡ Some (before ++ output) → SaysYes output → Gives P left

@@ -38,8 +38,7 @@ pub record LooksAsAsked (p : Pattern) (value : List ℕ → Bool) (state : State
   pub mirrors : (x y : ℤ) → IsTrue (in_rectangles p.mirrors x y) → IsTrue (state x y)
   pub outputs : (i : ℕ) (q : Port) → slice_get p.outs i ≡ Some q → state q.cell.x q.cell.y ≡ value q.name
   pub elsewhere : (x y : ℤ) → IsFalse (in_rectangles p.mirrors x y) → IsFalse (in_ports p.outs x y) →
-      IsFalse (in_cells p.wastes x y) →
-      IsFalse (state x y)
+      IsFalse (in_cells p.wastes x y) → IsFalse (state x y)
 
 -- the plane at time t of the run that begins with the mirrors, the balls and the input cells whose wire is true under v
 abbrev pub run_under : Circuit → Pattern → Valuation → ℕ → State

@@ -10,7 +10,9 @@ use Rattle.std.proofs.lemmas.Bool.{and_parts}
 use Rattle.std.proofs.lemmas.Bool.Decides.{Decides-eqb}
 use Rattle.std.proofs.lemmas.Slice.Eq.{slice_eq-Decides}
 use Rattle.bbm_rule.specs.declared.block.Cell.{Cell}
-use Rattle.circuit.specs.Gates.{Rule, Source, Fredkin, Cswap, Interact, Switch, Delay, Unswitch, Uninteract}
+use Rattle.circuit.specs.declared.circuit_line.GateKind.{GateKind}
+use Rattle.circuit.specs.declared.circuit_line.GateKind.TheVariants.{Source, Fredkin, Cswap, Interact, Switch, Delay}
+use Rattle.circuit.specs.declared.circuit_line.GateKind.TheVariants.{Unswitch, Uninteract}
 use Rattle.circuit.specs.Meaning.{Gate, Netlist}
 use Rattle.module_box.specs.declared.schedules.AllTimes.{AllTimes}
 use Rattle.module_box.specs.declared.schedules.Event.{Event}
@@ -21,8 +23,8 @@ use Rattle.module_box.specs.declared.locals.LocalGate.{LocalGate}
 use Rattle.module_box.specs.LocalGates.{kept_gate}
 use Rattle.module_box.specs.Laws.{LocalsEqualityDecides, ScheduleEqualityDecides}
 use Rattle.module_box.specs.Equality.{is_one, wire_named, same_signal, same_cell, same_all_times, same_event}
-use Rattle.module_box.specs.Equality.{rule_place}
-use Rattle.module_box.specs.Equality.{source_bit, delay_number, same_rule, same_gate, same_netlist}
+use Rattle.module_box.specs.Equality.{gate_kind_place}
+use Rattle.module_box.specs.Equality.{source_bit, delay_number, same_gate_kind, same_gate, same_netlist}
 
 -- two tests, of two parts
 pub both : {P Q R : Type 0} (r s : Bool) → Decides r P → Decides s Q → (P → Q → R) → (R → P) → (R → Q) →
@@ -89,41 +91,41 @@ signals_decides s t =
     (λ e. ap (λ s. s.events) e)
 
 -- ---- gates
-source_of : Option Bool → Rule
+source_of : Option Bool → GateKind
 source_of None = Fredkin
 source_of (Some b) = Source b
 
-delay_of : Option ℕ → Rule
+delay_of : Option ℕ → GateKind
 delay_of None = Fredkin
 delay_of (Some n) = Delay n
 
-rule_from : ℕ → Option Bool → Option ℕ → Rule
-rule_from place source delay =
+gate_kind_from : ℕ → Option Bool → Option ℕ → GateKind
+gate_kind_from place source delay =
     get_or (source_of source ∷ Fredkin ∷ Cswap ∷ Interact ∷ Switch ∷ delay_of delay ∷ Unswitch ∷ []) place Uninteract
 
-rule_back : (r : Rule) → rule_from (rule_place r) (source_bit r) (delay_number r) ≡ r
-unfolding rule_from source_of delay_of
-rule_back (Source b) = refl
-rule_back Fredkin = refl
-rule_back Cswap = refl
-rule_back Interact = refl
-rule_back Switch = refl
-rule_back (Delay n) = refl
-rule_back Unswitch = refl
-rule_back Uninteract = refl
+gate_kind_back : (r : GateKind) → gate_kind_from (gate_kind_place r) (source_bit r) (delay_number r) ≡ r
+unfolding gate_kind_from source_of delay_of
+gate_kind_back (Source b) = refl
+gate_kind_back Fredkin = refl
+gate_kind_back Cswap = refl
+gate_kind_back Interact = refl
+gate_kind_back Switch = refl
+gate_kind_back (Delay n) = refl
+gate_kind_back Unswitch = refl
+gate_kind_back Uninteract = refl
 
-rule_decides : (a b : Rule) → Decides (same_rule a b) (a ≡ b)
-rule_decides a b =
-    both _ _ (Decides-eqb (rule_place a) (rule_place b))
+gate_kind_decides : (a b : GateKind) → Decides (same_gate_kind a b) (a ≡ b)
+gate_kind_decides a b =
+    both _ _ (Decides-eqb (gate_kind_place a) (gate_kind_place b))
     (both {R = (source_bit a ≡ source_bit b) × (delay_number a ≡ delay_number b)} _ _
     (options beq booleans_Decides (source_bit a) (source_bit b))
     (options nat_eq Decides-eqb (delay_number a) (delay_number b)) (λ s d. (s, d)) (λ p. p.0) (λ p. p.1))
-    (λ place rest. sym (rule_back a) ∙ (λ i. rule_from (place i) (rest.0 i) (rest.1 i)) ∙ rule_back b)
-    (λ e. ap rule_place e) (λ e. (ap source_bit e, ap delay_number e))
+    (λ place rest. sym (gate_kind_back a) ∙ (λ i. gate_kind_from (place i) (rest.0 i) (rest.1 i)) ∙ gate_kind_back b)
+    (λ e. ap gate_kind_place e) (λ e. (ap source_bit e, ap delay_number e))
 
 pub gate_decides : (g h : Gate) → Decides (same_gate g h) (g ≡ h)
 gate_decides g h =
-    both _ _ (rule_decides g.kind h.kind)
+    both _ _ (gate_kind_decides g.kind h.kind)
     (both {R = (g.ins ≡ h.ins) × (g.outs ≡ h.outs)} _ _ (lists nat_eq Decides-eqb g.ins h.ins)
     (lists nat_eq Decides-eqb g.outs h.outs) (λ ins outs. (ins, outs)) (λ p. p.0) (λ p. p.1))
     (λ kind rest i. record { kind = kind i; ins = rest.0 i; outs = rest.1 i }) (λ e. ap (λ g. g.kind) e)

@@ -11,7 +11,10 @@ use Rattle.std.proofs.lemmas.List.Elements.{All-head, All-tail}
 use Rattle.std.proofs.lemmas.List.FromFn.{length-range_with_len}
 use Rattle.std.proofs.lemmas.Grind.{flat_map-append}
 use Rattle.std.proofs.lemmas.Option.{same_Some, slice_get-get_or, slice_get_read}
-use Rattle.circuit.specs.Gates.{Rule, Source, Fredkin, Cswap, Interact, Switch, Delay, Unswitch, Uninteract, uses}
+use Rattle.circuit.specs.declared.circuit_line.GateKind.{GateKind}
+use Rattle.circuit.specs.declared.circuit_line.GateKind.TheVariants.{Source, Fredkin, Cswap, Interact, Switch, Delay}
+use Rattle.circuit.specs.declared.circuit_line.GateKind.TheVariants.{Unswitch, Uninteract}
+use Rattle.circuit.specs.Gates.{uses}
 use Rattle.circuit.specs.Gates.{defines}
 use Rattle.circuit.specs.Meaning.{Gate, Netlist, AreOrdered, wires_after}
 use Rattle.module_box.specs.Locals.{outs_of, local_wires, is_among, AreDifferent, IsKnown, AreLocalLines, renumber_gate}
@@ -31,7 +34,7 @@ ordered_fits n (h ∷ gs) zero g ordered at =
 ordered_fits n (h ∷ gs) (suc k) g ordered at = ordered_fits (n + defines h.kind) gs k g ordered.3 at
 
 -- no gate defines more than four wires
-defines_few : (k : Rule) → defines k ≤ 4
+defines_few : (k : GateKind) → defines k ≤ 4
 defines_few (Source b) = omega arith
 defines_few Fredkin = omega arith
 defines_few Cswap = omega arith

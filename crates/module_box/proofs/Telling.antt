@@ -3,9 +3,12 @@ use Rattle.std.proofs.Common.{◌≡◌, ℕ, zero, suc, ◌+◌, List, [], ◌�
 use Rattle.std.proofs.Common.{sym, ap, ap₂, ◌∙◌, arith}
 use Rattle.std.specs.List.{flat_map, range_with_len}
 use Rattle.std.proofs.lemmas.List.{append_assoc}
-use Rattle.circuit.specs.Gates.{Rule, Source, Fredkin, Cswap, Interact, Switch, Delay, Unswitch, Uninteract}
-use Rattle.module_box.specs.Equality.{rule_place}
-use Rattle.module_box.specs.Numbers.{AreTelling, NumbersTellGates, counted, gate_numbers, netlist_numbers, rule_detail}
+use Rattle.circuit.specs.declared.circuit_line.GateKind.{GateKind}
+use Rattle.circuit.specs.declared.circuit_line.GateKind.TheVariants.{Source, Fredkin, Cswap, Interact, Switch, Delay}
+use Rattle.circuit.specs.declared.circuit_line.GateKind.TheVariants.{Unswitch, Uninteract}
+use Rattle.module_box.specs.Equality.{gate_kind_place}
+use Rattle.module_box.specs.Numbers.{AreTelling, NumbersTellGates, counted, gate_numbers, netlist_numbers}
+use Rattle.module_box.specs.Numbers.{gate_kind_detail}
 
 range_suc : (a n : ℕ) → range_with_len a (suc n) ≡ range_with_len a n ++ (a + n) ∷ []
 range_suc a zero = ap (λ k. k ∷ []) (omega arith)
@@ -57,33 +60,35 @@ pub number_tells : AreTelling (λ (n : ℕ). n ∷ [])
 number_tells n m r s e = (same_head n m r s e, same_tail n m r s e)
 
 -- ---- gates
-rule_from : ℕ → ℕ → Rule
-rule_from place detail = get_or
+gate_kind_from : ℕ → ℕ → GateKind
+gate_kind_from place detail = get_or
     (Source (nat_eq detail 1) ∷ Fredkin ∷ Cswap ∷ Interact ∷ Switch ∷ Delay detail ∷ Unswitch ∷ []) place Uninteract
 
-rule_back : (r : Rule) → rule_from (rule_place r) (rule_detail r) ≡ r
-unfolding rule_from
-rule_back (Source true) = refl
-rule_back (Source false) = refl
-rule_back Fredkin = refl
-rule_back Cswap = refl
-rule_back Interact = refl
-rule_back Switch = refl
-rule_back (Delay n) = refl
-rule_back Unswitch = refl
-rule_back Uninteract = refl
+gate_kind_back : (r : GateKind) → gate_kind_from (gate_kind_place r) (gate_kind_detail r) ≡ r
+unfolding gate_kind_from
+gate_kind_back (Source true) = refl
+gate_kind_back (Source false) = refl
+gate_kind_back Fredkin = refl
+gate_kind_back Cswap = refl
+gate_kind_back Interact = refl
+gate_kind_back Switch = refl
+gate_kind_back (Delay n) = refl
+gate_kind_back Unswitch = refl
+gate_kind_back Uninteract = refl
 
-rules_tell : AreTelling (λ (r : Rule). rule_place r ∷ rule_detail r ∷ [])
-rules_tell a b r s e =
-    let place = same_head (rule_place a) (rule_place b) (rule_detail a ∷ r) (rule_detail b ∷ s) e in
-    let rest = same_tail (rule_place a) (rule_place b) (rule_detail a ∷ r) (rule_detail b ∷ s) e in (
-      sym (rule_back a) ∙ ap₂ rule_from place (same_head (rule_detail a) (rule_detail b) r s rest) ∙ rule_back b,
-      same_tail (rule_detail a) (rule_detail b) r s rest,
+gate_kinds_tell : AreTelling (λ (r : GateKind). gate_kind_place r ∷ gate_kind_detail r ∷ [])
+gate_kinds_tell a b r s e =
+    let place = same_head (gate_kind_place a) (gate_kind_place b) (gate_kind_detail a ∷ r) (gate_kind_detail b ∷ s) e in
+    let rest = same_tail (gate_kind_place a) (gate_kind_place b) (gate_kind_detail a ∷ r)
+    (gate_kind_detail b ∷ s) e in (
+      sym (gate_kind_back a) ∙ ap₂ gate_kind_from place (same_head (gate_kind_detail a) (gate_kind_detail b) r s rest)
+          ∙ gate_kind_back b,
+      same_tail (gate_kind_detail a) (gate_kind_detail b) r s rest,
     )
 
 gates_tell : AreTelling gate_numbers
 gates_tell g h r s e =
-    let kinds = rules_tell g.kind h.kind ((listed g.ins ++ listed g.outs) ++ r)
+    let kinds = gate_kinds_tell g.kind h.kind ((listed g.ins ++ listed g.outs) ++ r)
     ((listed h.ins ++ listed h.outs) ++ s) e in
     let ins = lists_tell g.ins h.ins (listed g.outs ++ r) (listed h.outs ++ s)
     (sym (append_assoc (listed g.ins) (listed g.outs) r) ∙ kinds.1 ∙ append_assoc (listed h.ins) (listed h.outs) s) in

@@ -13,8 +13,7 @@ use Rattle.circuit.specs.declared.circuit_line.GateKind.{GateKind}
 use Rattle.circuit.specs.declared.circuit_line.GateKind.TheVariants.{Source, Fredkin, Cswap, Interact, Switch, Delay}
 use Rattle.circuit.specs.declared.circuit_line.GateKind.TheVariants.{Unswitch}
 use Rattle.circuit.specs.declared.circuit_line.GateKind.TheVariants.{Uninteract}
-use Rattle.circuit.specs.Gates.{row, rule_of, uses, defines}
-use Rattle.circuit.specs.Gates.{Unswitch as Unswitched, Uninteract as Uninteracted}
+use Rattle.circuit.specs.Gates.{row, uses, defines}
 use Rattle.circuit.specs.Meaning.{Gate, wires_after}
 use Rattle.circuit.specs.Bridge.{read}
 use Rattle.circuit.specs.Evaluate.{evaluate, first_undefined, undefined_or}
@@ -75,7 +74,7 @@ first_only_bit x y b = rw (bit-xor x (bit_and x y) b, bit-and x y b) (first_only
 forward : (o : Option (List Bool)) (r : List Bool) (b : ℕ) → o ≡ Some r → o ≡ row_unless (bit 0 b) r
 forward o r b e = e ∙ ap (λ (v : Bool). row_unless v r) (sym (bit-zero b))
 
-unswitch_bits : (c y z : Bool) → row Unswitched (c ∷ y ∷ z ∷ []) ≡ row_unless (cond c z y) (c ∷ (y || z) ∷ [])
+unswitch_bits : (c y z : Bool) → row Unswitch (c ∷ y ∷ z ∷ []) ≡ row_unless (cond c z y) (c ∷ (y || z) ∷ [])
 unfolding row
 unswitch_bits true true true = refl
 unswitch_bits true true false = refl
@@ -87,7 +86,7 @@ unswitch_bits false false true = refl
 unswitch_bits false false false = refl
 
 uninteract_bits : (a b c d : Bool) →
-    row Uninteracted (a ∷ b ∷ c ∷ d ∷ [])
+    row Uninteract (a ∷ b ∷ c ∷ d ∷ [])
     ≡ row_unless (xor a d || ((a && (b || c)) || (b && c))) ((a || c) ∷ (a || b) ∷ [])
 unfolding row
 uninteract_bits false false false false = refl
@@ -108,7 +107,7 @@ uninteract_bits false false true true = refl
 uninteract_bits false false false true = refl
 
 words_row : (kind : GateKind) (a x y z b : ℕ) → b < 64 →
-    row (rule_of kind) (take (uses (rule_of kind)) (bit a b ∷ bit x b ∷ bit y b ∷ bit z b ∷ []))
+    row kind (take (uses kind) (bit a b ∷ bit x b ∷ bit y b ∷ bit z b ∷ []))
     ≡ row_unless (bit (no_row kind a x y z) b) (lane b (word_row kind a x y z))
 unfolding row
 words_row (Source true) a x y z b h = forward _ _ b (ap (λ (v : Bool). Some (v ∷ [])) (sym (bit_ones b h)))
@@ -147,8 +146,8 @@ read_lane ws b w = ap (λ (d : Bool). get_or (lane b ws) w d) (sym (bit-zero b))
 
 -- ---- one gate
 front_ins : (kind : GateKind) (f : ℕ → Bool) (ins : List ℕ) → length ins ≡ 4 →
-    map f (take (uses (rule_of kind)) ins)
-    ≡ take (uses (rule_of kind)) (f (get_or ins 0 0) ∷ f (get_or ins 1 0) ∷ f (get_or ins 2 0) ∷ f (get_or ins 3 0)
+    map f (take (uses kind) ins)
+    ≡ take (uses kind) (f (get_or ins 0 0) ∷ f (get_or ins 1 0) ∷ f (get_or ins 2 0) ∷ f (get_or ins 3 0)
     ∷ [])
 front_ins kind f [] e = absurd (omega arith)
 front_ins kind f (a ∷ []) e = absurd (omega arith)
@@ -171,17 +170,17 @@ abbrev none_of : GateKind → List ℕ → List ℕ → ℕ
 none_of kind ws ins = no_row kind (wire_word ws ins 0) (wire_word ws ins 1) (wire_word ws ins 2) (wire_word ws ins 3)
 
 lane_row : (kind : GateKind) (ins ws : List ℕ) (b : ℕ) → b < 64 → length ins ≡ 4 →
-    row (rule_of kind) (map (read (lane b ws)) (take (uses (rule_of kind)) ins))
+    row kind (map (read (lane b ws)) (take (uses kind) ins))
     ≡ row_unless (bit (none_of kind ws ins) b) (lane b (outs_of kind ws ins))
 lane_row kind ins ws b h e =
-    ap (row (rule_of kind)) (front_ins kind (read (lane b ws)) ins e
-    ∙ ap (take (uses (rule_of kind)))
+    ap (row kind) (front_ins kind (read (lane b ws)) ins e
+    ∙ ap (take (uses kind))
     (ap₂ (λ (p : Bool) (l : List Bool). p ∷ l) (read_lane ws b (get_or ins 0 0))
     (ap₂ (λ (p : Bool) (l : List Bool). p ∷ l) (read_lane ws b (get_or ins 1 0))
     (ap₂ (λ (q r : Bool). q ∷ r ∷ []) (read_lane ws b (get_or ins 2 0)) (read_lane ws b (get_or ins 3 0))))))
     ∙ words_row kind (wire_word ws ins 0) (wire_word ws ins 1) (wire_word ws ins 2) (wire_word ws ins 3) b h
 
-many_outs : (kind : GateKind) (a x y z : ℕ) → length (word_row kind a x y z) ≡ defines (rule_of kind)
+many_outs : (kind : GateKind) (a x y z : ℕ) → length (word_row kind a x y z) ≡ defines kind
 many_outs (Source true) a x y z = refl
 many_outs (Source false) a x y z = refl
 many_outs Fredkin a x y z = refl
@@ -207,7 +206,7 @@ gate_done ws new g none long more is = record {
     outs : List ℕ
     outs = outs_of g.kind ws g.ins
 
-    at : (b : ℕ) → b < 64 → row (rule_of g.kind) (map (read (lane b ws)) (take (uses (rule_of g.kind)) g.ins))
+    at : (b : ℕ) → b < 64 → row g.kind (map (read (lane b ws)) (take (uses g.kind) g.ins))
         ≡ row_unless (bit none b) (lane b outs)
     at b small = lane_row g.kind g.ins ws b small long ∙ ap (λ (n : ℕ). row_unless (bit n b) (lane b outs)) (sym is)
 

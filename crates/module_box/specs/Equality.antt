@@ -7,7 +7,9 @@ use Rattle.std.specs.Cmp.{IsEquivalence, and_equiv, on_equiv, nat_eq_equiv, int_
 use Rattle.std.specs.Cmp.Lexicographic.{pointwise, lists_equiv, options_equiv}
 use Rattle.std.specs.Option.{option_eq}
 use Rattle.bbm_rule.specs.declared.block.Cell.{Cell}
-use Rattle.circuit.specs.Gates.{Rule, Source, Fredkin, Cswap, Interact, Switch, Delay, Unswitch, Uninteract}
+use Rattle.circuit.specs.declared.circuit_line.GateKind.{GateKind}
+use Rattle.circuit.specs.declared.circuit_line.GateKind.TheVariants.{Source, Fredkin, Cswap, Interact, Switch, Delay}
+use Rattle.circuit.specs.declared.circuit_line.GateKind.TheVariants.{Unswitch, Uninteract}
 use Rattle.circuit.specs.Meaning.{Gate, Netlist}
 use Rattle.module_box.specs.declared.schedules.AllTimes.{AllTimes}
 use Rattle.module_box.specs.declared.schedules.Event.{Event}
@@ -74,19 +76,19 @@ signals_equivalence = and_equiv (on_equiv (λ s. s.all_times) (lists_equiv all_t
     (on_equiv (λ s. s.events) (lists_equiv event_equivalence))
 
 -- ---- the wires and gates of modules
--- the number of a rule, whatever its bit or its steps
-abbrev pub rule_place : Rule → ℕ
-rule_place (Source b) = 0
-rule_place Fredkin = 1
-rule_place Cswap = 2
-rule_place Interact = 3
-rule_place Switch = 4
-rule_place (Delay n) = 5
-rule_place Unswitch = 6
-rule_place Uninteract = 7
+-- the number of a kind of gate, whatever its bit or its steps
+abbrev pub gate_kind_place : GateKind → ℕ
+gate_kind_place (Source b) = 0
+gate_kind_place Fredkin = 1
+gate_kind_place Cswap = 2
+gate_kind_place Interact = 3
+gate_kind_place Switch = 4
+gate_kind_place (Delay n) = 5
+gate_kind_place Unswitch = 6
+gate_kind_place Uninteract = 7
 
 -- the bit of a source
-abbrev pub source_bit : Rule → Option Bool
+abbrev pub source_bit : GateKind → Option Bool
 source_bit (Source b) = Some b
 source_bit Fredkin = None
 source_bit Cswap = None
@@ -97,7 +99,7 @@ source_bit Unswitch = None
 source_bit Uninteract = None
 
 -- the steps of a delay
-abbrev pub delay_number : Rule → Option ℕ
+abbrev pub delay_number : GateKind → Option ℕ
 delay_number (Source b) = None
 delay_number Fredkin = None
 delay_number Cswap = None
@@ -107,14 +109,14 @@ delay_number (Delay n) = Some n
 delay_number Unswitch = None
 delay_number Uninteract = None
 
--- whether two rules are the same
-abbrev pub same_rule : Rule → Rule → Bool
-same_rule = eq_of_both (on rule_place nat_eq)
+-- whether two kinds of gate are the same
+abbrev pub same_gate_kind : GateKind → GateKind → Bool
+same_gate_kind = eq_of_both (on gate_kind_place nat_eq)
     (eq_of_both (on source_bit (option_eq beq)) (on delay_number (option_eq nat_eq)))
 
 -- whether two gates are the same
 abbrev pub same_gate : Gate → Gate → Bool
-same_gate = eq_of_both (on (λ g. g.kind) same_rule)
+same_gate = eq_of_both (on (λ g. g.kind) same_gate_kind)
     (eq_of_both (on (λ g. g.ins) (pointwise nat_eq)) (on (λ g. g.outs) (pointwise nat_eq)))
 
 -- whether two netlists are the same
@@ -129,13 +131,13 @@ same_locals =
     (on (λ l. l.circuit_gates) (pointwise nat_eq))
 
 -- these tests are equivalences
-rule_equivalence : IsEquivalence same_rule
-rule_equivalence = and_equiv (on_equiv rule_place nat_eq_equiv)
+gate_kind_equivalence : IsEquivalence same_gate_kind
+gate_kind_equivalence = and_equiv (on_equiv gate_kind_place nat_eq_equiv)
     (and_equiv (on_equiv source_bit (options_equiv bool_eq_equiv)) (on_equiv delay_number (options_equiv nat_eq_equiv)))
 
 -- the test on gates is an equivalence
 pub gate_equivalence : IsEquivalence same_gate
-gate_equivalence = and_equiv (on_equiv (λ g. g.kind) rule_equivalence)
+gate_equivalence = and_equiv (on_equiv (λ g. g.kind) gate_kind_equivalence)
     (and_equiv (on_equiv (λ g. g.ins) (lists_equiv nat_eq_equiv)) (on_equiv (λ g. g.outs) (lists_equiv nat_eq_equiv)))
 
 -- the test on netlists is an equivalence

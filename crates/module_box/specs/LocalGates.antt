@@ -1,14 +1,14 @@
 -- A gate over the wires of a module, as it is kept
 use Rattle.std.specs.Prelude.{take}
 use Rattle.std.specs.List.{range_with_len}
-use Rattle.circuit.specs.Gates.{rule_of, uses, defines}
+use Rattle.circuit.specs.Gates.{uses, defines}
 use Rattle.circuit.specs.Meaning.{Gate}
 use Rattle.module_box.specs.declared.locals.LocalGate.{LocalGate}
 
 -- the gate that is kept
 abbrev pub kept_gate : LocalGate → Gate
 kept_gate g = record {
-  kind = rule_of g.kind;
-  ins = take (uses (rule_of g.kind)) g.ins;
-  outs = range_with_len g.first (defines (rule_of g.kind));
+  kind = g.kind;
+  ins = take (uses g.kind) g.ins;
+  outs = range_with_len g.first (defines g.kind);
 }

@@ -2,9 +2,11 @@
 use Rattle.std.specs.Prelude.{◌≡◌, ℕ, List, ◌∷◌, ◌++◌, length}
 use Rattle.std.specs.List.{flat_map}
 use Rattle.bbm_rule.specs.Plane.{one_if}
-use Rattle.circuit.specs.Gates.{Rule, Source, Fredkin, Cswap, Interact, Switch, Delay, Unswitch, Uninteract}
+use Rattle.circuit.specs.declared.circuit_line.GateKind.{GateKind}
+use Rattle.circuit.specs.declared.circuit_line.GateKind.TheVariants.{Source, Fredkin, Cswap, Interact, Switch, Delay}
+use Rattle.circuit.specs.declared.circuit_line.GateKind.TheVariants.{Unswitch, Uninteract}
 use Rattle.circuit.specs.Meaning.{Gate, Netlist}
-use Rattle.module_box.specs.Equality.{rule_place}
+use Rattle.module_box.specs.Equality.{gate_kind_place}
 
 -- how many there are, then the numbers of each
 abbrev pub counted : {A : Type 0} → (A → List ℕ) → List A → List ℕ
@@ -15,19 +17,19 @@ abbrev pub AreTelling : {A : Type 0} → (A → List ℕ) → Type 0
 AreTelling {A} numbers = (a b : A) (r s : List ℕ) → numbers a ++ r ≡ numbers b ++ s → (a ≡ b) × (r ≡ s)
 
 -- the bit of a source, the number of a delay
-abbrev pub rule_detail : Rule → ℕ
-rule_detail (Source b) = one_if b
-rule_detail Fredkin = 0
-rule_detail Cswap = 0
-rule_detail Interact = 0
-rule_detail Switch = 0
-rule_detail (Delay n) = n
-rule_detail Unswitch = 0
-rule_detail Uninteract = 0
+abbrev pub gate_kind_detail : GateKind → ℕ
+gate_kind_detail (Source b) = one_if b
+gate_kind_detail Fredkin = 0
+gate_kind_detail Cswap = 0
+gate_kind_detail Interact = 0
+gate_kind_detail Switch = 0
+gate_kind_detail (Delay n) = n
+gate_kind_detail Unswitch = 0
+gate_kind_detail Uninteract = 0
 
 -- what the gate does, the wires that it uses, and those that it defines
 abbrev pub gate_numbers : Gate → List ℕ
-gate_numbers g = rule_place g.kind ∷ rule_detail g.kind ∷ (length g.ins ∷ g.ins) ++ (length g.outs ∷ g.outs)
+gate_numbers g = gate_kind_place g.kind ∷ gate_kind_detail g.kind ∷ (length g.ins ∷ g.ins) ++ (length g.outs ∷ g.outs)
 
 -- the numbers of a netlist: how many wires are given, and then its gates
 unfoldable pub netlist_numbers : Netlist → List ℕ

@@ -2,10 +2,9 @@
 
 ghost use Rattle.std.specs.Prelude.{◌≡◌, ◌≤◌, ◌∷◌, ◌++◌, map, length, IfOk, OnOk};
 ghost use Rattle.std.specs.List.{flat_map, range_with_len};
-ghost use Rattle.circuit.specs.Gates.{rule_of};
-ghost use Rattle.module_box.specs.Equality.{rule_place};
+ghost use Rattle.module_box.specs.Equality.{gate_kind_place};
 ghost use Rattle.module_box.specs.LocalGates.{kept_gate};
-ghost use Rattle.module_box.specs.Numbers.{gate_numbers, netlist_numbers, rule_detail};
+ghost use Rattle.module_box.specs.Numbers.{gate_numbers, netlist_numbers, gate_kind_detail};
 
 use crate::locals::LocalGate;
 use crate::wiring::Wiring;
@@ -13,7 +12,7 @@ use circuit::GateKind;
 use std::alloc::{AllocError, Global};
 
 fn place_of(kind: GateKind) -> u64
-    ensures { result ≡ rule_place (rule_of kind) }
+    ensures { result ≡ gate_kind_place kind }
 {
     match kind {
         GateKind::Source(_) => 0,
@@ -28,7 +27,7 @@ fn place_of(kind: GateKind) -> u64
 }
 
 fn detail_of(kind: GateKind) -> u64
-    ensures { result ≡ rule_detail (rule_of kind) }
+    ensures { result ≡ gate_kind_detail kind }
 {
     match kind {
         GateKind::Source(true) => 1,

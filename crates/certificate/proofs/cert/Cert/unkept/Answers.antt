@@ -30,7 +30,7 @@ gates-preserved c =
     c.push_unkept.new.gates.items (modules_of s.entries) gs c.gates.number
     (gate_of c.gate-gate.result) c.is_inverse.result c.is_kept-keeps.result
     (let test = c.gates-test.true in omega (arith, test, count)) at
-    (c.is_inverse.ensures ∙ ap is_inverse c.kind.ensures.rule) kept c.in_ok-push_unkept.ensures c.gates.invariant
+    (c.is_inverse.ensures ∙ ap is_inverse c.kind.ensures.same_kind) kept c.in_ok-push_unkept.ensures c.gates.invariant
 
 pub returns : goal.returns
 returns c =
