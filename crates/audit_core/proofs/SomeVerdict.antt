@@ -104,7 +104,7 @@ line_each f few k (g ∷ gs) =
     let here = few k g in
     omega (arith, more, sum, here)
 
-few_delays : (k : ℕ) (kind : GateKind) (gap : StopGap) → length (delay_by k rule gap) ≤ 1
+few_delays : (k : ℕ) (kind : GateKind) (gap : StopGap) → length (delay_by k kind gap) ≤ 1
 few_delays k (Source b) gap = omega arith
 few_delays k Fredkin gap = omega arith
 few_delays k Cswap gap = omega arith
