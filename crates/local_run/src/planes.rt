@@ -192,12 +192,12 @@ fn are_different(first: &[u64], a: usize, second: &[u64], b: usize, long: usize)
     ensures { result ≡ false → (k : ℕ) → k < long →
         slice_index first.now (a + k) ≡ slice_index second.now (b + k) }
 {
+    let mut differs = false;
+    // Over all words, so that some are compared at once.
     for k in 0..long {
-        if first[a + k] != second[b + k] {
-            return true;
-        }
+        differs |= first[a + k] != second[b + k];
     }
-    false
+    differs
 }
 
 // Whether some word from a place on is not the given one.
@@ -206,12 +206,11 @@ fn is_some_other(words: &[u64], a: usize, word: u64, long: usize) -> bool
     requires { a + long ≤ length words.now }
     ensures { result ≡ false → (k : ℕ) → k < long → slice_index words.now (a + k) ≡ word }
 {
+    let mut differs = false;
     for k in 0..long {
-        if words[a + k] != word {
-            return true;
-        }
+        differs |= words[a + k] != word;
     }
-    false
+    differs
 }
 
 /// The diagonals of a block that a turn changes: that of its upper left and lower right cells, and the other one.
