@@ -1,5 +1,6 @@
 //! The line forms of the circuit section.
-ghost use Rattle.std.specs.Prelude.{◌≡◌, ◌+◌, ◌≤◌};
+ghost use Rattle.std.specs.Prelude.{◌≡◌, ◌+◌, ◌≤◌, Some, slice_get};
+ghost use Rattle.std.specs.Str.{bytes_eq};
 ghost use Rattle.section_text.specs.Words.{words_of};
 ghost use Rattle.section_text.specs.Feeds.{IsLine, line_bytes};
 ghost use Rattle.circuit.specs.Forms.{bit_at, gate_kind, words_before, gate_names, gate_entry, form_of};
@@ -7,40 +8,49 @@ ghost use Rattle.circuit.specs.Forms.{bit_at, gate_kind, words_before, gate_name
 use crate::circuit_line::{CircuitLine, GateKind, Kind};
 use section_text::{Feed, Form, Line};
 
-#[tactic(auto, unfolding(crate::specs::Forms::bit_at))]
+// Whether a word is a keyword.
+fn is_keyword(word: &[u8], keyword: &[u8]) -> bool
+    ensures { result ≡ bytes_eq word.now keyword.now }
+{
+    word == keyword
+}
+
+#[tactic(auto, unfolding(crate::specs::Forms::bit_at, section_text::specs::Words::is_word_at))]
 fn bit_of(feed: &Feed, line: &Line, index: usize) -> Option<bool>
     requires { IsLine feed.now line.now }
     ensures { result ≡ bit_at (words_of (line_bytes feed.now line.now)) index }
 {
-    if feed.is(line, index, b"0") {
+    let word = feed.word(line, index)?;
+    if is_keyword(word, b"0") {
         Some(false)
-    } else if feed.is(line, index, b"1") {
+    } else if is_keyword(word, b"1") {
         Some(true)
     } else {
         None
     }
 }
 
-#[tactic(auto, unfolding(crate::specs::Forms::gate_kind))]
-fn gate_kind_of(feed: &Feed, line: &Line) -> Option<GateKind>
-    requires { IsLine feed.now line.now }
+#[tactic(auto, unfolding(crate::specs::Forms::gate_kind, section_text::specs::Words::is_word_at))]
+fn gate_kind_of(feed: &Feed, line: &Line, keyword: &[u8]) -> Option<GateKind>
+    requires line { IsLine feed.now line.now }
+    requires first { slice_get (words_of (line_bytes feed.now line.now)) 0 ≡ Some keyword.now }
     ensures { result ≡ gate_kind (words_of (line_bytes feed.now line.now)) }
 {
-    if feed.is(line, 0, b"source") {
+    if is_keyword(keyword, b"source") {
         Some(GateKind::Source(bit_of(feed, line, 1)?))
-    } else if feed.is(line, 0, b"fredkin") {
+    } else if is_keyword(keyword, b"fredkin") {
         Some(GateKind::Fredkin)
-    } else if feed.is(line, 0, b"cswap") {
+    } else if is_keyword(keyword, b"cswap") {
         Some(GateKind::Cswap)
-    } else if feed.is(line, 0, b"interact") {
+    } else if is_keyword(keyword, b"interact") {
         Some(GateKind::Interact)
-    } else if feed.is(line, 0, b"switch") {
+    } else if is_keyword(keyword, b"switch") {
         Some(GateKind::Switch)
-    } else if feed.is(line, 0, b"delay") {
+    } else if is_keyword(keyword, b"delay") {
         Some(GateKind::Delay(feed.number(line, 1)?))
-    } else if feed.is(line, 0, b"unswitch") {
+    } else if is_keyword(keyword, b"unswitch") {
         Some(GateKind::Unswitch)
-    } else if feed.is(line, 0, b"uninteract") {
+    } else if is_keyword(keyword, b"uninteract") {
         Some(GateKind::Uninteract)
     } else {
         None
@@ -80,11 +90,12 @@ fn gate_names_of(feed: &Feed, line: &Line, kind: GateKind) -> Option<CircuitLine
 }
 
 #[tactic(auto, unfolding(crate::specs::Forms::gate_entry))]
-fn gate_entry_of(feed: &Feed, line: &Line) -> Option<CircuitLine>
-    requires { IsLine feed.now line.now }
+fn gate_entry_of(feed: &Feed, line: &Line, keyword: &[u8]) -> Option<CircuitLine>
+    requires line { IsLine feed.now line.now }
+    requires first { slice_get (words_of (line_bytes feed.now line.now)) 0 ≡ Some keyword.now }
     ensures { result ≡ gate_entry (words_of (line_bytes feed.now line.now)) }
 {
-    let kind = gate_kind_of(feed, line)?;
+    let kind = gate_kind_of(feed, line, keyword)?;
     let before = words_before_names(kind) + kind.ins();
     if feed.words(line) != before + 1 + kind.outs() {
         return None;
@@ -96,22 +107,23 @@ fn gate_entry_of(feed: &Feed, line: &Line) -> Option<CircuitLine>
 }
 
 /// Returns the form of a line, if it has one.
-#[tactic(auto, unfolding(crate::specs::Forms::form_of))]
+#[tactic(auto, unfolding(crate::specs::Forms::form_of, section_text::specs::Words::is_word_at))]
 pub fn line_form(feed: &Feed, line: &Line) -> Option<Form<(), CircuitLine>>
     requires { IsLine feed.now line.now }
     ensures { result ≡ form_of (words_of (line_bytes feed.now line.now)) }
 {
-    if feed.is(line, 0, b"circuit") {
+    let keyword = feed.first_word(line);
+    if is_keyword(keyword, b"circuit") {
         feed.lone(line, Form::Header(()))
-    } else if feed.is(line, 0, b"end") {
+    } else if is_keyword(keyword, b"end") {
         feed.lone(line, Form::End)
-    } else if feed.is(line, 0, b"input") {
+    } else if is_keyword(keyword, b"input") {
         Some(Form::Item(CircuitLine::input(feed.lone_name(line)?)))
-    } else if feed.is(line, 0, b"output") {
+    } else if is_keyword(keyword, b"output") {
         Some(Form::Item(CircuitLine::output(feed.lone_name(line)?)))
-    } else if feed.is(line, 0, b"spill") {
+    } else if is_keyword(keyword, b"spill") {
         Some(Form::Item(CircuitLine::spill(feed.lone_name(line)?)))
     } else {
-        Some(Form::Item(gate_entry_of(feed, line)?))
+        Some(Form::Item(gate_entry_of(feed, line, keyword)?))
     }
 }

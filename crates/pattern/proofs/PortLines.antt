@@ -1,29 +1,64 @@
--- A port line by its words.
+-- The lines of a layout by their words.
 use Rattle.std.proofs.Common.{◌≡◌, ◌==◌, if◌then◌else◌, ℕ, Bool, true, false, List, [], ◌∷◌, length, Some, None, refl}
 use Rattle.std.proofs.Common.{sym, ap, ◌∙◌}
 use Rattle.std.proofs.lemmas.Option.{same_Some}
-use Rattle.section_text.specs.Words.{four, number_at, name_at}
-use Rattle.pattern.specs.Forms.{cell_from, named_cell, port_of}
+use Rattle.section_text.specs.Words.{three, four, five, number_at, name_at}
+use Rattle.pattern.specs.Forms.{cell_from, lone_cell, named_cell, port_of, rectangle_of, size_of}
 use Rattle.pattern.specs.PortWords.{cell_by, port_by}
 
-by_words : (k n x y : List ℕ) → port_of (k ∷ n ∷ x ∷ y ∷ []) ≡ port_by n x y
+port_by_words : (k n x y : List ℕ) → port_of (k ∷ n ∷ x ∷ y ∷ []) ≡ port_by n x y
 unfolding port_of named_cell cell_from number_at name_at port_by cell_by
-by_words k n x y = refl
+port_by_words k n x y = refl
 
-is_four : {A : Type 0} (b : Bool) (x y : A) → (if b then Some x else None) ≡ Some y → x ≡ y
-is_four true x y e = same_Some x y e
-is_four false x y e = absurd cc
+is_so_many : {A : Type 0} (b : Bool) (x y : A) → (if b then Some x else None) ≡ Some y → x ≡ y
+is_so_many true x y e = same_Some x y e
+is_so_many false x y e = absurd cc
 
-not_four : {A : Type 0} (b : Bool) (x : A) → (if b then Some x else None) ≡ None → b ≡ false
-not_four true x e = absurd cc
-not_four false x e = refl
+not_so_many : {A : Type 0} (b : Bool) (x : A) → (if b then Some x else None) ≡ None → b ≡ false
+not_so_many true x e = absurd cc
+not_so_many false x e = refl
+
+-- ---- lines of three words
+
+cell_by_words : (k x y : List ℕ) → lone_cell (k ∷ x ∷ y ∷ []) ≡ cell_by x y
+unfolding lone_cell cell_from number_at cell_by
+cell_by_words k x y = refl
+
+pub cell_found : (ws : List (List ℕ)) (k x y : List ℕ) → Some (k ∷ x ∷ y ∷ []) ≡ three ws → cell_by x y ≡ lone_cell ws
+unfolding three
+cell_found ws k x y e = sym (cell_by_words k x y)
+    ∙ ap lone_cell (sym (is_so_many (length ws == 3) ws (k ∷ x ∷ y ∷ []) (sym e)))
+
+pub cell_missed : (ws : List (List ℕ)) → None ≡ three ws → None ≡ lone_cell ws
+unfolding three lone_cell
+cell_missed ws e = rw (not_so_many (length ws == 3) ws (sym e)) refl
+
+-- ---- lines of four words
 
 pub port_found : (ws : List (List ℕ)) (k n x y : List ℕ) → Some (k ∷ n ∷ x ∷ y ∷ []) ≡ four ws →
     port_by n x y ≡ port_of ws
 unfolding four
-port_found ws k n x y e = sym (by_words k n x y)
-    ∙ ap port_of (sym (is_four (length ws == 4) ws (k ∷ n ∷ x ∷ y ∷ []) (sym e)))
+port_found ws k n x y e = sym (port_by_words k n x y)
+    ∙ ap port_of (sym (is_so_many (length ws == 4) ws (k ∷ n ∷ x ∷ y ∷ []) (sym e)))
 
 pub port_missed : (ws : List (List ℕ)) → None ≡ four ws → None ≡ port_of ws
 unfolding four port_of
-port_missed ws e = rw (not_four (length ws == 4) ws (sym e)) refl
+port_missed ws e = rw (not_so_many (length ws == 4) ws (sym e)) refl
+
+pub size_found : (ws words : List (List ℕ)) → Some words ≡ four ws → size_of words ≡ size_of ws
+unfolding four
+size_found ws words e = ap size_of (sym (is_so_many (length ws == 4) ws words (sym e)))
+
+pub size_missed : (ws : List (List ℕ)) → None ≡ four ws → None ≡ size_of ws
+unfolding four size_of
+size_missed ws e = rw (not_so_many (length ws == 4) ws (sym e)) refl
+
+-- ---- lines of five words
+
+pub rectangle_found : (ws words : List (List ℕ)) → Some words ≡ five ws → rectangle_of words ≡ rectangle_of ws
+unfolding five
+rectangle_found ws words e = ap rectangle_of (sym (is_so_many (length ws == 5) ws words (sym e)))
+
+pub rectangle_missed : (ws : List (List ℕ)) → None ≡ five ws → None ≡ rectangle_of ws
+unfolding five rectangle_of
+rectangle_missed ws e = rw (not_so_many (length ws == 5) ws (sym e)) refl

@@ -5,21 +5,23 @@ ghost use Rattle.section_text.specs.Feeds.{IsLine, line_bytes};
 ghost use Rattle.section_text.specs.Section.{Reads};
 ghost use Rattle.pattern.specs.Assign.{assign_form, assign_grammar, assign_value, on_fault};
 
+use crate::form::is_keyword;
 use crate::names::index_of;
 use indexmap::IndexSet;
 use section_text::{Feed, Form, Line, LineFault, Name, ReadFault, Section, Seed, read_section};
 use std::alloc::Global;
 
-#[tactic(auto, unfolding(crate::specs::Assign::assign_form))]
+#[tactic(auto, unfolding(crate::specs::Assign::assign_form, section_text::specs::Words::is_word_at))]
 fn line_form(feed: &Feed, line: &Line) -> Option<Form<(), Name>>
     requires { IsLine feed.now line.now }
     ensures { result ≡ assign_form (words_of (line_bytes feed.now line.now)) }
 {
-    if feed.is(line, 0, b"assign") {
+    let keyword = feed.first_word(line);
+    if is_keyword(keyword, b"assign") {
         feed.lone(line, Form::Header(()))
-    } else if feed.is(line, 0, b"on") {
+    } else if is_keyword(keyword, b"on") {
         Some(Form::Item(feed.lone_name(line)?))
-    } else if feed.is(line, 0, b"end") {
+    } else if is_keyword(keyword, b"end") {
         feed.lone(line, Form::End)
     } else {
         None

@@ -1,13 +1,15 @@
 //! The line forms of the layout section.
 ghost use Rattle.std.specs.Prelude.{◌≡◌, ◌≤◌};
+ghost use Rattle.std.specs.Str.{bytes_eq};
+ghost use Rattle.section_text.specs.Listed.{four_listed, listed};
 ghost use Rattle.section_text.specs.Words.{words_of};
 ghost use Rattle.section_text.specs.Feeds.{IsLine, line_bytes};
 ghost use Rattle.pattern.specs.PortWords.{cell_by, port_by};
-ghost use Rattle.pattern.specs.Forms.{cell_from, lone_cell, port_of, corner_and_sides, rectangle_of, sides_and_steps, size_of, form_of};
+ghost use Rattle.pattern.specs.Forms.{cell_from, lone_cell, port_of, rectangle_of, size_of, form_of};
 
 use crate::layout_line::{LayoutHeader, LayoutLine, Port, Rectangle};
 use bbm_rule::Cell;
-use section_text::{Feed, Form, FourWords, Line, Name, read_number};
+use section_text::{Feed, FiveWords, Form, FourWords, Line, Name, read_number};
 
 /// Returns the cell that a word of a line and the next one are, by its column and its row.
 ///
@@ -26,15 +28,14 @@ pub fn read_cell(feed: &Feed, line: &Line, index: usize) -> Option<Cell>
     })
 }
 
-#[tactic(auto, unfolding(crate::specs::Forms::lone_cell))]
 fn lone_cell_on(feed: &Feed, line: &Line) -> Option<Cell>
     requires { IsLine feed.now line.now }
     ensures { result ≡ lone_cell (words_of (line_bytes feed.now line.now)) }
 {
-    if feed.words(line) != 3 {
+    let Some(words) = feed.three_words(line) else {
         return None;
-    }
-    read_cell(feed, line, 1)
+    };
+    cell_from_words(words.second, words.third)
 }
 
 /// Returns the cell that two words are, by its column and its row, or `None` if one of them is no number.
@@ -69,70 +70,74 @@ fn port_on(feed: &Feed, line: &Line) -> Option<Port>
     port_of_words(&words)
 }
 
-#[tactic(auto, unfolding(crate::specs::Forms::corner_and_sides))]
-fn corner_and_sides_on(feed: &Feed, line: &Line) -> Option<Rectangle>
-    requires { IsLine feed.now line.now }
-    ensures { result ≡ corner_and_sides (words_of (line_bytes feed.now line.now)) }
+#[tactic(auto, unfolding(crate::specs::Forms::rectangle_of, crate::specs::Forms::corner_and_sides, section_text::specs::Words::number_at))]
+fn rectangle_of_words(words: &FiveWords) -> Option<Rectangle>
+    ensures { result ≡ rectangle_of (listed words.now) }
 {
-    let x = feed.number(line, 1)?;
-    let y = feed.number(line, 2)?;
-    let w = feed.number(line, 3)?;
-    let h = feed.number(line, 4)?;
+    let x = read_number(words.second)?;
+    let y = read_number(words.third)?;
+    let w = read_number(words.fourth)?;
+    let h = read_number(words.fifth)?;
     Some(Rectangle { x, y, w, h })
 }
 
-#[tactic(auto, unfolding(crate::specs::Forms::rectangle_of))]
 fn rectangle_on(feed: &Feed, line: &Line) -> Option<Rectangle>
     requires { IsLine feed.now line.now }
     ensures { result ≡ rectangle_of (words_of (line_bytes feed.now line.now)) }
 {
-    if feed.words(line) != 5 {
+    let Some(words) = feed.five_words(line) else {
         return None;
-    }
-    corner_and_sides_on(feed, line)
+    };
+    rectangle_of_words(&words)
 }
 
-#[tactic(auto, unfolding(crate::specs::Forms::sides_and_steps))]
-fn sides_and_steps_on(feed: &Feed, line: &Line) -> Option<LayoutHeader>
-    requires { IsLine feed.now line.now }
-    ensures { result ≡ sides_and_steps (words_of (line_bytes feed.now line.now)) }
+#[tactic(auto, unfolding(crate::specs::Forms::size_of, crate::specs::Forms::sides_and_steps, section_text::specs::Words::number_at))]
+fn size_of_words(words: &FourWords) -> Option<LayoutHeader>
+    ensures { result ≡ size_of (four_listed words.now) }
 {
-    let w = feed.number(line, 1)?;
-    let h = feed.number(line, 2)?;
-    let steps = feed.number(line, 3)?;
+    let w = read_number(words.second)?;
+    let h = read_number(words.third)?;
+    let steps = read_number(words.fourth)?;
     Some(LayoutHeader { w, h, steps })
 }
 
-#[tactic(auto, unfolding(crate::specs::Forms::size_of))]
 fn size_on(feed: &Feed, line: &Line) -> Option<LayoutHeader>
     requires { IsLine feed.now line.now }
     ensures { result ≡ size_of (words_of (line_bytes feed.now line.now)) }
 {
-    if feed.words(line) != 4 {
+    let Some(words) = feed.four_words(line) else {
         return None;
-    }
-    sides_and_steps_on(feed, line)
+    };
+    size_of_words(&words)
+}
+
+// Whether a word is a keyword.
+pub(crate) fn is_keyword(word: &[u8], keyword: &[u8]) -> bool
+    ensures { result ≡ bytes_eq word.now keyword.now }
+{
+    word == keyword
 }
 
 /// Returns the form of a line, if it has one.
-#[tactic(auto, unfolding(crate::specs::Forms::form_of))]
+#[tactic(auto, unfolding(crate::specs::Forms::form_of, section_text::specs::Words::is_word_at))]
 pub(crate) fn line_form(feed: &Feed, line: &Line) -> Option<Form<LayoutHeader, LayoutLine>>
     requires { IsLine feed.now line.now }
     ensures { result ≡ form_of (words_of (line_bytes feed.now line.now)) }
 {
-    if feed.is(line, 0, b"layout") {
+    let keyword = feed.first_word(line);
+    if is_keyword(keyword, b"layout") {
         Some(Form::Header(size_on(feed, line)?))
-    } else if feed.is(line, 0, b"mirror") {
+    } else if is_keyword(keyword, b"mirror") {
         Some(Form::Item(LayoutLine::Mirror(rectangle_on(feed, line)?)))
-    } else if feed.is(line, 0, b"ball") {
+    } else if is_keyword(keyword, b"ball") {
         Some(Form::Item(LayoutLine::Ball(lone_cell_on(feed, line)?)))
-    } else if feed.is(line, 0, b"in") {
+    } else if is_keyword(keyword, b"in") {
         Some(Form::Item(LayoutLine::In(port_on(feed, line)?)))
-    } else if feed.is(line, 0, b"out") {
+    } else if is_keyword(keyword, b"out") {
         Some(Form::Item(LayoutLine::Out(port_on(feed, line)?)))
-    } else if feed.is(line, 0, b"waste") {
+    } else if is_keyword(keyword, b"waste") {
         Some(Form::Item(LayoutLine::Waste(lone_cell_on(feed, line)?)))
-    } else if feed.is(line, 0, b"end") {
+    } else if is_keyword(keyword, b"end") {
         feed.lone(line, Form::End)
     } else {
         None

@@ -13,5 +13,6 @@ pub mod Spellings
 pub mod Joined
 pub mod Good
 pub mod Splitting
+pub mod WordsLeft
 pub mod SaidSections
 pub mod MadeSections

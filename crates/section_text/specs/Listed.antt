@@ -1,7 +1,12 @@
--- Four or five words that the code points to, as a list.
+-- Three, four or five words that the code points to, as a list.
 use Rattle.std.specs.Prelude.{ℕ, List, [], ◌∷◌}
+use Rattle.section_text.specs.declared.feed.ThreeWords.{ThreeWords}
 use Rattle.section_text.specs.declared.feed.FourWords.{FourWords}
 use Rattle.section_text.specs.declared.feed.FiveWords.{FiveWords}
+
+-- the list of three words
+abbrev pub three_listed : ThreeWords → List (List ℕ)
+three_listed w = w.first.now ∷ w.second.now ∷ w.third.now ∷ []
 
 -- the list of four words
 abbrev pub four_listed : FourWords → List (List ℕ)

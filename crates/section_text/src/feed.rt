@@ -1,11 +1,11 @@
 //! A text in pieces, taken line by line.
-ghost use Rattle.std.specs.Prelude.{drop, take, ◌≡◌, ℕ, ◌+◌, ◌-◌, ◌^◌, ◌<◌, ◌≤◌, ◌↔◌, true, false, List, [], ◌∷◌, ◌++◌, length, Option, Some, None, Ok, Err, IsTrue, IsOk, IfOk, IfErr, ◌≢◌, OnOk, OnErr, IfNone, IfSome, MatchOption, unwrap_or, slice_get, slice_range, option_and_then, map};
+ghost use Rattle.std.specs.Prelude.{drop, take, ◌≡◌, ◌==◌, ℕ, ◌+◌, ◌-◌, ◌^◌, ◌<◌, ◌≤◌, ◌↔◌, true, false, List, [], ◌∷◌, ◌++◌, length, Option, Some, None, Ok, Err, IsTrue, IsOk, IfOk, IfErr, ◌≢◌, OnOk, OnErr, IfNone, IfSome, MatchOption, unwrap_or, slice_get, slice_range, option_and_then, map};
 ghost use Rattle.std.specs.Option.{option_copied, option_map, ForSome};
 ghost use Rattle.std.specs.List.{flat_map, position, list_all};
 ghost use Rattle.section_text.specs.Codes.{text_cut};
-ghost use Rattle.section_text.specs.Words.{lines_of, is_digit, is_number, read_on, is_word_at, is_line_feed, is_space, rest_of, words_of, number_of, number_at, name_at, names_at, lone, lone_number, lone_name, four, five};
+ghost use Rattle.section_text.specs.Words.{lines_of, is_digit, is_number, read_on, is_word_at, is_line_feed, is_space, rest_of, words_of, number_of, number_at, name_at, names_at, lone, lone_number, lone_name, second_of_two, three, four, five, words_left};
 ghost use Rattle.section_text.specs.declared.fault.ReadFault.TheVariants.{Memory};
-ghost use Rattle.section_text.specs.Listed.{four_listed, listed};
+ghost use Rattle.section_text.specs.Listed.{three_listed, four_listed, listed};
 ghost use Rattle.section_text.specs.Faults.{refusal};
 ghost use Rattle.section_text.specs.Section.{ended_line};
 ghost use Rattle.section_text.specs.Seeding.{first_section, seed_of};
@@ -64,6 +64,14 @@ pub struct Line {
     to: usize,
 }
 
+/// The words of a line of three, in order.
+#[derive(Clone, Copy)]
+pub struct ThreeWords<'a> {
+    pub first: &'a [u8],
+    pub second: &'a [u8],
+    pub third: &'a [u8],
+}
+
 /// The words of a line of four, in order.
 #[derive(Clone, Copy)]
 pub struct FourWords<'a> {
@@ -83,6 +91,9 @@ pub struct FiveWords<'a> {
     pub fifth: &'a [u8],
 }
 
+// Where the first space of a line is. Inlined, the loop takes twice the instructions for a byte, since the compiler
+// keeps a count for each word that follows.
+#[inline(never)]
 fn first_space(line: &[u8]) -> Option<usize>
     ensures { result ≡ position is_space line.now }
 {
@@ -96,6 +107,72 @@ fn split_word(line: &[u8]) -> Option<(&[u8], &[u8])>
 {
     let space = first_space(line)?;
     Some((&line[..space], &line[space + 1..]))
+}
+
+// The first word of a line, and what stands behind its space, if it has one.
+fn next_word(line: &[u8]) -> (&[u8], Option<&[u8]>)
+    ensures { words_of line.now ≡ result.0.now ∷ words_left (option_copied result.1) }
+{
+    match split_word(line) {
+        Some((word, rest)) => (word, Some(rest)),
+        None => (line, None),
+    }
+}
+
+// The part of a line from one of its words on, or `None` past the last one.
+fn words_from(line: &[u8], index: usize) -> Option<&[u8]>
+    ensures { words_left (option_copied result) ≡ drop index (words_of line.now) }
+{
+    let mut rest = line;
+    for i in 0..index {
+        let Some((_, behind)) = split_word(rest) else {
+            return None;
+        };
+        rest = behind;
+    }
+    Some(rest)
+}
+
+fn is_one_word(line: &[u8]) -> bool
+    ensures { result ≡ (length (words_of line.now) == 1) }
+{
+    match split_word(line) {
+        Some(_) => false,
+        None => true,
+    }
+}
+
+// The second word of a line of two, or `None` for any other line.
+fn second_of_two(line: &[u8]) -> Option<&[u8]>
+    ensures { option_copied result ≡ second_of_two (words_of line.now) }
+{
+    let Some((_, rest)) = split_word(line) else {
+        return None;
+    };
+    match split_word(rest) {
+        Some(_) => None,
+        None => Some(rest),
+    }
+}
+
+// The words of a line of three.
+fn three_in(line: &[u8]) -> Option<ThreeWords<'_>>
+    ensures { option_map three_listed result ≡ three (words_of line.now) }
+{
+    let Some((first, rest)) = split_word(line) else {
+        return None;
+    };
+    let Some((second, third)) = split_word(rest) else {
+        return None;
+    };
+    match split_word(third) {
+        Some(_) => None,
+        None => Some(ThreeWords {
+            first,
+            second,
+            third,
+        }),
+    }
 }
 
 // The words of a line of four.
@@ -187,7 +264,23 @@ fn first_line_feed(bytes: &[u8]) -> Option<usize>
 fn word_in(line: &[u8], index: usize) -> Option<&[u8]>
     ensures { option_copied result ≡ slice_get (words_of line.now) index }
 {
-    line.split(|b| *b == b' ').nth(index)
+    let (word, _) = next_word(words_from(line, index)?);
+    Some(word)
+}
+
+// The `count` names that are the words of a line from one on.
+fn names_in(line: &[u8], from: usize, count: usize) -> Option<Names>
+    requires { count ≤ 4 }
+    ensures { result ≡ names_at (words_of line.now) from count }
+{
+    let mut names = Names::new();
+    let mut rest = words_from(line, from);
+    for i in 0..count {
+        let (word, behind) = next_word(rest?);
+        names.push(Name::of(word)?);
+        rest = behind;
+    }
+    Some(names)
 }
 
 fn words_in(line: &[u8]) -> usize
@@ -378,6 +471,15 @@ impl Feed {
         word_in(self.line(line), index)
     }
 
+    /// Returns the first word of a line.
+    pub fn first_word(&self, line: &Line) -> &[u8]
+        requires { IsLine self.now line.now }
+        ensures { slice_get (words_of (line_bytes self.now line.now)) 0 ≡ Some result.now }
+    {
+        let (word, _) = next_word(self.line(line));
+        word
+    }
+
     /// Returns a word of a line as a number, or `None` for any other word and past the last one.
     ///
     /// A number is `0`, or at most nine digits of which the first is not `0`.
@@ -405,10 +507,19 @@ impl Feed {
         requires { IsLine self.now line.now }
         ensures { result ≡ lone (words_of (line_bytes self.now line.now)) said }
     {
-        match self.words(line) {
-            1 => Some(said),
-            _ => None,
+        if is_one_word(self.line(line)) {
+            Some(said)
+        } else {
+            None
         }
+    }
+
+    /// Returns the words of a line of three, or `None` for any other line. It passes over the line once.
+    pub fn three_words(&self, line: &Line) -> Option<ThreeWords<'_>>
+        requires { IsLine self.now line.now }
+        ensures { option_map three_listed result ≡ three (words_of (line_bytes self.now line.now)) }
+    {
+        three_in(self.line(line))
     }
 
     /// Returns the words of a line of four, or `None` for any other line. It passes over the line once.
@@ -434,10 +545,7 @@ impl Feed {
         ensures number { result ≡ lone_number (words_of (line_bytes self.now line.now)) }
         ensures small { IfSome result (λ n. n < 10 ^ 9) }
     {
-        match self.words(line) {
-            2 => self.number(line, 1),
-            _ => None,
-        }
+        read_number(second_of_two(self.line(line))?)
     }
 
     /// Returns the name of a line of two words, a keyword and a name, or `None` for any other line.
@@ -446,10 +554,7 @@ impl Feed {
         requires { IsLine self.now line.now }
         ensures { result ≡ lone_name (words_of (line_bytes self.now line.now)) }
     {
-        match self.words(line) {
-            2 => self.name(line, 1),
-            _ => None,
-        }
+        Name::of(second_of_two(self.line(line))?)
     }
 
     /// Returns the `count` names that are the words of a line from index `from` on.
@@ -461,11 +566,7 @@ impl Feed {
         requires near { from ≤ 8 }
         ensures { result ≡ names_at (words_of (line_bytes self.now line.now)) from count }
     {
-        let mut names = Names::new();
-        for i in 0..count {
-            names.push(self.name(line, from + i)?);
-        }
-        Some(names)
+        names_in(self.line(line), from, count)
     }
 
     /// Returns whether a word of a line is `expected`. It is false past the last word.

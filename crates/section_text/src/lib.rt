@@ -13,7 +13,7 @@ mod seed;
 mod spelling;
 
 pub use fault::{PushFault, ReadFault, Refusal};
-pub use feed::{Feed, FiveWords, FourWords, Line, MAX_TEXT_BYTES, read_number};
+pub use feed::{Feed, FiveWords, FourWords, Line, MAX_TEXT_BYTES, ThreeWords, read_number};
 pub use name::Name;
 pub use names::Names;
 pub use ports::PortNames;
