@@ -13,6 +13,7 @@ use Rattle.section_text.proofs.Joined.{section_read, section_failed, same_text, 
 use Rattle.section_text.proofs.Joined.{more_fails}
 use Rattle.pattern.specs.Assign.{assign_grammar}
 use Rattle.answers.specs.Answers.{names_read, names_asked, with_value}
+use Rattle.section_text.specs.declared.code.RefusalCode.TheVariants.{TextCut}
 
 -- ---- the names that are on, and the end
 
@@ -43,7 +44,7 @@ module _ {A : Type 0} (view : A → Unit {0} × List (List ℕ)) (names : List (
       read_on a reads ∙ at_the_end mid.taken (ahead mid) (rest_of mid.text) ((view a).1) none nothing
 
   pub text_goes_on : (a : A) (fault : ReadFault) → Reads (assign_grammar names) view old mid (Ok a) →
-      (ahead mid ≡ [] → rest_of mid.text ≢ []) → fault ≡ refusal (mid.taken + 1) 12 →
+      (ahead mid ≡ [] → rest_of mid.text ≢ []) → fault ≡ refusal (mid.taken + 1) TextCut →
       Fails fault (names_read old.text names old.taken (ahead old))
   text_goes_on a fault reads more is =
       fails_along fault (names_read old.text names old.taken (ahead old))

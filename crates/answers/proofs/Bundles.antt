@@ -34,6 +34,7 @@ use Rattle.audit_core.specs.Concluding.{port_names_of}
 use Rattle.pattern.specs.FromLines.{input_in, output_in, layout_of}
 use Rattle.answers.specs.BundleText.{Bundle, bundle_of}
 use Rattle.answers.specs.declared.outcome.Outcome.{Outcome}
+use Rattle.section_text.specs.declared.code.RefusalCode.TheVariants.{TextCut}
 
 -- ---- the ports of a layout, by its lines
 
@@ -207,7 +208,7 @@ module _ (f0 f1 : FeedView) (unread : f0.taken ≡ 0) (going : f0.stop ≡ None)
                 (sym same_layout)
 
             pub bundle_goes_on : (fault : ReadFault) → (ahead f3 ≡ [] → rest_of f3.text ≢ []) →
-                fault ≡ refusal (f3.taken + 1) 12 → Fails fault (bundle_of f0.text)
+                fault ≡ refusal (f3.taken + 1) TextCut → Fails fault (bundle_of f0.text)
             unfolding ended
             bundle_goes_on fault more is =
                 fails_along fault (bundle_of f0.text) _ certificate_read

@@ -24,6 +24,7 @@ use Rattle.pattern.specs.declared.layout_line.Port.{Port}
 use Rattle.certificate_lines.proofs.BoxPlaces.{skipped}
 use Rattle.certificate_lines.proofs.Lists.{kept}
 use Rattle.audit_core.specs.HeadlineLaws.{InputsDecideTheRun, IsInputName, ReadLayoutHasInputNames}
+use Rattle.section_text.specs.declared.code.RefusalCode.TheVariants.{UnknownName}
 
 -- ---- input cells have the names of inputs
 
@@ -61,7 +62,7 @@ placed name (m ∷ names) (suc k) h = elim (cases_Bool (bytes_eq name m)) [
       }
 ]
 
-no_code : (b : Bool) → code_where (not b) 3 ≡ None → b ≡ true
+no_code : (b : Bool) → code_where (not b) UnknownName ≡ None → b ≡ true
 no_code true e = refl
 no_code false e = absurd cc
 

@@ -35,6 +35,7 @@ use Rattle.certificate_lines.proofs.Lists.{any_at, kept, passed, same_truth}
 use Rattle.certificate_lines.proofs.LayoutPorts.{port_stands, none_stands}
 use Rattle.bbm_rule.proofs.SameCells.{cell_same, cell_itself}
 use Rattle.meaning.specs.Implements.{in_ports}
+use Rattle.section_text.specs.declared.code.RefusalCode.TheVariants.{TakenCell}
 
 -- ---- the ports at a cell
 
@@ -156,7 +157,7 @@ record IsFree (s : LayoutHeader) (before : List LayoutLine) (q : Port) : Type 0 
   inside : in_layout s q.cell.x q.cell.y ≡ true
   free : ended before q.cell.x q.cell.y ≡ false
 
-two_tests : (a b : Bool) → code_where (not a || (b || false)) 7 ≡ None → (a ≡ true) × (b ≡ false)
+two_tests : (a b : Bool) → code_where (not a || (b || false)) TakenCell ≡ None → (a ≡ true) × (b ≡ false)
 two_tests true true e = absurd cc
 two_tests true false e = (refl, refl)
 two_tests false b e = absurd cc

@@ -21,13 +21,15 @@ use Rattle.certificate_lines.proofs.BoxPlaces.{skipped}
 use Rattle.certificate_lines.proofs.Lists.{kept}
 use Rattle.audit_core.specs.HeadlineLaws.{ReadLayoutIsNamed}
 use Rattle.audit_core.proofs.InputRuns.{at_place, in_known, in_stands}
+use Rattle.section_text.specs.declared.code.RefusalCode.{RefusalCode}
+use Rattle.section_text.specs.declared.code.RefusalCode.TheVariants.{UnknownName, SomethingMissing}
 
 same_bool : (a b : Bool) → (a ≡ true → b ≡ true) → (b ≡ true → a ≡ true) → a ≡ b
 same_bool true b f g = sym (f refl)
 same_bool false true f g = g refl
 same_bool false false f g = refl
 
-no_code : (b : Bool) (code : ℕ) → code_where (not b) code ≡ None → b ≡ true
+no_code : (b : Bool) (code : RefusalCode) → code_where (not b) code ≡ None → b ≡ true
 no_code true code e = refl
 no_code false code e = absurd cc
 
@@ -103,7 +105,7 @@ out_lines p n =
 
 out_known : (names : Named) (q : Port) → name_fault (Some names) (Out q) ≡ None → has names.outs q.name ≡ true
 unfolding name_fault
-out_known names q e = no_code (has names.outs q.name) 3 e
+out_known names q e = no_code (has names.outs q.name) UnknownName e
 
 -- an output cell among the lines of a layout
 abbrev out_place : Pattern → ℕ → ℕ
@@ -127,7 +129,7 @@ all_stand : (names : Named) (parts : List LayoutLine) → missing_fault (Some na
 unfolding missing_fault
 all_stand names parts e =
     and_parts (list_all (λ n. list_any (is_in n) parts) names.ins)
-    (list_all (λ n. list_any (is_out n) parts) names.outs) (no_code _ 11 e)
+    (list_all (λ n. list_any (is_out n) parts) names.outs) (no_code _ SomethingMissing e)
 
 pub read_layout-is_named : ReadLayoutIsNamed
 read_layout-is_named lines p named =

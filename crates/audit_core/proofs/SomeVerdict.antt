@@ -56,6 +56,7 @@ use Rattle.audit_core.proofs.SomeFaults.{least_border_fault, least_fault, least_
 use Rattle.audit_core.proofs.SomeJobs.{some_job}
 use Rattle.audit_core.proofs.SomeLeast.{Decided, both_decided, true_decided}
 use denote.RawPtr.{null_ptr}
+use Rattle.section_text.specs.declared.code.RefusalCode.{RefusalCode}
 
 -- ---- how many lines there are
 
@@ -131,11 +132,11 @@ two_each first last gs =
 
 -- ---- a circuit has at most 1024 gates
 
-first_none : (a b : Option ℕ) → or_else a b ≡ None → a ≡ None
+first_none : (a b : Option RefusalCode) → or_else a b ≡ None → a ≡ None
 first_none None b e = refl
 first_none (Some code) b e = absurd cc
 
-no_code : (b : Bool) (code : ℕ) → code_where b code ≡ None → b ≡ false
+no_code : (b : Bool) (code : RefusalCode) → code_where b code ≡ None → b ≡ false
 no_code true code e = absurd cc
 no_code false code e = refl
 

@@ -35,6 +35,9 @@ use Rattle.certificate_lines.proofs.Growing.{map_changed, unchanged}
 use Rattle.certificate_lines.proofs.ModulePushes.{both_none, no_code}
 use Rattle.certificate.proofs.Soundness.{faultless_modules}
 use Rattle.section_text.proofs.Good.{AreFaultless}
+use Rattle.section_text.specs.declared.code.RefusalCode.{RefusalCode}
+use Rattle.section_text.specs.declared.code.RefusalCode.TheVariants.{NoForm, PastLimit, OutOfOrder, MisplacedBox}
+use Rattle.section_text.specs.declared.code.RefusalCode.TheVariants.{SomethingMissing}
 
 pub without_append : (xs ys : List CertificateLine) → without_halos (xs ++ ys) ≡ without_halos xs ++ without_halos ys
 unfolding without_halos is_halo
@@ -195,11 +198,11 @@ true_of : (b : Bool) → not b ≡ false → b ≡ true
 true_of true h = refl
 true_of false h = sym h
 
-none_both : (a b : Option ℕ) → a ≡ None → b ≡ None → or_else a b ≡ None
+none_both : (a b : Option RefusalCode) → a ≡ None → b ≡ None → or_else a b ≡ None
 none_both None b h k = k
 none_both (Some x) b h k = absurd cc
 
-coded : (b : Bool) (code : ℕ) → b ≡ false → code_where b code ≡ None
+coded : (b : Bool) (code : RefusalCode) → b ≡ false → code_where b code ≡ None
 coded true code h = absurd cc
 coded false code h = refl
 
@@ -211,7 +214,7 @@ border_less : (c : Circuit) (n k : ℕ) (local : List ℕ) (placed : Bool) (s : 
 unfolding border_fault
 border_less c n k local placed s le h =
     let parts = both_none _ _ h in
-    none_both _ _ (coded _ 2 (smaller border_limit n k le (no_code _ 2 parts.0))) parts.1
+    none_both _ _ (coded _ PastLimit (smaller border_limit n k le (no_code _ PastLimit parts.0))) parts.1
 
 words_kept : (g : Setting) (m : ModuleLines) (i : CertificateLine) → is_halo i ≡ false → words_fault g m i ≡ None →
     words_fault g (stripped m) i ≡ None
@@ -238,7 +241,7 @@ unfolding stripped
 line_kept g m i o h =
     let parts = both_none _ (words_fault g m i) h in
     none_both _ (words_fault g (stripped m) i)
-    (ap (λ b. code_where (not b) 6) (follow_less m.lines i (true_of _ (no_code _ 6 parts.0))))
+    (ap (λ b. code_where (not b) OutOfOrder) (follow_less m.lines i (true_of _ (no_code _ OutOfOrder parts.0))))
     (words_kept g m i o parts.1)
 
 inner_kept : (g : Setting) (p : Option ModuleLines) (i : CertificateLine) → is_halo i ≡ false →
@@ -255,14 +258,15 @@ module _ (g : Setting) (before : List CertificateLine) where
       module_fault g (modules_of (without_halos before)) (last_module (without_halos before)) b ≡ None
   unfolding module_fault box_fault
   module_kept b h =
-      ap (λ a. or_else (or_else (code_where a 11)
+      ap (λ a. or_else (or_else (code_where a SomethingMissing)
       (or_else (code_where (is_wrong_side b.w || is_wrong_side b.h
-      || nat_le 1024 (length (modules_of (without_halos before)))) 2) (code_where (is_misplaced g.size b) 8)))
-      (code_where (overlaps (areas (modules_of (without_halos before))) b) 8))
+      || nat_le 1024 (length (modules_of (without_halos before)))) PastLimit)
+      (code_where (is_misplaced g.size b) MisplacedBox)))
+      (code_where (overlaps (areas (modules_of (without_halos before))) b) MisplacedBox))
       (ap (is_incomplete g) present_without ∙ incomplete_kept g (last_module before))
-      ∙ ap₂ (λ n bs. or_else (or_else (code_where (is_incomplete g (last_module before)) 11)
-      (or_else (code_where (is_wrong_side b.w || is_wrong_side b.h || nat_le 1024 n) 2)
-      (code_where (is_misplaced g.size b) 8))) (code_where (overlaps bs b) 8))
+      ∙ ap₂ (λ n bs. or_else (or_else (code_where (is_incomplete g (last_module before)) SomethingMissing)
+      (or_else (code_where (is_wrong_side b.w || is_wrong_side b.h || nat_le 1024 n) PastLimit)
+      (code_where (is_misplaced g.size b) MisplacedBox))) (code_where (overlaps bs b) MisplacedBox))
       (ap length (modules_without before) ∙ length-map (modules_of before) stripped)
       (ap areas (modules_without before) ∙ areas_stripped (modules_of before))
       ∙ h
@@ -285,7 +289,7 @@ module _ (g : Setting) (before : List CertificateLine) where
   pub end_kept : end_fault g before ≡ None → end_fault g (without_halos before) ≡ None
   unfolding end_fault
   end_kept h =
-      ap₂ (λ a bs. code_where (a || leaves_gap g.size bs) 11)
+      ap₂ (λ a bs. code_where (a || leaves_gap g.size bs) SomethingMissing)
       (ap (is_incomplete g) present_without ∙ incomplete_kept g (last_module before))
       (ap areas (modules_without before) ∙ areas_stripped (modules_of before)) ∙ h
 
@@ -410,7 +414,7 @@ migrated_lacks g es = ap (lacks_wire g) (modules_without es) ∙ lacks_all g (mo
 good_of : (g : Setting) (es before : List CertificateLine) → AreFaultlessLines g 1 before es → AreGoodLines g before es
 good_of g [] before h = tt
 good_of g (i ∷ es) before h = (
-  (both_none (code_where (is_haloless 1 && is_halo i) 1) (entry_fault g before i) h.0).1,
+  (both_none (code_where (is_haloless 1 && is_halo i) NoForm) (entry_fault g before i) h.0).1,
   good_of g es (before ++ i ∷ []) h.1,
 )
 
@@ -430,14 +434,15 @@ pub section_without_halos : SectionWithoutHalos
 section_without_halos g es is knows =
     let good = good_without_halos g es (record {
       lines = good_of g es [] is.lines;
-      end = (both_none (end_fault g es) (code_where (is_haloless 1 && lacks_wire g (modules_of es)) 11) is.end).0;
+      end = (both_none (end_fault g es)
+          (code_where (is_haloless 1 && lacks_wire g (modules_of es)) SomethingMissing) is.end).0;
     }) in
     record {
       header = refl;
       lines = faultless_two g es [] good.lines;
       end = none_both (end_fault g (without_halos es))
-          (code_where (is_haloless 2 && lacks_wire g (modules_of (without_halos es))) 11) good.end
-          (coded _ 11 (migrated_lacks g es ∙ knows));
+          (code_where (is_haloless 2 && lacks_wire g (modules_of (without_halos es))) SomethingMissing) good.end
+          (coded _ SomethingMissing (migrated_lacks g es ∙ knows));
     }
 
 faultless_lines : (g : Setting) (v : ℕ) (es before : List CertificateLine) → AreFaultlessLines g v before es →

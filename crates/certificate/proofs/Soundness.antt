@@ -36,6 +36,7 @@ use Rattle.certificate_lines.proofs.ModulePushes.{both_none, no_code, new_wire, 
 use Rattle.certificate_lines.proofs.ModulePushes.{keep_pushed, edge_pushed, halo_pushed, stop_pushed}
 use Rattle.bbm_rule.proofs.SameCells.{cell_same}
 use Rattle.certificate_lines.proofs.PortLemmas.{in_box_cells}
+use Rattle.section_text.specs.declared.code.RefusalCode.TheVariants.{PastLimit, SomethingMissing}
 
 module _ (g : Setting) (es : List CertificateLine) (sound : AreSound g (modules_of es)) where
   -- one more line of the last module
@@ -181,12 +182,12 @@ one_or_two v e = elim (or_parts (v == 1) (v == 2) e) [
 -- the version of what was read
 pub read_version : (g : Setting) (v : ℕ) (es : List CertificateLine) → IsFaultless (certificate_grammar g) v es →
     (1 ≤ v) × (v ≤ 2)
-read_version g v es good = one_or_two v (not_false _ (no_code _ 2 good.header))
+read_version g v es good = one_or_two v (not_false _ (no_code _ PastLimit good.header))
 
 -- and in version 2 each module knows the wires of the edge lines beside it
 pub read_complete : (g : Setting) (v : ℕ) (es : List CertificateLine) → IsFaultless (certificate_grammar g) v es →
     (is_haloless v && lacks_wire g (modules_of es)) ≡ false
-read_complete g v es good = no_code _ 11 (both_none (end_fault g es) _ good.end).1
+read_complete g v es good = no_code _ SomethingMissing (both_none (end_fault g es) _ good.end).1
 
 pub faultless_modules : (g : Setting) (v : ℕ) (es : List CertificateLine) → IsFaultless (certificate_grammar g) v es →
     AreModules g (modules_of es)
@@ -194,7 +195,7 @@ unfolding end_fault
 faultless_modules g v es good =
     let sound = sound_all g v es [] (none_sound g) good.each in
     let parts = or_false (is_incomplete g (last_module es)) (leaves_gap g.size (areas (modules_of es)))
-    (no_code _ 11 (both_none (end_fault g es) _ good.end).0) in
+    (no_code _ SomethingMissing (both_none (end_fault g es) _ good.end).0) in
     good_modules g (modules_of es) sound parts.0 parts.1
 
 -- and each has few lines

@@ -1,6 +1,6 @@
 -- The certificate section
 use Rattle.std.specs.Prelude.{ℕ, not, ◌==◌, ◌&&◌, ◌||◌, List}
-use Rattle.section_text.specs.Codes.{code_where, no_form, or_else, past_limit, something_missing}
+use Rattle.section_text.specs.Codes.{code_where, or_else}
 use Rattle.section_text.specs.Section.{Grammar}
 use Rattle.pattern.specs.Layout.{Pattern}
 use Rattle.certificate_lines.specs.Entries.{Setting, ModuleLines, modules_of}
@@ -10,18 +10,19 @@ use Rattle.certificate_lines.specs.Versions.{is_halo, is_haloless, lacks_wire, m
 use Rattle.certificate_lines.specs.declared.certificate_line.CertificateLine.{CertificateLine}
 use Rattle.circuit.specs.declared.circuit_line.CircuitLine.{CircuitLine}
 use Rattle.certificate_lines.specs.Settings.{setting_of}
+use Rattle.section_text.specs.declared.code.RefusalCode.TheVariants.{NoForm, PastLimit, SomethingMissing}
 
 -- The section, for a circuit and a layout. The version is 1 or 2. In version 2 a halo line has no form of the section,
 -- and at the end each module knows the wires of the edge lines beside it.
 abbrev pub certificate_grammar : Setting → Grammar ℕ CertificateLine
 certificate_grammar g = record {
   form = form_of;
-  header_fault = λ version. code_where (not (version == 1 || version == 2)) past_limit;
+  header_fault = λ version. code_where (not (version == 1 || version == 2)) PastLimit;
   item_fault = λ version before i.
-      or_else (code_where (is_haloless version && is_halo i) no_form) (entry_fault g before i);
+      or_else (code_where (is_haloless version && is_halo i) NoForm) (entry_fault g before i);
   end_fault = λ version entries.
       or_else (end_fault g entries)
-      (code_where (is_haloless version && lacks_wire g (modules_of entries)) something_missing);
+      (code_where (is_haloless version && lacks_wire g (modules_of entries)) SomethingMissing);
 }
 
 -- a certificate as contracts see it: the lines of its circuit, its layout, its version, and its lines between the

@@ -9,7 +9,7 @@ use crate::cert::Cert;
 use certificate_lines::{Builder, CertificateLine, LineTables, line_form};
 use circuit::Circuit;
 use pattern::Layout;
-use section_text::{Feed, Form, Line, LineFault, ReadFault, Section, read_section};
+use section_text::{Feed, Form, Line, LineFault, ReadFault, RefusalCode, Section, read_section};
 use sha2::{Digest, Sha256};
 use std::alloc::{AllocError, Global};
 
@@ -43,7 +43,7 @@ impl<'a> Section for Reading<'a> {
 
     fn begin(&mut self, version: u32) -> Result<(), LineFault> {
         if (version != VERSION_WITH_HALOS) & (version != VERSION_WITHOUT_HALOS) {
-            return Err(LineFault::Code(2));
+            return Err(LineFault::Code(RefusalCode::PastLimit));
         }
         self.version = version;
         Ok(())
@@ -51,17 +51,17 @@ impl<'a> Section for Reading<'a> {
 
     fn add(&mut self, entry: CertificateLine) -> Result<(), LineFault> {
         if (self.version == VERSION_WITHOUT_HALOS) & is_halo(&entry) {
-            return Err(LineFault::Code(1));
+            return Err(LineFault::Code(RefusalCode::NoForm));
         }
         self.builder.add(self.alloc, entry)
     }
 
-    fn missing(&self) -> Option<u8> {
+    fn missing(&self) -> Option<RefusalCode> {
         if let Some(code) = self.builder.missing() {
             return Some(code);
         }
         if self.version == VERSION_WITHOUT_HALOS && self.builder.lacks_wire(self.alloc) {
-            return Some(11);
+            return Some(RefusalCode::SomethingMissing);
         }
         None
     }

@@ -34,6 +34,8 @@ use Rattle.certificate_lines.proofs.Growing.{map_changed}
 use Rattle.certificate_lines.proofs.Lists.{any_at}
 use Rattle.certificate_lines.proofs.ModulePushes.{no_code, both_none, less}
 use Rattle.certificate_lines.proofs.PortLemmas.{has_cell, in_box_cells}
+use Rattle.section_text.specs.declared.code.RefusalCode.{RefusalCode}
+use Rattle.section_text.specs.declared.code.RefusalCode.TheVariants.{PastLimit, MisplacedBox, SomethingMissing}
 
 -- ---- a box that is good
 
@@ -91,12 +93,12 @@ unfolding box_fault
 passes_alone g count before b e =
     let one = both_none _ _ e in
     let two = both_none _ _ one.1 in
-    let limits = or_false _ (nat_le 1024 count) (no_code _ 2 two.0) in
+    let limits = or_false _ (nat_le 1024 count) (no_code _ PastLimit two.0) in
     let sides = or_false (is_wrong_side b.w) (is_wrong_side b.h) limits.0 in
     record {
-      complete = no_code _ 11 one.0;
+      complete = no_code _ SomethingMissing one.0;
       few = less 1024 count limits.1;
-      box = box_good g.size b sides.0 sides.1 (no_code _ 8 two.1);
+      box = box_good g.size b sides.0 sides.1 (no_code _ MisplacedBox two.1);
     }
 
 pub good_module : (g : Setting) (ms : List ModuleLines) (before : Option ModuleLines) (b : Box2) →
@@ -105,7 +107,7 @@ unfolding module_fault
 good_module g ms before b e =
     let parts = both_none _ _ e in
     let alone = passes_alone g (length ms) before b parts.0 in
-    record { complete = alone.complete; few = alone.few; box = alone.box; free = no_code _ 8 parts.1 }
+    record { complete = alone.complete; few = alone.few; box = alone.box; free = no_code _ MisplacedBox parts.1 }
 
 -- ---- the cells of a box
 
@@ -138,7 +140,8 @@ live_gap s boxes covered same = ap not (all_same _ _ (λ c. same c.x c.y) (box_c
 
 -- the fault of a `module` line, from that of its box and the overlap
 pub overlap_fault : (g : Setting) (ms : List ModuleLines) (before : Option ModuleLines) (b : Box2) →
-    box_fault g (length ms) before b ≡ None → overlaps (areas ms) b ≡ true → module_fault g ms before b ≡ Some 8
+    box_fault g (length ms) before b ≡ None → overlaps (areas ms) b ≡ true →
+    module_fault g ms before b ≡ Some MisplacedBox
 unfolding module_fault
 overlap_fault g ms before b e over = rw (e, over) refl
 
@@ -147,22 +150,22 @@ pub no_fault : (g : Setting) (ms : List ModuleLines) (before : Option ModuleLine
 unfolding module_fault
 no_fault g ms before b e over = rw (e, over) refl
 
-pub early_fault : (g : Setting) (ms : List ModuleLines) (before : Option ModuleLines) (b : Box2) (code : ℕ) →
+pub early_fault : (g : Setting) (ms : List ModuleLines) (before : Option ModuleLines) (b : Box2) (code : RefusalCode) →
     box_fault g (length ms) before b ≡ Some code → module_fault g ms before b ≡ Some code
 unfolding module_fault
 early_fault g ms before b code e = rw e refl
 
 pub missing_some : (g : Setting) (entries : List CertificateLine) (lacks full : Bool) →
     lacks ≡ is_incomplete g (last_of (modules_of entries)) → not full ≡ leaves_gap g.size (areas (modules_of entries)) →
-    (lacks || not full) ≡ true → Some 11 ≡ end_fault g entries
+    (lacks || not full) ≡ true → Some SomethingMissing ≡ end_fault g entries
 unfolding end_fault
-missing_some g entries lacks full p q h = ap (λ b. code_where b 11) (sym h ∙ ap₂ (λ a b. a || b) p q)
+missing_some g entries lacks full p q h = ap (λ b. code_where b SomethingMissing) (sym h ∙ ap₂ (λ a b. a || b) p q)
 
 pub missing_none : (g : Setting) (entries : List CertificateLine) (lacks full : Bool) →
     lacks ≡ is_incomplete g (last_of (modules_of entries)) → not full ≡ leaves_gap g.size (areas (modules_of entries)) →
     (lacks || not full) ≡ false → None ≡ end_fault g entries
 unfolding end_fault
-missing_none g entries lacks full p q h = ap (λ b. code_where b 11) (sym h ∙ ap₂ (λ a b. a || b) p q)
+missing_none g entries lacks full p q h = ap (λ b. code_where b SomethingMissing) (sym h ∙ ap₂ (λ a b. a || b) p q)
 
 none_at : {A : Type 0} (i : ℕ) (a : A) → slice_get [] i ≡ Some a → ⊥
 none_at i a e = cc

@@ -39,6 +39,8 @@ use Rattle.certificate_lines.proofs.ModulePushes.{no_code, both_none, not_false,
 use Rattle.certificate_lines.proofs.ModulePushes.{gates_use, edges_edge, halos_halo, stops_stop, known_cut, known_use}
 use Rattle.certificate_lines.proofs.ModulePushes.{known_same, cut_pushed, use_pushed, keep_pushed, edge_pushed}
 use Rattle.certificate_lines.proofs.ModulePushes.{halo_pushed, stop_pushed}
+use Rattle.section_text.specs.declared.code.RefusalCode.{RefusalCode}
+use Rattle.section_text.specs.declared.code.RefusalCode.TheVariants.{OutOfOrder}
 
 no_last : {X : Type 0} (x : X) → None ≡ Some x → ⊥
 no_last x e = cc
@@ -139,14 +141,14 @@ module _ (g : Setting) (es : List CertificateLine) (covered : Board) (counts : L
 
   pub too_late : (k : Counts) (i : CertificateLine) (b : Bool) → last_of counts ≡ Some k →
       ((lines : List CertificateLine) → AreInOrder lines → last_of lines ≡ last → b ≡ may_follow lines i) → b ≡ false →
-      Some 6 ≡ inner_fault g (last_module es) i
+      Some OutOfOrder ≡ inner_fault g (last_module es) i
   too_late k i b some f late =
       let l = the_last k some in
       let m = l.module_lines in
       let not_after : may_follow m.lines i ≡ false = sym (follows_by m i b l.last f) ∙ late in
-      ap (λ a. or_else (code_where (not a) 6) (words_fault g m i)) (sym not_after) ∙ inner_is m i l.last
+      ap (λ a. or_else (code_where (not a) OutOfOrder) (words_fault g m i)) (sym not_after) ∙ inner_is m i l.last
 
-  pub in_place : (k : Counts) (i : CertificateLine) (b : Bool) (code : Option ℕ) → last_of counts ≡ Some k →
+  pub in_place : (k : Counts) (i : CertificateLine) (b : Bool) (code : Option RefusalCode) → last_of counts ≡ Some k →
       ((lines : List CertificateLine) → AreInOrder lines → last_of lines ≡ last → b ≡ may_follow lines i) → b ≡ true
       → ((m : ModuleLines) → last_module es ≡ Some m → k ≡ counts_of m → code ≡ words_fault g m i) →
       code ≡ inner_fault g (last_module es) i
@@ -154,7 +156,7 @@ module _ (g : Setting) (es : List CertificateLine) (covered : Board) (counts : L
       let l = the_last k some in
       let m = l.module_lines in
       let after : may_follow m.lines i ≡ true = sym (follows_by m i b l.last f) ∙ good in
-      words m l.last l.counted ∙ ap (λ a. or_else (code_where (not a) 6) (words_fault g m i)) (sym after)
+      words m l.last l.counted ∙ ap (λ a. or_else (code_where (not a) OutOfOrder) (words_fault g m i)) (sym after)
       ∙ inner_is m i l.last
 
 -- ---- one more line of the last module
@@ -172,7 +174,7 @@ good_by : (g : Setting) (es : List CertificateLine) (i : CertificateLine) (o : O
 good_by g es i None is e = absurd cc
 good_by g es i (Some m) is e =
     let parts = both_none _ (words_fault g m i) e in
-    record { module_lines = m; last = is; follows = not_false _ (no_code _ 6 parts.0); words = parts.1 }
+    record { module_lines = m; last = is; follows = not_false _ (no_code _ OutOfOrder parts.0); words = parts.1 }
 
 pub good_line : (g : Setting) (es : List CertificateLine) (i : CertificateLine) →
     inner_fault g (last_module es) i ≡ None → IsGoodLine g es i

@@ -16,6 +16,7 @@ use Rattle.pattern.specs.declared.layout_line.LayoutLine.TheVariants.{Mirror, Ba
 use Rattle.section_text.specs.Codes.{code_where}
 use Rattle.certificate_lines.specs.PortTables.{port_at, AreOnBoard}
 use Rattle.certificate_lines.proofs.Lists.{some_is}
+use Rattle.section_text.specs.declared.code.RefusalCode.TheVariants.{TakenCell}
 
 -- ---- ports by their cells
 
@@ -68,7 +69,7 @@ none_stands (q ∷ ports) x y e zero p at h =
 none_stands (q ∷ ports) x y e (suc i) p at h =
     none_stands ports x y (absent_here (is_at q.cell x y) q.name (port_at ports x y) e).1 i p at h
 
-no_code : (a b : Bool) → code_where (not a || b) 7 ≡ None → a ≡ true
+no_code : (a b : Bool) → code_where (not a || b) TakenCell ≡ None → a ≡ true
 no_code true b e = refl
 no_code false b e = cc
 

@@ -33,14 +33,17 @@ use Rattle.certificate_lines.proofs.ModuleLemmas.{no_keep_before_use, no_edge_be
 use Rattle.certificate_lines.proofs.ModuleLemmas.{no_stop_before_cut, no_edge_before_use, no_halo_before_use}
 use Rattle.certificate_lines.proofs.ModuleLemmas.{no_stop_before_use, no_halo_before_edge, lower_uses, order_push}
 use Rattle.certificate_lines.proofs.LocalLemmas.{local_cut, local_use, local_more}
+use Rattle.section_text.specs.declared.code.RefusalCode.{RefusalCode}
+use Rattle.section_text.specs.declared.code.RefusalCode.TheVariants.{PastLimit, UnknownName, DefinedTwice, NotLocal}
+use Rattle.section_text.specs.declared.code.RefusalCode.TheVariants.{NoPlace}
 
 -- ---- tests that a line passed
 
-pub no_code : (b : Bool) (n : ℕ) → code_where b n ≡ None → b ≡ false
+pub no_code : (b : Bool) (n : RefusalCode) → code_where b n ≡ None → b ≡ false
 no_code true n e = absurd cc
 no_code false n e = refl
 
-pub both_none : (a b : Option ℕ) → or_else a b ≡ None → (a ≡ None) × (b ≡ None)
+pub both_none : (a b : Option RefusalCode) → or_else a b ≡ None → (a ≡ None) × (b ≡ None)
 both_none None b e = (refl, e)
 both_none (Some c) b e = absurd cc
 
@@ -69,7 +72,7 @@ pub record IsNewWire (c : Circuit) (local : List ℕ) (name : List ℕ) : Type 0
 new_by : (local : List ℕ) (o : Option ℕ) → cut_wire_fault local o ≡ None →
     (w : ℕ) × (o ≡ Some w) × (is_among local w ≡ false)
 new_by local None e = absurd cc
-new_by local (Some w) e = (w, refl, no_code (is_among local w) 4 e)
+new_by local (Some w) e = (w, refl, no_code (is_among local w) DefinedTwice e)
 
 pub new_wire : (c : Circuit) (count : ℕ) (local : List ℕ) (name : List ℕ) → cut_fault c count local name ≡ None →
     (count < 12) × IsNewWire c local name
@@ -77,7 +80,7 @@ unfolding cut_fault
 new_wire c count local name e =
     let parts = both_none _ _ e in
     let w = new_by local (wire_of c name) parts.1 in
-    (less 12 count (no_code _ 2 parts.0), record { wire = w.0; named = w.1; new = w.2 })
+    (less 12 count (no_code _ PastLimit parts.0), record { wire = w.0; named = w.1; new = w.2 })
 
 pub cuts_cut : (m : ModuleLines) (n : List ℕ) → cuts (with_line (Cut n) m) ≡ cuts m ++ n ∷ []
 cuts_cut m n = flat_push cut_in m.lines (Cut n)
@@ -224,7 +227,7 @@ unfolding gate_fault
 gate_by local None e = absurd cc
 gate_by local (Some g) e =
     let parts = both_none _ _ e in
-    (g, refl, not_false _ (no_code _ 9 parts.0), not_false _ (no_code _ 4 parts.1))
+    (g, refl, not_false _ (no_code _ NotLocal parts.0), not_false _ (no_code _ DefinedTwice parts.1))
 
 pub good_use : (c : Circuit) (count : ℕ) (local : List ℕ) (k : ℕ) → use_fault c count local k ≡ None →
     (count < 64) × IsGoodUse c local k
@@ -232,7 +235,7 @@ unfolding use_fault
 good_use c count local k e =
     let parts = both_none _ _ e in
     let g = gate_by local (slice_get c.netlist.gates k) parts.1 in
-    (less 64 count (no_code _ 2 parts.0), record { gate = g.0; numbered = g.1; ins = g.2; outs = g.3 })
+    (less 64 count (no_code _ PastLimit parts.0), record { gate = g.0; numbered = g.1; ins = g.2; outs = g.3 })
 
 pub gates_use : (m : ModuleLines) (k : ℕ) → gates (with_line (Use k) m) ≡ gates m ++ k ∷ []
 gates_use m k = flat_push use_in m.lines (Use k)
@@ -304,7 +307,7 @@ time_good steps starred (Some t) e =
 local_by : (c : Circuit) (local : List ℕ) (name : List ℕ) (o : Option ℕ) → wire_of c name ≡ o →
     wire_fault local o ≡ None → IsTrue (is_local c local name)
 local_by c local name None is e = absurd cc
-local_by c local name (Some w) is e = rw is (not_false _ (no_code _ 9 e))
+local_by c local name (Some w) is e = rw is (not_false _ (no_code _ NotLocal e))
 
 signal_good : (c : Circuit) (local : List ℕ) (s : Option (List ℕ)) → signal_fault c local s ≡ None →
     IfSome s (λ name. IsTrue (is_local c local name))
@@ -326,8 +329,8 @@ good_border c count local placed signal e =
     let parts = both_none _ _ e in
     let rest = both_none _ _ parts.1 in
     record {
-      few = less border_limit count (no_code _ 2 parts.0);
-      place = not_false placed (no_code _ 10 rest.0);
+      few = less border_limit count (no_code _ PastLimit parts.0);
+      place = not_false placed (no_code _ NoPlace rest.0);
       names = rest.1;
     }
 
@@ -415,7 +418,7 @@ keep_good : (g : Setting) (used : List ℕ) (k : ℕ) → keep_fault g.circuit u
 unfolding keep_fault
 keep_good g mine k e =
     let parts = both_none _ _ e in
-    record { inverse = not_false _ (no_code _ 3 parts.0); among = not_false _ (no_code _ 9 parts.1) }
+    record { inverse = not_false _ (no_code _ UnknownName parts.0); among = not_false _ (no_code _ NotLocal parts.1) }
 
 keeps_keep : (m : ModuleLines) (k : ℕ) → keeps (with_line (Keep k) m) ≡ keeps m ++ k ∷ []
 keeps_keep m k = flat_push keep_in m.lines (Keep k)

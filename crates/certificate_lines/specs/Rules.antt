@@ -5,8 +5,7 @@ use Rattle.std.specs.List.{list_any, list_all}
 use Rattle.std.specs.Ordering.{int_eq}
 use Rattle.bbm_rule.specs.Plane.{State}
 use Rattle.bbm_rule.specs.declared.block.Cell.{Cell}
-use Rattle.section_text.specs.Codes.{code_where, defined_twice, misplaced_box, no_place, not_local, or_else}
-use Rattle.section_text.specs.Codes.{out_of_order, past_limit, something_missing, unknown_name}
+use Rattle.section_text.specs.Codes.{code_where, or_else}
 use Rattle.circuit.specs.Gates.{is_inverse}
 use Rattle.circuit.specs.Meaning.{Circuit, Gate, wire_of}
 use Rattle.pattern.specs.Layout.{rectangle_cells}
@@ -24,6 +23,9 @@ use Rattle.certificate_lines.specs.Entries.{Setting, ModuleLines, modules_of, la
 use Rattle.certificate_lines.specs.Entries.{halos}
 use Rattle.certificate_lines.specs.Entries.{stops, known}
 use Rattle.certificate_lines.specs.Orders.{may_follow}
+use Rattle.section_text.specs.declared.code.RefusalCode.{RefusalCode}
+use Rattle.section_text.specs.declared.code.RefusalCode.TheVariants.{PastLimit, UnknownName, DefinedTwice, OutOfOrder}
+use Rattle.section_text.specs.declared.code.RefusalCode.TheVariants.{MisplacedBox, NotLocal, NoPlace, SomethingMissing}
 
 -- the whole rectangle of the layout
 abbrev pub whole : LayoutHeader → Box2
@@ -77,28 +79,28 @@ abbrev pub overlaps : List Box2 → Box2 → Bool
 overlaps boxes b = list_any (λ c. in_boxes boxes c.x c.y) (box_cells b)
 
 -- the tests of a box by itself, after `count` modules, the last of them `before`
-unfoldable pub box_fault : Setting → ℕ → Option ModuleLines → Box2 → Option ℕ
+unfoldable pub box_fault : Setting → ℕ → Option ModuleLines → Box2 → Option RefusalCode
 box_fault g count before b =
-    or_else (code_where (is_incomplete g before) something_missing)
-    (or_else (code_where (is_wrong_side b.w || is_wrong_side b.h || nat_le 1024 count) past_limit)
-    (code_where (is_misplaced g.size b) misplaced_box))
+    or_else (code_where (is_incomplete g before) SomethingMissing)
+    (or_else (code_where (is_wrong_side b.w || is_wrong_side b.h || nat_le 1024 count) PastLimit)
+    (code_where (is_misplaced g.size b) MisplacedBox))
 
 -- the code of a `module` line after these modules
-unfoldable pub module_fault : Setting → List ModuleLines → Option ModuleLines → Box2 → Option ℕ
+unfoldable pub module_fault : Setting → List ModuleLines → Option ModuleLines → Box2 → Option RefusalCode
 module_fault g ms before b = or_else (box_fault g (length ms) before b)
-    (code_where (overlaps (areas ms) b) misplaced_box)
+    (code_where (overlaps (areas ms) b) MisplacedBox)
 
 -- ---- a cut, after `count` cuts, if these wires are local: 2, 3, 4
 
 -- the code of a cut of a wire
-abbrev pub cut_wire_fault : List ℕ → Option ℕ → Option ℕ
-cut_wire_fault local None = Some unknown_name
-cut_wire_fault local (Some w) = code_where (is_among local w) defined_twice
+abbrev pub cut_wire_fault : List ℕ → Option ℕ → Option RefusalCode
+cut_wire_fault local None = Some UnknownName
+cut_wire_fault local (Some w) = code_where (is_among local w) DefinedTwice
 
 -- the code of a cut line after this many cuts
-unfoldable pub cut_fault : Circuit → ℕ → List ℕ → List ℕ → Option ℕ
+unfoldable pub cut_fault : Circuit → ℕ → List ℕ → List ℕ → Option RefusalCode
 cut_fault c count local name =
-    or_else (code_where (nat_le cut_limit count) past_limit) (cut_wire_fault local (wire_of c name))
+    or_else (code_where (nat_le cut_limit count) PastLimit) (cut_wire_fault local (wire_of c name))
 
 -- ---- a used gate, after `count` used gates, if these wires are local: 2, 3, 9, 4
 
@@ -108,15 +110,15 @@ are_new local [] = true
 are_new local (w ∷ ws) = not (is_among local w) && are_new (local ++ w ∷ []) ws
 
 -- the code of a used gate by its wires
-unfoldable pub gate_fault : List ℕ → Option Gate → Option ℕ
-gate_fault local None = Some unknown_name
+unfoldable pub gate_fault : List ℕ → Option Gate → Option RefusalCode
+gate_fault local None = Some UnknownName
 gate_fault local (Some gate) =
-    or_else (code_where (not (list_all (is_among local) gate.ins)) not_local)
-    (code_where (not (are_new local gate.outs)) defined_twice)
+    or_else (code_where (not (list_all (is_among local) gate.ins)) NotLocal)
+    (code_where (not (are_new local gate.outs)) DefinedTwice)
 
 -- the code of a use line after `count` used gates
-unfoldable pub use_fault : Circuit → ℕ → List ℕ → ℕ → Option ℕ
-use_fault c count local k = or_else (code_where (nat_le use_limit count) past_limit)
+unfoldable pub use_fault : Circuit → ℕ → List ℕ → ℕ → Option RefusalCode
+use_fault c count local k = or_else (code_where (nat_le use_limit count) PastLimit)
     (gate_fault local (slice_get c.netlist.gates k))
 
 -- ---- a kept gate, if these gates are used: 3, 9
@@ -127,10 +129,10 @@ is_inverse_gate None = false
 is_inverse_gate (Some gate) = is_inverse gate.kind
 
 -- it is the number of an inverse gate, and the module uses that gate
-unfoldable pub keep_fault : Circuit → List ℕ → ℕ → Option ℕ
+unfoldable pub keep_fault : Circuit → List ℕ → ℕ → Option RefusalCode
 keep_fault c used k =
-    or_else (code_where (not (is_inverse_gate (slice_get c.netlist.gates k))) unknown_name)
-    (code_where (not (is_among used k)) not_local)
+    or_else (code_where (not (is_inverse_gate (slice_get c.netlist.gates k))) UnknownName)
+    (code_where (not (is_among used k)) NotLocal)
 
 -- ---- an edge, halo or stop line: 2, 10, 3, 9
 
@@ -167,12 +169,12 @@ unfoldable pub is_stop_place : LayoutHeader → Box2 → StopLine → Bool
 is_stop_place size area s = in_box area s.cell.x s.cell.y && nat_le s.time size.steps
 
 -- a signal is `1`, or a wire of the circuit, 3, that is local, 9
-abbrev pub wire_fault : List ℕ → Option ℕ → Option ℕ
-wire_fault local None = Some unknown_name
-wire_fault local (Some w) = code_where (not (is_among local w)) not_local
+abbrev pub wire_fault : List ℕ → Option ℕ → Option RefusalCode
+wire_fault local None = Some UnknownName
+wire_fault local (Some w) = code_where (not (is_among local w)) NotLocal
 
 -- the code of a signal: its wire must be local
-unfoldable pub signal_fault : Circuit → List ℕ → Option (List ℕ) → Option ℕ
+unfoldable pub signal_fault : Circuit → List ℕ → Option (List ℕ) → Option RefusalCode
 signal_fault c local None = None
 signal_fault c local (Some name) = wire_fault local (wire_of c name)
 
@@ -181,10 +183,10 @@ abbrev pub border_limit : ℕ
 border_limit = 65536
 
 -- the code of such a line after `count` of these lines; `placed` says whether it may have its cell and time
-unfoldable pub border_fault : Circuit → ℕ → List ℕ → Bool → Option (List ℕ) → Option ℕ
+unfoldable pub border_fault : Circuit → ℕ → List ℕ → Bool → Option (List ℕ) → Option RefusalCode
 border_fault c count local placed signal =
-    or_else (code_where (nat_le border_limit count) past_limit)
-    (or_else (code_where (not placed) no_place) (signal_fault c local signal))
+    or_else (code_where (nat_le border_limit count) PastLimit)
+    (or_else (code_where (not placed) NoPlace) (signal_fault c local signal))
 
 -- ---- a line after the lines before it
 
@@ -193,22 +195,22 @@ abbrev pub border_count : ModuleLines → ℕ
 border_count m = length (edges m) + length (halos m) + length (stops m)
 
 -- the code of an edge line of a module
-abbrev pub edge_fault : Setting → ModuleLines → Border → Option ℕ
+abbrev pub edge_fault : Setting → ModuleLines → Border → Option RefusalCode
 edge_fault g m e = border_fault g.circuit (border_count m) (known g.circuit m)
     (is_edge_place g.size m.area (list_any (is_starred e.cell) (edges m)) e) e.signal
 
 -- the code of a halo line of a module
-abbrev pub halo_fault : Setting → ModuleLines → Border → Option ℕ
+abbrev pub halo_fault : Setting → ModuleLines → Border → Option RefusalCode
 halo_fault g m e = border_fault g.circuit (border_count m) (known g.circuit m)
     (is_halo_place g.size m.area (list_any (is_starred e.cell) (halos m)) e) e.signal
 
 -- the code of a stop line of a module
-abbrev pub stop_fault : Setting → ModuleLines → StopLine → Option ℕ
+abbrev pub stop_fault : Setting → ModuleLines → StopLine → Option RefusalCode
 stop_fault g m s = border_fault g.circuit (border_count m) (known g.circuit m) (is_stop_place g.size m.area s)
     (Some s.wire)
 
 -- the code of a line of a module, but for its order
-abbrev pub words_fault : Setting → ModuleLines → CertificateLine → Option ℕ
+abbrev pub words_fault : Setting → ModuleLines → CertificateLine → Option RefusalCode
 words_fault g m (Module b) = None
 words_fault g m (Cut n) = cut_fault g.circuit (length (cuts m)) (known g.circuit m) n
 words_fault g m (Use k) = use_fault g.circuit (length (gates m)) (known g.circuit m) k
@@ -218,16 +220,16 @@ words_fault g m (Halo e) = halo_fault g m e
 words_fault g m (Stop s) = stop_fault g m s
 
 -- a line of a module after those before it: its order first, 6
-abbrev pub line_fault : Setting → ModuleLines → CertificateLine → Option ℕ
-line_fault g m i = or_else (code_where (not (may_follow m.lines i)) out_of_order) (words_fault g m i)
+abbrev pub line_fault : Setting → ModuleLines → CertificateLine → Option RefusalCode
+line_fault g m i = or_else (code_where (not (may_follow m.lines i)) OutOfOrder) (words_fault g m i)
 
 -- a line that is no `module` line belongs to a module
-abbrev pub inner_fault : Setting → Option ModuleLines → CertificateLine → Option ℕ
-inner_fault g None i = Some out_of_order
+abbrev pub inner_fault : Setting → Option ModuleLines → CertificateLine → Option RefusalCode
+inner_fault g None i = Some OutOfOrder
 inner_fault g (Some m) i = line_fault g m i
 
 -- the code of the first test that a line fails
-unfoldable pub entry_fault : Setting → List CertificateLine → CertificateLine → Option ℕ
+unfoldable pub entry_fault : Setting → List CertificateLine → CertificateLine → Option RefusalCode
 entry_fault g before (Module b) = module_fault g (modules_of before) (last_module before) b
 entry_fault g before (Cut n) = inner_fault g (last_module before) (Cut n)
 entry_fault g before (Use k) = inner_fault g (last_module before) (Use k)
@@ -243,6 +245,6 @@ abbrev pub leaves_gap : LayoutHeader → List Box2 → Bool
 leaves_gap s boxes = not (list_all (λ c. in_boxes boxes c.x c.y) (box_cells (whole s)))
 
 -- the ports of the last module are local, and the boxes leave no gap
-unfoldable pub end_fault : Setting → List CertificateLine → Option ℕ
+unfoldable pub end_fault : Setting → List CertificateLine → Option RefusalCode
 end_fault g entries = code_where
-    (is_incomplete g (last_module entries) || leaves_gap g.size (areas (modules_of entries))) something_missing
+    (is_incomplete g (last_module entries) || leaves_gap g.size (areas (modules_of entries))) SomethingMissing

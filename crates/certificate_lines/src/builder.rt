@@ -29,7 +29,7 @@ use bbm_rule::{Cell, Grid};
 use indexmap::IndexSet;
 use module_box::{Box2, Owners, owner_table};
 use pattern::{Rectangle, fill_rectangle, is_any_live_in};
-use section_text::{LineFault, Name};
+use section_text::{LineFault, Name, RefusalCode};
 use std::alloc::{AllocError, Global};
 use std::marker::Model;
 
@@ -106,7 +106,7 @@ impl<'a> Builder<'a> {
     }
 
     // The code of the tests that come after that of the order, where these are the counts of the last module.
-    fn words_code(&self, counts: Counts, entry: &CertificateLine) -> Option<u8>
+    fn words_code(&self, counts: Counts, entry: &CertificateLine) -> Option<RefusalCode>
         requires { IsSmall counts }
         ensures { (m : ModuleLines) → last_module self.now.entries ≡ Some m → counts ≡ counts_of m →
             result ≡ words_fault self.now.setting m entry.now }
@@ -145,14 +145,14 @@ impl<'a> Builder<'a> {
     }
 
     // The code of a line of a module.
-    fn inner_code(&self, entry: &CertificateLine) -> Option<u8>
+    fn inner_code(&self, entry: &CertificateLine) -> Option<RefusalCode>
         ensures { result ≡ inner_fault self.now.setting (last_module self.now.entries) entry.now }
     {
         let Some(counts) = last_counts(&self.modules) else {
-            return Some(6);
+            return Some(RefusalCode::OutOfOrder);
         };
         if !does_follow(&self.last, entry) {
-            return Some(6);
+            return Some(RefusalCode::OutOfOrder);
         }
         self.words_code(counts, entry)
     }
@@ -207,7 +207,7 @@ impl<'a> Builder<'a> {
 
     // The code of the tests of a box by itself.
     #[tactic(auto, unfolding(crate::specs::Rules::box_fault))]
-    fn box_code(&self, area: Box2) -> Option<u8>
+    fn box_code(&self, area: Box2) -> Option<RefusalCode>
         ensures code { result
             ≡ box_fault self.now.setting (length (modules_of self.now.entries))
             (last_module self.now.entries) area }
@@ -218,21 +218,21 @@ impl<'a> Builder<'a> {
     {
         let size = self.tables.size();
         if self.lacks_port() {
-            return Some(11);
+            return Some(RefusalCode::SomethingMissing);
         }
         let bad_width = is_bad_side(area.w);
         let bad_height = is_bad_side(area.h);
         if bad_width | bad_height | (self.count() >= MAX_MODULES) {
-            return Some(2);
+            return Some(RefusalCode::PastLimit);
         }
         if is_bad_place(size, area) {
-            return Some(8);
+            return Some(RefusalCode::MisplacedBox);
         }
         None
     }
 
     // The code of the first test that the box of a module fails, by itself and among the earlier ones.
-    fn module_code(&self, area: Box2) -> Option<u8>
+    fn module_code(&self, area: Box2) -> Option<RefusalCode>
         ensures code { result ≡ module_fault self.now.setting (modules_of self.now.entries)
             (last_module self.now.entries) area }
         ensures columns { result ≡ None → (area.x + area.w ≤ self.now.setting.size.w)
@@ -245,7 +245,7 @@ impl<'a> Builder<'a> {
         }
         let Box2 { x, y, w, h } = area;
         if is_any_live_in(&self.covered, Rectangle { x, y, w, h }) {
-            return Some(8);
+            return Some(RefusalCode::MisplacedBox);
         }
         None
     }
@@ -297,13 +297,17 @@ impl<'a> Builder<'a> {
     }
 
     /// Returns code 11 if a port of the last module has a wire that is not local, or if the boxes leave a gap.
-    pub fn missing(&self) -> Option<u8>
+    pub fn missing(&self) -> Option<RefusalCode>
         ensures { result ≡ end_fault self.now.setting self.now.entries }
     {
         let size = self.tables.size();
         let lacks = self.lacks_port();
         let full = is_full(&self.covered, size.w, size.h);
-        if lacks | !full { Some(11) } else { None }
+        if lacks | !full {
+            Some(RefusalCode::SomethingMissing)
+        } else {
+            None
+        }
     }
 
     /// Returns the lines, and the counts of the modules.

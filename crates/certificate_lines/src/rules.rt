@@ -15,7 +15,7 @@ use crate::tiles::whole_of;
 use indexmap::IndexSet;
 use module_box::Box2;
 use pattern::LayoutHeader;
-use section_text::Name;
+use section_text::{Name, RefusalCode};
 
 // The most cuts of a module, the most gates that it uses, and the most edge, halo and stop lines.
 const MAX_CUTS: usize = 12;
@@ -73,15 +73,15 @@ pub(crate) fn cut_code(
     count: usize,
     known: &IndexSet<u16>,
     name: &Name,
-) -> Option<u8>
+) -> Option<RefusalCode>
     ensures { result ≡ cut_fault tables.now.circuit count known.now.keys name.now }
 {
     if count >= MAX_CUTS {
-        return Some(2);
+        return Some(RefusalCode::PastLimit);
     }
     match tables.wire(name) {
-        None => Some(3),
-        Some(wire) if knows(known, wire) => Some(4),
+        None => Some(RefusalCode::UnknownName),
+        Some(wire) if knows(known, wire) => Some(RefusalCode::DefinedTwice),
         Some(_) => None,
     }
 }
@@ -93,48 +93,56 @@ pub(crate) fn use_code(
     count: usize,
     known: &IndexSet<u16>,
     number: u32,
-) -> Option<u8>
+) -> Option<RefusalCode>
     ensures { result ≡ use_fault tables.now.circuit count known.now.keys number }
 {
     if count >= MAX_USED_GATES {
-        return Some(2);
+        return Some(RefusalCode::PastLimit);
     }
     let Some(gate) = tables.gate(number) else {
-        return Some(3);
+        return Some(RefusalCode::UnknownName);
     };
     if !knows_all(known, gate.ins()) {
-        return Some(9);
+        return Some(RefusalCode::NotLocal);
     }
     if !are_all_new(known, gate.outs()) {
-        return Some(4);
+        return Some(RefusalCode::DefinedTwice);
     }
     None
 }
 
 /// Returns the code of a kept gate. `lines` are the lines before it.
 #[tactic(auto, unfolding(crate::specs::Rules::keep_fault))]
-pub(crate) fn keep_code(tables: &LineTables, entries: &[CertificateLine], number: u32) -> Option<u8>
+pub(crate) fn keep_code(
+    tables: &LineTables,
+    entries: &[CertificateLine],
+    number: u32,
+) -> Option<RefusalCode>
     ensures { (m : ModuleLines) → last_module entries.now ≡ Some m →
         result ≡ keep_fault tables.now.circuit (gates m) number }
 {
     if !tables.is_inverse(number) {
-        return Some(3);
+        return Some(RefusalCode::UnknownName);
     }
     if !is_used(entries, number) {
-        return Some(9);
+        return Some(RefusalCode::NotLocal);
     }
     None
 }
 
 #[tactic(auto, unfolding(crate::specs::Rules::signal_fault))]
-fn signal_code(tables: &LineTables, known: &IndexSet<u16>, signal: Option<Name>) -> Option<u8>
+fn signal_code(
+    tables: &LineTables,
+    known: &IndexSet<u16>,
+    signal: Option<Name>,
+) -> Option<RefusalCode>
     ensures { result ≡ signal_fault tables.now.circuit known.now.keys signal }
 {
     let name = signal?;
     match tables.wire(&name) {
-        None => Some(3),
+        None => Some(RefusalCode::UnknownName),
         Some(wire) if knows(known, wire) => None,
-        Some(_) => Some(9),
+        Some(_) => Some(RefusalCode::NotLocal),
     }
 }
 
@@ -148,14 +156,14 @@ pub(crate) fn border_code(
     known: &IndexSet<u16>,
     placed: bool,
     signal: Option<Name>,
-) -> Option<u8>
+) -> Option<RefusalCode>
     ensures { result ≡ border_fault tables.now.circuit count known.now.keys placed signal }
 {
     if count >= MAX_TIMED_LINES {
-        return Some(2);
+        return Some(RefusalCode::PastLimit);
     }
     if !placed {
-        return Some(10);
+        return Some(RefusalCode::NoPlace);
     }
     signal_code(tables, known, signal)
 }

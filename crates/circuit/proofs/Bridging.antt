@@ -20,13 +20,15 @@ use Rattle.circuit.specs.Wiring.{gate_at}
 use Rattle.circuit.specs.Bridge.{is_input, input_count, gate_in, gates_of, IsGoodAfter, AreGoodAfter, AreGood}
 use Rattle.circuit.specs.Laws.{GatesAreOrdered}
 use Rattle.circuit.proofs.Places.{Have, number_new, numbers_left, numbers_below, consume_have, bytes_same}
+use Rattle.section_text.specs.declared.code.RefusalCode.{RefusalCode}
+use Rattle.section_text.specs.declared.code.RefusalCode.TheVariants.{DefinedTwice}
 
 -- ---- what the tests of a line say
-or_else_none : (a b : Option ℕ) → or_else a b ≡ None → (a ≡ None) × (b ≡ None)
+or_else_none : (a b : Option RefusalCode) → or_else a b ≡ None → (a ≡ None) × (b ≡ None)
 or_else_none None b e = (refl, e)
 or_else_none (Some c) b e = absurd (clash c e)
   where
-    clash : (c : ℕ) → ◌≡◌ {A = Option ℕ} (Some c) None → ⊥
+    clash : (c : RefusalCode) → ◌≡◌ {A = Option RefusalCode} (Some c) None → ⊥
     clash c e = cc
 
 pub names_pass : (before : List CircuitLine) (r : CircuitLine) → add_fault before r ≡ None →
@@ -42,7 +44,7 @@ define_first d n ns e = elim (cases_Bool (has d n)) [
   | inr h ↦ (h, rw h at e)
 ]
   where
-    clash : ◌≡◌ {A = Option ℕ} (Some 4) None → ⊥
+    clash : ◌≡◌ {A = Option RefusalCode} (Some DefinedTwice) None → ⊥
     clash e = cc
 
 pub numbers_new : (d ns e : List (List ℕ)) → define d ns ≡ None →

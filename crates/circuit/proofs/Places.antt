@@ -12,6 +12,8 @@ use Rattle.std.proofs.lemmas.List.Folds.{list_any-append}
 use Rattle.circuit.specs.Meaning.{number}
 use Rattle.section_text.specs.Words.{has}
 use Rattle.circuit.specs.Rules.{consume}
+use Rattle.section_text.specs.declared.code.RefusalCode.{RefusalCode}
+use Rattle.section_text.specs.declared.code.RefusalCode.TheVariants.{UnknownName, ConsumedTwice}
 
 -- what has says at the front of a list
 pub has_front : (m n : List ℕ) (ms : List (List ℕ)) → bytes_eq n m ≡ false → has (m ∷ ms) n ≡ has ms n
@@ -105,10 +107,10 @@ consume_have d c (n ∷ ns) e = elim (cases_Bool (has d n)) [
   | inr h ↦ absurd (unknown (rw h at e))
 ]
   where
-    used : ◌≡◌ {A = Option ℕ} (Some 5) None → ⊥
+    used : ◌≡◌ {A = Option RefusalCode} (Some ConsumedTwice) None → ⊥
     used e = cc
 
-    unknown : ◌≡◌ {A = Option ℕ} (Some 3) None → ⊥
+    unknown : ◌≡◌ {A = Option RefusalCode} (Some UnknownName) None → ⊥
     unknown e = cc
 
 -- ---- what a look-up finds

@@ -3,14 +3,16 @@ use Rattle.std.specs.Prelude.{ℕ, List, Option, Some, None}
 use Rattle.circuit.specs.Entries.{defined}
 use Rattle.section_text.specs.Section.{Grammar}
 use Rattle.circuit.specs.declared.circuit_line.CircuitLine.{CircuitLine}
-use Rattle.section_text.specs.Codes.{or_else, something_missing}
+use Rattle.section_text.specs.Codes.{or_else}
 use Rattle.circuit.specs.Forms.{form_of}
 use Rattle.circuit.specs.Rules.{order_fault, add_fault, unused, consumed}
+use Rattle.section_text.specs.declared.code.RefusalCode.{RefusalCode}
+use Rattle.section_text.specs.declared.code.RefusalCode.TheVariants.{SomethingMissing}
 
 -- the code of a wire that no line consumes, if there is one
-abbrev pub missing_code : Option (List ℕ) → Option ℕ
+abbrev pub missing_code : Option (List ℕ) → Option RefusalCode
 missing_code None = None
-missing_code (Some n) = Some something_missing
+missing_code (Some n) = Some SomethingMissing
 
 -- the grammar of the circuit section
 abbrev pub circuit_grammar : Grammar (Unit {0}) CircuitLine

@@ -9,9 +9,11 @@ use Rattle.circuit.specs.declared.circuit_line.Kind.{Kind}
 use Rattle.circuit.specs.declared.circuit_line.Kind.TheVariants.{Input, Gate, Output, Spill}
 use Rattle.circuit.specs.declared.circuit_line.CircuitLine.{CircuitLine}
 use Rattle.section_text.specs.Words.{has}
-use Rattle.section_text.specs.Codes.{code_where, consumed_twice, defined_twice, or_else, out_of_order, past_limit}
-use Rattle.section_text.specs.Codes.{unknown_name}
+use Rattle.section_text.specs.Codes.{code_where, or_else}
 use Rattle.circuit.specs.Entries.{defined, rank_of}
+use Rattle.section_text.specs.declared.code.RefusalCode.{RefusalCode}
+use Rattle.section_text.specs.declared.code.RefusalCode.TheVariants.{PastLimit, UnknownName, DefinedTwice}
+use Rattle.section_text.specs.declared.code.RefusalCode.TheVariants.{ConsumedTwice, OutOfOrder}
 
 -- the wires that lines consume, in order
 abbrev pub consumed : List CircuitLine → List (List ℕ)
@@ -31,18 +33,18 @@ gate_count entries = count_by (λ r. is_gate r.kind) entries
 -- ---- codes 3, 4 and 5, from left to right; a line's own names count as they are passed
 
 -- the names are consumed one after the other, with d defined and c consumed before
-abbrev pub consume : List (List ℕ) → List (List ℕ) → List (List ℕ) → Option ℕ
+abbrev pub consume : List (List ℕ) → List (List ℕ) → List (List ℕ) → Option RefusalCode
 consume d c [] = None
 consume d c (n ∷ ns) = if has d n then
-    (if has c n then Some consumed_twice else consume d (c ++ n ∷ []) ns) else Some unknown_name
+    (if has c n then Some ConsumedTwice else consume d (c ++ n ∷ []) ns) else Some UnknownName
 
 -- the names are defined one after the other, with d defined before
-abbrev pub define : List (List ℕ) → List (List ℕ) → Option ℕ
+abbrev pub define : List (List ℕ) → List (List ℕ) → Option RefusalCode
 define d [] = None
-define d (n ∷ ns) = if has d n then Some defined_twice else define (d ++ n ∷ []) ns
+define d (n ∷ ns) = if has d n then Some DefinedTwice else define (d ++ n ∷ []) ns
 
 -- the code of the first wire that the line may not consume, else of the first that it may not define
-abbrev pub name_fault : List CircuitLine → CircuitLine → Option ℕ
+abbrev pub name_fault : List CircuitLine → CircuitLine → Option RefusalCode
 name_fault entries r = or_else (consume (defined entries) (consumed entries) r.ins) (define (defined entries) r.outs)
 
 -- ---- code 2
@@ -67,11 +69,11 @@ passes_limit entries r = is_wrong_delay r.kind
     || (nat_lt 4096 (length (defined entries) + length r.outs) || (is_gate r.kind && nat_le 1024 (gate_count entries)))
 
 -- the code of a line outside the limits
-abbrev pub limit_fault : List CircuitLine → CircuitLine → Option ℕ
-limit_fault entries r = code_where (passes_limit entries r) past_limit
+abbrev pub limit_fault : List CircuitLine → CircuitLine → Option RefusalCode
+limit_fault entries r = code_where (passes_limit entries r) PastLimit
 
 -- the first of codes 2 to 5
-unfoldable pub add_fault : List CircuitLine → CircuitLine → Option ℕ
+unfoldable pub add_fault : List CircuitLine → CircuitLine → Option RefusalCode
 add_fault entries r = or_else (limit_fault entries r) (name_fault entries r)
 
 -- ---- codes 6 and 11
@@ -83,8 +85,8 @@ last_rank (r ∷ []) = rank_of r.kind
 last_rank (r ∷ s ∷ entries) = last_rank (s ∷ entries)
 
 -- the code of a line of an earlier kind than the last one
-abbrev pub order_fault : List CircuitLine → CircuitLine → Option ℕ
-order_fault entries r = code_where (nat_lt (rank_of r.kind) (last_rank entries)) out_of_order
+abbrev pub order_fault : List CircuitLine → CircuitLine → Option RefusalCode
+order_fault entries r = code_where (nat_lt (rank_of r.kind) (last_rank entries)) OutOfOrder
 
 -- the first wire that nobody consumes
 abbrev pub unused : List (List ℕ) → List (List ℕ) → Option (List ℕ)

@@ -16,7 +16,7 @@ use crate::number::WireNo;
 use crate::sets::{consume_all, define_all};
 use crate::wiring::{GateWires, add_wires, wire_numbers};
 use indexmap::IndexSet;
-use section_text::{LineFault, Name, Names, Seed};
+use section_text::{LineFault, Name, Names, RefusalCode, Seed};
 use std::alloc::{AllocError, Global};
 use std::marker::Model;
 
@@ -176,7 +176,7 @@ impl Draft {
         ensures fault { IfErr result (λ e. FaultIs e (add_fault self.old entry)) }
     {
         if self.passes(&entry) {
-            return Err(LineFault::Code(2));
+            return Err(LineFault::Code(RefusalCode::PastLimit));
         }
         let consumed = self.consumed.len();
         let wires = self.wires.len();

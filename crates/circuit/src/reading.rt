@@ -8,7 +8,7 @@ use crate::circuit_line::CircuitLine;
 use crate::draft::Draft;
 use crate::form::line_form;
 use crate::netlist::Circuit;
-use section_text::{Feed, Form, Line, LineFault, ReadFault, Section, read_section};
+use section_text::{Feed, Form, Line, LineFault, ReadFault, RefusalCode, Section, read_section};
 use std::alloc::Global;
 
 // A circuit that is read: the lines so far, and the rank of the last one.
@@ -42,7 +42,7 @@ impl Section for Reading {
     fn add(&mut self, entry: CircuitLine) -> Result<(), LineFault> {
         let next = entry.kind.rank();
         if next < self.rank {
-            return Err(LineFault::Code(6));
+            return Err(LineFault::Code(RefusalCode::OutOfOrder));
         }
         match self.draft.add(entry) {
             Ok(()) => {
@@ -53,9 +53,9 @@ impl Section for Reading {
         }
     }
 
-    fn missing(&self) -> Option<u8> {
+    fn missing(&self) -> Option<RefusalCode> {
         match self.draft.missing() {
-            Some(_) => Some(11),
+            Some(_) => Some(RefusalCode::SomethingMissing),
             None => None,
         }
     }

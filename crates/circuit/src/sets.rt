@@ -5,7 +5,7 @@ ghost use Rattle.circuit.specs.Rules.{consume, define};
 ghost use Rattle.section_text.specs.Adding.{FaultIs};
 
 use indexmap::IndexSet;
-use section_text::{LineFault, Name, Seed};
+use section_text::{LineFault, Name, RefusalCode, Seed};
 
 fn consume_one(
     wires: &IndexSet<Name, Seed>,
@@ -20,11 +20,11 @@ fn consume_one(
         (consume wires.now.keys consumed.old.keys (name ∷ []))) }
 {
     if !wires.contains(&name) {
-        return Err(LineFault::Code(3));
+        return Err(LineFault::Code(RefusalCode::UnknownName));
     }
     match consumed.insert(name) {
         Ok(true) => Ok(()),
-        Ok(false) => Err(LineFault::Code(5)),
+        Ok(false) => Err(LineFault::Code(RefusalCode::ConsumedTwice)),
         Err(_) => Err(LineFault::Memory),
     }
 }
@@ -37,7 +37,7 @@ fn define_one(wires: &mut IndexSet<Name, Seed>, name: Name) -> Result<(), LineFa
 {
     match wires.insert(name) {
         Ok(true) => Ok(()),
-        Ok(false) => Err(LineFault::Code(4)),
+        Ok(false) => Err(LineFault::Code(RefusalCode::DefinedTwice)),
         Err(_) => Err(LineFault::Memory),
     }
 }

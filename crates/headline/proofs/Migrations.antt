@@ -8,7 +8,7 @@ use Rattle.std.proofs.lemmas.Grind.{flat_map-append}
 use Rattle.std.proofs.lemmas.List.{append-nil, length-map, length-append}
 use Rattle.std.proofs.Math.Seq.{drop-append_seam}
 use Rattle.section_text.specs.Words.{is_word_at, lines_of, lone_number, number_at, number_of, rest_of, words_of}
-use Rattle.section_text.specs.Codes.{code_where, or_else, no_form}
+use Rattle.section_text.specs.Codes.{code_where, or_else}
 use Rattle.section_text.specs.SaidSection.{IsSection}
 use Rattle.section_text.specs.Section.{Grammar, ended_line, section_of}
 use Rattle.section_text.specs.Sections.{finished, go_on, section_then}
@@ -53,6 +53,8 @@ use Rattle.headline.specs.Migration.{KeepsVersionTwo, MigratesOnce, MigrationSay
 use Rattle.meaning.specs.Design.{SaysDesign}
 use Rattle.headline.specs.Stops.{SaysBundle}
 use Rattle.headline.proofs.YesIsRight.{went_on}
+use Rattle.section_text.specs.declared.code.RefusalCode.{RefusalCode}
+use Rattle.section_text.specs.declared.code.RefusalCode.TheVariants.{NoForm}
 
 -- ---- a text by its sections
 
@@ -377,7 +379,8 @@ migrates_once text output again first second =
 
 -- ---- version 2 has no halo lines
 
-no_code : (b : Bool) (code : ℕ) (more : Option ℕ) → or_else (code_where b code) more ≡ None → b ≡ false
+no_code : (b : Bool) (code : RefusalCode) (more : Option RefusalCode) → or_else (code_where b code) more ≡ None →
+    b ≡ false
 no_code true code more e = absurd cc
 no_code false code more e = refl
 
@@ -386,7 +389,7 @@ no_halos : (g : Setting) (before es : List CertificateLine) → AreFaultless (ce
 unfolding without_halos
 no_halos g before [] good = refl
 no_halos g before (i ∷ es) good =
-    with_other i es (no_code (is_haloless 2 && is_halo i) no_form _ good.0)
+    with_other i es (no_code (is_haloless 2 && is_halo i) NoForm _ good.0)
     ∙ ap (λ l. i ∷ l) (no_halos g (before ++ i ∷ []) es good.1)
 
 -- a bundle of version 2 is its own migration

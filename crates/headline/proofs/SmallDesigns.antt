@@ -74,6 +74,10 @@ use Rattle.std.proofs.lemmas.Grind.{flat_map-append}
 use Rattle.std.proofs.lemmas.Bool.Decides.{nat_tests}
 use Rattle.std.proofs.Math.Bool.{and-false, or-true}
 use Rattle.module_box.specs.Moments.{cell_cmp}
+use Rattle.section_text.specs.declared.code.RefusalCode.{RefusalCode}
+use Rattle.section_text.specs.declared.code.RefusalCode.TheVariants.{PastLimit, UnknownName, DefinedTwice, OutOfOrder}
+use Rattle.section_text.specs.declared.code.RefusalCode.TheVariants.{MisplacedBox, NotLocal}
+use Rattle.section_text.specs.declared.code.RefusalCode.TheVariants.{SomethingMissing}
 
 -- ---- numbers in a range
 
@@ -257,7 +261,7 @@ keep_keep j k lt =
 follow_by : (g : Setting) (m : ModuleLines) (i : CertificateLine) → may_follow m.lines i ≡ true →
     words_fault g m i ≡ None →
     line_fault g m i ≡ None
-follow_by g m i f w = ap₂ or_else (ap (λ b. code_where (not b) 6) f) w
+follow_by g m i f w = ap₂ or_else (ap (λ b. code_where (not b) OutOfOrder) f) w
 
 all_below : (n a b : ℕ) → a + n ≤ b → All (λ j. j < b) (range_with_len a n)
 all_below zero a b h = All-nil (λ j. j < b)
@@ -273,22 +277,23 @@ cut_ok : (c : Circuit) (count : ℕ) (local : List ℕ) (n : List ℕ) (w : ℕ)
     is_among local w ≡ false → cut_fault c count local n ≡ None
 unfolding cut_fault
 cut_ok c count local n w few e fresh =
-    ap₂ or_else (ap (λ b. code_where b 2) (below_limit 12 count few))
-    (ap (cut_wire_fault local) e ∙ ap (λ b. code_where b 4) fresh)
+    ap₂ or_else (ap (λ b. code_where b PastLimit) (below_limit 12 count few))
+    (ap (cut_wire_fault local) e ∙ ap (λ b. code_where b DefinedTwice) fresh)
 
 use_ok : (c : Circuit) (count : ℕ) (local : List ℕ) (k : ℕ) (x : Gate) → count < 64 →
     slice_get c.netlist.gates k ≡ Some x → list_all (is_among local) x.ins ≡ true → are_new local x.outs ≡ true →
     use_fault c count local k ≡ None
 unfolding use_fault gate_fault
 use_ok c count local k x few at ins new =
-    ap₂ or_else (ap (λ b. code_where b 2) (below_limit 64 count few))
-    (ap (gate_fault local) at ∙ ap₂ or_else (ap (λ b. code_where (not b) 9) ins) (ap (λ b. code_where (not b) 4) new))
+    ap₂ or_else (ap (λ b. code_where b PastLimit) (below_limit 64 count few))
+    (ap (gate_fault local) at ∙ ap₂ or_else (ap (λ b. code_where (not b) NotLocal) ins)
+    (ap (λ b. code_where (not b) DefinedTwice) new))
 
 keep_ok : (c : Circuit) (used : List ℕ) (k : ℕ) → is_inverse_gate (slice_get c.netlist.gates k) ≡ true →
     is_among used k ≡ true → keep_fault c used k ≡ None
 unfolding keep_fault
 keep_ok c used k inverse among =
-    ap₂ or_else (ap (λ b. code_where (not b) 3) inverse) (ap (λ b. code_where (not b) 9) among)
+    ap₂ or_else (ap (λ b. code_where (not b) UnknownName) inverse) (ap (λ b. code_where (not b) NotLocal) among)
 
 all_among : (n : ℕ) (ws : List ℕ) → All (λ w. w < n) ws → list_all (is_among (range_with_len 0 n)) ws ≡ true
 all_among n [] all = refl
@@ -599,7 +604,7 @@ side_ok n side few =
     not_above : (n k : ℕ) → n ≤ k → nat_lt k n ≡ false
     not_above n k h = grind (arith, nat_tests, h)
 
-none_code : (a : Bool) (code : ℕ) → code_where (not a) code ≡ None → a ≡ true
+none_code : (a : Bool) (code : RefusalCode) → code_where (not a) code ≡ None → a ≡ true
 none_code true code e = refl
 none_code false code e = absurd cc
 
@@ -679,7 +684,8 @@ module _ (circuit : List CircuitLine) (p : Pattern) (good : AreGood circuit)
   sides : (is_side p.size.w ≡ true) × (is_side p.size.h ≡ true)
   unfolding size_fault
   sides =
-      let all = none_code (is_side p.size.w && is_side p.size.h && nat_le p.size.steps 65536) 2 layout_good.header in
+      let all = none_code (is_side p.size.w && is_side p.size.h && nat_le p.size.steps 65536) PastLimit
+      layout_good.header in
       let both = and_parts (is_side p.size.w && is_side p.size.h) (nat_le p.size.steps 65536) all in
       and_parts (is_side p.size.w) (is_side p.size.h) both.0
 
@@ -691,18 +697,18 @@ module _ (circuit : List CircuitLine) (p : Pattern) (good : AreGood circuit)
   module_good =
       ap₂ or_else
       (ap₂ or_else
-      (ap (λ b. code_where b 2) (ap₂ (λ a b. a || b || nat_le 1024 0) (side_ok p.size.w sides.0 small.wide)
+      (ap (λ b. code_where b PastLimit) (ap₂ (λ a b. a || b || nat_le 1024 0) (side_ok p.size.w sides.0 small.wide)
       (side_ok p.size.h sides.1 small.high)))
-      (ap (λ b. code_where b 8) (ap₂ (λ a b. a || b) (not_past p.size.w) (not_past p.size.h))))
-      (ap (λ b. code_where b 8) (none_any _ (box_cells (whole p.size)) (λ k d at. refl)))
+      (ap (λ b. code_where b MisplacedBox) (ap₂ (λ a b. a || b) (not_past p.size.w) (not_past p.size.h))))
+      (ap (λ b. code_where b MisplacedBox) (none_any _ (box_cells (whole p.size)) (λ k d at. refl)))
 
   end_good : end_fault its_setting (plain_lines circuit p) ≡ None
   unfolding end_fault last_of
   end_good =
       ap (λ (ms : List ModuleLines). code_where (is_incomplete its_setting (last_of ms) || leaves_gap p.size (areas ms))
-      11)
+      SomethingMissing)
       (is_one circuit p good)
-      ∙ ap₂ (λ a b. code_where (a || b) 11) lacks_none no_gap
+      ∙ ap₂ (λ a b. code_where (a || b) SomethingMissing) lacks_none no_gap
 
   pub plain_faultless : IsFaultless (certificate_grammar its_setting) 1 (plain_lines circuit p)
   plain_faultless = record {

@@ -26,6 +26,7 @@ use Rattle.answers.specs.CheckText.{IsReportOf, SaysReport, verdict_outcome}
 use Rattle.headline.specs.Laws.{HasAnAnswer}
 use Rattle.headline.proofs.SomeAnswer.{SaysSomething, answered_always}
 use Rattle.headline.proofs.YesIsRight.{bundle_good, certificate_faultless}
+use Rattle.section_text.specs.declared.code.RefusalCode.{RefusalCode}
 
 -- ---- a layout from its lines
 
@@ -63,7 +64,7 @@ with_part p (Waste c) follows = record {
   are = with_waste p p refl (Waste c) follows c (p.wastes ++ c ∷ []) refl refl;
 }
 
-first_none : (a b : Option ℕ) → or_else a b ≡ None → a ≡ None
+first_none : (a b : Option RefusalCode) → or_else a b ≡ None → a ≡ None
 first_none None b e = refl
 first_none (Some code) b e = absurd cc
 

@@ -68,14 +68,16 @@ use Rattle.headline.specs.Stops.{HasRightStops, SaysBundle}
 use Rattle.headline.proofs.FourthLines.{refusal_says_none, says_yes, yes_says}
 use Rattle.answers.specs.declared.outcome.Outcome.{Outcome}
 use Rattle.answers.specs.declared.outcome.Outcome.TheVariants.{Yes, Refused}
+use Rattle.section_text.specs.declared.code.RefusalCode.{RefusalCode}
+use Rattle.section_text.specs.declared.code.RefusalCode.TheVariants.{OutOfOrder}
 
 -- ---- the lines of a circuit that is read are good
 
-first_none : (a b : Option ℕ) → or_else a b ≡ None → (a ≡ None) × (b ≡ None)
+first_none : (a b : Option RefusalCode) → or_else a b ≡ None → (a ≡ None) × (b ≡ None)
 first_none None b e = (refl, e)
 first_none (Some code) b e = absurd cc
 
-no_code : (b : Bool) (code : ℕ) → code_where b code ≡ None → b ≡ false
+no_code : (b : Bool) (code : RefusalCode) → code_where b code ≡ None → b ≡ false
 no_code true code e = absurd cc
 no_code false code e = refl
 
@@ -102,7 +104,7 @@ ok_of : (x y : Unit {0} × List CircuitLine) → ◌≡◌ {A = Result (Unit {0}
     x ≡ y
 ok_of x y e = cc
 
-unless_ok : (n : ℕ) (o : Option ℕ) (r : Result (Unit {0} × List CircuitLine) Refusal)
+unless_ok : (n : ℕ) (o : Option RefusalCode) (r : Result (Unit {0} × List CircuitLine) Refusal)
     (y : Unit {0} × List CircuitLine) → unless n o r ≡ Ok y → (o ≡ None) × (r ≡ Ok y)
 unless_ok n None r y e = (refl, e)
 unless_ok n (Some code) r y e = absurd cc
@@ -122,7 +124,8 @@ line_good words ls before n rows (Some (Item r)) f none e rec =
     (body_of circuit_grammar tt (before ++ r ∷ []) (n + 1) ls) (tt, rows) e in
     let codes = first_none (order_fault before r) (add_fault before r) passed.0 in
     let h : last_rank before ≤ rank_of r.kind =
-    ltb-false (rank_of r.kind) (last_rank before) (no_code (nat_lt (rank_of r.kind) (last_rank before)) 6 codes.0) in
+    ltb-false (rank_of r.kind) (last_rank before)
+    (no_code (nat_lt (rank_of r.kind) (last_rank before)) OutOfOrder codes.0) in
     let t = rec r (still before r h none) passed.1 in
     record {
       more = r ∷ t.more;

@@ -16,9 +16,11 @@ use Rattle.pattern.specs.Layout.{Pattern, parts_of}
 use Rattle.pattern.specs.Lines.{is_late, order_fault, limit_fault, cell_fault, begins, ends, holds, begun, ended}
 use Rattle.pattern.specs.Lines.{AreGoodAfter}
 use Rattle.pattern.proofs.Orders.{some, late_mirror, late_ball, late_in, late_out}
+use Rattle.section_text.specs.declared.code.RefusalCode.{RefusalCode}
+use Rattle.section_text.specs.declared.code.RefusalCode.TheVariants.{OutOfOrder}
 
 -- no code: the test was not failed
-pub no_code : (b : Bool) (code : ℕ) → code_where b code ≡ None → b ≡ false
+pub no_code : (b : Bool) (code : RefusalCode) → code_where b code ≡ None → b ≡ false
 no_code true code e = absurd cc
 no_code false code e = refl
 
@@ -59,7 +61,7 @@ module _ (p v : Pattern) (same : v ≡ p) (part : LayoutLine) (follows : order_f
   not_late : is_late (parts_of p) part ≡ false
   unfolding order_fault
   not_late = subst (λ (q : Pattern). is_late (parts_of q) part ≡ false) same
-      (no_code (is_late (parts_of v) part) 6 follows)
+      (no_code (is_late (parts_of v) part) OutOfOrder follows)
 
   on_old : (q : Pattern) → parts_of q ≡ parts_of p ++ part ∷ [] → parts_of q ≡ parts_of v ++ part ∷ []
   on_old q e = e ∙ ap (λ (u : Pattern). parts_of u ++ part ∷ []) (sym same)

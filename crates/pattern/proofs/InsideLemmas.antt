@@ -17,6 +17,8 @@ use Rattle.pattern.specs.Layout.{Pattern, in_rectangle, in_layout, in_cells, in_
 use Rattle.pattern.specs.Layout.{parts_of}
 use Rattle.pattern.proofs.TakenLemmas.{mirror_fits}
 use Rattle.pattern.specs.Lines.{size_fault, cell_fault, is_inside, is_taken, is_side, AreGoodAfter}
+use Rattle.section_text.specs.declared.code.RefusalCode.{RefusalCode}
+use Rattle.section_text.specs.declared.code.RefusalCode.TheVariants.{PastLimit, TakenCell}
 
 and_left : (a b : Bool) → (a && b) ≡ true → a ≡ true
 and_left true b h = refl
@@ -33,7 +35,7 @@ pub record IsSideLength (n : ℕ) : Type 0 where
   pub most : n ≤ 512
   pub even : n % 2 ≡ 0
 
-no_code : (a : Bool) (n : ℕ) → code_where (not a) n ≡ None → a ≡ true
+no_code : (a : Bool) (n : RefusalCode) → code_where (not a) n ≡ None → a ≡ true
 no_code true n e = refl
 no_code false n e = cc
 
@@ -44,13 +46,13 @@ side_length n e =
 pub size_sides : (s : LayoutHeader) → size_fault s ≡ None → IsSideLength s.w × IsSideLength s.h
 unfolding size_fault
 size_sides s e =
-    let good : (is_side s.w && is_side s.h && _) ≡ true = no_code _ 2 e in
+    let good : (is_side s.w && is_side s.h && _) ≡ true = no_code _ PastLimit e in
     let both : (is_side s.w && is_side s.h) ≡ true = and_left _ _ good in
     (side_length s.w (and_left _ _ both), side_length s.h (and_right _ _ both))
 
 -- ---- the parts
 
-first_holds : (a b : Bool) → code_where (not a || b) 7 ≡ None → a ≡ true
+first_holds : (a b : Bool) → code_where (not a || b) TakenCell ≡ None → a ≡ true
 first_holds true b e = refl
 first_holds false b e = cc
 

@@ -15,6 +15,7 @@ use Rattle.pattern.specs.declared.layout_line.LayoutLine.TheVariants.{Mirror, Ba
 use Rattle.pattern.specs.Layout.{Pattern, HaveOwnCells, parts_of}
 use Rattle.pattern.specs.Lines.{is_inside, is_taken, cell_fault, begins, ends, cells_of, begun, ended, AreGoodAfter}
 use Rattle.pattern.proofs.Added.{no_code, begun_push, ended_push}
+use Rattle.section_text.specs.declared.code.RefusalCode.TheVariants.{TakenCell}
 
 -- the lines behind others are good after them
 good_behind : (s : LayoutHeader) (before front back : List LayoutLine) → AreGoodAfter s before (front ++ back) →
@@ -35,8 +36,8 @@ or_left a b e = grind arith
 or_right : (a b : Bool) → (a || (b || false)) ≡ false → b ≡ false
 or_right a b e = grind arith
 
-not_taken : (a b : Bool) → code_where (not a || b) 7 ≡ None → b ≡ false
-not_taken true b e = no_code b 7 e
+not_taken : (a b : Bool) → code_where (not a || b) TakenCell ≡ None → b ≡ false
+not_taken true b e = no_code b TakenCell e
 not_taken false b e = absurd cc
 
 one_of : (b : Bool) → (b || false) ≡ false → b ≡ false

@@ -9,12 +9,14 @@ use Rattle.section_text.specs.declared.ports.PortNames.TheVariants.{Any, Only}
 use Rattle.pattern.specs.declared.layout_line.LayoutLine.{LayoutLine}
 use Rattle.section_text.specs.Words.{has}
 use Rattle.pattern.specs.Lines.{is_in, is_out, order_fault, limit_fault, name_fault, line_fault, missing_fault}
+use Rattle.section_text.specs.declared.code.RefusalCode.{RefusalCode}
+use Rattle.section_text.specs.declared.code.RefusalCode.TheVariants.{SomethingMissing}
 
-pub no_code_first : (a b : Option ℕ) → or_else a b ≡ None → a ≡ None
+pub no_code_first : (a b : Option RefusalCode) → or_else a b ≡ None → a ≡ None
 no_code_first None b e = refl
 no_code_first (Some code) b e = absurd cc
 
-pub no_code_second : (a b : Option ℕ) → or_else a b ≡ None → b ≡ None
+pub no_code_second : (a b : Option RefusalCode) → or_else a b ≡ None → b ≡ None
 no_code_second None b e = e
 no_code_second (Some code) b e = absurd cc
 
@@ -54,6 +56,6 @@ module _ (ports : PortNames) (parts : List LayoutLine) where
 
     pub missing_by : (b : Bool) →
         (list_all (λ n. has seen_ins n) ins.items && list_all (λ n. has seen_outs n) outs.items) ≡ b →
-        code_where (not b) 11 ≡ missing_fault (named_ports ports) parts
+        code_where (not b) SomethingMissing ≡ missing_fault (named_ports ports) parts
     unfolding missing_fault
-    missing_by b e = rw only (ap (λ k. code_where (not k) 11) (sym e ∙ all_seen))
+    missing_by b e = rw only (ap (λ k. code_where (not k) SomethingMissing) (sym e ∙ all_seen))

@@ -17,6 +17,7 @@ use Rattle.pattern.specs.Layout.{cell, row_cells, rectangle_cells, in_cells, in_
 use Rattle.pattern.specs.Lines.{is_side, size_fault, is_inside, cells_of, begins, ends, begun, ended, is_taken}
 use Rattle.pattern.specs.Lines.{cell_fault}
 use Rattle.pattern.proofs.Added.{no_code, begun_push, ended_push}
+use Rattle.section_text.specs.declared.code.RefusalCode.TheVariants.{PastLimit, TakenCell}
 
 -- ---- a size within its limits
 
@@ -37,7 +38,7 @@ side n e = grind (arith, nat_tests)
 pub is_sized : (s : LayoutHeader) → size_fault s ≡ None → IsSized s
 unfolding size_fault
 is_sized s e =
-    let good = all_three (is_side s.w) (is_side s.h) (nat_le s.steps 65536) (no_code _ 2 e) in
+    let good = all_three (is_side s.w) (is_side s.h) (nat_le s.steps 65536) (no_code _ PastLimit e) in
     record { width = side s.w good.0; height = side s.h good.1; steps = grind (arith, nat_tests, good.2) }
 
 -- ---- cells that lie inside
@@ -152,6 +153,6 @@ unfolding cell_fault
 cells_free s parts part inside free = rw (inside, free) refl
 
 pub cells_taken : (s : LayoutHeader) (parts : List LayoutLine) (part : LayoutLine) → is_inside s part ≡ true →
-    is_taken parts part ≡ true → cell_fault s parts part ≡ Some 7
+    is_taken parts part ≡ true → cell_fault s parts part ≡ Some TakenCell
 unfolding cell_fault
 cells_taken s parts part inside taken = rw (inside, taken) refl

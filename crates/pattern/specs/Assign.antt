@@ -1,10 +1,12 @@
 -- The assign section: the names that are on.
 use Rattle.std.specs.Prelude.{ℕ, not, List, Option, Some, None, codes, if◌then◌else◌}
 use Rattle.section_text.specs.Words.{◌>>=◌, is_word_at, has, lone, lone_name}
-use Rattle.section_text.specs.Codes.{code_where, defined_twice, or_else, unknown_name}
+use Rattle.section_text.specs.Codes.{code_where, or_else}
 use Rattle.section_text.specs.Section.{Grammar}
 use Rattle.section_text.specs.declared.section.Form.{Form}
 use Rattle.section_text.specs.declared.section.Form.TheVariants.{Header, Item, End}
+use Rattle.section_text.specs.declared.code.RefusalCode.{RefusalCode}
+use Rattle.section_text.specs.declared.code.RefusalCode.TheVariants.{UnknownName, DefinedTwice}
 
 -- a line of the assign section: its header has no content
 abbrev pub AssignLine : Type 0
@@ -19,8 +21,8 @@ assign_form ws =
     else None
 
 -- a name that may be on, and is not on yet
-unfoldable pub on_fault : List (List ℕ) → List (List ℕ) → List ℕ → Option ℕ
-on_fault ins before n = or_else (code_where (not (has ins n)) unknown_name) (code_where (has before n) defined_twice)
+unfoldable pub on_fault : List (List ℕ) → List (List ℕ) → List ℕ → Option RefusalCode
+on_fault ins before n = or_else (code_where (not (has ins n)) UnknownName) (code_where (has before n) DefinedTwice)
 
 -- the section, if these names may be on
 abbrev pub assign_grammar : List (List ℕ) → Grammar (Unit {0}) (List ℕ)

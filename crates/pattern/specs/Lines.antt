@@ -7,13 +7,15 @@ use Rattle.std.specs.Str.{bytes_eq}
 use Rattle.bbm_rule.specs.Plane.{State, is_at}
 use Rattle.bbm_rule.specs.declared.block.Cell.{Cell}
 use Rattle.section_text.specs.Words.{has}
-use Rattle.section_text.specs.Codes.{code_where, or_else, out_of_order, past_limit, something_missing, taken_cell}
-use Rattle.section_text.specs.Codes.{unknown_name}
+use Rattle.section_text.specs.Codes.{code_where, or_else}
 use Rattle.section_text.specs.Ports.{Named}
 use Rattle.pattern.specs.declared.layout_line.LayoutHeader.{LayoutHeader}
 use Rattle.pattern.specs.declared.layout_line.LayoutLine.{LayoutLine}
 use Rattle.pattern.specs.declared.layout_line.LayoutLine.TheVariants.{Mirror, Ball, In, Out, Waste}
 use Rattle.pattern.specs.Layout.{in_layout, rectangle_cells}
+use Rattle.section_text.specs.declared.code.RefusalCode.{RefusalCode}
+use Rattle.section_text.specs.declared.code.RefusalCode.TheVariants.{PastLimit, UnknownName, OutOfOrder, TakenCell}
+use Rattle.section_text.specs.declared.code.RefusalCode.TheVariants.{SomethingMissing}
 
 -- ---- limits
 
@@ -22,16 +24,16 @@ abbrev pub is_side : ℕ → Bool
 is_side n = nat_le 2 n && nat_le n 512 && (n % 2 == 0)
 
 -- width and height even, 2 to 512; at most 65,536 steps
-unfoldable pub size_fault : LayoutHeader → Option ℕ
-size_fault s = code_where (not (is_side s.w && is_side s.h && nat_le s.steps 65536)) past_limit
+unfoldable pub size_fault : LayoutHeader → Option RefusalCode
+size_fault s = code_where (not (is_side s.w && is_side s.h && nat_le s.steps 65536)) PastLimit
 
 -- whether a side of a mirror is within its limits
 abbrev pub is_mirror_side : ℕ → Bool
 is_mirror_side n = nat_le 1 n && nat_le n 512
 
 -- the sides of a mirror are 1 to 512
-unfoldable pub limit_fault : LayoutLine → Option ℕ
-limit_fault (Mirror r) = code_where (not (is_mirror_side r.w && is_mirror_side r.h)) past_limit
+unfoldable pub limit_fault : LayoutLine → Option RefusalCode
+limit_fault (Mirror r) = code_where (not (is_mirror_side r.w && is_mirror_side r.h)) PastLimit
 limit_fault (Ball c) = None
 limit_fault (In p) = None
 limit_fault (Out p) = None
@@ -52,8 +54,8 @@ unfoldable pub is_late : List LayoutLine → LayoutLine → Bool
 is_late before part = list_any (λ b. nat_lt (rank_of part) (rank_of b)) before
 
 -- the code of a line after one of a later kind
-unfoldable pub order_fault : List LayoutLine → LayoutLine → Option ℕ
-order_fault before part = code_where (is_late before part) out_of_order
+unfoldable pub order_fault : List LayoutLine → LayoutLine → Option RefusalCode
+order_fault before part = code_where (is_late before part) OutOfOrder
 
 -- ---- names; any is good if no names of ports are given
 
@@ -73,11 +75,11 @@ is_out_name None n = true
 is_out_name (Some names) n = has names.outs n
 
 -- the name of an input cell is one of the inputs, that of an output cell one of the outputs
-unfoldable pub name_fault : Option Named → LayoutLine → Option ℕ
+unfoldable pub name_fault : Option Named → LayoutLine → Option RefusalCode
 name_fault ports (Mirror r) = None
 name_fault ports (Ball c) = None
-name_fault ports (In p) = code_where (not (is_in_name ports p.name)) unknown_name
-name_fault ports (Out p) = code_where (not (is_out_name ports p.name)) unknown_name
+name_fault ports (In p) = code_where (not (is_in_name ports p.name)) UnknownName
+name_fault ports (Out p) = code_where (not (is_out_name ports p.name)) UnknownName
 name_fault ports (Waste c) = None
 
 -- ---- cells
@@ -133,17 +135,17 @@ is_taken before part =
     else list_any (λ c. ended before c.x c.y) (cells_of part)
 
 -- the code of a line with a cell outside the layout, or a cell that is taken
-unfoldable pub cell_fault : LayoutHeader → List LayoutLine → LayoutLine → Option ℕ
-cell_fault s before part = code_where (not (is_inside s part) || is_taken before part) taken_cell
+unfoldable pub cell_fault : LayoutHeader → List LayoutLine → LayoutLine → Option RefusalCode
+cell_fault s before part = code_where (not (is_inside s part) || is_taken before part) TakenCell
 
 -- ---- a line after the lines before it
 
 -- the code of the tests that come before those of the cells
-unfoldable pub line_fault : Option Named → List LayoutLine → LayoutLine → Option ℕ
+unfoldable pub line_fault : Option Named → List LayoutLine → LayoutLine → Option RefusalCode
 line_fault ports before part = or_else (order_fault before part) (or_else (limit_fault part) (name_fault ports part))
 
 -- the code of a line after those before it
-unfoldable pub part_fault : Option Named → LayoutHeader → List LayoutLine → LayoutLine → Option ℕ
+unfoldable pub part_fault : Option Named → LayoutHeader → List LayoutLine → LayoutLine → Option RefusalCode
 part_fault ports s before part = or_else (line_fault ports before part) (cell_fault s before part)
 
 -- each input and each output has a cell
@@ -163,11 +165,11 @@ is_out n (Out p) = bytes_eq n p.name
 is_out n (Waste c) = false
 
 -- the code of a layout in which an input or an output has no cell
-unfoldable pub missing_fault : Option Named → List LayoutLine → Option ℕ
+unfoldable pub missing_fault : Option Named → List LayoutLine → Option RefusalCode
 missing_fault None parts = None
 missing_fault (Some names) parts =
     code_where (not (list_all (λ n. list_any (is_in n) parts) names.ins
-    && list_all (λ n. list_any (is_out n) parts) names.outs)) something_missing
+    && list_all (λ n. list_any (is_out n) parts) names.outs)) SomethingMissing
 
 -- the names of the ports are good, and each input and each output that is asked for has a cell
 pub record AreNamed (ports : Option Named) (parts : List LayoutLine) : Type 0 where

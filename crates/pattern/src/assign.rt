@@ -8,7 +8,9 @@ ghost use Rattle.pattern.specs.Assign.{assign_form, assign_grammar, assign_value
 use crate::form::is_keyword;
 use crate::names::index_of;
 use indexmap::IndexSet;
-use section_text::{Feed, Form, Line, LineFault, Name, ReadFault, Section, Seed, read_section};
+use section_text::{
+    Feed, Form, Line, LineFault, Name, ReadFault, RefusalCode, Section, Seed, read_section,
+};
 use std::alloc::Global;
 
 #[tactic(auto, unfolding(crate::specs::Assign::assign_form, section_text::specs::Words::is_word_at))]
@@ -59,16 +61,16 @@ impl<'a> Section for Assigning<'a> {
     #[tactic(auto, unfolding(crate::specs::Assign::on_fault))]
     fn add(&mut self, name: Name) -> Result<(), LineFault> {
         if !self.known.contains(&name) {
-            return Err(LineFault::Code(3));
+            return Err(LineFault::Code(RefusalCode::UnknownName));
         }
         match self.on.insert(name) {
             Ok(true) => Ok(()),
-            Ok(false) => Err(LineFault::Code(4)),
+            Ok(false) => Err(LineFault::Code(RefusalCode::DefinedTwice)),
             Err(_) => Err(LineFault::Memory),
         }
     }
 
-    fn missing(&self) -> Option<u8> {
+    fn missing(&self) -> Option<RefusalCode> {
         None
     }
 }

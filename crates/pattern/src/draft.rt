@@ -10,7 +10,7 @@ use crate::layout_line::{LayoutHeader, LayoutLine};
 use crate::rectangle::push_rectangle;
 use crate::taken::{meets_in, take_where};
 use bbm_rule::{Cell, Grid};
-use section_text::LineFault;
+use section_text::{LineFault, RefusalCode};
 use std::alloc::{AllocError, Global};
 use std::marker::Model;
 
@@ -81,7 +81,7 @@ impl Draft {
     }
 
     /// Returns code 6 if there is a line of a later kind already.
-    pub(crate) fn order_code(&self, part: &LayoutLine) -> Option<u8>
+    pub(crate) fn order_code(&self, part: &LayoutLine) -> Option<RefusalCode>
         ensures { result ≡ order_fault (parts_of self.now) part.now }
     {
         self.layout.order_code(part)
@@ -98,13 +98,13 @@ impl Draft {
     {
         let size = self.layout.size();
         if !part.is_inside(size) {
-            return Err(LineFault::Code(7));
+            return Err(LineFault::Code(RefusalCode::TakenCell));
         }
         let Ok(cells) = cells_in(alloc, part, size) else {
             return Err(LineFault::Memory);
         };
         if meets_in(part.begins(), &self.begun, &self.ended, &cells) {
-            return Err(LineFault::Code(7));
+            return Err(LineFault::Code(RefusalCode::TakenCell));
         }
         Ok(cells)
     }

@@ -5,6 +5,7 @@ ghost use Rattle.pattern.specs.Lines.{AreGoodAfter, cell_fault, limit_fault, is_
 
 use crate::layout_line::{LayoutHeader, LayoutLine, Port, Rectangle};
 use bbm_rule::Cell;
+use section_text::RefusalCode;
 use std::alloc::{AllocError, Global};
 use std::marker::Model;
 
@@ -71,10 +72,14 @@ impl Layout {
 
     // Code 6 where a line of a later kind stands already.
     #[tactic(auto, unfolding(crate::specs::Lines::order_fault))]
-    pub(crate) fn order_code(&self, part: &LayoutLine) -> Option<u8>
+    pub(crate) fn order_code(&self, part: &LayoutLine) -> Option<RefusalCode>
         ensures { result ≡ order_fault (parts_of self.now) part.now }
     {
-        if self.has_later(part) { Some(6) } else { None }
+        if self.has_later(part) {
+            Some(RefusalCode::OutOfOrder)
+        } else {
+            None
+        }
     }
 
     // Adds a line that is good after the others. Without memory for it nothing changes.

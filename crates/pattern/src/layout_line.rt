@@ -4,7 +4,7 @@ ghost use Rattle.pattern.specs.Layout.{in_layout};
 ghost use Rattle.pattern.specs.Lines.{begins, ends, is_inside, is_side, is_mirror_side, limit_fault, size_fault};
 
 use bbm_rule::Cell;
-use section_text::Name;
+use section_text::{Name, RefusalCode};
 
 /// A filled rectangle of cells: the column and the row of its upper left cell, its width and its height, in cells.
 ///
@@ -71,13 +71,13 @@ fn fits(r: Rectangle, size: LayoutHeader) -> bool
 impl LayoutHeader {
     /// Returns code 2 if a side or the steps are outside their limits.
     #[tactic(auto, unfolding(crate::specs::Lines::size_fault))]
-    pub(crate) fn limit_code(self) -> Option<u8>
+    pub(crate) fn limit_code(self) -> Option<RefusalCode>
         ensures { result ≡ size_fault self }
     {
         if is_even_side(self.w) && is_even_side(self.h) && self.steps <= 65_536 {
             None
         } else {
-            Some(2)
+            Some(RefusalCode::PastLimit)
         }
     }
 
@@ -125,11 +125,17 @@ impl LayoutLine {
 
     /// Returns code 2 if a side of a mirror is outside its limits.
     #[tactic(auto, unfolding(crate::specs::Lines::limit_fault))]
-    pub(crate) fn limit_code(&self) -> Option<u8>
+    pub(crate) fn limit_code(&self) -> Option<RefusalCode>
         ensures { result ≡ limit_fault self.now }
     {
         match self {
-            LayoutLine::Mirror(r) => { if has_mirror_sides(*r) { None } else { Some(2) } }
+            LayoutLine::Mirror(r) => {
+                if has_mirror_sides(*r) {
+                    None
+                } else {
+                    Some(RefusalCode::PastLimit)
+                }
+            }
             _ => None,
         }
     }

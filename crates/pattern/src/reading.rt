@@ -16,7 +16,8 @@ use crate::layout_line::{LayoutHeader, LayoutLine};
 use crate::names::{index_of, put_name};
 use indexmap::IndexSet;
 use section_text::{
-    Feed, Form, Line, LineFault, Name, PortNames, ReadFault, Section, Seed, read_section,
+    Feed, Form, Line, LineFault, Name, PortNames, ReadFault, RefusalCode, Section, Seed,
+    read_section,
 };
 use std::alloc::{AllocError, Global};
 use std::marker::Model;
@@ -128,7 +129,7 @@ impl<'a> Reading<'a> {
 
     // Code 3 where a port may not have its name.
     #[tactic(auto, unfolding(crate::specs::Lines::name_fault))]
-    fn name_code(&self, part: &LayoutLine) -> Option<u8>
+    fn name_code(&self, part: &LayoutLine) -> Option<RefusalCode>
         ensures { result ≡ name_fault self.now.ports part.now }
     {
         let any = are_any(self.ports);
@@ -137,13 +138,13 @@ impl<'a> Reading<'a> {
                 if any || self.known_ins.contains(&port.name) {
                     return None;
                 }
-                Some(3)
+                Some(RefusalCode::UnknownName)
             }
             LayoutLine::Out(port) => {
                 if any || self.known_outs.contains(&port.name) {
                     return None;
                 }
-                Some(3)
+                Some(RefusalCode::UnknownName)
             }
             _ => None,
         }
@@ -151,7 +152,7 @@ impl<'a> Reading<'a> {
 
     // The code of the first test that a line fails before those of its cells.
     #[tactic(auto, unfolding(crate::specs::Lines::line_fault))]
-    fn line_code(&self, part: &LayoutLine) -> Option<u8>
+    fn line_code(&self, part: &LayoutLine) -> Option<RefusalCode>
         ensures { result ≡ line_fault self.now.ports (parts_of self.now.layout) part.now }
     {
         if let Some(code) = self.draft.order_code(part) {
@@ -228,13 +229,17 @@ impl<'a> Section for Reading<'a> {
         Ok(())
     }
 
-    fn missing(&self) -> Option<u8> {
+    fn missing(&self) -> Option<RefusalCode> {
         match self.ports {
             PortNames::Any => None,
             PortNames::Only { ins, outs } => {
                 let has_ins = has_all(&self.seen_ins, ins);
                 let has_outs = has_all(&self.seen_outs, outs);
-                if has_ins & has_outs { None } else { Some(11) }
+                if has_ins & has_outs {
+                    None
+                } else {
+                    Some(RefusalCode::SomethingMissing)
+                }
             }
         }
     }

@@ -9,6 +9,7 @@ use Rattle.section_text.specs.declared.fault.Refusal.{Refusal}
 use Rattle.section_text.specs.declared.fault.ReadFault.{ReadFault}
 use Rattle.section_text.specs.Feeds.{FeedView, ahead}
 use Rattle.section_text.specs.Section.{Grammar, unless, line_after, header_line, section_of, body_of, Reads}
+use Rattle.section_text.specs.declared.code.RefusalCode.{RefusalCode}
 
 module _ {H I : Type 0} (g : Grammar H I) where
   -- each item has no fault after the items before it
@@ -28,7 +29,8 @@ module _ {H I : Type 0} (g : Grammar H I) where
     pub each : AreFaultless h before more
     pub end : g.end_fault h rows ≡ None
 
-  unless_ok : (n : ℕ) (o : Option ℕ) (r : Result (H × List I) Refusal) (y : H × List I) → unless n o r ≡ Ok y →
+  unless_ok : (n : ℕ) (o : Option RefusalCode) (r : Result (H × List I) Refusal) (y : H × List I) →
+      unless n o r ≡ Ok y →
       (o ≡ None) × (r ≡ Ok y)
   unless_ok n None r y e = (refl, e)
   unless_ok n (Some code) r y e = absurd cc

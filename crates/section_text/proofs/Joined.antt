@@ -11,6 +11,7 @@ use Rattle.section_text.specs.declared.fault.ReadFault.{ReadFault}
 use Rattle.section_text.specs.declared.fault.ReadFault.TheVariants.{Refused, Memory}
 use Rattle.section_text.specs.Section.{Grammar, section_of, refused_at, Reads, Fails}
 use Rattle.section_text.specs.Sections.{go_on, section_then, finished}
+use Rattle.section_text.specs.declared.code.RefusalCode.TheVariants.{TextCut}
 
 module _ {H I A B : Type 0} (g : Grammar H I) (view : A → H × List I) (old new : FeedView) (going : old.stop ≡ None)
     (next : H → List I → ℕ → List (List ℕ) → Result B Refusal) where
@@ -62,11 +63,11 @@ pub at_the_end : {B : Type 0} (n : ℕ) (ls : List (List ℕ)) (rest : List ℕ)
 at_the_end n ls rest value none nothing = rw (none, nothing) refl
 
 pub goes_on : {B : Type 0} (n : ℕ) (ls : List (List ℕ)) (rest : List ℕ) (value : B) → (ls ≡ [] → rest ≢ []) →
-    finished n ls rest value ≡ refused_at n 12
+    finished n ls rest value ≡ refused_at n TextCut
 goes_on n [] [] value more = absurd (more refl refl)
 goes_on n [] (b ∷ rest) value more = refl
 goes_on n (l ∷ ls) rest value more = refl
 
 pub more_fails : {B : Type 0} (n : ℕ) (ls : List (List ℕ)) (rest : List ℕ) (value : B) (fault : ReadFault) →
-    (ls ≡ [] → rest ≢ []) → fault ≡ refusal (n + 1) 12 → Fails fault (finished n ls rest value)
+    (ls ≡ [] → rest ≢ []) → fault ≡ refusal (n + 1) TextCut → Fails fault (finished n ls rest value)
 more_fails n ls rest value fault more is = rw is (goes_on n ls rest value more)

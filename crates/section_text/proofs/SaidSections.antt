@@ -9,6 +9,7 @@ use Rattle.section_text.specs.Section.{Grammar, unless, line_after, header_line,
 use Rattle.section_text.specs.declared.section.Form.{Form}
 use Rattle.section_text.specs.declared.section.Form.TheVariants.{Header, Item, End}
 use Rattle.section_text.specs.declared.fault.Refusal.{Refusal}
+use Rattle.section_text.specs.declared.code.RefusalCode.{RefusalCode}
 
 -- ---- what was read is a section
 
@@ -23,7 +24,8 @@ module _ {H I : Type 0} (g : Grammar H I) where
     pub same : h' ≡ h
     pub said : map (λ l. g.form (words_of l)) (take (length more + 1) ls) ≡ items_said more
 
-  unless_ok : (n : ℕ) (o : Option ℕ) (r : Result (H × List I) Refusal) (y : H × List I) → unless n o r ≡ Ok y → r ≡ Ok y
+  unless_ok : (n : ℕ) (o : Option RefusalCode) (r : Result (H × List I) Refusal) (y : H × List I) →
+      unless n o r ≡ Ok y → r ≡ Ok y
   unless_ok n None r y e = e
   unless_ok n (Some code) r y e = absurd cc
 

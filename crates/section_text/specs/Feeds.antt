@@ -1,10 +1,10 @@
 -- The view of a feed.
 use Rattle.std.specs.Prelude.{◌≡◌, ℕ, ◌+◌, ◌≤◌, Bool, List, [], ◌∷◌, Option, Some, drop, length, slice_range}
-use Rattle.section_text.specs.Codes.{text_cut}
 use Rattle.section_text.specs.Words.{lines_of}
 use Rattle.section_text.specs.declared.feed.Line.{Line}
 use Rattle.section_text.specs.Faults.{refusal}
 use Rattle.section_text.specs.declared.fault.ReadFault.{ReadFault}
+use Rattle.section_text.specs.declared.code.RefusalCode.TheVariants.{TextCut}
 
 -- the most bytes of a text, 16 MiB
 abbrev pub text_limit : ℕ
@@ -47,5 +47,5 @@ pub record TakesLine (old new : FeedView) (line : Line) : Type 0 where
 -- there is no next line
 pub record RunsOut (old new : FeedView) (fault : ReadFault) : Type 0 where
   pub none : ahead old ≡ []
-  pub code : fault ≡ refusal (old.taken + 1) text_cut
+  pub code : fault ≡ refusal (old.taken + 1) TextCut
   pub feed : new ≡ record old { stop = Some fault }

@@ -1,8 +1,8 @@
 -- Sections one after the other, up to the end of the text.
 use Rattle.std.specs.Prelude.{ℕ, ◌+◌, List, [], ◌∷◌, length, drop, Result, Ok, Err}
-use Rattle.section_text.specs.Codes.{text_cut}
 use Rattle.section_text.specs.declared.fault.Refusal.{Refusal}
 use Rattle.section_text.specs.Section.{Grammar, section_of, refused_at}
+use Rattle.section_text.specs.declared.code.RefusalCode.TheVariants.{TextCut}
 
 -- what comes of a header and items, or the refusal
 abbrev pub go_on : {H I B : Type 0} → Result (H × List I) Refusal → (H → List I → Result B Refusal) → Result B Refusal
@@ -19,5 +19,5 @@ section_then g n ls next = go_on (section_of g n ls)
 -- the value, if no line and no byte follows the n lines
 abbrev pub finished : {B : Type 0} → ℕ → List (List ℕ) → List ℕ → B → Result B Refusal
 finished n [] [] value = Ok value
-finished n [] (b ∷ rest) value = refused_at n text_cut
-finished n (l ∷ ls) rest value = refused_at n text_cut
+finished n [] (b ∷ rest) value = refused_at n TextCut
+finished n (l ∷ ls) rest value = refused_at n TextCut

@@ -2,8 +2,8 @@
 ghost use Rattle.std.specs.Prelude.{drop, take, ◌≡◌, ◌==◌, ℕ, ◌+◌, ◌-◌, ◌^◌, ◌<◌, ◌≤◌, ◌↔◌, true, false, List, [], ◌∷◌, ◌++◌, length, Option, Some, None, Ok, Err, IsTrue, IsOk, IfOk, IfErr, ◌≢◌, OnOk, OnErr, IfNone, IfSome, MatchOption, unwrap_or, slice_get, slice_range, option_and_then, map};
 ghost use Rattle.std.specs.Option.{option_copied, option_map, ForSome};
 ghost use Rattle.std.specs.List.{flat_map, position, list_all};
-ghost use Rattle.section_text.specs.Codes.{text_cut};
 ghost use Rattle.section_text.specs.Words.{lines_of, is_digit, is_number, read_on, is_word_at, is_line_feed, is_space, rest_of, words_of, number_of, number_at, name_at, names_at, lone, lone_number, lone_name, second_of_two, three, four, five, words_left};
+ghost use Rattle.section_text.specs.declared.code.RefusalCode.TheVariants.{TextCut};
 ghost use Rattle.section_text.specs.declared.fault.ReadFault.TheVariants.{Memory};
 ghost use Rattle.section_text.specs.Listed.{three_listed, four_listed, listed};
 ghost use Rattle.section_text.specs.Faults.{refusal};
@@ -11,6 +11,7 @@ ghost use Rattle.section_text.specs.Section.{ended_line};
 ghost use Rattle.section_text.specs.Seeding.{first_section, seed_of};
 ghost use Rattle.section_text.specs.Feeds.{FeedView, ahead, after_lines, IsLine, line_bytes, text_limit, TakesLine, RunsOut};
 
+use crate::code::RefusalCode;
 use crate::fault::{PushFault, ReadFault, Refusal};
 use crate::name::Name;
 use crate::names::Names;
@@ -431,7 +432,7 @@ impl Feed {
             None => {
                 let fault = ReadFault::Refused(Refusal {
                     line: self.lines + 1,
-                    code: 12,
+                    code: RefusalCode::TextCut.number(),
                 });
                 self.stop = Some(fault);
                 Err(fault)
@@ -582,13 +583,13 @@ impl Feed {
     }
 
     /// Refuses a line with a code. The feed keeps this refusal, but a feed that has a fault keeps and answers that one.
-    pub fn refuse(&mut self, line: &Line, code: u8) -> ReadFault
+    pub fn refuse(&mut self, line: &Line, code: RefusalCode) -> ReadFault
         ensures answer { result ≡ unwrap_or self.old.stop (refusal line.now.number code) }
         ensures stopped { self.new ≡ record self.old { stop = Some result } }
     {
         let fault = self.stop.unwrap_or(ReadFault::Refused(Refusal {
             line: line.number,
-            code,
+            code: code.number(),
         }));
         self.stop = Some(fault);
         fault
@@ -621,7 +622,7 @@ impl Feed {
         ensures more { self.old.stop ≡ None →
             OnErr result (ahead self.old ≡ [] → rest_of self.old.text ≢ []) }
         ensures fault { self.old.stop ≡ None →
-            IfErr result (λ fault. (fault ≡ refusal (self.old.taken + 1) text_cut)
+            IfErr result (λ fault. (fault ≡ refusal (self.old.taken + 1) TextCut)
             × (self.new ≡ record self.old { stop = Some fault })) }
     {
         if let Some(first) = self.stop {
@@ -632,7 +633,7 @@ impl Feed {
         }
         let fault = ReadFault::Refused(Refusal {
             line: self.lines + 1,
-            code: 12,
+            code: RefusalCode::TextCut.number(),
         });
         self.stop = Some(fault);
         Err(fault)

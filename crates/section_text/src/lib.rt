@@ -1,6 +1,7 @@
 //! Texts of sections: lines, words, numbers and names, and the refusals of their readers.
 #![tactic(auto)]
 
+mod code;
 mod fault;
 mod feed;
 pub mod laws;
@@ -12,6 +13,7 @@ mod section;
 mod seed;
 mod spelling;
 
+pub use code::RefusalCode;
 pub use fault::{PushFault, ReadFault, Refusal};
 pub use feed::{Feed, FiveWords, FourWords, Line, MAX_TEXT_BYTES, ThreeWords, read_number};
 pub use name::Name;

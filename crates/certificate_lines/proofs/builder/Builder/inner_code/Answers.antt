@@ -4,17 +4,20 @@ use Rattle.certificate_lines.specs.Rules.{inner_fault, words_fault}
 use Rattle.certificate_lines.specs.BuilderView.{BuilderView}
 use Rattle.certificate_lines.proofs.Keeping.{no_module, small, too_late, in_place}
 use Rattle.certificate_lines.proofs.builder.Builder.inner_code.Goals as goal
+use Rattle.section_text.specs.declared.code.RefusalCode.TheVariants.{OutOfOrder}
 
 pub returns-in_default : goal.returns-in_default
 returns-in_default c =
-    subst (λ (s : BuilderView). Some 6 ≡ inner_fault s.setting (last_module s.entries) c.args.entry.now) c.self.view_is
+    subst (λ (s : BuilderView). Some OutOfOrder ≡ inner_fault s.setting (last_module s.entries) c.args.entry.now)
+    c.self.view_is
     (ap (λ o. inner_fault c.self.inside.tables o c.args.entry.now)
     (sym (no_module _ _ _ _ _ _ _ _ _ c.self.invariant.kept
     (ap last_of (sym c.deref.ensures.value) ∙ sym c.last_counts.ensures ∙ c.in_default.is))))
 
 pub returns-then-not-does_follow : goal.returns-then-not-does_follow
 returns-then-not-does_follow c =
-    subst (λ (s : BuilderView). Some 6 ≡ inner_fault s.setting (last_module s.entries) c.args.entry.now) c.self.view_is
+    subst (λ (s : BuilderView). Some OutOfOrder ≡ inner_fault s.setting (last_module s.entries) c.args.entry.now)
+    c.self.view_is
     (too_late _ _ _ _ _ _ _ _ _ c.self.invariant.kept c.in-Some.counts c.args.entry.now c.does_follow.result
     (ap last_of (sym c.deref.ensures.value) ∙ sym c.last_counts.ensures ∙ c.in-Some.is) c.does_follow.ensures
     c.if-not-does_follow.true)

@@ -9,6 +9,7 @@ use Rattle.certificate_lines.specs.Rules.{box_cells, end_fault, is_incomplete}
 use Rattle.certificate_lines.specs.BuilderView.{BuilderView}
 use Rattle.certificate_lines.proofs.BuiltLemmas.{live_gap, missing_none, missing_some}
 use Rattle.certificate_lines.proofs.builder.Builder.missing.Goals as goal
+use Rattle.section_text.specs.declared.code.RefusalCode.TheVariants.{SomethingMissing}
 
 pub is_full-full-requires-clause-small : goal.is_full-full-requires-clause-small
 is_full-full-requires-clause-small c = let s = size_sides c.size-size.result c.size-size.ensures.limits in
@@ -22,7 +23,7 @@ returns-then-lacks-full c =
     c.size-size.ensures.size) in
     let lacks = subst (λ (s : BuilderView). c.lacks_port-lacks.result ≡ is_incomplete s.setting (last_module s.entries))
     (sym c.self.view_is) c.lacks_port-lacks.ensures in
-    subst (λ (s : BuilderView). Some 11 ≡ end_fault s.setting s.entries) c.self.view_is
+    subst (λ (s : BuilderView). Some SomethingMissing ≡ end_fault s.setting s.entries) c.self.view_is
     (missing_some c.self.inside.tables es c.lacks_port-lacks.result c.is_full-full.result lacks
     (full ∙ live_gap c.self.inside.tables.size
     (areas (modules_of es)) c.self.inside.covered c.self.invariant.kept.built.cells) c.if-lacks-full.true)

@@ -4,6 +4,7 @@ use Rattle.certificate_lines.specs.Rules.{box_fault, module_fault}
 use Rattle.certificate_lines.specs.BuilderView.{BuilderView}
 use Rattle.certificate_lines.proofs.BuiltLemmas.{early_fault, live_overlaps, no_fault, overlap_fault}
 use Rattle.certificate_lines.proofs.builder.Builder.module_code.Goals as goal
+use Rattle.section_text.specs.declared.code.RefusalCode.TheVariants.{MisplacedBox}
 
 pub returns-in-Some-clause-code : goal.returns-in-Some-clause-code
 returns-in-Some-clause-code c =
@@ -18,7 +19,7 @@ returns-then-is_any_live_in-clause-code c =
     (sym c.box_code.ensures.code ∙ c.in_default.is) in
     let same = live_overlaps (areas (modules_of es)) c.args.area c.self.inside.covered
     c.self.invariant.kept.built.cells in
-    subst (λ (s : BuilderView). Some 8
+    subst (λ (s : BuilderView). Some MisplacedBox
     ≡ module_fault s.setting (modules_of s.entries) (last_module s.entries) c.args.area)
     c.self.view_is
     (sym (overlap_fault c.self.inside.tables (modules_of es) (last_module es) c.args.area good

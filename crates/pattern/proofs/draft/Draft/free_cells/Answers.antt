@@ -8,6 +8,7 @@ use Rattle.pattern.specs.Lines.{is_inside, is_taken, cells_of, cell_fault}
 use Rattle.pattern.proofs.TakenLemmas.{cells_on_board, taken_by, cells_free, cells_taken}
 use Rattle.pattern.proofs.draft.Draft.free_cells.Goals as goal
 use Rattle.bbm_rule.specs.declared.block.Cell.{Cell}
+use Rattle.section_text.specs.declared.code.RefusalCode.TheVariants.{TakenCell}
 
 all_inside : (c : goal.After-deref) → is_inside c.self.inside.layout.size c.args.part.now ≡ true
 all_inside c = ap (λ (s : LayoutHeader). is_inside s c.args.part.now) (sym c.size-size.ensures.size)
@@ -56,7 +57,7 @@ inside_else c = ap (λ (s : LayoutHeader). is_inside s c.args.part.now) (sym c.s
 pub returns-then-meets_in-clause-fault : goal.returns-then-meets_in-clause-fault
 returns-then-meets_in-clause-fault c =
     let taken = sym (taken_here c) ∙ c.if-meets_in.true in
-    subst (λ (p : Pattern). cell_fault p.size (parts_of p) c.args.part.now ≡ Some 7) c.self.view_is
+    subst (λ (p : Pattern). cell_fault p.size (parts_of p) c.args.part.now ≡ Some TakenCell) c.self.view_is
     (cells_taken c.self.inside.layout.size (parts_of c.self.inside.layout) c.args.part.now (inside_here c) taken)
 
 pub returns-clause-free : goal.returns-clause-free

@@ -8,6 +8,7 @@ use Rattle.section_text.specs.Ports.{named_ports}
 use Rattle.pattern.specs.Lines.{is_any, missing_fault}
 use Rattle.pattern.proofs.ReadingLemmas.{none_missing, missing_by}
 use Rattle.pattern.proofs.reading.ReadingSection.missing.Goals as goal
+use Rattle.section_text.specs.declared.code.RefusalCode.TheVariants.{SomethingMissing}
 
 pub returns-in-Any : goal.returns-in-Any
 returns-in-Any c = subst (λ (r : ReadingView). None ≡ missing_fault r.ports (parts_of r.layout)) c.self.view_is
@@ -34,7 +35,7 @@ returns-else-has_ins-has_outs c =
     ∙ ap (list_all (λ (n : List ℕ). has c.self.inside.seen_outs.keys n)) c.deref-in-Only.ensures.value in
     let only = ap (λ p. is_any (named_ports p)) c.in-Only.is in
     let both = sym (ap₂ (λ a b. a && b) ins outs) ∙ c.if-has_ins-has_outs.false in
-    subst (λ (r : ReadingView). Some 11 ≡ missing_fault r.ports (parts_of r.layout)) c.self.view_is
+    subst (λ (r : ReadingView). Some SomethingMissing ≡ missing_fault r.ports (parts_of r.layout)) c.self.view_is
     (missing_by c.self.inside.ports.now
     (parts_of c.self.inside.draft) c.in-Only.ins c.in-Only.outs c.self.inside.seen_ins.keys c.self.inside.seen_outs.keys
     c.in-Only.is (c.self.invariant.seen_ins only) (c.self.invariant.seen_outs only) false both)

@@ -1,5 +1,5 @@
 -- The text before the place of the feed is that of the lines that were taken.
-use Rattle.std.proofs.Common.{◌≡◌, ◌∙◌, List, ℕ, ap, subst, take}
+use Rattle.std.proofs.Common.{◌≡◌, ◌∙◌, ap, subst, take}
 use Rattle.std.specs.List.{flat_map}
 use Rattle.section_text.specs.Feeds.{FeedView}
 use Rattle.section_text.specs.Section.{ended_line}
