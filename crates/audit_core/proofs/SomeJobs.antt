@@ -1,4 +1,4 @@
--- A module has a job
+-- A module has a job, which is computed from its lines
 use Rattle.std.proofs.Common.{◌≡◌, ◌<◌, ◌++◌, ◌∷◌, ◌∙◌, [], ℕ, suc, Bool, true, false, List, Option}
 use Rattle.std.proofs.Common.{Some, None, refl, sym, ap, ap₂, subst, map, length, get_or, arith}
 use Rattle.std.proofs.Common.{append_assoc, length-append}
@@ -155,40 +155,27 @@ demanded ws Demanded.Any = Demanded.Any
 unfoldable pub placed_stop : List ℕ → listed.Stop → listed.Stop
 placed_stop ws s = record s { wire = place_among ws s.wire }
 
-module _ (ws : List ℕ) where
-  record CellsBack (f : Cell → Signal) (cells : List Cell) : Type 0 where
-    pub back : map (renumber_signal (slice_index ws)) (map (λ d. numbered ws (f d)) cells) ≡ map f cells
-    pub below : All (IsBelow (length ws)) (map (λ d. numbered ws (f d)) cells)
+-- what cells carry comes back from what they carry by other numbers, which passes P
+module _ {X : Type 0} (back_by by_number : X → X) (P : X → Type 0) (f : Cell → X) where
+  record CellsBack (cells : List Cell) : Type 0 where
+    pub back : map back_by (map (λ d. by_number (f d)) cells) ≡ map f cells
+    pub below : All P (map (λ d. by_number (f d)) cells)
 
-  cells_back : (f : Cell → Signal) (cells : List Cell) → Each (λ d. IsNumbered ws (f d)) cells → CellsBack f cells
+  cells_back : (cells : List Cell) → Each (λ d. (back_by (by_number (f d)) ≡ f d) × P (by_number (f d))) cells →
+      CellsBack cells
   unfolding Each
-  cells_back f [] h = record { back = refl; below = All-nil (IsBelow (length ws)) }
-  cells_back f (d ∷ cells) h =
-      let more = cells_back f cells h.1 in
+  cells_back [] h = record { back = refl; below = All-nil P }
+  cells_back (d ∷ cells) h =
+      let more = cells_back cells h.1 in
       record {
-        back = ap₂ (λ s l. s ∷ l) h.0.back more.back;
-        below = All-cons (IsBelow (length ws)) (numbered ws (f d))
-            (map (λ d. numbered ws (f d)) cells) h.0.below more.below;
+        back = ap₂ (λ s l. s ∷ l) h.0.0 more.back;
+        below = All-cons P (by_number (f d)) (map (λ d. by_number (f d)) cells) h.0.1 more.below;
       }
 
+module _ (ws : List ℕ) where
   record IsDemanded (d : Demand) : Type 0 where
     pub back : renumber_demand (slice_index ws) (demanded ws d) ≡ d
     pub below : IsDemandBelow (length ws) (demanded ws d)
-
-  record DemandsBack (f : Cell → Demand) (cells : List Cell) : Type 0 where
-    pub back : map (renumber_demand (slice_index ws)) (map (λ d. demanded ws (f d)) cells) ≡ map f cells
-    pub below : All (IsDemandBelow (length ws)) (map (λ d. demanded ws (f d)) cells)
-
-  demands_back : (f : Cell → Demand) (cells : List Cell) → Each (λ d. IsDemanded (f d)) cells → DemandsBack f cells
-  unfolding Each
-  demands_back f [] h = record { back = refl; below = All-nil (IsDemandBelow (length ws)) }
-  demands_back f (d ∷ cells) h =
-      let more = demands_back f cells h.1 in
-      record {
-        back = ap₂ (λ s l. s ∷ l) h.0.back more.back;
-        below = All-cons (IsDemandBelow (length ws)) (demanded ws (f d))
-            (map (λ d. demanded ws (f d)) cells) h.0.below more.below;
-      }
 
   demand_numbered : (o : Option ℕ) → is_local_wire ws o ≡ true → IsDemanded (demand_of o)
   unfolding demanded
@@ -315,15 +302,15 @@ module _ (lines : List CircuitLine) (p : Pattern) (m : ModuleLines)
   demand_is_numbered x y h = end_by (in_rectangles p.mirrors x y) (port_at p.outs x y) (in_cells p.wastes x y)
       ((cells_have_ports lines p m ports).1 x y h)
 
-  starts_back : CellsBack ws starts (box_cells m.area)
-  starts_back = cells_back ws starts (box_cells m.area)
-      (each_at_place (λ d. IsNumbered ws (starts d)) (box_cells m.area)
-      (λ k d at. start_numbered d.x d.y (cells_inside m.area k d at)))
+  starts_back : CellsBack (renumber_signal (slice_index ws)) (numbered ws) (IsBelow (length ws)) starts
+      (box_cells m.area)
+  starts_back = cells_back _ _ _ starts (box_cells m.area) (each_at_place _ (box_cells m.area) (λ k d at.
+      let is = start_numbered d.x d.y (cells_inside m.area k d at) in (is.back, is.below)))
 
-  ends_back : DemandsBack ws demands (box_cells m.area)
-  ends_back = demands_back ws demands (box_cells m.area)
-      (each_at_place (λ d. IsDemanded ws (demands d)) (box_cells m.area)
-      (λ k d at. demand_is_numbered d.x d.y (cells_inside m.area k d at)))
+  ends_back : CellsBack (renumber_demand (slice_index ws)) (demanded ws) (IsDemandBelow (length ws)) demands
+      (box_cells m.area)
+  ends_back = cells_back _ _ _ demands (box_cells m.area) (each_at_place _ (box_cells m.area) (λ k d at.
+      let is = demand_is_numbered d.x d.y (cells_inside m.area k d at) in (is.back, is.below)))
 
   -- its lines
 

@@ -1,16 +1,18 @@
--- Modules are accepted if they pass tests: each job under each assignment, and the borders. A proof by computation can
--- run them.
-use Rattle.std.proofs.Common.{◌≡◌, ℕ, zero, suc, ◌+◌, ◌*◌, ◌/◌, ◌<◌, ◌%◌, eqb, Bool, true, false, not, ◌||◌, ◌&&◌, refl}
-use Rattle.std.proofs.Common.{sym, ap, subst, ◌∙◌, inl, inr, arith, map, length, List, [], ◌∷◌, Option, Some, None}
+-- Modules are accepted if they pass tests, which a proof by computation can run.
+--
+-- Each job is run under each assignment, and the borders are compared at each odd time.
+use Rattle.std.proofs.Common.{◌≡◌, ℕ, zero, suc, ◌+◌, ◌*◌, ◌/◌, ◌<◌, ◌%◌, Bool, true, false, not, ◌||◌, ◌&&◌, refl}
+use Rattle.std.proofs.Common.{sym, ap, subst, ◌∙◌, arith, map, length, List, [], ◌∷◌, Option, Some, None}
 use Rattle.std.specs.Prelude.{ℤ, slice_get, IsTrue}
+use Rattle.std.specs.Bool.{beq}
+use Rattle.std.specs.Cmp.{booleans_Decides}
 use Rattle.std.specs.List.{list_all, range_with_len}
 use Rattle.std.proofs.Math.Logic.{∥∥₁_elim}
-use Rattle.std.proofs.lemmas.Bool.{and_parts, eqb-true, false≢true}
+use Rattle.std.proofs.lemmas.Bool.{and_parts, false≢true}
 use Rattle.std.proofs.lemmas.List.{length-map}
 use Rattle.std.proofs.lemmas.List.FromFn.{get_or-map-range_with_len, get_or-range_with_len, length-range_with_len}
 use Rattle.std.proofs.lemmas.Option.{slice_get-get_or, slice_get_within}
 use Rattle.bbm_rule.specs.Bits.{bit}
-use Rattle.bbm_rule.specs.Plane.{is_at}
 use Rattle.bbm_rule.specs.declared.block.Cell.{Cell}
 use Rattle.circuit.specs.Bridge.{circuit_of, read}
 use Rattle.circuit.specs.Evaluate.{evaluate}
@@ -19,14 +21,14 @@ use Rattle.circuit.specs.Meaning.{AreOrdered, Gate, Valuation}
 use Rattle.circuit.specs.declared.circuit_line.CircuitLine.{CircuitLine}
 use Rattle.circuit.proofs.Undefined.{undefined_has_none}
 use Rattle.circuit.proofs.Valuations.{evaluated}
-use Rattle.pattern.specs.Layout.{Pattern, in_cells}
+use Rattle.pattern.specs.Layout.{Pattern}
 use Rattle.pattern.specs.Lines.{size_fault}
 use Rattle.module_box.specs.Boxes.{in_box, in_halo, in_ring}
+use Rattle.module_box.specs.Equality.{same_signal}
 use Rattle.module_box.specs.LocalValues.{IsLocalValuation}
+use Rattle.module_box.specs.Places.{place_in}
 use Rattle.module_box.specs.Schedules.{signal_at}
 use Rattle.module_box.specs.declared.boxes.Box2.{Box2}
-use Rattle.module_box.specs.declared.schedules.Signal.{Signal}
-use Rattle.module_box.specs.declared.schedules.Signal.TheVariants.{Zero, One, Wire}
 use Rattle.certificate_lines.specs.Entries.{ModuleLines, Setting}
 use Rattle.certificate_lines.specs.Modules.{AreModules}
 use Rattle.certificate_lines.specs.Settings.{setting_of}
@@ -38,66 +40,33 @@ use Rattle.module_job.specs.declared.job.Demand.TheVariants as Demanded
 use Rattle.certificate.specs.Jobs.{AreJobsOf}
 use Rattle.certificate.specs.Keeps.{is_kept}
 use Rattle.certificate.specs.Times.{are_all_obeyed, time_lines}
-use Rattle.certificate_lines.proofs.Lists.{or_parts}
-use Rattle.bbm_rule.proofs.SameCells.{cell_same}
-use Rattle.certificate_lines.proofs.PortLemmas.{in_box_cells}
+use Rattle.certificate_lines.proofs.BoxPlaces.{box_place}
 use Rattle.local_run.specs.Faults.{IsFault, IsFaultUnder, IsKeepFault, assignments}
 use Rattle.local_run.specs.Runs.{local_run}
 use Rattle.local_run.specs.declared.fault.Fault.{Fault}
 use Rattle.local_run.specs.declared.fault.KeepFault.{KeepFault}
 use Rattle.local_run.specs.declared.fault.Kind.{Kind}
 use Rattle.local_run.specs.declared.fault.Kind.TheVariants.{Edge, Stop, End}
+use Rattle.module_box.proofs.EqualTests.{signal_decides}
 use Rattle.local_run.proofs.Decided.{decided}
 use Rattle.border_match.specs.BorderFaults.{IsBorderFault, edge_signal, halo_signal}
 use Rattle.border_match.specs.declared.fault.BorderFault.{BorderFault}
 use Rattle.audit_core.specs.Verdicts.{Accepts}
 use Rattle.audit_core.proofs.SomeVerdict.{jobs_good}
 
--- ---- equality as a test
-
-abbrev pub agree : Bool → Bool → Bool
-agree true b = b
-agree false b = not b
-
-agree_is : (a b : Bool) → agree a b ≡ true → a ≡ b
-agree_is true true e = refl
-agree_is true false e = absurd (false≢true e)
-agree_is false true e = absurd (false≢true e)
-agree_is false false e = refl
-
-abbrev pub same_signal : Signal → Signal → Bool
-same_signal Zero Zero = true
-same_signal Zero One = false
-same_signal Zero (Wire w) = false
-same_signal One Zero = false
-same_signal One One = true
-same_signal One (Wire w) = false
-same_signal (Wire v) Zero = false
-same_signal (Wire v) One = false
-same_signal (Wire v) (Wire w) = eqb v w
-
-same_signal_is : (a b : Signal) → same_signal a b ≡ true → a ≡ b
-same_signal_is Zero Zero e = refl
-same_signal_is Zero One e = absurd (false≢true e)
-same_signal_is Zero (Wire w) e = absurd (false≢true e)
-same_signal_is One Zero e = absurd (false≢true e)
-same_signal_is One One e = refl
-same_signal_is One (Wire w) e = absurd (false≢true e)
-same_signal_is (Wire v) Zero e = absurd (false≢true e)
-same_signal_is (Wire v) One e = absurd (false≢true e)
-same_signal_is (Wire v) (Wire w) e = ap (λ n. Wire n) (eqb-true v w e)
+-- ---- what is demanded, as a test
 
 abbrev pub meets : Valuation → Demand → Bool → Bool
 meets v Demanded.Dead live = not live
 meets v Demanded.Live live = live
-meets v (Demanded.Wire w) live = agree live (v w)
+meets v (Demanded.Wire w) live = beq live (v w)
 meets v Demanded.Any live = true
 
 meets_is : (v : Valuation) (d : Demand) (live : Bool) → meets v d live ≡ true → Meets v d live
 meets_is v Demanded.Dead true e = absurd (false≢true e)
 meets_is v Demanded.Dead false e = refl
 meets_is v Demanded.Live live e = e
-meets_is v (Demanded.Wire w) live e = agree_is live (v w) e
+meets_is v (Demanded.Wire w) live e = (booleans_Decides live (v w)).0 e
 meets_is v Demanded.Any live e = tt
 
 -- where the first holds, so does the second
@@ -137,32 +106,22 @@ at_odd steps test all t odd early =
 abbrev pub every_cell : Box2 → (ℤ → ℤ → Bool) → Bool
 every_cell b test = list_all (λ c. test c.x c.y) (box_cells b)
 
-cell_passes : (test : Cell → Bool) (cells : List Cell) (d : Cell) → list_all test cells ≡ true →
-    in_cells cells d.x d.y ≡ true → test d ≡ true
-cell_passes test [] d all there = absurd cc
-cell_passes test (c ∷ cells) d all there =
-    let both = and_parts (test c) (list_all test cells) all in
-    elim (or_parts (is_at c d.x d.y) (in_cells cells d.x d.y) there) [
-      | inl here ↦ sym (ap test (cell_same c d here)) ∙ both.0
-      | inr more ↦ cell_passes test cells d both.1 more
-    ]
-
 at_every : (b : Box2) (test : ℤ → ℤ → Bool) → every_cell b test ≡ true → (x y : ℤ) → in_box b x y ≡ true →
     test x y ≡ true
-at_every b test all x y h = cell_passes (λ c. test c.x c.y) (box_cells b) (record { x = x; y = y }) all
-    (in_box_cells b x y ∙ h)
+at_every b test all x y h = all_at (λ (c : Cell). test c.x c.y) (box_cells b) (place_in b x y)
+    (record { x = x; y = y }) all (box_place b x y h)
 
 -- ---- the faults of a job
 
 abbrev pub edge_test : JobView → Valuation → ℕ → Bool
 edge_test j u t = every_cell j.area
-    (λ x y. not (in_ring j.area x y) || agree (local_run j u t x y) (is_live u (signal_at j.edges t x y)))
+    (λ x y. not (in_ring j.area x y) || beq (local_run j u t x y) (is_live u (signal_at j.edges t x y)))
 
 abbrev pub end_test : JobView → Valuation → Bool
 end_test j u = every_cell j.area (λ x y. meets u (job_demand j x y) (local_run j u j.steps x y))
 
 abbrev pub stop_test : JobView → Valuation → Bool
-stop_test j u = list_all (λ s. agree (local_run j u s.at.time s.at.cell.x s.at.cell.y) (u s.wire)) j.stops
+stop_test j u = list_all (λ s. beq (local_run j u s.at.time s.at.cell.x s.at.cell.y) (u s.wire)) j.stops
 
 ring_inside : (b : Box2) (x y : ℤ) → in_ring b x y ≡ true → in_box b x y ≡ true
 unfolding in_ring
@@ -223,12 +182,12 @@ tried j ordered all a small =
 no_fault_under : (j : JobView) (u : Valuation) (t : ℕ) (kind : Kind) (x y : ℤ) → IsJob j → Passes j u →
     IsFaultUnder j u t kind x y → ⊥
 no_fault_under j u t Edge x y is p f =
-    f.differs (agree_is _ _ (implied (in_ring j.area x y) _
+    f.differs ((booleans_Decides _ _).0 (implied (in_ring j.area x y) _
     (at_every j.area _ (p.edges t f.odd f.early) x y (ring_inside j.area x y f.ring)) f.ring))
 no_fault_under j u t Stop x y is p f =
     let listed = slice_get-get_or j.stops f.is_listed.0 f.stop f.is_listed.1 ∙ ap Some f.is_listed.2 in
-    let own = agree_is _ _ (all_at
-    (λ s. agree (local_run j u s.at.time s.at.cell.x s.at.cell.y) (u s.wire)) j.stops f.is_listed.0 f.stop p.stops
+    let own = (booleans_Decides _ _).0 (all_at
+    (λ s. beq (local_run j u s.at.time s.at.cell.x s.at.cell.y) (u s.wire)) j.stops f.is_listed.0 f.stop p.stops
     listed) in
     f.differs (sym (λ i. local_run j u (f.time i) (f.column i) (f.row i)) ∙ own)
 no_fault_under j u t End x y is p f =
@@ -269,7 +228,7 @@ no_border_fault g ms passes i f is =
     not (in_box o.area f.cell.x f.cell.y)
     || same_signal (halo_signal g.circuit is.lines f.time f.cell.x f.cell.y)
     (edge_signal g.circuit o f.time f.cell.x f.cell.y)) ms is.owner_number is.owner here is.owner_numbered in
-    is.differ (same_signal_is _ _ (implied (in_box is.owner.area f.cell.x f.cell.y) _ there is.owned))
+    is.differ ((signal_decides _ _).0 (implied (in_box is.owner.area f.cell.x f.cell.y) _ there is.owned))
 
 -- ---- all of it
 

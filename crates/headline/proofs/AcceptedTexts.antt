@@ -1,5 +1,6 @@
--- Two texts are accepted, by computation: one of four modules around a gate, with stops and a delay, and one of a
--- switch and its inverse gate.
+-- Two texts are accepted, by computation: they are read, and their modules pass tests.
+--
+-- One is of four modules around a gate, with stops and a delay, and one of a switch and its inverse gate.
 use Rattle.std.proofs.Common.{◌≡◌, List, [], ◌∷◌, Ok, refl, arith}
 use Rattle.std.specs.Prelude.{codes}
 use Rattle.bbm_rule.specs.Bits.{bit}

@@ -75,7 +75,7 @@ use Rattle.headline.specs.SmallDesigns.{IsPlainText, IsSmall, gate_numbers, plai
 use Rattle.headline.specs.PlainLaws.{RefusedIsNoSmallDesign, SmallDesignIsDecided}
 use Rattle.headline.specs.Stops.{SaysBundle}
 use Rattle.headline.proofs.Migrations.{HasSections, IsGoodBundle, bundle_made, good_read, sections_read}
-use Rattle.headline.proofs.YesIsRight.{circuit_good}
+use Rattle.headline.proofs.YesIsRight.{bundle_good, circuit_good}
 use Rattle.audit_core.specs.declared.verdict.Verdict.TheVariants as verdict
 use Rattle.headline.proofs.PlainLines.{all_inner, among_range, none_of, own_of, is_one, plain_lines_decide}
 use Rattle.std.proofs.lemmas.Grind.{flat_map-append}
@@ -784,21 +784,8 @@ small_is_decided text output outcome circuit layout t small reports =
     let reads : bundle_of text ≡ Ok b = bundle_made text b sections is_good in
     let says : SaysReport b output outcome = subst (λ r. Answered SaysReport r output outcome) reads reports in
     let some : outcome ≢ Refused = not_refused says.verdict outcome says.ends in
-    let said : SaysBundle text circuit layout (plain_lines circuit layout) = record {
-      design = record {
-        first = t.first;
-        second = t.second;
-        others = t.third;
-        lines = t.lines;
-        circuit_is = t.circuit_is;
-        layout_is = t.layout_is;
-      };
-      version = 1;
-      third = t.third;
-      rest = [];
-      lines = sym (append-nil t.third);
-      certificate_is = t.certificate_is;
-    } in
+    let said : SaysBundle text circuit layout (plain_lines circuit layout) =
+    (bundle_good text b reads).says_all layout refl in
     (some, (plain_lines_decide text output outcome circuit layout said reports some).1)
 
 pub refused_is_none : RefusedIsNoSmallDesign

@@ -366,49 +366,50 @@ known text b output outcome reads says =
 -- what was judged so is right
 module _ (text : List ℕ) (b : Bundle) (output : List ℕ) (outcome : Outcome) (reads : bundle_of text ≡ Ok b)
     (says : SaysReport b output outcome) (is : says.verdict ≡ verdict.Yes) where
-  abbrev its : CertView
-  its = says.certificate
+  abbrev c : CertView
+  c = says.certificate
+
+  abbrev p : Pattern
+  p = c.layout
 
   abbrev jobs : List JobView
   jobs = says.is_verdict.jobs
 
-  abbrev its_circuit : its.circuit ≡ b.circuit
-  its_circuit = says.its_own.circuit
+  abbrev same_circuit : c.circuit ≡ b.circuit
+  same_circuit = says.its_own.circuit
 
-  accepted : IsVerdict (setting_of its.circuit its.layout) (modules_in its) jobs verdict.Yes
-  accepted = subst (λ (w : Verdict). IsVerdict (setting_of its.circuit its.layout) (modules_in its) jobs w) is
+  accepted : IsVerdict (setting_of c.circuit p) (modules_in c) jobs verdict.Yes
+  accepted = subst (λ (w : Verdict). IsVerdict (setting_of c.circuit p) (modules_in c) jobs w) is
       says.is_verdict.judged
 
   judged_yes : IsRight text
   judged_yes = record {
     circuit = b.circuit;
-    layout = its.layout;
-    says = (bundle_good text b reads).says its.layout says.its_own.layout;
-    correct = subst (λ (cs : List CircuitLine). IsCorrect cs its.layout) its_circuit
-        (yes_means-correct its its.layout.size jobs (known text b output outcome reads says) says.is_verdict.are_jobs
-        accepted);
+    layout = p;
+    says = (bundle_good text b reads).says p says.its_own.layout;
+    correct = subst (λ (cs : List CircuitLine). IsCorrect cs p) same_circuit
+        (yes_means-correct c p.size jobs (known text b output outcome reads says) says.is_verdict.are_jobs accepted);
   }
 
   -- and so are its stops
   judged_stops : HasRightStops text
   judged_stops =
-      let right = yes_means-on_time its its.layout.size jobs (known text b output outcome reads says)
-      says.is_verdict.are_jobs accepted in
-      let own : all_stops (modules_in its) ≡ flat_map stop_in b.entries =
-      stops_meant its.version (setting_of its.circuit its.layout) (modules_of its.entries)
+      let right = yes_means-on_time c p.size jobs (known text b output outcome reads says) says.is_verdict.are_jobs
+      accepted in
+      let own : all_stops (modules_in c) ≡ flat_map stop_in b.entries =
+      stops_meant c.version (setting_of c.circuit p) (modules_of c.entries)
       ∙ ap (λ (es : List CertificateLine). all_stops (modules_of es)) says.its_own.entries
-      ∙ all_in_modules (setting_of b.circuit its.layout) b.version b.entries
-      (certificate_faultless text b its.layout reads says.its_own.layout) in
+      ∙ all_in_modules (setting_of b.circuit p) b.version b.entries
+      (certificate_faultless text b p reads says.its_own.layout) in
       record {
         circuit = b.circuit;
-        layout = its.layout;
+        layout = p;
         certificate = b.entries;
-        says = (bundle_good text b reads).says_all its.layout says.its_own.layout;
-        stops = subst (λ (cs : List CircuitLine).
-            All (StopHolds (circuit_of cs) its.layout) (flat_map stop_in b.entries))
-            its_circuit (subst (All (StopHolds (circuit_of its.circuit) its.layout)) own right.stops);
-        on_time = subst (λ (cs : List CircuitLine). AreOnTime (circuit_of cs) (flat_map stop_in b.entries)) its_circuit
-            (subst (λ (ss : List StopLine). AreOnTime (circuit_of its.circuit) ss) own right.times);
+        says = (bundle_good text b reads).says_all p says.its_own.layout;
+        stops = subst (λ (cs : List CircuitLine). All (StopHolds (circuit_of cs) p) (flat_map stop_in b.entries))
+            same_circuit (subst (All (StopHolds (circuit_of c.circuit) p)) own right.stops);
+        on_time = subst (λ (cs : List CircuitLine). AreOnTime (circuit_of cs) (flat_map stop_in b.entries)) same_circuit
+            (subst (λ (ss : List StopLine). AreOnTime (circuit_of c.circuit) ss) own right.times);
       }
 
 not_refused : Yes ≡ Refused → ⊥
