@@ -14,7 +14,7 @@ use Rattle.pattern.specs.declared.layout_line.LayoutHeader.{LayoutHeader}
 use Rattle.pattern.specs.declared.run.RunEnd.{RunEnd}
 use Rattle.pattern.specs.declared.run.RunEnd.TheVariants.{Cells, LeftAt}
 use Rattle.pattern.specs.FromLines.{layout_of}
-use Rattle.pattern.specs.Layout.{Pattern, StaysInside}
+use Rattle.pattern.specs.Layout.{Pattern, StaysInside, parts_of}
 use Rattle.section_text.specs.Words.{has}
 use Rattle.pattern.specs.Grammars.{layout_value}
 use Rattle.pattern.specs.Run.{IsRunEnd, GoesOutside}
@@ -24,9 +24,13 @@ use Rattle.answers.specs.Answers.{Answered}
 use Rattle.answers.proofs.Bundles.{layout_again}
 use Rattle.headline.specs.Laws.{HasOneAnswer}
 
+-- a layout is what its lines make, so they are those of one layout
+pub layout_from : (p : Pattern) (size : LayoutHeader) (parts : List LayoutLine) → layout_value p ≡ (size, parts) →
+    layout_of size parts ≡ p
+layout_from p size parts e = ap (λ (v : LayoutHeader × List LayoutLine). layout_of v.0 v.1) (sym e) ∙ layout_again p
+
 pub one_layout : (p q : Pattern) → layout_value p ≡ layout_value q → p ≡ q
-one_layout p q e = sym (layout_again p) ∙ ap (λ (v : LayoutHeader × List LayoutLine). layout_of v.0 v.1) e
-    ∙ layout_again q
+one_layout p q e = sym (layout_from p q.size (parts_of q) e) ∙ layout_again q
 
 -- ---- a run ends in one way
 

@@ -63,7 +63,7 @@ use Rattle.meaning.specs.Design.{SaysDesign}
 use Rattle.meaning.specs.Headline.{IsRight, SaysYes}
 use Rattle.headline.specs.Laws.{FourthLineTells, IsGoodDesign, ReportsOnGoodDesigns, YesHasOneValuation, YesMeansRight}
 use Rattle.headline.specs.Laws.{YesMeansRightStops}
-use Rattle.answers.proofs.Bundles.{same_setting}
+use Rattle.headline.proofs.OneAnswer.{layout_from}
 use Rattle.headline.proofs.Designs.{bundle_said, design_said, one_design}
 use Rattle.headline.specs.Stops.{HasRightStops, SaysBundle}
 use Rattle.headline.proofs.FourthLines.{refusal_says_none, says_yes, yes_says}
@@ -289,9 +289,8 @@ bundle_good text b e =
 pub certificate_faultless : (text : List ℕ) (b : Bundle) (p : Pattern) → bundle_of text ≡ Ok b →
     layout_value p ≡ (b.size, b.parts) → IsFaultless (certificate_grammar (setting_of b.circuit p)) b.version b.entries
 certificate_faultless text b p e same =
-    subst (λ g. IsFaultless (certificate_grammar g) b.version b.entries)
-    (ap (λ (q : LayoutHeader × List LayoutLine). setting_of b.circuit (layout_of q.0 q.1)) (sym same)
-    ∙ same_setting b.circuit p)
+    subst (λ p. IsFaultless (certificate_grammar (setting_of b.circuit p)) b.version b.entries)
+    (layout_from p b.size b.parts same)
     (read_faultless (certificate_grammar (setting_of b.circuit (layout_of b.size b.parts))) _ _ b.version b.entries
     (in_sections text b e).certificate)
 
