@@ -2,8 +2,6 @@
 use Rattle.std.proofs.Common.{◌≡◌, ℕ, ◌+◌, List, [], ◌∷◌, ◌++◌, map, drop, Option, Some, None, Result, Ok, Err, refl}
 use Rattle.std.proofs.Common.{sym, ap, ap₂, subst, ◌∙◌, append-nil}
 use Rattle.std.specs.Prelude.{◌≢◌}
-use Rattle.std.specs.List.{flat_map}
-use Rattle.std.proofs.lemmas.Grind.{flat_map-append}
 use Rattle.section_text.specs.Words.{lines_of, rest_of}
 use Rattle.section_text.specs.Feeds.{FeedView, ahead}
 use Rattle.section_text.specs.Faults.{refusal}
@@ -15,7 +13,6 @@ use Rattle.section_text.specs.declared.fault.ReadFault.{ReadFault}
 use Rattle.section_text.specs.declared.fault.ReadFault.TheVariants.{Refused}
 use Rattle.section_text.proofs.Joined.{section_read, section_failed, same_text, still_going, fails_along, at_the_end}
 use Rattle.section_text.proofs.Joined.{more_fails}
-use Rattle.circuit.specs.Bridge.{circuit_of}
 use Rattle.circuit.specs.Grammars.{circuit_grammar, circuit_value}
 use Rattle.circuit.specs.declared.circuit_line.CircuitLine.{CircuitLine}
 use Rattle.pattern.specs.Grammars.{layout_grammar, layout_value}
@@ -23,6 +20,8 @@ use Rattle.pattern.specs.Layout.{Pattern, parts_of}
 use Rattle.pattern.specs.declared.layout_line.LayoutLine.{LayoutLine}
 use Rattle.pattern.specs.declared.layout_line.LayoutLine.TheVariants.{Mirror, Ball, In, Out, Waste}
 use Rattle.pattern.specs.declared.layout_line.Port.{Port}
+use Rattle.pattern.specs.declared.layout_line.Rectangle.{Rectangle}
+use Rattle.bbm_rule.specs.declared.block.Cell.{Cell}
 use Rattle.pattern.specs.declared.layout_line.LayoutHeader.{LayoutHeader}
 use Rattle.certificate_lines.specs.Entries.{Setting}
 use Rattle.certificate.specs.Grammars.{CertView, certificate_grammar, certificate_value}
@@ -31,63 +30,57 @@ use Rattle.certificate_lines.specs.declared.certificate_line.CertificateLine.{Ce
 use Rattle.answers.specs.Answers.{Answered}
 use Rattle.answers.specs.BundleReading.{TellsRefusal, bundle_by}
 use Rattle.audit_core.specs.Concluding.{port_names_of}
-use Rattle.pattern.specs.FromLines.{input_in, output_in, layout_of}
+use Rattle.pattern.specs.FromLines.{layout_of}
 use Rattle.answers.specs.BundleText.{Bundle, bundle_of}
 use Rattle.answers.specs.declared.outcome.Outcome.{Outcome}
 use Rattle.section_text.specs.declared.code.RefusalCode.TheVariants.{TextCut}
 
--- ---- the ports of a layout, by its lines
+-- ---- a layout is what its lines make
 
-none_of : {X : Type 0} (f : LayoutLine → List Port) (make : X → LayoutLine) → ((x : X) → f (make x) ≡ []) →
-    (xs : List X) →
-    flat_map f (map make xs) ≡ []
-none_of f make none [] = refl
-none_of f make none (x ∷ xs) = rw (none x, none_of f make none xs) refl
+module _ (s : LayoutHeader) where
+  mirrors_first : (ms : List Rectangle) (parts : List LayoutLine) → layout_of s (map Mirror ms ++ parts)
+      ≡ record (layout_of s parts) { mirrors = ms ++ (layout_of s parts).mirrors }
+  mirrors_first [] parts = refl
+  mirrors_first (m ∷ ms) parts =
+      ap (λ (q : Pattern). record q { mirrors = m ∷ q.mirrors }) (mirrors_first ms parts)
 
-all_of : (f : LayoutLine → List Port) (make : Port → LayoutLine) → ((p : Port) → f (make p) ≡ p ∷ []) →
-    (ports : List Port) →
-    flat_map f (map make ports) ≡ ports
-all_of f make same [] = refl
-all_of f make same (p ∷ ports) = rw (same p, all_of f make same ports) refl
+  balls_first : (bs : List Cell) (parts : List LayoutLine) → layout_of s (map Ball bs ++ parts)
+      ≡ record (layout_of s parts) { balls = bs ++ (layout_of s parts).balls }
+  balls_first [] parts = refl
+  balls_first (b ∷ bs) parts = ap (λ (q : Pattern). record q { balls = b ∷ q.balls }) (balls_first bs parts)
 
-split_five : (f : LayoutLine → List Port) (a b c d e : List LayoutLine) →
-    flat_map f (a ++ (b ++ (c ++ (d ++ e))))
-    ≡ flat_map f a ++ (flat_map f b ++ (flat_map f c ++ (flat_map f d ++ flat_map f e)))
-split_five f a b c d e = rw (
-  flat_map-append f a (b ++ (c ++ (d ++ e))),
-  flat_map-append f b (c ++ (d ++ e)),
-  flat_map-append f c (d ++ e),
-  flat_map-append f d e,
-) refl
+  ins_first : (ins : List Port) (parts : List LayoutLine) → layout_of s (map In ins ++ parts)
+      ≡ record (layout_of s parts) { ins = ins ++ (layout_of s parts).ins }
+  ins_first [] parts = refl
+  ins_first (p ∷ ins) parts = ap (λ (q : Pattern). record q { ins = p ∷ q.ins }) (ins_first ins parts)
 
-in_ports_are : (p : Pattern) → flat_map input_in (parts_of p) ≡ p.ins
-in_ports_are p =
-    split_five input_in (map Mirror p.mirrors) (map Ball p.balls) (map In p.ins) (map Out p.outs) (map Waste p.wastes)
-    ∙ rw (
-      none_of input_in Mirror (λ r. refl) p.mirrors,
-      none_of input_in Ball (λ c. refl) p.balls,
-      all_of input_in In (λ q. refl) p.ins,
-      none_of input_in Out (λ q. refl) p.outs,
-      none_of input_in Waste (λ c. refl) p.wastes,
-    ) (append-nil p.ins)
+  outs_first : (outs : List Port) (parts : List LayoutLine) → layout_of s (map Out outs ++ parts)
+      ≡ record (layout_of s parts) { outs = outs ++ (layout_of s parts).outs }
+  outs_first [] parts = refl
+  outs_first (p ∷ outs) parts = ap (λ (q : Pattern). record q { outs = p ∷ q.outs }) (outs_first outs parts)
 
-out_ports_are : (p : Pattern) → flat_map output_in (parts_of p) ≡ p.outs
-out_ports_are p =
-    split_five output_in (map Mirror p.mirrors) (map Ball p.balls) (map In p.ins) (map Out p.outs) (map Waste p.wastes)
-    ∙ rw (
-      none_of output_in Mirror (λ r. refl) p.mirrors,
-      none_of output_in Ball (λ c. refl) p.balls,
-      none_of output_in In (λ q. refl) p.ins,
-      all_of output_in Out (λ q. refl) p.outs,
-      none_of output_in Waste (λ c. refl) p.wastes,
-    ) (append-nil p.outs)
+  only_wastes : (ws : List Cell) → layout_of s (map Waste ws)
+      ≡ record { size = s; mirrors = []; balls = []; ins = []; outs = []; wastes = ws }
+  only_wastes [] = refl
+  only_wastes (w ∷ ws) = ap (λ (q : Pattern). record q { wastes = w ∷ q.wastes }) (only_wastes ws)
+
+pub layout_again : (p : Pattern) → layout_of p.size (parts_of p) ≡ p
+layout_again p =
+    mirrors_first p.size p.mirrors _ ∙ ap (λ (q : Pattern). record q { mirrors = p.mirrors ++ q.mirrors })
+    (balls_first p.size p.balls _ ∙ ap (λ (q : Pattern). record q { balls = p.balls ++ q.balls })
+    (ins_first p.size p.ins _ ∙ ap (λ (q : Pattern). record q { ins = p.ins ++ q.ins })
+    (outs_first p.size p.outs _ ∙ ap (λ (q : Pattern). record q { outs = p.outs ++ q.outs })
+    (only_wastes p.size p.wastes))))
+    ∙ λ i. record p {
+      mirrors = append-nil p.mirrors i;
+      balls = append-nil p.balls i;
+      ins = append-nil p.ins i;
+      outs = append-nil p.outs i;
+    }
 
 pub same_setting : (circuit : List CircuitLine) (p : Pattern) →
     setting_of circuit (layout_of p.size (parts_of p)) ≡ setting_of circuit p
-same_setting circuit p =
-    let ports = ap₂ (λ a b. a ++ b) (in_ports_are p) (out_ports_are p) in
-    let at : List Port → Setting = λ l. record { circuit = circuit_of circuit; size = p.size; ports = l } in
-    ap at ports
+same_setting circuit p = ap (setting_of circuit) (layout_again p)
 
 -- ---- the sections of a bundle, one after the other
 

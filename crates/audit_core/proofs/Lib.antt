@@ -20,6 +20,7 @@ pub mod InputRuns
 pub mod FirstFaults
 pub mod PlainCertificates
 pub mod EarliestLines
+pub mod Trials
 pub mod Examples
 pub mod PortNames
 mod WrongExamples

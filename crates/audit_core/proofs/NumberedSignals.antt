@@ -19,7 +19,7 @@ use Rattle.certificate_lines.proofs.Pairs.{Each}
 
 -- ---- the number of a wire in a list of wires
 
-pub place_among : List ℕ → ℕ → ℕ
+unfoldable pub place_among : List ℕ → ℕ → ℕ
 place_among [] w = 0
 place_among (v ∷ ws) w = if v == w then 0 else suc (place_among ws w)
 

@@ -1,9 +1,12 @@
--- A module has a job
-use Rattle.std.proofs.Common.{◌≡◌, ◌≤◌, ◌<◌, ◌+◌, ◌++◌, ◌∷◌, ◌∙◌, [], ℕ, zero, suc, Bool, true, false, List, Option}
+-- A module has a job, which is computed from its lines
+use Rattle.std.proofs.Common.{◌≡◌, ◌<◌, ◌++◌, ◌∷◌, ◌∙◌, [], ℕ, suc, Bool, true, false, List, Option}
 use Rattle.std.proofs.Common.{Some, None, refl, sym, ap, ap₂, subst, map, length, get_or, arith}
+use Rattle.std.proofs.Common.{append_assoc, length-append}
+use Rattle.std.proofs.lemmas.Option.{same_Some, slice_get-map}
 use Rattle.std.specs.Prelude.{ℤ, IsTrue, IfSome, slice_get, slice_index, if◌then◌else◌, ◌||◌}
-use Rattle.std.specs.List.{All, range_with_len}
-use Rattle.std.proofs.lemmas.List.{take_all}
+use Rattle.std.specs.List.{All, flat_map, range_with_len}
+use Rattle.std.specs.Option.{option_map, option_to_list}
+use Rattle.std.proofs.lemmas.List.{append-nil, get_or_at, length-map, length_push, take_all}
 use Rattle.std.proofs.lemmas.List.Elements.{All-nil, All-cons, All-head, All-tail}
 use Rattle.bbm_rule.specs.declared.block.Cell.{Cell}
 use Rattle.circuit.specs.Bridge.{circuit_of, netlist_of}
@@ -29,7 +32,8 @@ use Rattle.module_job.specs.Signals.{IsBelow, IsDemandBelow, renumber_demand, re
 use Rattle.module_job.specs.declared.job.Demand.{Demand}
 use Rattle.module_job.specs.declared.job.Demand.TheVariants as Demanded
 use Rattle.module_job.specs.declared.job.Stop as listed
-use Rattle.certificate.specs.Jobs.{IsJobOf, demand_elsewhere, demand_of, end_demand, line_signals, line_stops}
+use Rattle.certificate.specs.Jobs.{AreJobsOf, IsJobOf, demand_elsewhere, demand_of, end_demand, line_signals}
+use Rattle.certificate.specs.Jobs.{line_stops}
 use Rattle.certificate.specs.Jobs.{named_wire, numbered_stop, signal_of, start_signal}
 use Rattle.certificate.proofs.FullModules.{all_of_each}
 use Rattle.certificate.proofs.JobPlaces.{demand_found, start_found}
@@ -40,7 +44,7 @@ use Rattle.audit_core.proofs.NumberedSignals.{numbered_signals, place_among, wir
 
 -- ---- the places of wires
 
-places : List ℕ → List ℕ → List ℕ
+unfoldable pub places : List ℕ → List ℕ → List ℕ
 places ws xs = map (place_among ws) xs
 
 -- the wires at the places of some wires are these wires
@@ -61,42 +65,62 @@ are_places ws (x ∷ xs) h =
 
 -- ---- the wires and gates of a module
 
+-- a gate of the circuit by the places of its wires, if these wires are known before it
+unfoldable pub placed_gate : List ℕ → Gate → Gate
+placed_gate keys g = record {
+  kind = g.kind;
+  ins = places keys g.ins;
+  outs = range_with_len (length keys) (defines g.kind);
+}
+
+-- gates one after the other
+unfoldable pub placed_gates : List ℕ → List Gate → List Gate
+placed_gates keys [] = []
+placed_gates keys (g ∷ gs) = placed_gate keys g ∷ placed_gates (keys ++ g.outs) gs
+
+-- the gates of these numbers
+abbrev pub gates_at : Netlist → List ℕ → List Gate
+gates_at n ks = flat_map (λ k. option_to_list (slice_get n.gates k)) ks
+
 module _ (n : Netlist) (cuts gates : List ℕ) (ordered : AreOrdered n.given n.gates)
     (lines : AreLocalLines n cuts gates) where
-  -- the first i gates by other numbers
-  Renumbered : ℕ → Type 0
-  Renumbered i = (keys : List ℕ) × (done : List Gate) × IsPart n cuts gates i keys done
+  -- all gates are done
+  AreDone : List Gate → Type 0
+  AreDone done = (keys : List ℕ) × IsPart n cuts gates (length gates) keys done
 
-  one_more : (i : ℕ) → i < length gates → Renumbered i → Renumbered (i + 1)
-  unfolding Renumbered places
-  one_more i within (keys, done, part) =
-      let k : ℕ = get_or gates i 0 in
-      let own : k ≡ get_or gates i k = same_default gates i within in
+  over : (keys : List ℕ) (g : Gate) → All (λ w. IsTrue (is_among keys w)) g.ins → IsOver keys g (placed_gate keys g)
+  unfolding placed_gate
+  over keys g known =
+      let ins = are_places keys g.ins known in
+      record { kind = refl; within = ins.below; ins = ins.there; outs = refl }
+
+  -- those before the next one are done
+  all_placed : (before after keys : List ℕ) (done : List Gate) → before ++ after ≡ gates →
+      IsPart n cuts gates (length before) keys done → AreDone (done ++ placed_gates keys (gates_at n after))
+  unfolding AreDone placed_gates
+  all_placed before [] keys done e part = (
+    keys,
+    subst (IsPart n cuts gates (length gates) keys) (sym (append-nil done))
+        (subst (λ i. IsPart n cuts gates i keys done) (ap length (sym (append-nil before) ∙ e)) part),
+  )
+  all_placed before (k ∷ after) keys done e part =
+      let i : ℕ = length before in
+      let within : i < length gates =
+      (let long = length-append before (k ∷ after) in omega (arith, long, ap length e)) in
+      let own : k ≡ get_or gates i k = sym
+      (ap (λ l. get_or l i k) (sym e) ∙ get_or_at before k after k i refl) in
       let is = next_known n cuts gates i k keys done lines part within own in
-      let ins = are_places keys is.gate.ins is.ins in
-      let new : Gate = record {
-        kind = is.gate.kind;
-        ins = places keys is.gate.ins;
-        outs = range_with_len (length keys) (defines is.gate.kind);
-      } in
-      let over : IsOver keys is.gate new = record { kind = refl; within = ins.below; ins = ins.there; outs = refl } in (
-        keys ++ is.gate.outs,
-        done ++ new ∷ [],
-        part_more n cuts gates i k keys
-            (keys ++ is.gate.outs) done is.gate new ordered part within own is.numbered over refl,
-      )
-    where
-      same_default : (gates : List ℕ) (i : ℕ) → i < length gates → get_or gates i 0 ≡ get_or gates i (get_or gates i 0)
-      same_default [] i lt = absurd (omega (arith, lt))
-      same_default (g ∷ gs) zero lt = refl
-      same_default (g ∷ gs) (suc i) lt = same_default gs i (omega (arith, lt))
-
-  renumbered : (i : ℕ) → i ≤ length gates → Renumbered i
-  unfolding Renumbered
-  renumbered zero le = (cuts, [], part_none n cuts gates cuts lines refl)
-  renumbered (suc i) le =
-      let e : i + 1 ≡ suc i = omega arith in
-      subst Renumbered e (one_more i (omega (arith, le)) (renumbered i (omega (arith, le))))
+      let g : Gate = is.gate in
+      let more = part_more n cuts gates i k keys (keys ++ g.outs) done g (placed_gate keys g) ordered part within own
+      is.numbered (over keys g is.ins) refl in
+      subst AreDone
+      (append_assoc done (placed_gate keys g ∷ []) (placed_gates (keys ++ g.outs) (gates_at n after))
+      ∙ ap (λ o. done ++ placed_gates keys (option_to_list o ++ gates_at n after)) (sym is.numbered))
+      (all_placed (before ++ k ∷ []) after (keys ++ g.outs) (done ++ placed_gate keys g ∷ [])
+      (append_assoc before (k ∷ []) after ∙ e)
+      (subst (λ i. IsPart n cuts gates i (keys ++ g.outs) (done ++ placed_gate keys g ∷ []))
+      (sym (length_push before k))
+      more))
 
   record HasLocals (gates' : List Gate) : Type 0 where
     pub are : AreLocalsOf n (record {
@@ -106,64 +130,52 @@ module _ (n : Netlist) (cuts gates : List ℕ) (ordered : AreOrdered n.given n.g
     })
     pub count : length gates' ≡ length gates
 
-  has_locals : (gates' : List Gate) × HasLocals gates'
-  unfolding Renumbered
-  has_locals = by (renumbered (length gates) (omega arith))
+  has_locals : HasLocals (placed_gates cuts (gates_at n gates))
+  unfolding AreDone
+  has_locals = by (all_placed [] gates cuts [] refl (part_none n cuts gates cuts lines refl))
     where
-      by : Renumbered (length gates) → (gates' : List Gate) × HasLocals gates'
-      by (keys, done, part) =
+      by : {done : List Gate} → AreDone done → HasLocals done
+      by {done} (keys, part) =
           let same : local_wires n cuts gates ≡ keys = sym
-          (part.known ∙ ap (local_wires n cuts) (take_all (length gates) gates (omega arith))) in (
-            done,
-            record {
-              are = part_all n cuts gates keys (local_wires n cuts gates) gates
-                  (length gates) done lines part refl same refl;
-              count = part.count;
-            },
-          )
+          (part.known ∙ ap (local_wires n cuts) (take_all (length gates) gates (omega arith))) in
+          record {
+            are = part_all n cuts gates keys (local_wires n cuts gates) gates
+                (length gates) done lines part refl same refl;
+            count = part.count;
+          }
 
 -- ---- what the cells of the box carry
 
+unfoldable pub demanded : List ℕ → Demand → Demand
+demanded ws Demanded.Dead = Demanded.Dead
+demanded ws Demanded.Live = Demanded.Live
+demanded ws (Demanded.Wire w) = Demanded.Wire (place_among ws w)
+demanded ws Demanded.Any = Demanded.Any
+
+unfoldable pub placed_stop : List ℕ → listed.Stop → listed.Stop
+placed_stop ws s = record s { wire = place_among ws s.wire }
+
+-- what cells carry comes back from what they carry by other numbers, which passes P
+module _ {X : Type 0} (back_by by_number : X → X) (P : X → Type 0) (f : Cell → X) where
+  record CellsBack (cells : List Cell) : Type 0 where
+    pub back : map back_by (map (λ d. by_number (f d)) cells) ≡ map f cells
+    pub below : All P (map (λ d. by_number (f d)) cells)
+
+  cells_back : (cells : List Cell) → Each (λ d. (back_by (by_number (f d)) ≡ f d) × P (by_number (f d))) cells →
+      CellsBack cells
+  unfolding Each
+  cells_back [] h = record { back = refl; below = All-nil P }
+  cells_back (d ∷ cells) h =
+      let more = cells_back cells h.1 in
+      record {
+        back = ap₂ (λ s l. s ∷ l) h.0.0 more.back;
+        below = All-cons P (by_number (f d)) (map (λ d. by_number (f d)) cells) h.0.1 more.below;
+      }
+
 module _ (ws : List ℕ) where
-  record CellsBack (f : Cell → Signal) (cells : List Cell) : Type 0 where
-    pub back : map (renumber_signal (slice_index ws)) (map (λ d. numbered ws (f d)) cells) ≡ map f cells
-    pub below : All (IsBelow (length ws)) (map (λ d. numbered ws (f d)) cells)
-
-  cells_back : (f : Cell → Signal) (cells : List Cell) → Each (λ d. IsNumbered ws (f d)) cells → CellsBack f cells
-  unfolding Each
-  cells_back f [] h = record { back = refl; below = All-nil (IsBelow (length ws)) }
-  cells_back f (d ∷ cells) h =
-      let more = cells_back f cells h.1 in
-      record {
-        back = ap₂ (λ s l. s ∷ l) h.0.back more.back;
-        below = All-cons (IsBelow (length ws)) (numbered ws (f d))
-            (map (λ d. numbered ws (f d)) cells) h.0.below more.below;
-      }
-
-  demanded : Demand → Demand
-  demanded Demanded.Dead = Demanded.Dead
-  demanded Demanded.Live = Demanded.Live
-  demanded (Demanded.Wire w) = Demanded.Wire (place_among ws w)
-  demanded Demanded.Any = Demanded.Any
-
   record IsDemanded (d : Demand) : Type 0 where
-    pub back : renumber_demand (slice_index ws) (demanded d) ≡ d
-    pub below : IsDemandBelow (length ws) (demanded d)
-
-  record DemandsBack (f : Cell → Demand) (cells : List Cell) : Type 0 where
-    pub back : map (renumber_demand (slice_index ws)) (map (λ d. demanded (f d)) cells) ≡ map f cells
-    pub below : All (IsDemandBelow (length ws)) (map (λ d. demanded (f d)) cells)
-
-  demands_back : (f : Cell → Demand) (cells : List Cell) → Each (λ d. IsDemanded (f d)) cells → DemandsBack f cells
-  unfolding Each
-  demands_back f [] h = record { back = refl; below = All-nil (IsDemandBelow (length ws)) }
-  demands_back f (d ∷ cells) h =
-      let more = demands_back f cells h.1 in
-      record {
-        back = ap₂ (λ s l. s ∷ l) h.0.back more.back;
-        below = All-cons (IsDemandBelow (length ws)) (demanded (f d))
-            (map (λ d. demanded (f d)) cells) h.0.below more.below;
-      }
+    pub back : renumber_demand (slice_index ws) (demanded ws d) ≡ d
+    pub below : IsDemandBelow (length ws) (demanded ws d)
 
   demand_numbered : (o : Option ℕ) → is_local_wire ws o ≡ true → IsDemanded (demand_of o)
   unfolding demanded
@@ -176,12 +188,9 @@ module _ (ws : List ℕ) where
 
   -- ---- its stops
 
-  placed_stop : listed.Stop → listed.Stop
-  placed_stop s = record s { wire = place_among ws s.wire }
-
   record StopsBack (ss : List listed.Stop) : Type 0 where
-    pub back : map (renumber_stop (slice_index ws)) (map placed_stop ss) ≡ ss
-    pub below : All (λ s. s.wire < length ws) (map placed_stop ss)
+    pub back : map (renumber_stop (slice_index ws)) (map (placed_stop ws) ss) ≡ ss
+    pub below : All (λ s. s.wire < length ws) (map (placed_stop ws) ss)
 
   one_stop : (s : StopLine) (o : Option ℕ) (ss : List listed.Stop) → is_local_wire ws o ≡ true → StopsBack ss →
       StopsBack (numbered_stop s o ++ ss)
@@ -191,7 +200,7 @@ module _ (ws : List ℕ) where
       let p = is_place ws w h in
       record {
         back = ap₂ (λ v l. record { at = record { time = s.time; cell = s.cell }; wire = v } ∷ l) p.there more.back;
-        below = All-cons (λ (s : listed.Stop). s.wire < length ws) _ (map placed_stop ss) p.below more.below;
+        below = All-cons (λ (s : listed.Stop). s.wire < length ws) _ (map (placed_stop ws) ss) p.below more.below;
       }
 
   stops_back : (c : Circuit) (ss : List StopLine) → Each (λ s. is_local c ws s.wire ≡ true) ss →
@@ -208,6 +217,32 @@ each_at_place P (x ∷ xs) h = (h 0 x refl, each_at_place P xs (λ k. h (suc k))
 
 -- ---- the job
 
+module _ (c : Circuit) (p : Pattern) (m : ModuleLines) where
+  -- the wires and gates of the module
+  abbrev pub net_of : LocalNet
+  net_of = record {
+    netlist = record {
+      given = length (cut_wires c m);
+      gates = placed_gates (cut_wires c m) (gates_at c.netlist (gates m));
+    };
+    circuit_wires = known c m;
+    circuit_gates = gates m;
+  }
+
+  -- its job, computed
+  abbrev pub job_of : JobView
+  job_of = record {
+    area = m.area;
+    steps = p.size.steps;
+    locals = net_of;
+    starts = map (λ (d : Cell). numbered (known c m) (start_signal c p d.x d.y)) (box_cells m.area);
+    demands = map (λ (d : Cell). demanded (known c m) (end_demand c p d.x d.y)) (box_cells m.area);
+    edges = numbered_signals c (known c m) (line_signals c (edges m));
+    halos = numbered_signals c (known c m) (line_signals c (halos m));
+    stops = map (placed_stop (known c m)) (line_stops c (stops m));
+    kept = places (gates m) (keeps m);
+  }
+
 module _ (lines : List CircuitLine) (p : Pattern) (m : ModuleLines)
     (ordered : AreOrdered (netlist_of lines).given (netlist_of lines).gates)
     (is : IsModule (setting_of lines p) m) (ports : HasPorts (setting_of lines p) m) where
@@ -217,18 +252,17 @@ module _ (lines : List CircuitLine) (p : Pattern) (m : ModuleLines)
   abbrev ws : List ℕ
   ws = known c m
 
-  own_locals : (gates' : List Gate) × HasLocals c.netlist (cut_wires c m) (gates m) ordered is.local gates'
-  own_locals = has_locals c.netlist (cut_wires c m) (gates m) ordered is.local
+  abbrev job : JobView
+  job = job_of c p m
 
   abbrev net : LocalNet
-  net = record {
-    netlist = record { given = length (cut_wires c m); gates = own_locals.0 };
-    circuit_wires = ws;
-    circuit_gates = gates m;
-  }
+  net = job.locals
+
+  own_locals : HasLocals c.netlist (cut_wires c m) (gates m) ordered is.local net.netlist.gates
+  own_locals = has_locals c.netlist (cut_wires c m) (gates m) ordered is.local
 
   sized : length ws ≡ wires net.netlist
-  sized = own_locals.1.are.sized
+  sized = own_locals.are.sized
 
   -- the cells of the box
 
@@ -268,15 +302,15 @@ module _ (lines : List CircuitLine) (p : Pattern) (m : ModuleLines)
   demand_is_numbered x y h = end_by (in_rectangles p.mirrors x y) (port_at p.outs x y) (in_cells p.wastes x y)
       ((cells_have_ports lines p m ports).1 x y h)
 
-  starts_back : CellsBack ws starts (box_cells m.area)
-  starts_back = cells_back ws starts (box_cells m.area)
-      (each_at_place (λ d. IsNumbered ws (starts d)) (box_cells m.area)
-      (λ k d at. start_numbered d.x d.y (cells_inside m.area k d at)))
+  starts_back : CellsBack (renumber_signal (slice_index ws)) (numbered ws) (IsBelow (length ws)) starts
+      (box_cells m.area)
+  starts_back = cells_back _ _ _ starts (box_cells m.area) (each_at_place _ (box_cells m.area) (λ k d at.
+      let is = start_numbered d.x d.y (cells_inside m.area k d at) in (is.back, is.below)))
 
-  ends_back : DemandsBack ws demands (box_cells m.area)
-  ends_back = demands_back ws demands (box_cells m.area)
-      (each_at_place (λ d. IsDemanded ws (demands d)) (box_cells m.area)
-      (λ k d at. demand_is_numbered d.x d.y (cells_inside m.area k d at)))
+  ends_back : CellsBack (renumber_demand (slice_index ws)) (demanded ws) (IsDemandBelow (length ws)) demands
+      (box_cells m.area)
+  ends_back = cells_back _ _ _ demands (box_cells m.area) (each_at_place _ (box_cells m.area) (λ k d at.
+      let is = demand_is_numbered d.x d.y (cells_inside m.area k d at) in (is.back, is.below)))
 
   -- its lines
 
@@ -295,29 +329,16 @@ module _ (lines : List CircuitLine) (p : Pattern) (m : ModuleLines)
   own_keeps : ArePlaces (gates m) (keeps m)
   own_keeps = are_places (gates m) (keeps m) (λ k d lt. (is.keep_lines k d lt).among)
 
-  abbrev job : JobView
-  job = record {
-    area = m.area;
-    steps = p.size.steps;
-    locals = net;
-    starts = map (λ d. numbered ws (starts d)) (box_cells m.area);
-    demands = map (λ d. demanded ws (demands d)) (box_cells m.area);
-    edges = numbered_signals c ws (line_signals c (edges m));
-    halos = numbered_signals c ws (line_signals c (halos m));
-    stops = map (placed_stop ws) (line_stops c (stops m));
-    kept = places (gates m) (keeps m);
-  }
-
   signals_below : {X : Type 0} (signal : X → Signal) (xs : List X) → Each (λ x. IsBelow (length ws) (signal x)) xs →
       All (λ x. IsBelow (wires net.netlist) (signal x)) xs
   signals_below signal xs h = all_of_each _ xs (subst (λ n. Each (λ x. IsBelow n (signal x)) xs) sized h)
 
-  is_job_of : IsJobOf c p m job
+  pub is_job_of : IsJobOf c p m job
   unfolding numbered_signals places
   is_job_of = record {
     area = refl;
     steps = refl;
-    locals = own_locals.1.are;
+    locals = own_locals.are;
     cut = is.named;
     wires = refl;
     used = refl;
@@ -340,9 +361,24 @@ module _ (lines : List CircuitLine) (p : Pattern) (m : ModuleLines)
       stops = subst (λ n. All (λ (s : listed.Stop). s.wire < n) job.stops) sized own_stops.below;
     };
     kept = own_keeps.there;
-    kept_are_used = subst (λ n. All (λ k. k < n) job.kept) (sym own_locals.1.count) own_keeps.below;
+    kept_are_used = subst (λ n. All (λ k. k < n) job.kept) (sym own_locals.count) own_keeps.below;
   }
 
 -- a module has a job
 pub some_job : ModuleHasSomeJob
-some_job lines p m ordered is ports = (job lines p m ordered is ports, is_job_of lines p m ordered is ports)
+some_job lines p m ordered is ports = (job_of (circuit_of lines) p m, is_job_of lines p m ordered is ports)
+
+-- the modules have jobs
+pub are_jobs_of : (lines : List CircuitLine) (p : Pattern) (ms : List ModuleLines) →
+    AreOrdered (netlist_of lines).given (netlist_of lines).gates →
+    ((k : ℕ) (m : ModuleLines) → slice_get ms k ≡ Some m →
+    IsModule (setting_of lines p) m × HasPorts (setting_of lines p) m) →
+    AreJobsOf (circuit_of lines) p ms (map (job_of (circuit_of lines) p) ms)
+are_jobs_of lines p ms ordered each = record {
+  count = length-map ms (job_of (circuit_of lines) p);
+  each = λ k m j e f. let own = each k m e in
+      subst (IsJobOf (circuit_of lines) p m)
+      (same_Some _ _ (sym (slice_get-map (job_of (circuit_of lines) p) ms k
+      ∙ ap (option_map (job_of (circuit_of lines) p)) e) ∙ f))
+      (is_job_of lines p m ordered own.0 own.1);
+}

@@ -24,7 +24,7 @@ use Rattle.circuit.proofs.Naming.{gates_counted}
 use Rattle.pattern.specs.Layout.{Pattern}
 use Rattle.pattern.specs.Lines.{size_fault}
 use Rattle.certificate_lines.specs.Entries.{ModuleLines, Setting, stops}
-use Rattle.certificate_lines.specs.Modules.{AreModules, HasPorts, IsModule}
+use Rattle.certificate_lines.specs.Modules.{AreModules, IsModule}
 use Rattle.certificate_lines.specs.Settings.{setting_of}
 use Rattle.module_box.specs.Boxes.{in_box, IsEven}
 use Rattle.module_box.specs.declared.boxes.Box2.{Box2}
@@ -53,7 +53,7 @@ use Rattle.audit_core.specs.declared.verdict.Verdict.TheVariants.{Yes, No}
 use Rattle.audit_core.proofs.OneVerdict.{none-past}
 use Rattle.audit_core.proofs.ReportLines.{accepted, accepted-no_lines}
 use Rattle.audit_core.proofs.SomeFaults.{least_border_fault, least_fault, least_keep_fault}
-use Rattle.audit_core.proofs.SomeJobs.{some_job}
+use Rattle.audit_core.proofs.SomeJobs.{are_jobs_of, job_of}
 use Rattle.audit_core.proofs.SomeLeast.{Decided, both_decided, true_decided}
 use denote.RawPtr.{null_ptr}
 use Rattle.section_text.specs.declared.code.RefusalCode.{RefusalCode}
@@ -194,28 +194,6 @@ vec_of xs small = record {
 nothing : {A : Type 0} (k : ℕ) (a : A) → slice_get {X = A} [] k ≡ Some a → ⊥
 nothing k a at = cc
 
-all_jobs : (lines : List CircuitLine) (p : Pattern) (ms : List ModuleLines) →
-    AreOrdered (netlist_of lines).given (netlist_of lines).gates →
-    ((k : ℕ) (m : ModuleLines) → slice_get ms k ≡ Some m →
-    IsModule (setting_of lines p) m × HasPorts (setting_of lines p) m) →
-    (js : List JobView) × AreJobsOf (circuit_of lines) p ms js
-all_jobs lines p [] ordered each = ([], record { count = refl; each = λ k m j at. absurd (nothing k m at) })
-all_jobs lines p (m ∷ ms) ordered each =
-    let own = each 0 m refl in
-    let one = some_job lines p m ordered own.0 own.1 in
-    let more = all_jobs lines p ms ordered (λ k. each (suc k)) in
-    (one.0 ∷ more.0, record { count = ap suc more.1.count; each = at_each one.0 one.1 more.0 more.1 })
-  where
-    at_each : (j : JobView) → IsJobOf (circuit_of lines) p m j → (js : List JobView) →
-        AreJobsOf (circuit_of lines) p ms js →
-        (k : ℕ) (n : ModuleLines) (i : JobView) → slice_get (m ∷ ms) k ≡ Some n → slice_get (j ∷ js) k ≡ Some i →
-        IsJobOf (circuit_of lines) p n i
-    at_each j is js are zero n i at there =
-        let same : m ≡ n = cc in
-        let alike : j ≡ i = cc in
-        subst (λ n. IsJobOf (circuit_of lines) p n i) same (subst (IsJobOf (circuit_of lines) p m) alike is)
-    at_each j is js are (suc k) n i at there = are.each k n i at there
-
 all_reasons : (js : List JobView) →
     ((k : ℕ) (j : JobView) → slice_get js k ≡ Some j →
     IsJob j × AreOrdered j.locals.netlist.given j.locals.netlist.gates) →
@@ -289,6 +267,23 @@ job_good lines p m j limits own is =
       stops_rise = stops_rise c j.locals m.lines j.stops own.order said;
     }
 
+pub jobs_good : (lines : List CircuitLine) (p : Pattern) (ms : List ModuleLines) (js : List JobView) →
+    size_fault p.size ≡ None → AreModules (setting_of lines p) ms → AreJobsOf (circuit_of lines) p ms js →
+    (k : ℕ) (j : JobView) → slice_get js k ≡ Some j →
+    IsJob j × AreOrdered j.locals.netlist.given j.locals.netlist.gates
+jobs_good lines p ms js limits are own k j at = by (slice_get ms k) refl
+  where
+    by : (o : Option ModuleLines) → slice_get ms k ≡ o →
+        IsJob j × AreOrdered j.locals.netlist.given j.locals.netlist.gates
+    by None e =
+        let past = none-past ms k e in
+        let below : k < length js = slice_get_within js k j at in
+        let count = own.count in
+        absurd (omega (arith, past, below, count))
+    by (Some m) e =
+        let is = own.each k m j e at in
+        (job_good lines p m j limits (are.each k m e) is, is.locals.ordered)
+
 -- ---- the verdict
 
 empty_decided : {A : Type 0} (xs : List A) → Decided (xs ≡ [])
@@ -304,26 +299,15 @@ module _ (lines : List CircuitLine) (p : Pattern) (ms : List ModuleLines) (good 
   ordered : AreOrdered (netlist_of lines).given (netlist_of lines).gates
   ordered = gates_are_ordered lines good
 
-  own_jobs : (js : List JobView) × AreJobsOf (circuit_of lines) p ms js
-  own_jobs = all_jobs lines p ms ordered (λ k m at. (are.each k m at, are.ports k m at))
-
   abbrev js : List JobView
-  js = own_jobs.0
+  js = map (job_of (circuit_of lines) p) ms
+
+  own_jobs : AreJobsOf (circuit_of lines) p ms js
+  own_jobs = are_jobs_of lines p ms ordered (λ k m at. (are.each k m at, are.ports k m at))
 
   good_at : (k : ℕ) (j : JobView) → slice_get js k ≡ Some j →
       IsJob j × AreOrdered j.locals.netlist.given j.locals.netlist.gates
-  good_at k j at = by (slice_get ms k) refl
-    where
-      by : (o : Option ModuleLines) → slice_get ms k ≡ o →
-          IsJob j × AreOrdered j.locals.netlist.given j.locals.netlist.gates
-      by None e =
-          let past = none-past ms k e in
-          let below : k < length js = slice_get_within js k j at in
-          let count = own_jobs.1.count in
-          absurd (omega (arith, past, below, count))
-      by (Some m) e =
-          let is = own_jobs.1.each k m j e at in
-          (job_good lines p m j limits (are.each k m e) is, is.locals.ordered)
+  good_at = jobs_good lines p ms js limits are own_jobs
 
   reasons : (fs : List Reasons) × AreLeastFaults js fs
   reasons = all_reasons js good_at
@@ -347,7 +331,7 @@ module _ (lines : List CircuitLine) (p : Pattern) (ms : List ModuleLines) (good 
       from_zero i = omega arith
 
   same_count : length fs ≡ length bs
-  same_count = reasons.1.count ∙ own_jobs.1.count ∙ sym borders.1.count
+  same_count = reasons.1.count ∙ own_jobs.count ∙ sym borders.1.count
 
   abbrev all_lines : List ReportLine
   all_lines = lines_from 0 fs bs ++ unkept_lines g ms ++ map timing (time_lines g.circuit ms)
@@ -359,7 +343,7 @@ module _ (lines : List CircuitLine) (p : Pattern) (ms : List ModuleLines) (good 
       let unkept = one_each ms 0 gates in
       let times = two_each (first_seen g.circuit (all_stops ms)) (last_seen g.circuit (all_stops ms)) gates in
       let few_modules = are.few in
-      let count = reasons.1.count ∙ own_jobs.1.count in
+      let count = reasons.1.count ∙ own_jobs.count in
       let few = few_gates lines good in
       let outer = length-append (lines_from 0 fs bs ++ unkept_lines g ms) (map timing (time_lines g.circuit ms)) in
       let inner = length-append (lines_from 0 fs bs) (unkept_lines g ms) in
@@ -391,5 +375,9 @@ module _ (lines : List CircuitLine) (p : Pattern) (ms : List ModuleLines) (good 
 pub some_verdict : ModulesHaveVerdict
 some_verdict lines p ms good limits are =
     let v = verdict lines p ms good limits are in
-    let js = own_jobs lines p ms good limits are in
-    record { jobs = js.0; are_jobs = js.1; verdict = v.0; judged = v.1 }
+    record {
+      jobs = map (job_of (circuit_of lines) p) ms;
+      are_jobs = own_jobs lines p ms good limits are;
+      verdict = v.0;
+      judged = v.1;
+    }

@@ -1,6 +1,6 @@
 -- A text that is reported with a yes is so too after it is migrated.
 use Rattle.std.proofs.Common.{◌≡◌, ◌≤◌, ◌==◌, ℕ, Bool, true, false, List, [], ◌∷◌, ◌++◌, Result, Ok, refl, sym, ap}
-use Rattle.std.proofs.Common.{subst, ◌∙◌, arith}
+use Rattle.std.proofs.Common.{ap₂, subst, ◌∙◌, arith}
 use Rattle.std.proofs.lemmas.Bool.Decides.{nat_tests}
 use Rattle.section_text.specs.declared.fault.Refusal.{Refusal}
 use Rattle.section_text.proofs.Good.{AreFaultless, IsFaultless}
@@ -9,8 +9,6 @@ use Rattle.circuit.specs.declared.circuit_line.CircuitLine.{CircuitLine}
 use Rattle.pattern.specs.FromLines.{layout_of}
 use Rattle.pattern.specs.Grammars.{layout_value}
 use Rattle.pattern.specs.Layout.{Pattern}
-use Rattle.pattern.specs.declared.layout_line.LayoutHeader.{LayoutHeader}
-use Rattle.pattern.specs.declared.layout_line.LayoutLine.{LayoutLine}
 use Rattle.certificate_lines.specs.Entries.{ModuleLines, Setting, modules_of}
 use Rattle.certificate.specs.Grammars.{CertView, certificate_grammar, migrated, modules_in}
 use Rattle.certificate_lines.specs.Settings.{setting_of}
@@ -31,7 +29,7 @@ use Rattle.answers.specs.BundleText.{Bundle, bundle_of}
 use Rattle.answers.specs.CheckText.{IsReportOf, IsVerdictOn, SaysReport}
 use Rattle.answers.specs.MigrateText.{in_version_two, migrate_of}
 use Rattle.answers.specs.declared.outcome.Outcome.TheVariants.{Yes}
-use Rattle.answers.proofs.Bundles.{same_setting}
+use Rattle.headline.proofs.OneAnswer.{layout_from}
 use Rattle.headline.specs.Migration.{MigrationIsAccepted}
 use Rattle.headline.proofs.FullJobs.{full_jobs}
 use Rattle.headline.proofs.Migrations.{HasSections, IsGoodBundle, IsMigrated, bundle_made, good_read, migrated_sections}
@@ -55,10 +53,7 @@ from_lines g v (i ∷ es) before h = (h.0, from_lines g v es (before ++ i ∷ []
 -- a bundle by its sizes and parts has the setting of its layout
 own_setting : (b : Bundle) (circuit : List CircuitLine) (p : Pattern) → circuit ≡ b.circuit →
     layout_value p ≡ (b.size, b.parts) → setting_of b.circuit (layout_of b.size b.parts) ≡ setting_of circuit p
-own_setting b circuit p lines same =
-    ap (λ (q : LayoutHeader × List LayoutLine). setting_of b.circuit (layout_of q.0 q.1)) (sym same)
-    ∙ same_setting b.circuit p
-    ∙ ap (λ cs. setting_of cs p) (sym lines)
+own_setting b circuit p lines same = ap₂ setting_of (sym lines) (layout_from p b.size b.parts same)
 
 -- what is reported of the migrated text
 record IsReportedYes (output : List ℕ) : Type 0 where

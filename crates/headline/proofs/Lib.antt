@@ -4,11 +4,10 @@ mod OneListing
 mod OneReport
 mod SomeAnswer
 mod SomeReport
+mod PassingTexts
 mod SomeRun
 mod Designs
-mod ThereAndBack
-mod TimedModules
-mod Trials
+mod AcceptedTexts
 pub mod FourthLines
 pub mod YesIsRight
 pub mod PlainTexts

@@ -10,7 +10,7 @@ use Rattle.std.proofs.Math.Seq.{drop-append_seam}
 use Rattle.section_text.specs.Words.{is_word_at, lines_of, lone_number, number_at, number_of, rest_of, words_of}
 use Rattle.section_text.specs.Codes.{code_where, or_else}
 use Rattle.section_text.specs.SaidSection.{IsSection}
-use Rattle.section_text.specs.Section.{Grammar, ended_line, section_of}
+use Rattle.section_text.specs.Section.{Grammar, ended_line}
 use Rattle.section_text.specs.Sections.{finished, go_on, section_then}
 use Rattle.section_text.specs.declared.fault.Refusal.{Refusal}
 use Rattle.section_text.specs.declared.section.Form.{Form}
@@ -52,9 +52,9 @@ use Rattle.answers.specs.declared.outcome.Outcome.TheVariants.{Yes, Refused}
 use Rattle.headline.specs.Migration.{KeepsVersionTwo, MigratesOnce, MigrationSaysTheSame}
 use Rattle.meaning.specs.Design.{SaysDesign}
 use Rattle.headline.specs.Stops.{SaysBundle}
-use Rattle.headline.proofs.YesIsRight.{went_on}
 use Rattle.section_text.specs.declared.code.RefusalCode.{RefusalCode}
 use Rattle.section_text.specs.declared.code.RefusalCode.TheVariants.{NoForm}
+use Rattle.headline.proofs.YesIsRight.{bundle_good, in_sections, past_circuit, past_layout}
 
 -- ---- a text by its sections
 
@@ -76,53 +76,39 @@ pub record IsGoodBundle (b : Bundle) : Type 0 where
   pub certificate : IsFaultless
       (certificate_grammar (setting_of b.circuit (layout_of b.size b.parts))) b.version b.entries
 
-over : {B : Type 0} (n : ℕ) (ls : List (List ℕ)) (rest : List ℕ) (value b : B) → finished n ls rest value ≡ Ok b →
-    (ls ≡ []) × (rest ≡ []) × (value ≡ b)
-over n [] [] value b e = (refl, refl, cc)
-over n [] (c ∷ rest) value b e = absurd cc
-over n (l ∷ ls) rest value b e = absurd cc
-
 pub sections_read : (text : List ℕ) (b : Bundle) → bundle_of text ≡ Ok b → HasSections text b
-unfolding bundle_of
 sections_read text b e =
-    let c = went_on (section_of circuit_grammar 0 (lines_of text)) _ b e in
-    let l = went_on (section_of (layout_grammar (Some (port_names_of c.items))) _ _) _ b c.then in
-    let k = went_on (section_of (certificate_grammar (setting_of c.items (layout_of l.header l.items))) _ _) _ b
-    l.then in
-    let done = over _ _ _ _ b k.then in
-    let i = length c.items + 2 in
-    let j = length l.items + 2 in
-    let n = length k.items + 2 in
-    let later = drop i (lines_of text) in
-    let last = drop j later in
+    let r = in_sections text b e in
+    let i = length b.circuit + 2 in
+    let j = length b.parts + 2 in
+    let n = length b.entries + 2 in
+    let later = past_circuit text b in
+    let last = past_layout text b in
     let whole : take n last ≡ last =
-    sym (append-nil (take n last)) ∙ ap (λ ls. take n last ++ ls) (sym done.0) ∙ take-append-drop n last in
-    subst (HasSections text) done.2 (record {
+    sym (append-nil (take n last)) ∙ ap (λ ls. take n last ++ ls) (sym r.nothing_more) ∙ take-append-drop n last in
+    record {
       first = take i (lines_of text);
       second = take j later;
       third = take n last;
       lines = sym (ap (λ ls. take i (lines_of text) ++ (take j later ++ ls)) whole
           ∙ ap (λ ls. take i (lines_of text) ++ ls) (take-append-drop j later) ∙ take-append-drop i (lines_of text));
-      rest = done.1;
-      circuit_is = section_said circuit_grammar 0 (lines_of text) tt c.items c.was;
-      layout_is = section_said (layout_grammar (Some (port_names_of c.items))) _ later l.header l.items l.was;
+      rest = r.ended;
+      circuit_is = section_said circuit_grammar 0 (lines_of text) tt b.circuit r.circuit;
+      layout_is = section_said (layout_grammar (Some (port_names_of b.circuit))) _ later b.size b.parts r.layout;
       certificate_is = section_said
-          (certificate_grammar (setting_of c.items (layout_of l.header l.items))) _ last k.header k.items k.was;
-    })
+          (certificate_grammar (setting_of b.circuit (layout_of b.size b.parts))) _ last b.version b.entries
+          r.certificate;
+    }
 
 pub good_read : (text : List ℕ) (b : Bundle) → bundle_of text ≡ Ok b → IsGoodBundle b
-unfolding bundle_of
 good_read text b e =
-    let c = went_on (section_of circuit_grammar 0 (lines_of text)) _ b e in
-    let l = went_on (section_of (layout_grammar (Some (port_names_of c.items))) _ _) _ b c.then in
-    let k = went_on (section_of (certificate_grammar (setting_of c.items (layout_of l.header l.items))) _ _) _ b
-    l.then in
-    subst IsGoodBundle ((over _ _ _ _ b k.then).2) (record {
-      circuit = read_faultless circuit_grammar 0 (lines_of text) tt c.items c.was;
-      layout = read_faultless (layout_grammar (Some (port_names_of c.items))) _ _ l.header l.items l.was;
-      certificate = read_faultless (certificate_grammar (setting_of c.items (layout_of l.header l.items))) _ _ k.header
-          k.items k.was;
-    })
+    let r = in_sections text b e in
+    record {
+      circuit = read_faultless circuit_grammar 0 (lines_of text) tt b.circuit r.circuit;
+      layout = (bundle_good text b e).layout;
+      certificate = read_faultless (certificate_grammar (setting_of b.circuit (layout_of b.size b.parts))) _ _ b.version
+          b.entries r.certificate;
+    }
 
 -- ---- and such a text is read
 

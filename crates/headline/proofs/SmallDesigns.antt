@@ -46,7 +46,14 @@ use Rattle.std.specs.Str.{bytes_eq}
 use Rattle.std.proofs.lemmas.Slice.Eq.{bytes_eq-Decides}
 use Rattle.std.proofs.lemmas.List.Folds.{list_any-append}
 use Rattle.circuit.specs.Grammars.{circuit_grammar}
-use Rattle.pattern.specs.Grammars.{layout_grammar}
+use Rattle.pattern.specs.Forms.{form_of as layout_form}
+use Rattle.pattern.specs.Grammars.{layout_grammar, layout_value}
+use Rattle.pattern.specs.declared.layout_line.LayoutHeader.{LayoutHeader}
+use Rattle.pattern.specs.declared.layout_line.LayoutLine.{LayoutLine}
+use Rattle.certificate_lines.specs.Forms.{form_of as certificate_form}
+use Rattle.section_text.specs.SaidSection.{IsSection}
+use Rattle.section_text.specs.Section.{Grammar, section_of}
+use Rattle.section_text.proofs.MadeSections.{section_made}
 use Rattle.pattern.specs.Lines.{AreNamed, is_side, size_fault}
 use Rattle.pattern.specs.declared.layout_line.Port.{Port}
 use Rattle.pattern.proofs.Named.{faultless_named}
@@ -57,17 +64,18 @@ use Rattle.audit_core.specs.HeadlineLaws.{IsInputName}
 use Rattle.audit_core.specs.declared.verdict.Verdict.{Verdict}
 use Rattle.audit_core.proofs.InputRuns.{IsPlaced, placed, read_layout-names}
 use Rattle.audit_core.proofs.PortNames.{read_layout-is_named}
+use Rattle.audit_core.proofs.Trials.{range_at}
 use Rattle.answers.specs.Answers.{Answered}
 use Rattle.answers.specs.BundleText.{Bundle, bundle_of}
 use Rattle.answers.specs.CheckText.{SaysReport, verdict_outcome}
 use Rattle.answers.specs.declared.outcome.Outcome.{Outcome}
 use Rattle.answers.specs.declared.outcome.Outcome.TheVariants.{Yes, No, Refused}
 use Rattle.answers.proofs.Bundles.{same_setting}
-use Rattle.headline.specs.SmallDesigns.{IsSmall, gate_numbers, plain_lines}
+use Rattle.headline.specs.SmallDesigns.{IsPlainText, IsSmall, gate_numbers, plain_lines}
 use Rattle.headline.specs.PlainLaws.{RefusedIsNoSmallDesign, SmallDesignIsDecided}
 use Rattle.headline.specs.Stops.{SaysBundle}
-use Rattle.headline.proofs.Migrations.{HasSections, IsGoodBundle, bundle_made}
-use Rattle.headline.proofs.YesIsRight.{circuit_good}
+use Rattle.headline.proofs.Migrations.{HasSections, IsGoodBundle, bundle_made, good_read, sections_read}
+use Rattle.headline.proofs.YesIsRight.{bundle_good, circuit_good}
 use Rattle.audit_core.specs.declared.verdict.Verdict.TheVariants as verdict
 use Rattle.headline.proofs.PlainLines.{all_inner, among_range, none_of, own_of, is_one, plain_lines_decide}
 use Rattle.std.proofs.lemmas.Grind.{flat_map-append}
@@ -80,11 +88,6 @@ use Rattle.section_text.specs.declared.code.RefusalCode.TheVariants.{MisplacedBo
 use Rattle.section_text.specs.declared.code.RefusalCode.TheVariants.{SomethingMissing}
 
 -- ---- numbers in a range
-
-pub range_at : (n a k : ℕ) → k < n → slice_get (range_with_len a n) k ≡ Some (a + k)
-range_at zero a k lt = absurd (omega (arith, lt))
-range_at (suc n) a zero lt = ap Some (omega arith)
-range_at (suc n) a (suc k) lt = range_at n (a + 1) k (omega (arith, lt)) ∙ ap Some (omega arith)
 
 pub range_append : (n a d : ℕ) → range_with_len a n ++ range_with_len (a + n) d ≡ range_with_len a (n + d)
 range_append zero a d = ap₂ range_with_len (omega arith) (omega arith)
@@ -723,6 +726,34 @@ module _ (circuit : List CircuitLine) (p : Pattern) (good : AreGood circuit)
 
 -- ---- the text
 
+-- a text that is read and has the lines of the plain certificate
+pub is_plain_text : (text : List ℕ) (b : Bundle) (layout : Pattern) → bundle_of text ≡ Ok b →
+    layout_value layout ≡ (b.size, b.parts) → b.version ≡ 1 → b.entries ≡ plain_lines b.circuit layout →
+    IsPlainText text b.circuit layout
+is_plain_text text b layout e same version entries =
+    let s = sections_read text b e in
+    let good = good_read text b e in
+    let ports = Some (port_names_of b.circuit) in
+    record {
+      first = s.first;
+      second = s.second;
+      third = s.third;
+      lines = s.lines;
+      ended = s.rest;
+      circuit_is = s.circuit_is;
+      circuit_read = read_alone circuit_grammar s.first tt b.circuit s.circuit_is good.circuit;
+      layout_is = subst (λ (q : LayoutHeader × List LayoutLine). IsSection layout_form s.second q.0 q.1) (sym same)
+          s.layout_is;
+      layout_read = read_alone (layout_grammar ports) s.second b.size b.parts s.layout_is good.layout
+          ∙ ap Ok (sym same);
+      certificate_is = subst (λ v. IsSection certificate_form s.third v (plain_lines b.circuit layout)) version
+          (subst (IsSection certificate_form s.third b.version) entries s.certificate_is);
+    }
+  where
+    read_alone : {H I : Type 0} (g : Grammar H I) (ls : List (List ℕ)) (h : H) (items : List I) →
+        IsSection g.form ls h items → IsFaultless g h items → section_of g 0 ls ≡ Ok (h, items)
+    read_alone g ls h items is good = ap (section_of g 0) (sym (append-nil ls)) ∙ section_made g 0 ls [] h items is good
+
 not_refused : (v : Verdict) (outcome : Outcome) → outcome ≡ verdict_outcome v → outcome ≡ Refused → ⊥
 not_refused verdict.Yes outcome e r = let clash : Yes ≡ Refused = sym e ∙ r in cc
 not_refused (verdict.No lines) outcome e r = let clash : No ≡ Refused = sym e ∙ r in cc
@@ -759,21 +790,8 @@ small_is_decided text output outcome circuit layout t small reports =
     let reads : bundle_of text ≡ Ok b = bundle_made text b sections is_good in
     let says : SaysReport b output outcome = subst (λ r. Answered SaysReport r output outcome) reads reports in
     let some : outcome ≢ Refused = not_refused says.verdict outcome says.ends in
-    let said : SaysBundle text circuit layout (plain_lines circuit layout) = record {
-      design = record {
-        first = t.first;
-        second = t.second;
-        others = t.third;
-        lines = t.lines;
-        circuit_is = t.circuit_is;
-        layout_is = t.layout_is;
-      };
-      version = 1;
-      third = t.third;
-      rest = [];
-      lines = sym (append-nil t.third);
-      certificate_is = t.certificate_is;
-    } in
+    let said : SaysBundle text circuit layout (plain_lines circuit layout) =
+    (bundle_good text b reads).says_all layout refl in
     (some, (plain_lines_decide text output outcome circuit layout said reports some).1)
 
 pub refused_is_none : RefusedIsNoSmallDesign

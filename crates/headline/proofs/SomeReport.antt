@@ -1,5 +1,5 @@
 -- A text has a report
-use Rattle.std.proofs.Common.{◌≡◌, ◌++◌, ◌∷◌, ◌∙◌, [], ℕ, List, Option, Some, None, Ok, refl, sym, ap, ap₂, subst}
+use Rattle.std.proofs.Common.{◌≡◌, ◌++◌, ◌∷◌, ◌∙◌, [], ℕ, List, Option, Some, None, Ok, refl, sym, ap, subst}
 use Rattle.std.proofs.Common.{append-nil, append_assoc}
 use Rattle.section_text.proofs.Good.{AreFaultless, IsFaultless}
 use Rattle.section_text.specs.Codes.{or_else}
@@ -18,11 +18,11 @@ use Rattle.certificate_lines.specs.Settings.{setting_of}
 use Rattle.certificate.proofs.FullModules.{meant_modules}
 use Rattle.certificate.proofs.Soundness.{faultless_modules, read_complete}
 use Rattle.audit_core.specs.Concluding.{port_names_of}
-use Rattle.audit_core.specs.ModuleLaws.{HasVerdict}
 use Rattle.audit_core.proofs.SomeVerdict.{some_verdict}
 use Rattle.report.specs.ReportText.{report_lines}
 use Rattle.answers.specs.BundleText.{Bundle, bundle_of}
-use Rattle.answers.specs.CheckText.{IsReportOf, SaysReport, verdict_outcome}
+use Rattle.answers.specs.CheckText.{IsReportOf, IsVerdictOn, SaysReport, verdict_outcome}
+use Rattle.audit_core.specs.declared.verdict.Verdict.{Verdict}
 use Rattle.headline.specs.Laws.{HasAnAnswer}
 use Rattle.headline.proofs.SomeAnswer.{SaysSomething, answered_always}
 use Rattle.headline.proofs.YesIsRight.{bundle_good, certificate_faultless}
@@ -31,38 +31,22 @@ use Rattle.section_text.specs.declared.code.RefusalCode.{RefusalCode}
 -- ---- a layout from its lines
 
 -- a layout of this size with these lines
-record HasLines (s : LayoutHeader) (parts : List LayoutLine) : Type 0 where
-  pub layout : Pattern
-  pub size : layout.size ≡ s
-  pub are : parts_of layout ≡ parts
+HasLines : LayoutHeader → List LayoutLine → Type 0
+HasLines s parts = (p : Pattern) × (layout_value p ≡ (s, parts))
 
 with_part : (p : Pattern) (part : LayoutLine) → order_fault (parts_of p) part ≡ None →
     HasLines p.size (parts_of p ++ part ∷ [])
-with_part p (Mirror r) follows = record {
-  layout = record p { mirrors = p.mirrors ++ r ∷ [] };
-  size = refl;
-  are = with_mirror p p refl (Mirror r) follows r (p.mirrors ++ r ∷ []) refl refl;
-}
-with_part p (Ball c) follows = record {
-  layout = record p { balls = p.balls ++ c ∷ [] };
-  size = refl;
-  are = with_ball p p refl (Ball c) follows c (p.balls ++ c ∷ []) refl refl;
-}
-with_part p (In q) follows = record {
-  layout = record p { ins = p.ins ++ q ∷ [] };
-  size = refl;
-  are = with_in p p refl (In q) follows q (p.ins ++ q ∷ []) refl refl;
-}
-with_part p (Out q) follows = record {
-  layout = record p { outs = p.outs ++ q ∷ [] };
-  size = refl;
-  are = with_out p p refl (Out q) follows q (p.outs ++ q ∷ []) refl refl;
-}
-with_part p (Waste c) follows = record {
-  layout = record p { wastes = p.wastes ++ c ∷ [] };
-  size = refl;
-  are = with_waste p p refl (Waste c) follows c (p.wastes ++ c ∷ []) refl refl;
-}
+unfolding HasLines
+with_part p (Mirror r) e = let more = p.mirrors ++ r ∷ [] in
+    (record p { mirrors = more }, ap (λ l. (p.size, l)) (with_mirror p p refl (Mirror r) e r more refl refl))
+with_part p (Ball c) e = let more = p.balls ++ c ∷ [] in
+    (record p { balls = more }, ap (λ l. (p.size, l)) (with_ball p p refl (Ball c) e c more refl refl))
+with_part p (In q) e = let more = p.ins ++ q ∷ [] in
+    (record p { ins = more }, ap (λ l. (p.size, l)) (with_in p p refl (In q) e q more refl refl))
+with_part p (Out q) e = let more = p.outs ++ q ∷ [] in
+    (record p { outs = more }, ap (λ l. (p.size, l)) (with_out p p refl (Out q) e q more refl refl))
+with_part p (Waste c) e = let more = p.wastes ++ c ∷ [] in
+    (record p { wastes = more }, ap (λ l. (p.size, l)) (with_waste p p refl (Waste c) e c more refl refl))
 
 first_none : (a b : Option RefusalCode) → or_else a b ≡ None → a ≡ None
 first_none None b e = refl
@@ -74,70 +58,79 @@ unfolding part_fault line_fault
 follows ports s before part e = first_none (order_fault before part) _ (first_none _ _ e)
 
 more_parts : (ports : Option Named) (s : LayoutHeader) (before parts : List LayoutLine) → HasLines s before →
-    AreFaultless (layout_grammar ports) s before parts →
-    HasLines s (before ++ parts)
+    AreFaultless (layout_grammar ports) s before parts → HasLines s (before ++ parts)
+unfolding HasLines
 more_parts ports s before [] has good = subst (HasLines s) (sym (append-nil before)) has
 more_parts ports s before (part ∷ parts) has good =
-    let one = with_part has.layout part
-    (subst (λ l. order_fault l part ≡ None) (sym has.are) (follows ports s before part good.0)) in
-    let more : HasLines s
-    (before ++ part ∷ []) = record {
-      layout = one.layout;
-      size = one.size ∙ has.size;
-      are = one.are
-          ∙ ap (λ l. l ++ part ∷ []) has.are;
-    } in
     subst (HasLines s) (append_assoc before (part ∷ []) parts)
-    (more_parts ports s (before ++ part ∷ []) parts more good.1)
+    (more_parts ports s (before ++ part ∷ []) parts (next has) good.1)
+  where
+    next : HasLines s before → HasLines s (before ++ part ∷ [])
+    next (p, same) =
+        let are : parts_of p ≡ before = ap (λ (v : LayoutHeader × List LayoutLine). v.1) same in
+        let one = with_part p part
+        (subst (λ l. order_fault l part ≡ None) (sym are) (follows ports s before part good.0)) in
+        (one.0, one.1 ∙ ap (λ (v : LayoutHeader × List LayoutLine). (v.0, v.1 ++ part ∷ [])) same)
 
 pub some_layout : (ports : Option Named) (s : LayoutHeader) (parts : List LayoutLine) →
     IsFaultless (layout_grammar ports) s parts →
     (p : Pattern) × (layout_value p ≡ (s, parts))
+unfolding HasLines
 some_layout ports s parts good =
     let empty : Pattern = record { size = s; mirrors = []; balls = []; ins = []; outs = []; wastes = [] } in
-    let has = more_parts ports s [] parts (record { layout = empty; size = refl; are = refl }) good.each in
-    (has.layout, ap₂ (λ s l. (s, l)) has.size has.are)
+    more_parts ports s [] parts (empty, refl) good.each
 
 -- ---- the report
 
-module _ (text : List ℕ) (b : Bundle) (e : bundle_of text ≡ Ok b) where
-  own_layout : (p : Pattern) × (layout_value p ≡ (b.size, b.parts))
-  own_layout = some_layout (Some (port_names_of b.circuit)) b.size b.parts (bundle_good text b e).layout
-
-  abbrev c : CertView
-  c = record { circuit = b.circuit; layout = own_layout.0; version = b.version; entries = b.entries }
+-- a bundle that is read, and a layout of its lines
+module _ (text : List ℕ) (b : Bundle) (e : bundle_of text ≡ Ok b) (p : Pattern)
+    (same : layout_value p ≡ (b.size, b.parts)) where
+  abbrev pub certificate_by : CertView
+  certificate_by = record { circuit = b.circuit; layout = p; version = b.version; entries = b.entries }
 
   abbrev g : Setting
-  g = setting_of b.circuit own_layout.0
+  g = setting_of b.circuit p
 
   faultless : IsFaultless (certificate_grammar g) b.version b.entries
-  faultless = certificate_faultless text b own_layout.0 e own_layout.1
+  faultless = certificate_faultless text b p e same
 
-  modules_good : AreModules g (modules_in c)
+  pub modules_good : AreModules g (modules_in certificate_by)
   modules_good = meant_modules b.version g (modules_of b.entries) (faultless_modules g b.version b.entries faultless)
       (read_complete g b.version b.entries faultless)
 
-  limits : size_fault own_layout.0.size ≡ None
-  limits = subst (λ (q : LayoutHeader × List LayoutLine). size_fault q.0 ≡ None) (sym own_layout.1)
+  pub limits : size_fault p.size ≡ None
+  limits = subst (λ (q : LayoutHeader × List LayoutLine). size_fault q.0 ≡ None) (sym same)
       (bundle_good text b e).layout.header
 
-  judged : HasVerdict b.circuit own_layout.0 (modules_in c)
-  judged = some_verdict b.circuit own_layout.0 (modules_in c) (bundle_good text b e).circuit limits modules_good
-
-  reported : SaysSomething SaysReport b
-  reported = record {
-    output = report_lines c judged.verdict;
-    outcome = verdict_outcome judged.verdict;
-    is = record {
-      certificate = c;
-      its_own = record { circuit = refl; layout = own_layout.1; version = refl; entries = refl };
-      verdict = judged.verdict;
-      is_verdict =
-          record { good = modules_good; jobs = judged.jobs; are_jobs = judged.are_jobs; judged = judged.judged };
-      says = refl;
-      ends = refl;
-    };
+  -- a verdict on its modules is reported
+  pub reported_by : (v : Verdict) → IsVerdictOn certificate_by v →
+      SaysReport b (report_lines certificate_by v) (verdict_outcome v)
+  reported_by v is = record {
+    certificate = certificate_by;
+    its_own = record { circuit = refl; layout = same; version = refl; entries = refl };
+    verdict = v;
+    is_verdict = is;
+    says = refl;
+    ends = refl;
   }
+
+reported : (text : List ℕ) (b : Bundle) → bundle_of text ≡ Ok b → SaysSomething SaysReport b
+reported text b e =
+    let own = some_layout (Some (port_names_of b.circuit)) b.size b.parts (bundle_good text b e).layout in
+    let c = certificate_by text b e own.0 own.1 in
+    let good = modules_good text b e own.0 own.1 in
+    let judged = some_verdict b.circuit own.0 (modules_in c) (bundle_good text b e).circuit
+    (limits text b e own.0 own.1) good in
+    record {
+      output = report_lines c judged.verdict;
+      outcome = verdict_outcome judged.verdict;
+      is = reported_by text b e own.0 own.1 judged.verdict (record {
+        good = good;
+        jobs = judged.jobs;
+        are_jobs = judged.are_jobs;
+        judged = judged.judged;
+      });
+    }
 
 pub some_report : HasAnAnswer IsReportOf
 some_report text = answered_always SaysReport (bundle_of text) (λ b e. reported text b e)

@@ -39,6 +39,7 @@ use Rattle.pattern.proofs.Named.{faultless_named}
 use Rattle.section_text.specs.Ports.{Named}
 use Rattle.certificate.specs.Grammars.{CertView, certificate_grammar, modules_in}
 use Rattle.certificate_lines.specs.Settings.{setting_of}
+use Rattle.module_job.specs.Jobs.{JobView}
 use Rattle.certificate.specs.Arrivals.{AreOnTime}
 use Rattle.certificate_lines.specs.Entries.{modules_of, stop_in}
 use Rattle.certificate.specs.Times.{all_stops}
@@ -62,7 +63,7 @@ use Rattle.meaning.specs.Design.{SaysDesign}
 use Rattle.meaning.specs.Headline.{IsRight, SaysYes}
 use Rattle.headline.specs.Laws.{FourthLineTells, IsGoodDesign, ReportsOnGoodDesigns, YesHasOneValuation, YesMeansRight}
 use Rattle.headline.specs.Laws.{YesMeansRightStops}
-use Rattle.answers.proofs.Bundles.{same_setting}
+use Rattle.headline.proofs.OneAnswer.{layout_from}
 use Rattle.headline.proofs.Designs.{bundle_said, design_said, one_design}
 use Rattle.headline.specs.Stops.{HasRightStops, SaysBundle}
 use Rattle.headline.proofs.FourthLines.{refusal_says_none, says_yes, yes_says}
@@ -237,52 +238,64 @@ pub went_on : {H I : Type 0} {B : Type 0} (read : Result (H × List I) Refusal) 
 went_on (Ok read) next b e = record { header = read.0; items = read.1; was = refl; then = e }
 went_on (Err refusal) next b e = absurd cc
 
-is_finished : {B : Type 0} (n : ℕ) (ls : List (List ℕ)) (rest : List ℕ) (value b : B) →
-    finished n ls rest value ≡ Ok b → value ≡ b
-is_finished n [] [] value b e = cc
-is_finished n [] (c ∷ rest) value b e = absurd cc
-is_finished n (l ∷ ls) rest value b e = absurd cc
+is_over : {B : Type 0} (n : ℕ) (ls : List (List ℕ)) (rest : List ℕ) (value b : B) → finished n ls rest value ≡ Ok b →
+    (ls ≡ []) × (rest ≡ []) × (value ≡ b)
+is_over n [] [] value b e = (refl, refl, cc)
+is_over n [] (c ∷ rest) value b e = absurd cc
+is_over n (l ∷ ls) rest value b e = absurd cc
 
-pub bundle_good : (text : List ℕ) (b : Bundle) → bundle_of text ≡ Ok b → IsReadBundle text b
+abbrev pub past_circuit : List ℕ → Bundle → List (List ℕ)
+past_circuit text b = drop (length b.circuit + 2) (lines_of text)
+
+abbrev pub past_layout : List ℕ → Bundle → List (List ℕ)
+past_layout text b = drop (length b.parts + 2) (past_circuit text b)
+
+-- the three sections of a text are read one after the other, and no byte follows them
+pub record AreSections (text : List ℕ) (b : Bundle) : Type 0 where
+  pub circuit : section_of circuit_grammar 0 (lines_of text) ≡ Ok (tt, b.circuit)
+  pub layout : section_of (layout_grammar (Some (port_names_of b.circuit))) (0 + (length b.circuit + 2))
+      (past_circuit text b) ≡ Ok (b.size, b.parts)
+  pub certificate : section_of (certificate_grammar (setting_of b.circuit (layout_of b.size b.parts)))
+      (0 + (length b.circuit + 2) + (length b.parts + 2)) (past_layout text b) ≡ Ok (b.version, b.entries)
+  pub nothing_more : drop (length b.entries + 2) (past_layout text b) ≡ []
+  pub ended : rest_of text ≡ []
+
+pub in_sections : (text : List ℕ) (b : Bundle) → bundle_of text ≡ Ok b → AreSections text b
 unfolding bundle_of
-bundle_good text b e =
+in_sections text b e =
     let c = went_on (section_of circuit_grammar 0 (lines_of text)) _ b e in
     let l = went_on (section_of (layout_grammar (Some (port_names_of c.items))) _ _) _ b c.then in
     let k = went_on (section_of (certificate_grammar (setting_of c.items (layout_of l.header l.items))) _ _) _ b
     l.then in
-    let m : ℕ = 0 + (length c.items + 2) + (length l.items + 2) in
-    subst (IsReadBundle text) (is_finished _ _ _ _ b k.then) (record {
-      circuit = circuit_good 0 (lines_of text) c.header c.items c.was;
-      layout = read_faultless (layout_grammar (Some (port_names_of c.items))) _ _ l.header l.items l.was;
-      says = λ p same. design_said text c.items (Some (port_names_of c.items)) _ p c.was (l.was ∙ ap Ok (sym same));
-      begins = λ p same. spelled text c.items (Some (port_names_of c.items)) _ p c.was (l.was ∙ ap Ok (sym same));
-      says_all = λ p same. bundle_said text c.items (Some (port_names_of c.items)) _ p
-          (setting_of c.items (layout_of l.header l.items)) m k.header k.items c.was (l.was ∙ ap Ok (sym same))
-          (subst (λ (q : LayoutHeader × List LayoutLine).
-          section_of (certificate_grammar (setting_of c.items (layout_of l.header l.items))) m
-          (drop (length q.1 + 2) (drop (length c.items + 2) (lines_of text))) ≡ Ok (k.header, k.items))
-          (sym same) k.was);
-    })
+    let over = is_over _ _ _ _ b k.then in
+    subst (AreSections text) over.2
+    (record { circuit = c.was; layout = l.was; certificate = k.was; nothing_more = over.0; ended = over.1 })
+
+pub bundle_good : (text : List ℕ) (b : Bundle) → bundle_of text ≡ Ok b → IsReadBundle text b
+bundle_good text b e =
+    let r = in_sections text b e in
+    let ports = Some (port_names_of b.circuit) in
+    let m : ℕ = 0 + (length b.circuit + 2) + (length b.parts + 2) in
+    let setting = setting_of b.circuit (layout_of b.size b.parts) in
+    record {
+      circuit = circuit_good 0 (lines_of text) tt b.circuit r.circuit;
+      layout = read_faultless (layout_grammar ports) _ _ b.size b.parts r.layout;
+      says = λ p same. design_said text b.circuit ports _ p r.circuit (r.layout ∙ ap Ok (sym same));
+      begins = λ p same. spelled text b.circuit ports _ p r.circuit (r.layout ∙ ap Ok (sym same));
+      says_all = λ p same. bundle_said text b.circuit ports _ p setting m b.version b.entries r.circuit
+          (r.layout ∙ ap Ok (sym same))
+          (subst (λ (q : LayoutHeader × List LayoutLine). section_of (certificate_grammar setting) m
+          (drop (length q.1 + 2) (past_circuit text b)) ≡ Ok (b.version, b.entries)) (sym same) r.certificate);
+    }
 
 -- and those of its certificate are good
 pub certificate_faultless : (text : List ℕ) (b : Bundle) (p : Pattern) → bundle_of text ≡ Ok b →
     layout_value p ≡ (b.size, b.parts) → IsFaultless (certificate_grammar (setting_of b.circuit p)) b.version b.entries
-unfolding bundle_of
 certificate_faultless text b p e same =
-    let c = went_on (section_of circuit_grammar 0 (lines_of text)) _ b e in
-    let l = went_on (section_of (layout_grammar (Some (port_names_of c.items))) _ _) _ b c.then in
-    let k = went_on (section_of (certificate_grammar (setting_of c.items (layout_of l.header l.items))) _ _) _ b
-    l.then in
-    let whole = is_finished _ _ _ _ b k.then in
-    let P : Bundle → Type 0 = λ b.
-    IsFaultless (certificate_grammar (setting_of b.circuit (layout_of b.size b.parts))) b.version b.entries in
-    let good : P b = subst P whole
-    (read_faultless (certificate_grammar (setting_of c.items (layout_of l.header l.items))) _ _ k.header k.items
-    k.was) in
-    let Q : LayoutHeader × List LayoutLine → Type 0 =
-    λ q. IsFaultless (certificate_grammar (setting_of b.circuit (layout_of q.0 q.1))) b.version b.entries in
-    subst (λ g. IsFaultless (certificate_grammar g) b.version b.entries) (same_setting b.circuit p)
-    (subst Q (sym same) good)
+    subst (λ p. IsFaultless (certificate_grammar (setting_of b.circuit p)) b.version b.entries)
+    (layout_from p b.size b.parts same)
+    (read_faultless (certificate_grammar (setting_of b.circuit (layout_of b.size b.parts))) _ _ b.version b.entries
+    (in_sections text b e).certificate)
 
 -- ---- the design of a text that is not refused
 
@@ -353,47 +366,53 @@ known text b output outcome reads says =
     }
 
 -- what was judged so is right
-judged_yes : (text : List ℕ) (b : Bundle) (output : List ℕ) (outcome : Outcome) → bundle_of text ≡ Ok b →
-    (says : SaysReport b output outcome) → says.verdict ≡ verdict.Yes → IsRight text
-judged_yes text b output outcome reads says is =
-    let c : CertView = says.certificate in
-    let same = says.its_own in
-    let v = says.is_verdict in
-    let judged = subst (λ (w : Verdict). IsVerdict (setting_of c.circuit c.layout) (modules_in c) v.jobs w) is
-    v.judged in
-    let correct = yes_means-correct c c.layout.size v.jobs (known text b output outcome reads says) v.are_jobs judged in
-    record {
-      circuit = b.circuit;
-      layout = c.layout;
-      says = (bundle_good text b reads).says c.layout same.layout;
-      correct = subst (λ (cs : List CircuitLine). IsCorrect cs c.layout) same.circuit correct;
-    }
+module _ (text : List ℕ) (b : Bundle) (output : List ℕ) (outcome : Outcome) (reads : bundle_of text ≡ Ok b)
+    (says : SaysReport b output outcome) (is : says.verdict ≡ verdict.Yes) where
+  abbrev c : CertView
+  c = says.certificate
 
--- and so are its stops
-judged_stops : (text : List ℕ) (b : Bundle) (output : List ℕ) (outcome : Outcome) → bundle_of text ≡ Ok b →
-    (says : SaysReport b output outcome) → says.verdict ≡ verdict.Yes → HasRightStops text
-judged_stops text b output outcome reads says is =
-    let c : CertView = says.certificate in
-    let same = says.its_own in
-    let v = says.is_verdict in
-    let judged = subst (λ (w : Verdict). IsVerdict (setting_of c.circuit c.layout) (modules_in c) v.jobs w) is
-    v.judged in
-    let right = yes_means-on_time c c.layout.size v.jobs (known text b output outcome reads says) v.are_jobs judged in
-    let own : all_stops (modules_in c) ≡ flat_map stop_in b.entries =
-    stops_meant c.version (setting_of c.circuit c.layout) (modules_of c.entries)
-    ∙ ap (λ (es : List CertificateLine). all_stops (modules_of es)) same.entries
-    ∙ all_in_modules (setting_of b.circuit c.layout) b.version b.entries
-    (certificate_faultless text b c.layout reads same.layout) in
-    record {
-      circuit = b.circuit;
-      layout = c.layout;
-      certificate = b.entries;
-      says = (bundle_good text b reads).says_all c.layout same.layout;
-      stops = subst (λ (cs : List CircuitLine). All (StopHolds (circuit_of cs) c.layout) (flat_map stop_in b.entries))
-          same.circuit (subst (All (StopHolds (circuit_of c.circuit) c.layout)) own right.stops);
-      on_time = subst (λ (cs : List CircuitLine). AreOnTime (circuit_of cs) (flat_map stop_in b.entries)) same.circuit
-          (subst (λ (ss : List StopLine). AreOnTime (circuit_of c.circuit) ss) own right.times);
-    }
+  abbrev p : Pattern
+  p = c.layout
+
+  abbrev jobs : List JobView
+  jobs = says.is_verdict.jobs
+
+  abbrev same_circuit : c.circuit ≡ b.circuit
+  same_circuit = says.its_own.circuit
+
+  accepted : IsVerdict (setting_of c.circuit p) (modules_in c) jobs verdict.Yes
+  accepted = subst (λ (w : Verdict). IsVerdict (setting_of c.circuit p) (modules_in c) jobs w) is
+      says.is_verdict.judged
+
+  judged_yes : IsRight text
+  judged_yes = record {
+    circuit = b.circuit;
+    layout = p;
+    says = (bundle_good text b reads).says p says.its_own.layout;
+    correct = subst (λ (cs : List CircuitLine). IsCorrect cs p) same_circuit
+        (yes_means-correct c p.size jobs (known text b output outcome reads says) says.is_verdict.are_jobs accepted);
+  }
+
+  -- and so are its stops
+  judged_stops : HasRightStops text
+  judged_stops =
+      let right = yes_means-on_time c p.size jobs (known text b output outcome reads says) says.is_verdict.are_jobs
+      accepted in
+      let own : all_stops (modules_in c) ≡ flat_map stop_in b.entries =
+      stops_meant c.version (setting_of c.circuit p) (modules_of c.entries)
+      ∙ ap (λ (es : List CertificateLine). all_stops (modules_of es)) says.its_own.entries
+      ∙ all_in_modules (setting_of b.circuit p) b.version b.entries
+      (certificate_faultless text b p reads says.its_own.layout) in
+      record {
+        circuit = b.circuit;
+        layout = p;
+        certificate = b.entries;
+        says = (bundle_good text b reads).says_all p says.its_own.layout;
+        stops = subst (λ (cs : List CircuitLine). All (StopHolds (circuit_of cs) p) (flat_map stop_in b.entries))
+            same_circuit (subst (All (StopHolds (circuit_of c.circuit) p)) own right.stops);
+        on_time = subst (λ (cs : List CircuitLine). AreOnTime (circuit_of cs) (flat_map stop_in b.entries)) same_circuit
+            (subst (λ (ss : List StopLine). AreOnTime (circuit_of c.circuit) ss) own right.times);
+      }
 
 not_refused : Yes ≡ Refused → ⊥
 not_refused e = cc
@@ -406,13 +425,11 @@ by_outcome P text output judged (Err refusal) e told = absurd (not_refused told.
 
 pub yes_is_right : YesMeansRight
 yes_is_right text output says =
-    by_outcome (IsRight text) text output (λ b e says is. judged_yes text b output Yes e says is)
-    (bundle_of text) refl says
+    by_outcome (IsRight text) text output (λ b e. judged_yes text b output Yes e) (bundle_of text) refl says
 
 pub yes_has_right_stops : YesMeansRightStops
 yes_has_right_stops text output says =
-    by_outcome (HasRightStops text) text output (λ b e says is. judged_stops text b output Yes e says is)
-    (bundle_of text) refl says
+    by_outcome (HasRightStops text) text output (λ b e. judged_stops text b output Yes e) (bundle_of text) refl says
 
 -- ---- the fourth line
 

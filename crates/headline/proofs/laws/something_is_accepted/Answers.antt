@@ -1,15 +1,14 @@
-use Rattle.headline.proofs.TimedModules as timed
-use Rattle.headline.proofs.ThereAndBack as inverse
+use Rattle.headline.proofs.AcceptedTexts as texts
 use Rattle.headline.proofs.laws.something_is_accepted.Goals as goal
 
 pub returns-clause-timed : goal.returns-clause-timed
-returns-clause-timed c = timed.accepted
+returns-clause-timed c = texts.timed_accepted
 
 pub returns-clause-inverse : goal.returns-clause-inverse
-returns-clause-inverse c = inverse.accepted
+returns-clause-inverse c = texts.inverse_accepted
 
 pub returns-clause-plain : goal.returns-clause-plain
-returns-clause-plain c = inverse.plain
+returns-clause-plain c = texts.plain
 
 pub returns-clause-small : goal.returns-clause-small
-returns-clause-small c = inverse.small
+returns-clause-small c = texts.small

@@ -1,0 +1,132 @@
+-- Two texts are accepted, by computation: they are read, and their modules pass tests.
+--
+-- One is of four modules around a gate, with stops and a delay, and one of a switch and its inverse gate.
+use Rattle.std.proofs.Common.{◌≡◌, List, [], ◌∷◌, Ok, refl, arith}
+use Rattle.std.specs.Prelude.{codes}
+use Rattle.bbm_rule.specs.Bits.{bit}
+use Rattle.bbm_rule.specs.Plane.{partner, step, turned}
+use Rattle.bbm_rule.specs.Spans.{in_span}
+use Rattle.section_text.specs.Words as words
+use Rattle.section_text.specs.Section as section
+use Rattle.circuit.specs.Evaluate.{evaluate}
+use Rattle.circuit.specs.Forms as circuit_forms
+use Rattle.circuit.specs.Gates.{row}
+use Rattle.circuit.specs.Meaning as meaning
+use Rattle.circuit.specs.Rules as circuit_rules
+use Rattle.circuit.specs.declared.circuit_line.CircuitLine.{CircuitLine}
+use Rattle.circuit.specs.declared.circuit_line.GateKind.TheVariants.{Switch, Unswitch}
+use Rattle.circuit.specs.declared.circuit_line.Kind.TheVariants.{Input, Gate, Output}
+use Rattle.pattern.specs.Forms as layout_forms
+use Rattle.pattern.specs.Layout as layouts
+use Rattle.pattern.specs.Layout.{Pattern, cell, parts_of}
+use Rattle.pattern.specs.Lines as layout_rules
+use Rattle.module_box.specs.Boxes as boxes
+use Rattle.module_box.specs.Moments.{cell_cmp}
+use Rattle.module_box.specs.Schedules.{all_times_at, event_at, signal_at}
+use Rattle.module_job.specs.Jobs.{job_demand, job_start}
+use Rattle.certificate_lines.specs.Entries as entries
+use Rattle.certificate_lines.specs.Forms as forms
+use Rattle.certificate_lines.specs.Orders as orders
+use Rattle.certificate_lines.specs.PortTables.{port_at}
+use Rattle.certificate_lines.specs.Rules as rules
+use Rattle.certificate_lines.specs.Versions.{meant}
+use Rattle.certificate.specs.Jobs.{end_demand, start_signal}
+use Rattle.certificate.specs.Times as times
+use Rattle.local_run.specs.Runs.{local_run, local_step, with_halo}
+use Rattle.audit_core.proofs.NumberedSignals.{numbered, numbered_all_times, numbered_event, numbered_signals}
+use Rattle.audit_core.proofs.NumberedSignals.{place_among}
+use Rattle.audit_core.proofs.SomeJobs.{demanded, placed_gate, placed_gates, placed_stop, places}
+use Rattle.answers.specs.BundleText.{Bundle, bundle_of}
+use Rattle.answers.specs.declared.outcome.Outcome.TheVariants.{Yes}
+use Rattle.headline.specs.Laws.{ThereAndBackIsAccepted, TimedModulesAreAccepted}
+use Rattle.headline.specs.PlainLaws.{ThereAndBackIsPlain, ThereAndBackIsSmall}
+use Rattle.headline.specs.SmallDesigns.{plain_lines}
+use Rattle.headline.specs.ThereAndBack.{there_and_back}
+use Rattle.headline.specs.TimedModules.{timed_modules}
+use Rattle.headline.proofs.PassingTexts.{PassesIfRead, accepted_if}
+use Rattle.headline.proofs.PlainLines.{plain_lines_decide}
+use Rattle.headline.proofs.SmallDesigns.{is_plain_text}
+use Rattle.headline.proofs.YesIsRight.{bundle_good}
+
+-- ---- the switch and its inverse gate
+
+abbrev circuit : List CircuitLine
+circuit =
+    record { kind = Input; ins = []; outs = codes "c" ∷ [] }
+    ∷ record { kind = Input; ins = []; outs = codes "x" ∷ [] }
+    ∷ record { kind = Gate Switch; ins = codes "c" ∷ codes "x" ∷ []; outs = codes "d" ∷ codes "y" ∷ codes "z" ∷ [] }
+    ∷ record { kind = Gate Unswitch; ins = codes "d" ∷ codes "y" ∷ codes "z" ∷ []; outs = codes "e" ∷ codes "w" ∷ [] }
+    ∷ record { kind = Output; ins = codes "e" ∷ []; outs = [] }
+    ∷ record { kind = Output; ins = codes "w" ∷ []; outs = [] } ∷ []
+
+abbrev layout : Pattern
+layout = record {
+  size = record { w = 2; h = 2; steps = 0 };
+  mirrors = [];
+  balls = [];
+  ins = record { name = codes "c"; cell = cell 0 0 } ∷ record { name = codes "x"; cell = cell 1 0 } ∷ [];
+  outs = record { name = codes "e"; cell = cell 0 0 } ∷ record { name = codes "w"; cell = cell 1 0 } ∷ [];
+  wastes = [];
+}
+
+abbrev bundle : Bundle
+bundle = record {
+  circuit = circuit;
+  size = layout.size;
+  parts = parts_of layout;
+  version = 1;
+  entries = plain_lines circuit layout;
+}
+
+-- ---- both texts are read, and pass
+
+record AreRead : Type 0 where
+  pub timed : PassesIfRead (bundle_of timed_modules)
+  pub inverse : PassesIfRead (bundle_of there_and_back)
+  pub reads : bundle_of there_and_back ≡ Ok bundle
+
+are_read : AreRead
+unfolding timed_modules there_and_back bundle_of words.lines_of words.rest_of words.number_of words.name_of
+    words.number_at words.name_at words.names_at words.is_word_at words.lone words.lone_number words.lone_name
+    section.section_of section.body_of circuit_forms.form_of circuit_forms.gate_entry circuit_forms.gate_names
+    circuit_forms.gate_kind circuit_forms.bit_at circuit_rules.add_fault meaning.number meaning.place_of
+    layout_forms.form_of layout_forms.cell_from layout_forms.lone_cell layout_forms.named_cell layout_forms.port_of
+    layout_forms.size_of layout_forms.sides_and_steps layout_rules.size_fault layout_rules.limit_fault
+    layout_rules.rank_of layout_rules.is_late layout_rules.order_fault layout_rules.name_fault layout_rules.cells_of
+    layout_rules.is_inside layout_rules.begins layout_rules.ends layout_rules.begun layout_rules.ended
+    layout_rules.is_taken layout_rules.cell_fault layout_rules.line_fault layout_rules.part_fault
+    layout_rules.missing_fault layouts.rectangle_cells in_span boxes.in_box boxes.some_neighbour boxes.in_ring
+    boxes.in_halo entries.change_last entries.last_of entries.add_line entries.modules_of forms.corner_and_sides
+    forms.area_of forms.time_at forms.signal_at forms.timed_cell forms.border_of forms.timed_wire forms.stop_of
+    forms.form_of orders.rank_of orders.number_of orders.cell_of orders.line_cmp orders.is_cut orders.may_precede
+    orders.may_follow rules.lacks_port rules.box_fault rules.module_fault rules.cut_fault rules.are_new rules.gate_fault
+    rules.use_fault rules.keep_fault rules.is_time rules.is_edge_place rules.is_halo_place rules.is_stop_place
+    rules.signal_fault rules.border_fault rules.entry_fault rules.end_fault cell_cmp meant start_signal end_demand
+    port_at places placed_gate placed_gates place_among numbered numbered_all_times numbered_event numbered_signals
+    demanded placed_stop bit row evaluate job_start job_demand local_run local_step with_halo step partner turned
+    signal_at all_times_at event_at times.numbered
+are_read = record {
+  timed = record { layout = refl; tests = record { jobs = refl; kept = refl; borders = refl; on_time = refl } };
+  inverse = record { layout = refl; tests = record { jobs = refl; kept = refl; borders = refl; on_time = refl } };
+  reads = refl;
+}
+
+pub timed_accepted : TimedModulesAreAccepted
+timed_accepted = accepted_if timed_modules are_read.timed
+
+pub inverse_accepted : ThereAndBackIsAccepted
+inverse_accepted = accepted_if there_and_back are_read.inverse
+
+-- ---- the second one is the plain text of a small design
+
+pub plain : ThereAndBackIsPlain
+plain = (plain_lines_decide there_and_back inverse_accepted.0 Yes circuit layout
+    ((bundle_good there_and_back bundle are_read.reads).says_all layout refl) inverse_accepted.1 (λ e. cc)).0
+
+pub small : ThereAndBackIsSmall
+small = record {
+  circuit = circuit;
+  layout = layout;
+  plain = is_plain_text there_and_back bundle layout are_read.reads refl refl refl;
+  small = record { wide = omega arith; high = omega arith; inputs = omega arith; gates = omega arith };
+}

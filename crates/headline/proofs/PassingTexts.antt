@@ -1,0 +1,80 @@
+-- A text is accepted if its modules pass tests, which a proof by computation can run.
+use Rattle.std.proofs.Common.{◌≡◌, ℕ, List, Result, Ok, Err, refl, sym, subst, map}
+use Rattle.section_text.specs.declared.fault.Refusal.{Refusal}
+use Rattle.circuit.specs.Bridge.{circuit_of}
+use Rattle.circuit.proofs.Bridging.{gates_are_ordered}
+use Rattle.pattern.specs.FromLines.{layout_of}
+use Rattle.pattern.specs.Grammars.{layout_value}
+use Rattle.pattern.specs.Layout.{Pattern}
+use Rattle.certificate_lines.specs.Entries.{ModuleLines}
+use Rattle.certificate_lines.specs.Settings.{setting_of}
+use Rattle.certificate.specs.Grammars.{CertView, modules_in}
+use Rattle.certificate.specs.Jobs.{AreJobsOf}
+use Rattle.module_job.specs.Jobs.{JobView}
+use Rattle.audit_core.specs.Verdicts.{IsVerdict}
+use Rattle.audit_core.specs.declared.verdict.Verdict.TheVariants as verdict
+use Rattle.audit_core.proofs.SomeJobs.{are_jobs_of, job_of}
+use Rattle.audit_core.proofs.Trials.{PassTests, accepts}
+use Rattle.report.specs.ReportText.{report_lines}
+use Rattle.answers.specs.Answers.{Answered}
+use Rattle.answers.specs.BundleText.{Bundle, bundle_of}
+use Rattle.answers.specs.CheckText.{IsReportOf, IsVerdictOn, SaysReport}
+use Rattle.answers.specs.declared.outcome.Outcome.TheVariants.{Yes}
+use Rattle.headline.proofs.SomeReport.{certificate_by, limits, modules_good, reported_by}
+use Rattle.headline.proofs.YesIsRight.{bundle_good}
+
+abbrev pub layout_in : Bundle → Pattern
+layout_in b = layout_of b.size b.parts
+
+abbrev pub modules_by : Bundle → List ModuleLines
+modules_by b =
+    modules_in (record { circuit = b.circuit; layout = layout_in b; version = b.version; entries = b.entries })
+
+-- its layout has the lines of the bundle, and its modules pass the tests
+pub record Passes (b : Bundle) : Type 0 where
+  pub layout : layout_value (layout_in b) ≡ (b.size, b.parts)
+  pub tests : PassTests (setting_of b.circuit (layout_in b)) (modules_by b)
+      (map (job_of (circuit_of b.circuit) (layout_in b)) (modules_by b))
+
+abbrev pub PassesIfRead : Result Bundle Refusal → Type 0
+PassesIfRead (Ok b) = Passes b
+PassesIfRead (Err refusal) = ⊥
+
+module _ (text : List ℕ) (b : Bundle) (e : bundle_of text ≡ Ok b) (pass : Passes b) where
+  abbrev p : Pattern
+  p = layout_in b
+
+  abbrev c : CertView
+  c = certificate_by text b e p pass.layout
+
+  abbrev js : List JobView
+  js = map (job_of (circuit_of b.circuit) p) (modules_by b)
+
+  are_jobs : AreJobsOf (circuit_of b.circuit) p (modules_by b) js
+  are_jobs = let good = modules_good text b e p pass.layout in
+      are_jobs_of b.circuit p (modules_by b) (gates_are_ordered b.circuit (bundle_good text b e).circuit)
+      (λ k m at. (good.each k m at, good.ports k m at))
+
+  is_verdict : IsVerdictOn c verdict.Yes
+  unfolding IsVerdict
+  is_verdict = let good = modules_good text b e p pass.layout in record {
+    good = good;
+    jobs = js;
+    are_jobs = are_jobs;
+    judged = accepts b.circuit p (modules_by b) js (limits text b e p pass.layout) good are_jobs pass.tests;
+  }
+
+  accepted_bundle : (output : List ℕ) × IsReportOf text output Yes
+  accepted_bundle = (
+    report_lines c verdict.Yes,
+    subst (λ r. Answered SaysReport r (report_lines c verdict.Yes) Yes) (sym e)
+        (reported_by text b e p pass.layout verdict.Yes is_verdict),
+  )
+
+pub accepted_if : (text : List ℕ) → PassesIfRead (bundle_of text) → (output : List ℕ) × IsReportOf text output Yes
+accepted_if text = by (bundle_of text) refl
+  where
+    by : (r : Result Bundle Refusal) → bundle_of text ≡ r → PassesIfRead r →
+        (output : List ℕ) × IsReportOf text output Yes
+    by (Ok b) e pass = accepted_bundle text b e pass
+    by (Err refusal) e pass = absurd pass
