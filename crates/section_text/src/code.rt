@@ -2,7 +2,7 @@
 ghost use Rattle.std.specs.Prelude.{◌≡◌};
 ghost use Rattle.section_text.specs.Codes.{code_number};
 
-/// Why a line is refused: the first test that it fails.
+/// The reason why a line is refused: the first test that it fails.
 #[derive(Clone, Copy, Debug, PartialEq, Eq)]
 pub enum RefusalCode {
     /// The line has none of the forms of its section.
