@@ -5,8 +5,8 @@ and how many of these are definitions that the statement reaches. A file comes a
 usage: tools/docs/reading_list.py [--definitions] [--check PAGE] [FILE]
 
 FILE is meaning/specs/Headline.antt if it is left out. --definitions names the definitions that are reached, and the definitions of the kit's
-library that these name. --check compares a page: each row of its table that begins with the path of a file must have that file's count, and so
-must each "N files" behind the name of this command with a FILE. It also looks for definitions of specs/ that this script does not find.
+library that these name. --check compares a page: it must have the table, line for line, and the number of each "N files" behind the name of
+this command with a FILE. It also looks for definitions of specs/ that this script does not find.
 """
 import re
 import sys
@@ -179,6 +179,16 @@ def wrong_numbers(text):
             yield f"{start}: {count} files, and the page says {said}"
 
 
+def table_lines(needed, names):
+    """The lines of the table. With `names`, each row is followed by the definitions that are reached."""
+    lines = ["| file | lines that are reached | of |", "|---|---|---|"]
+    for path, total, count, reached in needed:
+        lines.append(f"| `crates/{path}` | {count} | {total} |")
+        if names:
+            lines.append(f"|   {', '.join(reached)} | | |")
+    return [*lines, f"| {len(needed)} files | {sum(r[2] for r in needed)} | {sum(r[1] for r in needed)} |"]
+
+
 def main(words):
     names = "--definitions" in words
     table = words[words.index("--check") + 1] if "--check" in words else None
@@ -190,25 +200,18 @@ def main(words):
         reached = closure.reached.get(path, {})
         rows.append((path, total, sum(map(len, reached.values())), list(reached)))
     needed = [r for r in rows if r[2]]
+    lines = table_lines(needed, names)
     if table:
         text = Path(table).read_text()
         wrong = 0
-        for path, _, count, _ in needed:
-            row = re.search(rf"^\| `crates/{re.escape(path)}` \| (\d+) \|", text, re.M)
-            if not row or int(row.group(1)) != count:
-                wrong += 1
-                print(f"{path}: {count} lines are reached, and the table says {row.group(1) if row else 'nothing'}")
+        if "\n".join(lines) not in text:
+            wrong += 1
+            print(f"{table} has not this table:", *lines, sep="\n")
         for finding in (*wrong_numbers(text), *(f"not found: {lost}" for lost in lost_definitions())):
             wrong += 1
             print(finding)
         return 1 if wrong else 0
-    print("| file | lines that are reached | of |")
-    print("|---|---|---|")
-    for path, total, count, reached in needed:
-        print(f"| `crates/{path}` | {count} | {total} |")
-        if names:
-            print(f"|   {', '.join(reached)} | | |")
-    print(f"| {len(needed)} files | {sum(r[2] for r in needed)} | {sum(r[1] for r in needed)} |")
+    print(*lines, sep="\n")
     if names:
         print(f"\nNames of the kit's library: {', '.join(sorted(closure.library))}")
     specs = [r for r in rows if r[0].endswith(".antt")]
