@@ -12,3 +12,4 @@ pub mod Fitting
 pub mod Values
 pub mod Counting
 pub mod GateLaws
+pub mod GateLines

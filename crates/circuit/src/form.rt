@@ -3,7 +3,7 @@ ghost use Rattle.std.specs.Prelude.{◌≡◌, ◌+◌, ◌≤◌, Some, slice_g
 ghost use Rattle.std.specs.Str.{bytes_eq};
 ghost use Rattle.section_text.specs.Words.{words_of};
 ghost use Rattle.section_text.specs.Feeds.{IsLine, line_bytes};
-ghost use Rattle.circuit.specs.Forms.{bit_at, gate_kind, words_before, gate_names, gate_entry, form_of};
+ghost use Rattle.circuit.specs.Forms.{bit_at, gate_kind, words_before, gate_entry, form_of};
 
 use crate::circuit_line::{CircuitLine, GateKind, Kind};
 use section_text::{Feed, Form, Line};
@@ -73,22 +73,6 @@ fn words_before_names(kind: GateKind) -> usize
     }
 }
 
-#[tactic(auto, unfolding(crate::specs::Forms::gate_names))]
-fn gate_names_of(feed: &Feed, line: &Line, kind: GateKind) -> Option<CircuitLine>
-    requires { IsLine feed.now line.now }
-    ensures { result ≡ gate_names (words_of (line_bytes feed.now line.now)) kind }
-{
-    let first = words_before_names(kind);
-    let count = kind.ins();
-    let ins = feed.names(line, first, count)?;
-    let outs = feed.names(line, first + count + 1, kind.outs())?;
-    Some(CircuitLine {
-        kind: Kind::Gate(kind),
-        ins,
-        outs,
-    })
-}
-
 #[tactic(auto, unfolding(crate::specs::Forms::gate_entry))]
 fn gate_entry_of(feed: &Feed, line: &Line, keyword: &[u8]) -> Option<CircuitLine>
     requires line { IsLine feed.now line.now }
@@ -96,14 +80,13 @@ fn gate_entry_of(feed: &Feed, line: &Line, keyword: &[u8]) -> Option<CircuitLine
     ensures { result ≡ gate_entry (words_of (line_bytes feed.now line.now)) }
 {
     let kind = gate_kind_of(feed, line, keyword)?;
-    let before = words_before_names(kind) + kind.ins();
-    if feed.words(line) != before + 1 + kind.outs() {
-        return None;
-    }
-    if !feed.is(line, before, b"->") {
-        return None;
-    }
-    gate_names_of(feed, line, kind)
+    let from = words_before_names(kind);
+    let (ins, outs) = feed.names_beside_arrow(line, from, kind.ins(), kind.outs())?;
+    Some(CircuitLine {
+        kind: Kind::Gate(kind),
+        ins,
+        outs,
+    })
 }
 
 /// Returns the form of a line, if it has one.

@@ -44,7 +44,7 @@ split_none line e =
     slice_split_none is_space line (λ k d h. fails_before_first is_space line k d (omega (arith, past, h)))
 
 -- a line has a word
-some_words : (l : List ℕ) → 0 < length (words_of l)
+pub some_words : (l : List ℕ) → 0 < length (words_of l)
 some_words l = let n = length-slice_split is_space l in omega (arith, n)
 
 -- ---- lines of fewer or more words than four

@@ -2,7 +2,7 @@
 ghost use Rattle.std.specs.Prelude.{drop, take, ◌≡◌, ◌==◌, ℕ, ◌+◌, ◌-◌, ◌^◌, ◌<◌, ◌≤◌, ◌↔◌, true, false, List, [], ◌∷◌, ◌++◌, length, Option, Some, None, Ok, Err, IsTrue, IsOk, IfOk, IfErr, ◌≢◌, OnOk, OnErr, IfNone, IfSome, MatchOption, unwrap_or, slice_get, slice_range, option_and_then, map};
 ghost use Rattle.std.specs.Option.{option_copied, option_map, ForSome};
 ghost use Rattle.std.specs.List.{flat_map, position, list_all};
-ghost use Rattle.section_text.specs.Words.{lines_of, is_digit, is_number, read_on, is_word_at, is_line_feed, is_space, rest_of, words_of, number_of, number_at, name_at, names_at, lone, lone_number, lone_name, second_of_two, three, four, five, words_left};
+ghost use Rattle.section_text.specs.Words.{lines_of, is_digit, is_number, read_on, is_word_at, is_line_feed, is_space, rest_of, words_of, number_of, number_at, name_at, names_at, names_beside_arrow, lone, lone_number, lone_name, second_of_two, three, four, five, words_left};
 ghost use Rattle.section_text.specs.declared.code.RefusalCode.TheVariants.{TextCut};
 ghost use Rattle.section_text.specs.declared.fault.ReadFault.TheVariants.{Memory};
 ghost use Rattle.section_text.specs.Listed.{three_listed, four_listed, listed};
@@ -269,19 +269,54 @@ fn word_in(line: &[u8], index: usize) -> Option<&[u8]>
     Some(word)
 }
 
-// The `count` names that are the words of a line from one on.
-fn names_in(line: &[u8], from: usize, count: usize) -> Option<Names>
+// The names that the next `count` words of what is left of a line are, and what is left behind them.
+fn take_names(left: Option<&[u8]>, count: usize) -> Option<(Names, Option<&[u8]>)>
     requires { count ≤ 4 }
-    ensures { result ≡ names_at (words_of line.now) from count }
+    ensures names { option_map (λ r. r.0) result
+        ≡ names_at (words_left (option_copied left.entry)) 0 count }
+    ensures left { IfSome result (λ r. words_left (option_copied r.1)
+        ≡ drop count (words_left (option_copied left.entry))) }
 {
     let mut names = Names::new();
-    let mut rest = words_from(line, from);
+    let mut rest = left;
     for i in 0..count {
         let (word, behind) = next_word(rest?);
         names.push(Name::of(word)?);
         rest = behind;
     }
+    Some((names, rest))
+}
+
+// The `count` names that are the words of a line from one on.
+fn names_in(line: &[u8], from: usize, count: usize) -> Option<Names>
+    requires { count ≤ 4 }
+    ensures { result ≡ names_at (words_of line.now) from count }
+{
+    let (names, _) = take_names(words_from(line, from), count)?;
     Some(names)
+}
+
+// The names on both sides of an arrow, from a word on to the end of the line.
+fn names_beside_arrow_in(
+    line: &[u8],
+    from: usize,
+    before: usize,
+    after: usize,
+) -> Option<(Names, Names)>
+    requires before { before ≤ 4 }
+    requires after { after ≤ 4 }
+    ensures { result ≡ names_beside_arrow (words_of line.now) from before after }
+{
+    let (ins, rest) = take_names(words_from(line, from), before)?;
+    let (arrow, rest) = next_word(rest?);
+    if arrow != b"->".as_slice() {
+        return None;
+    }
+    let (outs, rest) = take_names(rest, after)?;
+    match rest {
+        Some(_) => None,
+        None => Some((ins, outs)),
+    }
 }
 
 fn words_in(line: &[u8]) -> usize
@@ -568,6 +603,26 @@ impl Feed {
         ensures { result ≡ names_at (words_of (line_bytes self.now line.now)) from count }
     {
         names_in(self.line(line), from, count)
+    }
+
+    /// Returns the names on both sides of an arrow: `before` from index `from` on, and `after` to the line's end.
+    ///
+    /// It returns `None` if one of these words is no name, or is not there, if no `->` is between, or if the line has
+    /// more words. It passes over the line once.
+    pub fn names_beside_arrow(
+        &self,
+        line: &Line,
+        from: usize,
+        before: usize,
+        after: usize,
+    ) -> Option<(Names, Names)>
+        requires line { IsLine self.now line.now }
+        requires before { before ≤ 4 }
+        requires after { after ≤ 4 }
+        ensures { result
+            ≡ names_beside_arrow (words_of (line_bytes self.now line.now)) from before after }
+    {
+        names_beside_arrow_in(self.line(line), from, before, after)
     }
 
     /// Returns whether a word of a line is `expected`. It is false past the last word.

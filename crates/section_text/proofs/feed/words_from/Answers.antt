@@ -1,4 +1,4 @@
-use Rattle.std.proofs.Common.{◌≡◌, ◌∙◌, refl, sym, ap, drop, arith}
+use Rattle.std.proofs.Common.{◌≡◌, ◌∙◌, sym, ap, drop, arith}
 use Rattle.section_text.specs.Words.{words_of}
 use Rattle.section_text.proofs.WordsLeft.{none_further, one_further}
 use Rattle.section_text.proofs.feed.words_from.Goals as goal

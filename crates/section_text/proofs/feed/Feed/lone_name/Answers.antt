@@ -1,8 +1,7 @@
 use Rattle.std.proofs.Common.{◌∙◌, ap, sym}
 use Rattle.std.specs.Prelude.{option_and_then}
 use Rattle.std.specs.Option.{option_copied}
-use Rattle.section_text.specs.Feeds.{line_bytes}
-use Rattle.section_text.specs.Words.{name_of, words_of}
+use Rattle.section_text.specs.Words.{name_of}
 use Rattle.section_text.proofs.Splitting.{second_name}
 use Rattle.section_text.proofs.feed.Feed.lone_name.Goals as goal
 

@@ -1,0 +1,50 @@
+-- A gate line by the names on both sides of its arrow.
+use Rattle.std.proofs.Common.{◌≡◌, ◌∙◌, ◌==◌, if◌then◌else◌, ℕ, ◌+◌, Bool, true, false, List, length, Option, Some}
+use Rattle.std.proofs.Common.{None}
+use Rattle.std.proofs.Common.{refl, ap}
+use Rattle.std.specs.Prelude.{codes}
+use Rattle.section_text.specs.Words.{◌>>=◌, is_word_at, names_at, names_beside_arrow}
+use Rattle.circuit.specs.declared.circuit_line.CircuitLine.{CircuitLine}
+use Rattle.circuit.specs.declared.circuit_line.GateKind.{GateKind}
+use Rattle.circuit.specs.declared.circuit_line.Kind.TheVariants.{Gate}
+use Rattle.circuit.specs.Entries.{entry}
+use Rattle.circuit.specs.Forms.{gate_entry, gate_kind, gate_names, words_before}
+use Rattle.circuit.specs.Gates.{uses, defines}
+
+abbrev pub Sides : Type 0
+Sides = List (List ℕ) × List (List ℕ)
+
+abbrev pub gate_of : GateKind → Option Sides → Option CircuitLine
+gate_of kind None = None
+gate_of kind (Some names) = Some (entry (Gate kind) names.0 names.1)
+
+abbrev sides : Bool → Bool → Option (List (List ℕ)) → Option (List (List ℕ)) → Option Sides
+sides a b x y = if a then (if b then (x >>= λ ins. y >>= λ outs. Some (ins, outs)) else None) else None
+
+by_parts : (kind : GateKind) (a b : Bool) (x y : Option (List (List ℕ))) → gate_of kind (sides a b x y)
+    ≡ (if a then (if b then (x >>= λ ins. y >>= λ outs. Some (entry (Gate kind) ins outs)) else None) else None)
+by_parts kind true true (Some x) (Some y) = refl
+by_parts kind true true (Some x) None = refl
+by_parts kind true true None y = refl
+by_parts kind true false x y = refl
+by_parts kind false b x y = refl
+
+module _ (ws : List (List ℕ)) (kind : GateKind) where
+  gate_by_names : gate_of kind (names_beside_arrow ws (words_before kind) (uses kind) (defines kind))
+      ≡ (if length ws == words_before kind + uses kind + 1 + defines kind then
+      (if is_word_at ws (words_before kind + uses kind) (codes "->") then gate_names ws kind else None) else None)
+  unfolding names_beside_arrow gate_names
+  gate_by_names =
+      by_parts kind (length ws == words_before kind + uses kind + 1 + defines kind)
+      (is_word_at ws (words_before kind + uses kind) (codes "->")) (names_at ws (words_before kind) (uses kind))
+      (names_at ws (words_before kind + uses kind + 1) (defines kind))
+
+  -- the line of a gate, whose words before its names and whose numbers of names are those of its kind
+  pub gate_entry_is : (before ins outs : ℕ) → before ≡ words_before kind → ins ≡ uses kind → outs ≡ defines kind →
+      gate_kind ws ≡ Some kind → gate_of kind (names_beside_arrow ws before ins outs) ≡ gate_entry ws
+  unfolding gate_entry
+  gate_entry_is before ins outs b i o k =
+      ap (λ n. gate_of kind (names_beside_arrow ws n ins outs)) b
+      ∙ ap (λ n. gate_of kind (names_beside_arrow ws (words_before kind) n outs)) i
+      ∙ ap (λ n. gate_of kind (names_beside_arrow ws (words_before kind) (uses kind) n)) o
+      ∙ gate_by_names ∙ rw k refl
