@@ -15,12 +15,12 @@ use Rattle.module_job.specs.Jobs.{JobView}
 use Rattle.certificate_lines.specs.ModuleParts.{inner, is_module}
 use Rattle.certificate.specs.HaloPlaces.{AreHaloPlaces, edges_at, list_at}
 use Rattle.certificate.specs.SliceLines.{slice_lines}
-use Rattle.certificate_lines.specs.Modules.{AreModules}
-use Rattle.certificate_lines.specs.Versions.{beside, with_halos}
+use Rattle.certificate_lines.specs.Modules.{AreModules, HasPorts, IsModule}
+use Rattle.certificate_lines.specs.Versions.{beside, lacks_wire, with_halos}
 use Rattle.certificate.specs.declared.beside.ModuleSlice.{ModuleSlice}
 use Rattle.certificate_lines.specs.declared.certificate_line.CertificateLine.{CertificateLine}
 use Rattle.certificate_lines.specs.declared.certificate_line.CertificateLine.TheVariants.{Module}
-use Rattle.certificate.proofs.FullModules.{mapped_at, mapped_from}
+use Rattle.certificate.proofs.FullModules.{full_modules, mapped_at, mapped_from}
 use Rattle.certificate_lines.proofs.Lists.{some_is}
 use Rattle.certificate_lines.proofs.ModuleSplit.{split_module, split_other}
 use Rattle.certificate_lines.proofs.LinesLeft.{line_here, nothing_left}
@@ -77,29 +77,74 @@ pub part_at : (parts : List ModuleSlice) (i : ℕ) (part : ModuleSlice) → i < 
     slice_get (map slice_lines parts) i ≡ Some (slice_lines part)
 part_at parts i part lt is = mapped_at slice_lines parts i part (slice_get_read parts (length parts) i part refl lt is)
 
--- each module has a list of places
-pub within_places : {X : Type 0} (f : X → List ℕ) (es : List CertificateLine) (parts : List ModuleSlice)
-    (places : List X) (k : ℕ) → map slice_lines parts ≡ modules_of es →
-    length (map f places) ≡ length (modules_of es) → k < length parts → k < length places
-within_places f es parts places k are count lt =
-    let a = length-map parts slice_lines in
-    let b = length-map places f in
-    let same = ap length are in
-    omega (arith, a, b, same, count, lt)
+-- ---- the lists of places that are left
+
+-- each module from this number on has a list, with the places of the edge lines beside it
+pub record HaveListsFrom (g : Setting) (es : List CertificateLine) (done : ℕ) (lists : List (List ℕ)) : Type 0 where
+  pub count : length lists ≡ length (modules_of es)
+  pub each : (i : ℕ) (m : ModuleLines) → done ≤ i → slice_get (modules_of es) i ≡ Some m →
+      edges_at es (list_at lists i) ≡ beside g (modules_of es) m.area
+
+module _ (g : Setting) (es : List CertificateLine) where
+  pub all_lists : (lists : List (List ℕ)) → AreHaloPlaces g es lists → HaveListsFrom g es 0 lists
+  all_lists lists h = record { count = h.count; each = λ i m le at. h.each i m at }
+
+  pub one_list_less : {X : Type 0} (f : X → List ℕ) (done : ℕ) (old new : List X) → length new ≡ length old →
+      ((i : ℕ) → (i ≡ done → ⊥) → list_at (map f new) i ≡ list_at (map f old) i) →
+      HaveListsFrom g es done (map f old) → HaveListsFrom g es (done + 1) (map f new)
+  one_list_less f done old new count others h = record {
+    count = length-map new f ∙ count ∙ sym (length-map old f) ∙ h.count;
+    each = λ i m le at.
+        ap (edges_at es) (others i (λ e. omega (arith, e, le))) ∙ h.each i m (omega (arith, le)) at;
+  }
+
+  module _ (parts : List ModuleSlice) (are : map slice_lines parts ≡ modules_of es) where
+    pub within_lists : {X : Type 0} (f : X → List ℕ) (done k : ℕ) (lists : List X) →
+        HaveListsFrom g es done (map f lists) → k < length parts → k < length lists
+    within_lists f done k lists h lt =
+        let a = length-map parts slice_lines in
+        let b = length-map lists f in
+        let same = ap length are in
+        let count = h.count in
+        omega (arith, a, b, same, count, lt)
+
+-- these are the lines of the module of this number with its halo lines, and they are good
+pub record IsFullPart (g : Setting) (ms : List ModuleLines) (number : ℕ) (part : ModuleSlice)
+    (lines : List CertificateLine) : Type 0 where
+  pub at : slice_get ms number ≡ Some (slice_lines part)
+  pub full : ◌≡◌ {A = ModuleLines} (record { area = part.area; lines = lines }) (with_halos g ms (slice_lines part))
+  pub good : IsModule g (record { area = part.area; lines = lines })
+  pub ports : HasPorts g (record { area = part.area; lines = lines })
 
 -- the lines of a module with its halo lines, by the places of these
-pub full_part : (g : Setting) (es : List CertificateLine) (ms : List ModuleLines) (lists : List (List ℕ)) (number : ℕ)
-    (part : ModuleSlice) (places : List ℕ) (lines : List CertificateLine) → ms ≡ modules_of es → AreModules g ms →
-    AreHaloPlaces g es lists → slice_get ms number ≡ Some (slice_lines part) → list_at lists number ≡ places →
+pub full_part : {g : Setting} {es : List CertificateLine} {lists : List (List ℕ)} {number : ℕ} {part : ModuleSlice}
+    {places : List ℕ} {made lines : List CertificateLine} (parts : List ModuleSlice) →
+    map slice_lines parts ≡ modules_of es → AreModules g (map slice_lines parts) →
+    lacks_wire g (map slice_lines parts) ≡ false → HaveListsFrom g es number lists → number < length parts →
+    part ≡ get_or parts number part → list_at lists number ≡ places →
     ((h : Setting) → AreModules h (modules_of es) → edges_at es places ≡ beside h (modules_of es) part.area →
-    ◌≡◌ {A = ModuleLines} (record { area = part.area; lines = lines })
+    ◌≡◌ {A = ModuleLines} (record { area = part.area; lines = made })
     (with_halos h (modules_of es) (slice_lines part))) →
-    ◌≡◌ {A = ModuleLines} (record { area = part.area; lines = lines }) (with_halos g ms (slice_lines part))
-full_part g es ms lists number part places lines are good near at here full =
-    full g (subst (AreModules g) are good)
-    (ap (edges_at es) (sym here)
-    ∙ near.each number (slice_lines part) (ap (λ ns. slice_get ns number) (sym are) ∙ at))
-    ∙ ap (λ ns. with_halos g ns (slice_lines part)) (sym are)
+    lines ≡ made → IsFullPart g (map slice_lines parts) number part lines
+full_part {g} {es} {lists} {number} {part} {places} {made} {lines} parts are good complete left lt is taken full same =
+    let ms = map slice_lines parts in
+    let at = part_at parts number part lt is in
+    let there : slice_get (map (with_halos g ms) ms) number ≡ Some (with_halos g ms (slice_lines part)) =
+    mapped_at (with_halos g ms) ms number (slice_lines part) at in
+    let each = full_modules g ms good complete in
+    let whole : ◌≡◌ {A = ModuleLines} (record { area = part.area; lines = lines })
+    (with_halos g ms (slice_lines part)) =
+    ap (λ ls. record { area = part.area; lines = ls }) same
+    ∙ full g (subst (AreModules g) are good)
+    (ap (edges_at es) (sym taken)
+    ∙ left.each number (slice_lines part) (omega arith) (ap (λ ns. slice_get ns number) (sym are) ∙ at))
+    ∙ ap (λ ns. with_halos g ns (slice_lines part)) (sym are) in
+    record {
+      at = at;
+      full = whole;
+      good = subst (IsModule g) (sym whole) (each.each number _ there);
+      ports = subst (HasPorts g) (sym whole) (each.ports number _ there);
+    }
 
 pub record PartJobs (c : Circuit) (p : Pattern) (g : Setting) (ms : List ModuleLines) (done : ℕ)
     (js : List JobView) : Type 0 where

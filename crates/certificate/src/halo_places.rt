@@ -19,6 +19,7 @@ use bbm_rule::Cell;
 use certificate_lines::{CertificateLine, inner_lines, is_module, odd_partner};
 use module_box::{Box2, Owners, owner_table};
 use std::alloc::{AllocError, Global};
+use std::mem::replace;
 
 // The most lines, so that their places fit.
 const MAX_LINES: usize = 4294967295;
@@ -34,6 +35,19 @@ fn push_place(lists: &mut Vec<Vec<u32>>, number: usize, place: u32) -> Result<()
 {
     lists[number].push(place)?;
     Ok(())
+}
+
+/// Takes the list of this number out, and leaves an empty one in its place.
+pub(crate) fn take_list(alloc: Global, lists: &mut Vec<Vec<u32>>, number: usize) -> Vec<u32>
+    requires { number < length lists.old.items }
+    ensures count { length lists.new.items ≡ length lists.old.items }
+    ensures taken { list_at (map (λ l. l.items) lists.old.items) number ≡ result.items }
+    ensures empty { list_at (map (λ l. l.items) lists.new.items) number ≡ [] }
+    ensures others { (i : ℕ) → i ≢ number →
+        list_at (map (λ l. l.items) lists.new.items) i
+        ≡ list_at (map (λ l. l.items) lists.old.items) i }
+{
+    replace(&mut lists[number], Vec::new(alloc))
 }
 
 fn box_at(boxes: &[Box2], number: usize) -> Box2

@@ -23,7 +23,7 @@ ghost use Rattle.certificate_lines.specs.Versions.{is_haloless, lacks_wire, mean
 
 use crate::beside::{ModuleSlice, full_lines, module_slices};
 use crate::cert::Cert;
-use crate::halo_places::halo_places;
+use crate::halo_places::{halo_places, take_list};
 use crate::layout_tables::LayoutTables;
 use crate::stops::stops_of;
 use crate::timetable::{Side, signals_of};
@@ -240,10 +240,14 @@ fn jobs_of_parts(
         (map (with_halos (setting_of tables.now.circuit tables.now.layout)
         (map slice_lines parts.now)) (map slice_lines parts.now)) (map arc_value js.items)) }
 {
-    let places = halo_places(alloc, tables, entries, parts)?;
+    let mut places = halo_places(alloc, tables, entries, parts)?;
     let mut jobs = Vec::new(alloc);
     'parts: for (number, part) in parts.iter().enumerate() {
-        let lines = full_lines(alloc, entries, places[number].as_slice(), part)?;
+        // The lists of all modules take much memory, so each is freed once its module has its lines.
+        let lines = {
+            let list = take_list(alloc, &mut places, number);
+            full_lines(alloc, entries, list.as_slice(), part)?
+        };
         let made = make_job(alloc, tables, part.area, lines.as_slice())?;
         let job = Arc::new(alloc, made)?;
         jobs.push(job)?;
