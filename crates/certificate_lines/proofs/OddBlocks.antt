@@ -1,6 +1,7 @@
 -- The modules beside the cell of an edge line, by the cells of its block at odd times
 use Rattle.std.proofs.Common.{◌≡◌, ℕ, zero, suc, ◌+◌, ◌%◌, ◌<◌, ◌≤◌, Bool, true, false, not, ◌&&◌, ◌||◌, eqb}
-use Rattle.std.proofs.Common.{List, [], ◌∷◌, length, map, Some, refl, sym, ap, ap₂, ◌∙◌, inl, inr, ◌⊎◌, arith}
+use Rattle.std.proofs.Common.{List, [], ◌∷◌, length, map, Option, Some, None, refl, sym, ap, ap₂, ◌∙◌, inl, inr, ◌⊎◌}
+use Rattle.std.proofs.Common.{arith}
 use Rattle.std.proofs.Common.{eq-eqb}
 use Rattle.std.specs.Prelude.{ℤ, pos, negsuc, ◌+ℤ◌, ◌-ℤ◌, ◌≤ℤ◌, slice_get}
 use Rattle.std.specs.List.{list_any}
@@ -9,6 +10,7 @@ use Rattle.std.proofs.lemmas.Int.{ints}
 use Rattle.std.proofs.lemmas.Option.{slice_get_within}
 use Rattle.bbm_rule.specs.Plane.{parity, partner}
 use Rattle.bbm_rule.specs.Spans.{in_span}
+use Rattle.bbm_rule.specs.declared.block.Cell.{Cell}
 use Rattle.bbm_rule.proofs.Spans.{even_span}
 use Rattle.circuit.specs.Meaning.{Circuit}
 use Rattle.module_box.specs.Boxes.{in_box, in_halo, IsEven}
@@ -16,12 +18,13 @@ use Rattle.module_box.specs.Tiling.{AreOwners, Owning, owner_of, rectangle, rect
 use Rattle.module_box.specs.declared.boxes.Box2.{Box2}
 use Rattle.module_box.proofs.BoxCells.{in_box_nats}
 use Rattle.module_box.proofs.RingTests.{halo_read}
-use Rattle.certificate_lines.specs.BuilderView.{is_lacked, is_strange_outside, lacks_edge}
+use Rattle.certificate_lines.specs.BuilderView.{is_lacked, is_strange_outside, is_wire_lacked, lacks_edge}
 use Rattle.certificate_lines.specs.Entries.{ModuleLines, areas, known}
+use Rattle.certificate_lines.specs.Rules.{is_local_wire}
 use Rattle.certificate_lines.specs.Versions.{is_strange}
 use Rattle.certificate_lines.specs.declared.certificate_line.Border.{Border}
 use Rattle.certificate_lines.proofs.AnyLines.{any_filter}
-use Rattle.certificate_lines.proofs.LackedWires.{any_either, any_same, any_swap}
+use Rattle.certificate_lines.proofs.LackedWires.{any_either, any_same, any_swap, none_any}
 use Rattle.certificate_lines.proofs.Lists.{some_is}
 
 -- ---- columns and rows
@@ -106,6 +109,10 @@ true_and : (p q : Bool) → p ≡ true → (p && q) ≡ q
 true_and true q h = refl
 true_and false q h = absurd cc
 
+and_false : (b : Bool) → (b && false) ≡ false
+and_false true = refl
+and_false false = refl
+
 or_false : (b : Bool) → (b || false) ≡ b
 or_false true = refl
 or_false false = refl
@@ -184,21 +191,29 @@ module _ (ms : List ModuleLines) (o : Owning) (good : AreOwners o (areas ms)) (x
 -- ---- the modules that lack the wire of an edge line
 
 module _ (c : Circuit) (ms : List ModuleLines) where
-  pub lacked_beside : (e : Border) → ((k : ℕ) (m : ModuleLines) → slice_get ms k ≡ Some m → IsEven m.area) →
-      (list_any (λ (m : ModuleLines). in_box m.area (partner 1 e.cell.x) e.cell.y && is_strange_outside c e m) ms
-      || list_any (λ (m : ModuleLines). in_box m.area e.cell.x (partner 1 e.cell.y) && is_strange_outside c e m) ms
-      || list_any (λ (m : ModuleLines). in_box m.area (partner 1 e.cell.x) (partner 1 e.cell.y)
-      && is_strange_outside c e m) ms)
-      ≡ is_lacked c ms e
-  lacked_beside e even =
-      let x = e.cell.x in let y = e.cell.y in
-      let at : ℤ → ℤ → ModuleLines → Bool = λ u v m. in_box m.area u v && is_strange_outside c e m in
+  pub lacked_beside : (cell : Cell) (wire : Option ℕ) →
+      ((k : ℕ) (m : ModuleLines) → slice_get ms k ≡ Some m → IsEven m.area) →
+      (list_any (λ (m : ModuleLines). in_box m.area (partner 1 cell.x) cell.y && is_strange_outside c cell wire m) ms
+      || list_any (λ (m : ModuleLines). in_box m.area cell.x (partner 1 cell.y) && is_strange_outside c cell wire m) ms
+      || list_any (λ (m : ModuleLines). in_box m.area (partner 1 cell.x) (partner 1 cell.y)
+      && is_strange_outside c cell wire m) ms)
+      ≡ is_wire_lacked c ms cell wire
+  lacked_beside cell wire even =
+      let x = cell.x in let y = cell.y in
+      let at : ℤ → ℤ → ModuleLines → Bool = λ u v m. in_box m.area u v && is_strange_outside c cell wire m in
       ap (λ b. b || list_any (at (partner 1 x) (partner 1 y)) ms)
       (sym (any_either (at (partner 1 x) y) (at x (partner 1 y)) ms))
       ∙ sym (any_either (λ m. at (partner 1 x) y m || at x (partner 1 y) m) (at (partner 1 x) (partner 1 y)) ms)
       ∙ same_at (λ m. (at (partner 1 x) y m || at x (partner 1 y) m) || at (partner 1 x) (partner 1 y) m)
-      (λ m. in_halo m.area x y && is_strange c (known c m) e.signal) ms
-      (λ k m here. odd_halo m.area x y (is_strange c (known c m) e.signal) (even k m here))
+      (λ m. in_halo m.area x y && not (is_local_wire (known c m) wire)) ms
+      (λ k m here. odd_halo m.area x y (not (is_local_wire (known c m) wire)) (even k m here))
+
+  -- no module lacks `1`
+  pub lacked_constant : (e : Border) → e.signal ≡ None → false ≡ is_lacked c ms e
+  lacked_constant e is =
+      sym (ap (λ s. list_any (λ (m : ModuleLines). in_halo m.area e.cell.x e.cell.y && is_strange c (known c m) s) ms)
+      is ∙ any_same (λ (m : ModuleLines). in_halo m.area e.cell.x e.cell.y && false) (λ m. false) ms
+      (λ m. and_false (in_halo m.area e.cell.x e.cell.y)) ∙ none_any ms)
 
   -- the same, line by line or module by module
   pub lacked_by_lines : (es : List Border) → list_any (is_lacked c ms) es ≡ list_any (lacks_edge c es) ms

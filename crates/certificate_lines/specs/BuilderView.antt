@@ -12,7 +12,7 @@ use Rattle.module_box.specs.Tiling.{AreOwners, Owning}
 use Rattle.module_box.specs.declared.boxes.Box2.{Box2}
 use Rattle.certificate_lines.specs.Entries.{Setting, ModuleLines, modules_of, last_of, areas, counts_of, known, edges}
 use Rattle.certificate_lines.specs.Entries.{halos}
-use Rattle.certificate_lines.specs.Rules.{in_boxes, is_starred, same_cell, lacks_port}
+use Rattle.certificate_lines.specs.Rules.{in_boxes, is_local_wire, is_starred, same_cell, lacks_port}
 use Rattle.certificate_lines.specs.Modules.{HasFewLines, IsModule}
 use Rattle.certificate_lines.specs.Versions.{is_strange}
 use Rattle.certificate_lines.specs.declared.certificate_line.Border.{Border}
@@ -82,9 +82,14 @@ abbrev pub lacks_edge : Circuit → List Border → ModuleLines → Bool
 lacks_edge c es m = list_any (λ e. is_strange c (known c m) e.signal)
     (filter (λ e. in_halo m.area e.cell.x e.cell.y) es)
 
--- the cell of an edge line is outside the module, and its wire is not local there
-abbrev pub is_strange_outside : Circuit → Border → ModuleLines → Bool
-is_strange_outside c e m = not (in_box m.area e.cell.x e.cell.y) && is_strange c (known c m) e.signal
+-- the cell is outside the module, and there is no such wire or it is not local there
+abbrev pub is_strange_outside : Circuit → Cell → Option ℕ → ModuleLines → Bool
+is_strange_outside c cell wire m = not (in_box m.area cell.x cell.y) && not (is_local_wire (known c m) wire)
+
+-- some module has the cell in its halo, and there is no such wire or it is not local there
+abbrev pub is_wire_lacked : Circuit → List ModuleLines → Cell → Option ℕ → Bool
+is_wire_lacked c ms cell wire =
+    list_any (λ m. in_halo m.area cell.x cell.y && not (is_local_wire (known c m) wire)) ms
 
 -- some module has the cell of an edge line in its halo, and its wire is not local there
 abbrev pub is_lacked : Circuit → List ModuleLines → Border → Bool

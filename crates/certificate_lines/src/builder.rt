@@ -7,7 +7,7 @@ ghost use Rattle.certificate_lines.specs.Entries.{ModuleLines, areas, counts_of,
 ghost use Rattle.certificate_lines.specs.ModuleParts.{AreInBox};
 ghost use Rattle.certificate_lines.specs.Rules.{entry_fault, end_fault, box_fault, module_fault, inner_fault, words_fault, is_incomplete, is_local, leaves_gap, whole};
 ghost use Rattle.module_box.specs.Boxes.{in_box};
-ghost use Rattle.certificate_lines.specs.BuilderView.{AreModuleOwners, BuilderView, IsInner, IsSmall, is_lacked, is_strange_outside, lacks_edge};
+ghost use Rattle.certificate_lines.specs.BuilderView.{AreModuleOwners, BuilderView, IsInner, IsSmall, is_lacked, is_strange_outside, is_wire_lacked, lacks_edge};
 ghost use Rattle.certificate_lines.specs.Versions.{lacks_wire};
 ghost use Rattle.certificate_lines.specs.declared.certificate_line.CertificateLine.TheVariants.{Module};
 
@@ -15,13 +15,13 @@ use crate::blocks::odd_partner;
 use crate::certificate_line::{Border, CertificateLine, Counts};
 use crate::counts::{count_in_last, last_counts, pop_module, push_entry, push_module};
 use crate::known::{learn_line, make_room_for_wires, put_away};
-use crate::lacks::{has_unknown, is_unknown};
+use crate::lacks::has_unknown;
 use crate::line_tables::LineTables;
 use crate::lines::inner_lines;
 use crate::order::does_follow;
 use crate::rules::{
-    border_code, cut_code, is_bad_place, is_bad_side, is_local_name, keep_code, may_be_edge,
-    may_be_halo, may_be_stop, use_code,
+    border_code, cut_code, is_bad_place, is_bad_side, is_local_name, is_local_wire, keep_code,
+    may_be_edge, may_be_halo, may_be_stop, use_code,
 };
 use crate::stars::{has_star, make_room_for_stars, note_stars};
 use crate::tiles::{is_full, whole_of};
@@ -399,48 +399,62 @@ impl<'a> Builder<'a> {
         }
     }
 
-    // Whether the wire of an edge line is not local in the module of this number, and its cell is outside that module.
-    fn is_unknown_in(&self, number: usize, border: &Border) -> bool
+    // Whether the cell is outside the module of this number, and there is no such wire or it is not local there.
+    fn is_unknown_in(&self, number: usize, cell: Cell, wire: Option<u16>) -> bool
         requires { number < length (modules_of self.now.entries) }
         ensures { (m : ModuleLines) → slice_get (modules_of self.now.entries) number ≡ Some m →
-            result ≡ is_strange_outside self.now.setting.circuit border.now m }
+            result ≡ is_strange_outside self.now.setting.circuit cell wire m }
     {
-        if self.modules[number].area.holds(border.cell) {
+        if self.modules[number].area.holds(cell) {
             return false;
         }
-        is_unknown(&self.tables, self.wires_of(number), border.signal)
+        !is_local_wire(self.wires_of(number), wire)
     }
 
-    // The same of the module that has this cell, if one has it.
-    fn is_unknown_at(&self, owners: &Owners, border: &Border, cell: Cell) -> bool
+    // The same of the module that has the cell `beside`, if one has it.
+    fn is_unknown_at(&self, owners: &Owners, cell: Cell, wire: Option<u16>, beside: Cell) -> bool
         requires { AreModuleOwners self.now owners.now }
         ensures { result
-            ≡ list_any (λ m. in_box m.area cell.x cell.y
-            && is_strange_outside self.now.setting.circuit border.now m)
+            ≡ list_any (λ m. in_box m.area beside.x beside.y
+            && is_strange_outside self.now.setting.circuit cell wire m)
             (modules_of self.now.entries) }
     {
-        if !whole_of(self.tables.size()).holds(cell) {
+        if !whole_of(self.tables.size()).holds(beside) {
             return false;
         }
-        self.is_unknown_in(owners.owner(cell), border)
+        self.is_unknown_in(owners.owner(beside), cell, wire)
+    }
+
+    // Whether some module has the cell in its halo, and there is no such wire or it is not local there.
+    fn is_unknown_beside(&self, owners: &Owners, cell: Cell, wire: Option<u16>) -> bool
+        requires owners { AreModuleOwners self.now owners.now }
+        requires inside { IsTrue (in_box (whole self.now.setting.size) cell.x cell.y) }
+        ensures { result
+            ≡ is_wire_lacked self.now.setting.circuit (modules_of self.now.entries) cell wire }
+    {
+        let Cell { x, y } = cell;
+        // Corners and sides are even, so a box with a neighbour of the cell has it or one of these.
+        let column = odd_partner(x);
+        let row = odd_partner(y);
+        let beside = self.is_unknown_at(owners, cell, wire, Cell { x: column, y });
+        let above = self.is_unknown_at(owners, cell, wire, Cell { x, y: row });
+        let corner = self.is_unknown_at(owners, cell, wire, Cell { x: column, y: row });
+        beside | above | corner
     }
 
     // Whether some module has the cell of an edge line in its halo, and lacks its wire.
-    fn is_unknown_beside(&self, owners: &Owners, border: &Border) -> bool
+    fn is_lacked(&self, owners: &Owners, border: &Border) -> bool
         requires owners { AreModuleOwners self.now owners.now }
         requires inside { IsTrue
             (in_box (whole self.now.setting.size) border.now.cell.x border.now.cell.y) }
         ensures { result
             ≡ is_lacked self.now.setting.circuit (modules_of self.now.entries) border.now }
     {
-        let Cell { x, y } = border.cell;
-        // Corners and sides are even, so a box with a neighbour of the cell has it or one of these.
-        let column = odd_partner(x);
-        let row = odd_partner(y);
-        let beside = self.is_unknown_at(owners, border, Cell { x: column, y });
-        let above = self.is_unknown_at(owners, border, Cell { x, y: row });
-        let corner = self.is_unknown_at(owners, border, Cell { x: column, y: row });
-        beside | above | corner
+        // The name is looked up once for all modules beside the cell.
+        match border.signal {
+            None => false,
+            Some(name) => self.is_unknown_beside(owners, border.cell, self.tables.wire(&name)),
+        }
     }
 }
 
@@ -454,7 +468,7 @@ impl<'a> Builder<'a> {
             (edge_in line.now) }
     {
         match line {
-            CertificateLine::Edge(border) => self.is_unknown_beside(owners, border),
+            CertificateLine::Edge(border) => self.is_lacked(owners, border),
             _ => false,
         }
     }

@@ -12,8 +12,8 @@ use indexmap::IndexSet;
 use module_box::Box2;
 use section_text::Name;
 
-/// Returns whether a signal is neither `1` nor one of the local wires.
-pub(crate) fn is_unknown(tables: &LineTables, known: &IndexSet<u16>, signal: Option<Name>) -> bool
+// Whether a signal is neither `1` nor one of the local wires.
+fn is_unknown(tables: &LineTables, known: &IndexSet<u16>, signal: Option<Name>) -> bool
     ensures { result ≡ is_strange tables.now.circuit known.now.keys signal }
 {
     match signal {

@@ -49,14 +49,21 @@ pub(crate) fn is_bad_place(size: LayoutHeader, area: Box2) -> bool
         || bottom > u64::from(size.h)
 }
 
+/// Returns whether there is a wire, and it is local.
+pub(crate) fn is_local_wire(known: &IndexSet<u16>, wire: Option<u16>) -> bool
+    ensures { result ≡ is_local_wire known.now.keys wire }
+{
+    match wire {
+        Some(wire) => knows(known, wire),
+        None => false,
+    }
+}
+
 /// Returns whether the name is that of a wire that is local.
 pub(crate) fn is_local_name(tables: &LineTables, known: &IndexSet<u16>, name: &Name) -> bool
     ensures { result ≡ is_local tables.now.circuit known.now.keys name.now }
 {
-    match tables.wire(name) {
-        Some(wire) => knows(known, wire),
-        None => false,
-    }
+    is_local_wire(known, tables.wire(name))
 }
 
 /// Returns the code of a cut, if `count` wires are cut already.

@@ -15,9 +15,9 @@ returns-then-not-holds c =
     let same : c.whole_of.result ≡ rectangle o =
     c.whole_of.ensures ∙ ap whole (c.size.ensures.size ∙ ap (λ (s : BuilderView). s.setting.size) c.self.view_is)
     ∙ sym (ap₂ rectangle_of c.requires.width c.requires.height) in
-    asked_none (modules_of v.entries) o c.requires.owners c.args.cell.x c.args.cell.y
-    (is_strange_outside v.setting.circuit c.args.border.now)
-    (ap (λ (b : Box2). in_box b c.args.cell.x c.args.cell.y) (sym same) ∙ sym c.holds.ensures ∙ c.if-not-holds.true)
+    asked_none (modules_of v.entries) o c.requires.owners c.args.beside.x c.args.beside.y
+    (is_strange_outside v.setting.circuit c.args.cell c.args.wire)
+    (ap (λ (b : Box2). in_box b c.args.beside.x c.args.beside.y) (sym same) ∙ sym c.holds.ensures ∙ c.if-not-holds.true)
 
 pub is_unknown_in-requires : goal.is_unknown_in-requires
 is_unknown_in-requires c =
@@ -26,8 +26,9 @@ is_unknown_in-requires c =
     c.whole_of.ensures ∙ ap whole (c.size.ensures.size ∙ ap (λ (s : BuilderView). s.setting.size) c.self.view_is)
     ∙ sym (ap₂ rectangle_of c.requires.width c.requires.height) in
     subst (λ n. n < length (modules_of v.entries)) (sym c.owner.ensures)
-    (owner_within (modules_of v.entries) o c.requires.owners c.args.cell.x c.args.cell.y
-    (ap (λ (b : Box2). in_box b c.args.cell.x c.args.cell.y) (sym same) ∙ sym c.holds.ensures ∙ c.if-not-holds.false))
+    (owner_within (modules_of v.entries) o c.requires.owners c.args.beside.x c.args.beside.y
+    (ap (λ (b : Box2). in_box b c.args.beside.x c.args.beside.y) (sym same) ∙ sym c.holds.ensures
+    ∙ c.if-not-holds.false))
 
 pub returns : goal.returns
 returns c =
@@ -35,7 +36,8 @@ returns c =
     let same : c.whole_of.result ≡ rectangle o =
     c.whole_of.ensures ∙ ap whole (c.size.ensures.size ∙ ap (λ (s : BuilderView). s.setting.size) c.self.view_is)
     ∙ sym (ap₂ rectangle_of c.requires.width c.requires.height) in
-    asked_owner (modules_of v.entries) o c.requires.owners c.args.cell.x c.args.cell.y
-    (is_strange_outside v.setting.circuit c.args.border.now) c.is_unknown_in.result
-    (ap (λ (b : Box2). in_box b c.args.cell.x c.args.cell.y) (sym same) ∙ sym c.holds.ensures ∙ c.if-not-holds.false)
+    asked_owner (modules_of v.entries) o c.requires.owners c.args.beside.x c.args.beside.y
+    (is_strange_outside v.setting.circuit c.args.cell c.args.wire) c.is_unknown_in.result
+    (ap (λ (b : Box2). in_box b c.args.beside.x c.args.beside.y) (sym same) ∙ sym c.holds.ensures
+    ∙ c.if-not-holds.false)
     (λ m at. c.is_unknown_in.ensures m (ap (slice_get (modules_of v.entries)) c.owner.ensures ∙ at))
