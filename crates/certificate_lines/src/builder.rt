@@ -1,33 +1,27 @@
 //! A certificate that is read, line by line.
-ghost use Rattle.std.specs.Prelude.{◌≡◌, ◌+◌, ◌≤◌, ◌<◌, ◌++◌, ◌∷◌, [], not, map, ◌&&◌, Bool, None, Some, List, ℕ, length, slice_get, OnOk, OnErr, IfOk, IfErr, IfSome, IsTrue};
+ghost use Rattle.std.specs.Prelude.{◌≡◌, ◌+◌, ◌≤◌, ◌<◌, ◌++◌, ◌∷◌, [], not, map, ◌&&◌, Bool, None, Some, List, ℕ, length, OnOk, IfOk, IfErr};
 ghost use Rattle.section_text.specs.Adding.{FaultIs};
-ghost use Rattle.pattern.specs.Lines.{size_fault};
-ghost use Rattle.std.specs.List.{flat_map, list_any};
-ghost use Rattle.certificate_lines.specs.Entries.{ModuleLines, areas, counts_of, edge_in, known, modules_of, last_module};
-ghost use Rattle.certificate_lines.specs.ModuleParts.{AreInBox};
-ghost use Rattle.certificate_lines.specs.Rules.{entry_fault, end_fault, box_fault, module_fault, inner_fault, words_fault, is_incomplete, is_local, leaves_gap, whole};
+ghost use Rattle.std.specs.List.{list_any};
+ghost use Rattle.certificate_lines.specs.Entries.{ModuleLines, counts_of, known, modules_of, last_module};
+ghost use Rattle.certificate_lines.specs.Rules.{entry_fault, end_fault, box_fault, module_fault, inner_fault, words_fault, is_incomplete, is_local};
 ghost use Rattle.module_box.specs.Boxes.{in_box};
-ghost use Rattle.certificate_lines.specs.BuilderView.{AreModuleOwners, BuilderView, IsInner, IsSmall, is_lacked, is_strange_outside, is_wire_lacked, lacks_edge};
-ghost use Rattle.certificate_lines.specs.Versions.{lacks_wire};
+ghost use Rattle.certificate_lines.specs.BuilderView.{BuilderView, IsInner, IsSmall};
 ghost use Rattle.certificate_lines.specs.declared.certificate_line.CertificateLine.TheVariants.{Module};
 
-use crate::blocks::odd_partner;
-use crate::certificate_line::{Border, CertificateLine, Counts};
+use crate::certificate_line::{CertificateLine, Counts};
 use crate::counts::{count_in_last, last_counts, pop_module, push_entry, push_module};
 use crate::known::{learn_line, make_room_for_wires, put_away};
-use crate::lacks::has_unknown;
 use crate::line_tables::LineTables;
-use crate::lines::inner_lines;
 use crate::order::does_follow;
 use crate::rules::{
-    border_code, cut_code, is_bad_place, is_bad_side, is_local_name, is_local_wire, keep_code,
-    may_be_edge, may_be_halo, may_be_stop, use_code,
+    border_code, cut_code, is_bad_place, is_bad_side, is_local_name, keep_code, may_be_edge,
+    may_be_halo, may_be_stop, use_code,
 };
 use crate::stars::{has_star, make_room_for_stars, note_stars};
-use crate::tiles::{is_full, whole_of};
+use crate::tiles::is_full;
 use bbm_rule::{Cell, Grid};
 use indexmap::IndexSet;
-use module_box::{Box2, Owners, owner_table};
+use module_box::Box2;
 use pattern::{Rectangle, fill_rectangle, is_any_live_in};
 use section_text::{LineFault, Name};
 use std::alloc::{AllocError, Global};
@@ -42,17 +36,17 @@ const MAX_MODULES: usize = 1024;
 /// and of the last one.
 #[derive(Drop)]
 pub struct Builder<'a> {
-    tables: LineTables<'a>,
-    entries: Vec<CertificateLine>,
-    modules: Vec<Counts>,
+    pub(crate) tables: LineTables<'a>,
+    pub(crate) entries: Vec<CertificateLine>,
+    pub(crate) modules: Vec<Counts>,
     // the cells of all boxes
     covered: Grid,
     // the wires that are local in each module before the last, behind none
-    earlier: Vec<IndexSet<u16>>,
+    pub(crate) earlier: Vec<IndexSet<u16>>,
     // of the last module: its last line, the names of its ports, its local wires, and its cells with a `*`
     last: Option<CertificateLine>,
     names: Vec<Name>,
-    known: IndexSet<u16>,
+    pub(crate) known: IndexSet<u16>,
     edges: IndexSet<Cell>,
     halos: IndexSet<Cell>,
 }
@@ -324,216 +318,5 @@ impl<'a> Builder<'a> {
             halos: _,
         } = self;
         (entries, modules)
-    }
-}
-
-impl<'a> Builder<'a> {
-    // The wires that are local in the module of this number.
-    fn wires_of(&self, number: usize) -> &IndexSet<u16>
-        requires { number < length (modules_of self.now.entries) }
-        ensures { slice_get (map (known self.now.setting.circuit) (modules_of self.now.entries))
-            number ≡ Some result.now.keys }
-    {
-        let last = self.earlier.len();
-        if number + 1 < last {
-            &self.earlier[number + 1]
-        } else {
-            &self.known
-        }
-    }
-
-    // Whether one of the edge lines of a module names a wire that is not local in the module of this number, which is
-    // beside it.
-    fn lacks_wire_in(&self, number: usize, area: Box2, lines: &[CertificateLine]) -> bool
-        requires number { number < length (modules_of self.now.entries) }
-        requires inside { AreInBox area (flat_map edge_in lines.now) }
-        ensures { (m : ModuleLines) → slice_get (modules_of self.now.entries) number ≡ Some m →
-            result ≡ lacks_edge self.now.setting.circuit (flat_map edge_in lines.now) m }
-    {
-        let own = self.modules[number].area;
-        if !own.is_near(area) {
-            return false;
-        }
-        has_unknown(&self.tables, self.wires_of(number), own, lines)
-    }
-
-    // The same of some module. It asks each module, and takes no memory.
-    fn lacks_some_of_all(&self, area: Box2, lines: &[CertificateLine]) -> bool
-        requires inside { AreInBox area (flat_map edge_in lines.now) }
-        ensures { result
-            ≡ list_any (lacks_edge self.now.setting.circuit (flat_map edge_in lines.now))
-            (modules_of self.now.entries) }
-    {
-        'modules: for number in 0..self.modules.len() {
-            if self.lacks_wire_in(number, area, lines) {
-                return true;
-            }
-        }
-        false
-    }
-}
-
-impl<'a> Builder<'a> {
-    // The boxes of the modules.
-    fn boxes(&self, alloc: Global) -> Result<Vec<Box2>, AllocError>
-        ensures { IfOk result (λ boxes. boxes.items ≡ areas (modules_of self.now.entries)) }
-    {
-        let mut boxes = Vec::new(alloc);
-        'modules: for number in 0..self.modules.len() {
-            boxes.push(self.modules[number].area)?;
-        }
-        Ok(boxes)
-    }
-
-    // Which module has each cell, or `None` if there is no memory or the boxes leave a gap.
-    fn owners(&self, alloc: Global) -> Option<Owners>
-        ensures { IfSome result (AreModuleOwners self.now) }
-    {
-        let Ok(boxes) = self.boxes(alloc) else {
-            return None;
-        };
-        let size = self.tables.size();
-        match owner_table(alloc, size.w, size.h, boxes.as_slice()) {
-            Ok(owners) => Some(owners),
-            Err(_) => None,
-        }
-    }
-
-    // Whether the cell is outside the module of this number, and there is no such wire or it is not local there.
-    fn is_unknown_in(&self, number: usize, cell: Cell, wire: Option<u16>) -> bool
-        requires { number < length (modules_of self.now.entries) }
-        ensures { (m : ModuleLines) → slice_get (modules_of self.now.entries) number ≡ Some m →
-            result ≡ is_strange_outside self.now.setting.circuit cell wire m }
-    {
-        if self.modules[number].area.holds(cell) {
-            return false;
-        }
-        !is_local_wire(self.wires_of(number), wire)
-    }
-
-    // The same of the module that has the cell `beside`, if one has it.
-    fn is_unknown_at(&self, owners: &Owners, cell: Cell, wire: Option<u16>, beside: Cell) -> bool
-        requires { AreModuleOwners self.now owners.now }
-        ensures { result
-            ≡ list_any (λ m. in_box m.area beside.x beside.y
-            && is_strange_outside self.now.setting.circuit cell wire m)
-            (modules_of self.now.entries) }
-    {
-        if !whole_of(self.tables.size()).holds(beside) {
-            return false;
-        }
-        self.is_unknown_in(owners.owner(beside), cell, wire)
-    }
-
-    // Whether some module has the cell in its halo, and there is no such wire or it is not local there.
-    fn is_unknown_beside(&self, owners: &Owners, cell: Cell, wire: Option<u16>) -> bool
-        requires owners { AreModuleOwners self.now owners.now }
-        requires inside { IsTrue (in_box (whole self.now.setting.size) cell.x cell.y) }
-        ensures { result
-            ≡ is_wire_lacked self.now.setting.circuit (modules_of self.now.entries) cell wire }
-    {
-        let Cell { x, y } = cell;
-        // Corners and sides are even, so a box with a neighbour of the cell has it or one of these.
-        let column = odd_partner(x);
-        let row = odd_partner(y);
-        let beside = self.is_unknown_at(owners, cell, wire, Cell { x: column, y });
-        let above = self.is_unknown_at(owners, cell, wire, Cell { x, y: row });
-        let corner = self.is_unknown_at(owners, cell, wire, Cell { x: column, y: row });
-        beside | above | corner
-    }
-
-    // Whether some module has the cell of an edge line in its halo, and lacks its wire.
-    fn is_lacked(&self, owners: &Owners, border: &Border) -> bool
-        requires owners { AreModuleOwners self.now owners.now }
-        requires inside { IsTrue
-            (in_box (whole self.now.setting.size) border.now.cell.x border.now.cell.y) }
-        ensures { result
-            ≡ is_lacked self.now.setting.circuit (modules_of self.now.entries) border.now }
-    {
-        // The name is looked up once for all modules beside the cell.
-        match border.signal {
-            None => false,
-            Some(name) => self.is_unknown_beside(owners, border.cell, self.tables.wire(&name)),
-        }
-    }
-}
-
-impl<'a> Builder<'a> {
-    // The same of a line, if it is an edge line.
-    fn is_unknown_line_beside(&self, owners: &Owners, line: &CertificateLine) -> bool
-        requires owners { AreModuleOwners self.now owners.now }
-        requires inside { AreInBox (whole self.now.setting.size) (edge_in line.now) }
-        ensures { result
-            ≡ list_any (is_lacked self.now.setting.circuit (modules_of self.now.entries))
-            (edge_in line.now) }
-    {
-        match line {
-            CertificateLine::Edge(border) => self.is_lacked(owners, border),
-            _ => false,
-        }
-    }
-
-    // Whether some module lacks the wire of one of the edge lines, by the modules beside each of them.
-    fn lacks_some_beside(&self, owners: &Owners, lines: &[CertificateLine]) -> bool
-        requires owners { AreModuleOwners self.now owners.now }
-        requires inside { AreInBox (whole self.now.setting.size) (flat_map edge_in lines.now) }
-        ensures { result
-            ≡ list_any (lacks_edge self.now.setting.circuit (flat_map edge_in lines.now))
-            (modules_of self.now.entries) }
-    {
-        'lines: for line in lines {
-            if self.is_unknown_line_beside(owners, line) {
-                return true;
-            }
-        }
-        false
-    }
-
-    // The same of the edge lines of a module, by a table of owners if there is one.
-    fn lacks_some_in(&self, owners: &Option<Owners>, area: Box2, lines: &[CertificateLine]) -> bool
-        requires owners { IfSome owners.now (AreModuleOwners self.now) }
-        requires inside { AreInBox area (flat_map edge_in lines.now) }
-        requires on_layout { AreInBox (whole self.now.setting.size) (flat_map edge_in lines.now) }
-        ensures { result
-            ≡ list_any (lacks_edge self.now.setting.circuit (flat_map edge_in lines.now))
-            (modules_of self.now.entries) }
-    {
-        match owners {
-            Some(owners) => self.lacks_some_beside(owners, lines),
-            None => self.lacks_some_of_all(area, lines),
-        }
-    }
-
-    // The same of the edge lines of all modules, if there are odd times.
-    fn lacks_some_wire(&self, owners: &Option<Owners>) -> bool
-        requires owners { IfSome owners.now (AreModuleOwners self.now) }
-        requires long { 1 < self.now.setting.size.steps }
-        ensures { result ≡ lacks_wire self.now.setting (modules_of self.now.entries) }
-    {
-        'lines: for (place, entry) in self.entries.iter().enumerate() {
-            if let CertificateLine::Module(area) = entry {
-                if self.lacks_some_in(owners, *area, inner_lines(&self.entries[place + 1..])) {
-                    return true;
-                }
-            }
-        }
-        false
-    }
-}
-
-impl<'a> Builder<'a> {
-    /// Returns whether some module lacks the wire of an edge line beside it.
-    ///
-    /// It takes memory for a table of the modules that have the cells. With the table it asks at most three modules for
-    /// each edge line. If there is no memory for the table, it asks each module.
-    pub fn lacks_wire(&self, alloc: Global) -> bool
-        ensures { result ≡ lacks_wire self.now.setting (modules_of self.now.entries) }
-    {
-        let size = self.tables.size();
-        if size.steps <= 1 {
-            return false;
-        }
-        let owners = self.owners(alloc);
-        self.lacks_some_wire(&owners)
     }
 }
