@@ -108,7 +108,7 @@ module _ (g : Setting) (es : List CertificateLine) where
         let count = h.count in
         omega (arith, a, b, same, count, lt)
 
--- a module has these lines if its halo lines are among them, and they are good
+-- these are the lines of the module of this number with its halo lines, and they are good
 pub record IsFullPart (g : Setting) (ms : List ModuleLines) (number : ℕ) (part : ModuleSlice)
     (lines : List CertificateLine) : Type 0 where
   pub at : slice_get ms number ≡ Some (slice_lines part)
