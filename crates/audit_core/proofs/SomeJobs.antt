@@ -65,7 +65,7 @@ are_places ws (x ∷ xs) h =
 
 -- ---- the wires and gates of a module
 
--- a gate of the circuit by the places of its wires, if these wires are known before it
+-- a gate of the circuit over the places of its wires, if `keys` are the wires that are known before it
 unfoldable pub placed_gate : List ℕ → Gate → Gate
 placed_gate keys g = record {
   kind = g.kind;
@@ -73,7 +73,7 @@ placed_gate keys g = record {
   outs = range_with_len (length keys) (defines g.kind);
 }
 
--- gates one after the other
+-- each of the gates, where the wires that a gate defines are known to the next one
 unfoldable pub placed_gates : List ℕ → List Gate → List Gate
 placed_gates keys [] = []
 placed_gates keys (g ∷ gs) = placed_gate keys g ∷ placed_gates (keys ++ g.outs) gs
@@ -84,7 +84,7 @@ gates_at n ks = flat_map (λ k. option_to_list (slice_get n.gates k)) ks
 
 module _ (n : Netlist) (cuts gates : List ℕ) (ordered : AreOrdered n.given n.gates)
     (lines : AreLocalLines n cuts gates) where
-  -- all gates are done
+  -- these are all gates of the module, renumbered
   AreDone : List Gate → Type 0
   AreDone done = (keys : List ℕ) × IsPart n cuts gates (length gates) keys done
 
@@ -94,7 +94,7 @@ module _ (n : Netlist) (cuts gates : List ℕ) (ordered : AreOrdered n.given n.g
       let ins = are_places keys g.ins known in
       record { kind = refl; within = ins.below; ins = ins.there; outs = refl }
 
-  -- those before the next one are done
+  -- if those before are renumbered, all are after the others
   all_placed : (before after keys : List ℕ) (done : List Gate) → before ++ after ≡ gates →
       IsPart n cuts gates (length before) keys done → AreDone (done ++ placed_gates keys (gates_at n after))
   unfolding AreDone placed_gates
@@ -155,7 +155,7 @@ demanded ws Demanded.Any = Demanded.Any
 unfoldable pub placed_stop : List ℕ → listed.Stop → listed.Stop
 placed_stop ws s = record s { wire = place_among ws s.wire }
 
--- what cells carry comes back from what they carry by other numbers, which passes P
+-- What cells carry is numbered anew. The new numbers satisfy P and can be numbered back.
 module _ {X : Type 0} (back_by by_number : X → X) (P : X → Type 0) (f : Cell → X) where
   record CellsBack (cells : List Cell) : Type 0 where
     pub back : map back_by (map (λ d. by_number (f d)) cells) ≡ map f cells
@@ -229,7 +229,7 @@ module _ (c : Circuit) (p : Pattern) (m : ModuleLines) where
     circuit_gates = gates m;
   }
 
-  -- its job, computed
+  -- the job of the module
   abbrev pub job_of : JobView
   job_of = record {
     area = m.area;

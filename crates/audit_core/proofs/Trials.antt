@@ -81,11 +81,12 @@ all_at test (x ∷ xs) zero a all e = let own : x ≡ a = cc in
     subst (λ x. test x ≡ true) own (and_parts (test x) (list_all test xs) all).0
 all_at test (x ∷ xs) (suc i) a all e = all_at test xs i a (and_parts (test x) (list_all test xs) all).1 e
 
--- what holds of each of these numbers
+-- the number at a place of a range
 pub range_at : (n a k : ℕ) → k < n → slice_get (range_with_len a n) k ≡ Some (a + k)
 range_at n a k lt = slice_get-get_or (range_with_len a n) k 0 (omega (arith, lt, length-range_with_len a n))
     ∙ ap Some (get_or-range_with_len a n k 0 lt)
 
+-- a test that all numbers below n pass
 all_below : (test : ℕ → Bool) (n k : ℕ) → list_all test (range_with_len 0 n) ≡ true → k < n → test k ≡ true
 all_below test n k all lt =
     all_at test (range_with_len 0 n) k k all (range_at n 0 k lt ∙ ap Some (omega arith))
@@ -127,18 +128,20 @@ ring_inside : (b : Box2) (x y : ℤ) → in_ring b x y ≡ true → in_box b x y
 unfolding in_ring
 ring_inside b x y h = (and_parts (in_box b x y) _ h).0
 
--- the tests under these values
+-- all tests of a job if its wires have these values
 abbrev pub values_test : JobView → Valuation → Bool
 values_test j u = at_odd_times j.steps (edge_test j u) && (stop_test j u && end_test j u)
 
--- and under an assignment, if all gates have a row
+-- the same for the values that `evaluate` finds; there are none if a gate has no row
 abbrev pub found_test : JobView → Option (List Bool) → Bool
 found_test j None = false
 found_test j (Some vs) = values_test j (read vs)
 
+-- the values of the cuts under an assignment
 abbrev pub given_of : JobView → ℕ → List Bool
 given_of j a = map (bit a) (range_with_len 0 j.locals.netlist.given)
 
+-- all tests of a job, under each assignment
 abbrev pub job_test : JobView → Bool
 job_test j = list_all (λ a. found_test j (evaluate (given_of j a) j.locals.netlist.gates))
     (range_with_len 0 (assignments j))
@@ -232,6 +235,7 @@ no_border_fault g ms passes i f is =
 
 -- ---- all of it
 
+-- some module keeps each inverse gate
 abbrev pub kept_test : Setting → List ModuleLines → Bool
 kept_test g ms = list_all (λ k. not (is_inverse_gate (slice_get g.circuit.netlist.gates k)) || is_kept ms k)
     (range_with_len 0 (length g.circuit.netlist.gates))
@@ -245,6 +249,7 @@ all_kept g ms all k gate at inverse =
     (slice_get_within gates k gate at))
     (ap is_inverse_gate at ∙ inverse)
 
+-- all tests of modules and their jobs
 pub record PassTests (g : Setting) (ms : List ModuleLines) (js : List JobView) : Type 0 where
   pub jobs : list_all job_test js ≡ true
   pub kept : kept_test g ms ≡ true

@@ -23,6 +23,7 @@ use Rattle.answers.specs.declared.outcome.Outcome.TheVariants.{Yes}
 use Rattle.headline.proofs.SomeReport.{certificate_by, limits, modules_good, reported_by}
 use Rattle.headline.proofs.YesIsRight.{bundle_good}
 
+-- the layout and the modules of a bundle
 abbrev pub layout_in : Bundle → Pattern
 layout_in b = layout_of b.size b.parts
 
@@ -36,6 +37,7 @@ pub record Passes (b : Bundle) : Type 0 where
   pub tests : PassTests (setting_of b.circuit (layout_in b)) (modules_by b)
       (map (job_of (circuit_of b.circuit) (layout_in b)) (modules_by b))
 
+-- it is read, and passes
 abbrev pub PassesIfRead : Result Bundle Refusal → Type 0
 PassesIfRead (Ok b) = Passes b
 PassesIfRead (Err refusal) = ⊥
