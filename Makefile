@@ -4,7 +4,7 @@
 #   make help         prints these lines
 #   make install [PREFIX=/usr/local] [DESTDIR=..]    the program and the lab, man pages, completions and pages
 #   make uninstall [PREFIX=..] [DESTDIR=..]          removes them
-#   make check        the worked cases and the commands that the pages show (needs Python 3)
+#   make check        the worked cases and the commands that the pages show (needs Python 3.11 or later)
 #   make dist         dist/bbmcheck-VERSION-x86_64-linux-gnu.tar.gz, the same bytes each time
 #   make deb          dist/bbmcheck_VERSION_amd64.deb (needs dpkg-deb)
 #   make prove        proves and builds the program here, and compares it with the released one (needs the kit)
