@@ -294,8 +294,11 @@ def explain_keep(diagnosis: Diagnosis, finding: Finding) -> Entry:
     if occurrence.occurs:
         entry.cause = "circuit"
         entry.cures.append(f"The circuit is wrong: it feeds gate {gate.number} these values. `bbmcheck value` answers `undefined {gate.number}`.")
-    else:
+    elif occurrence.occurs is False:
         add_never_occurs(diagnosis, module, entry)
+    else:
+        entry.cures.append(f"It was not tried whether the circuit gives gate {gate.number} these values. If it does, the circuit is wrong. "
+                           f"If it does not, `use` the gates that the cut wires come from.")
     return entry
 
 

@@ -81,6 +81,25 @@ class Reports(unittest.TestCase):
                 self.assertEqual(entry.cause, cause)
                 self.assertIn(f"`{cure}`", " ".join(entry.cures))
 
+    def test_keep_of_many_inputs_has_no_cause(self) -> None:
+        """With 13 inputs it is not tried whether the values occur, so a `keep` line names no cause."""
+        inputs = [f"i{number}" for number in range(1, 14)]
+        chain = [f"interact {'i1' if number == 2 else f'x{number - 1}'} i{number} -> x{number} b{number} c{number} d{number}"
+                 for number in range(2, 14)]
+        left_over = [name for number in range(2, 14) for name in (f"b{number}", f"c{number}", f"d{number}") if name not in ("b13", "c13")]
+        cells = [f"in {name} {number % 12} {number // 12}" for number, name in enumerate(inputs)]
+        cells.sort(key=lambda line: int(line.split()[2]) // 4)
+        modules = [[f"module {x} 0 4 4", *(f"cut {name}" for number, name in enumerate(inputs) if x <= number % 12 < x + 4)] for x in (0, 4, 8)]
+        lines = ["circuit", *(f"input {name}" for name in inputs), *chain, "unswitch x13 b13 c13 -> u v",
+                 *(f"spill {name}" for name in [*left_over, "u", "v"]), "end", "layout 12 4 0", *cells, "end", "certificate 1",
+                 *modules[0], *modules[1], *modules[2], "cut x13", "cut b13", "cut c13", "use 12", "keep 12", "end", ""]
+        assignment = 0b101 << (len(modules[2]) - 1)
+        report = f"bbmcheck 1\ncertificate {'0' * 64}\nmodules 3\nverdict no\nkeep 2 12 {assignment}\n"
+        entry = explain_answer("\n".join(lines), "check", report, "many_inputs").entries[0]
+        self.assertIsNone(entry.facts["occurs"])
+        self.assertEqual(entry.cause, "")
+        self.assertIn("was not tried", " ".join(entry.cures))
+
     def test_line_numbers_are_right(self) -> None:
         """The line of the text that a fault names is the one that says what was wanted."""
         entry = explained_example("extra_cut").entries[0]
