@@ -45,8 +45,8 @@ REPORT_LINES = [
     ("keep M G A", "an inverse gate that the module keeps has no row under this assignment"),
     ("border M T X Y", "the module and its neighbour say different things of this cell"),
     ("unkept G", "no module keeps this inverse gate"),
-    ("delay G N M", "the stops of the delay of N steps are M steps apart; a fault unless M is N; also after a yes"),
-    ("meet G T", "the inputs of the gate have their last stops at the time T; a fault if T is `differ`; also after a yes"),
+    ("delay G N D", "the stops of the delay of N steps are D steps apart; D may be `missing` or `before`; a no unless D is N; also after a yes"),
+    ("meet G T", "the inputs of the gate have their last stops at the time T; a no if T is `differ`; also after a yes"),
 ]
 
 
