@@ -1,4 +1,4 @@
-# Installs, checks and packs the program. While the sources are those of the release, only `prove` and `release` need the Rattle kit.
+# Installs, checks and packs the program. While the sources are those of the release, only `prove` needs the Rattle kit, and `release` the program that `prove` builds.
 #
 #   make              prints the path of the program that would run
 #   make help         prints these lines
@@ -8,7 +8,7 @@
 #   make dist         dist/bbmcheck-VERSION-x86_64-linux-gnu.tar.gz, the same bytes each time
 #   make deb          dist/bbmcheck_VERSION_amd64.deb (needs dpkg-deb)
 #   make prove        proves and builds the program here, and compares it with the released one (needs the kit)
-#   make release      renews release/ from the program that was proved and built here (needs Python 3)
+#   make release      renews release/ from the program that `make prove` or the gate built here (needs Python 3)
 #   make mostlyclean  removes what packing and the wrapper wrote
 #   make clean        removes that and all proofs that were kept
 PREFIX ?= /usr/local
