@@ -436,12 +436,12 @@ def streams(w, h, steps):
 
 
 def longest_runs(full):
-    """check: four modules of 4 by 64 with twelve cuts that balls cross for 65,536 steps, beside two that end at once."""
+    """check: four modules of 4 by 64 with twelve cuts that balls cross for 65,536 steps, beside two that end early at a fault."""
     return streams(24 if full else 16, 64, 65536)
 
 
 def many_long_runs(full):
-    """check: 1008 modules of the same for 256 steps, beside sixteen that end at once."""
+    """check: 1008 modules of the same for 256 steps, beside sixteen that end early at a fault."""
     return streams(SIDE, SIDE if full else SIDE // 2, 256)
 
 
