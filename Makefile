@@ -1,4 +1,4 @@
-# Installs, checks and packs the program. While the sources are those of the release, only `prove` needs the Rattle kit, and `release` the program that `prove` builds.
+# Installs, checks and packs the program. While the sources are those of the release, only `prove` needs the Rattle kit. `release` needs the program that `prove` or the gate built.
 #
 #   make              prints the path of the program that would run
 #   make help         prints these lines
