@@ -1,4 +1,4 @@
--- A property of all stops of jobs is one of all stop lines.
+-- If all stops of the jobs have a property, all stop lines have it.
 use Rattle.std.proofs.Common.{◌≡◌, ℕ, zero, suc, true, List, [], ◌∷◌, map, Option, Some, None, refl, subst}
 use Rattle.std.specs.Prelude.{slice_get}
 use Rattle.std.specs.List.{All, flat_map}

@@ -1,4 +1,4 @@
--- A property of all parts is one of a list that is made element by element.
+-- If all elements of a joined list have a property, those of each of its parts have it.
 use Rattle.std.proofs.Common.{◌≡◌, ℕ, zero, suc, ◌+◌, ◌<◌, List, [], ◌∷◌, ◌++◌, length, Some, sym, ap, subst, ◌∙◌}
 use Rattle.std.proofs.Common.{get_or, take}
 use Rattle.std.specs.Prelude.{slice_get}

@@ -1,4 +1,4 @@
--- A parse that meets no fault keeps a fact of the rows, where each use of an argument that passes keeps it.
+-- If a parse ends without an error, a property of the arguments that each successful step keeps holds at the end.
 use Rattle.std.proofs.Common.{◌≡◌, ◌&&◌, ℕ, Bool, cond, true, false, zero, suc, refl, List, [], ◌∷◌, length, drop}
 use Rattle.std.proofs.Common.{Option, Some, None, is_some, fold}
 use Rattle.std.specs.Prelude.{encode_utf8, slice_get, find}

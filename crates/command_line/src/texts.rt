@@ -35,7 +35,7 @@ macro_rules! help {
                 $writes,
                 "\n\nExit statuses:\n",
                 $("  ", $status, "\n",)+
-                "  2  the words of the command were refused\n",
+                "  2  the arguments are wrong\n",
                 "  3  the text was refused, with the line `refused LINE CODE`\n",
                 "  4  a read or a write failed, or the text is longer than 16 MiB\n",
                 "  5  memory ran out\n",
@@ -70,7 +70,7 @@ pub const ALL: Help = help!(
     "Checks that a layout of the billiard ball automaton computes a circuit",
     "bbmcheck <COMMAND> < TEXT",
     "one text, of at most 16 MiB, from standard input",
-    "the answer to standard output; errors in the words of the command, and one\n  line for status 4 or 5, to standard error",
+    "the answer to standard output; messages about wrong arguments, and one\n  line for status 4 or 5, to standard error",
     [
         "0  the verdict is yes, another command is done, or help or the version was asked for",
         "1  the verdict is no, a ball left the rectangle, or a gate has no row for its inputs"

@@ -1,9 +1,13 @@
 -- Blocks that a turn leaves as they are, parts of lists whose blocks are turned, and marks on blocks
-use Rattle.std.specs.Prelude.{◌≡◌, ◌≢◌, Bool, true, ℕ, ◌+◌, ◌*◌, ◌<◌, ◌≤◌, List, slice_index}
+use Rattle.std.specs.Prelude.{◌≡◌, ◌≢◌, ◌==◌, Bool, true, ℕ, ◌+◌, ◌*◌, ◌%◌, ◌<◌, ◌≤◌, List, slice_index}
 use Rattle.bbm_rule.specs.Bits.{bit}
 use Rattle.bbm_rule.specs.Marks.{IsUnmarked}
 use Rattle.bbm_rule.specs.Plane.{turned}
 use Rattle.bbm_rule.specs.Words.{AreTurned}
+
+-- whether a cell, counted from the halo, is on the main diagonal of its block of the odd partition
+abbrev pub is_main : ℕ → ℕ → Bool
+is_main x y = x % 2 == y % 2
 
 -- A block has two diagonals: its upper left and lower right cells, and the other two. For the first cells of a diagonal
 -- and their others, then those of the other diagonal: under no assignment does a turn change a cell of the diagonal

@@ -21,6 +21,7 @@
 //! The step is that of Norman Margolus's billiard ball model (Physics-like Models of Computation, 1984).
 #![tactic(auto)]
 
+mod border;
 mod fault;
 mod finding;
 mod keep;

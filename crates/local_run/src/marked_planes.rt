@@ -594,8 +594,9 @@ impl MarkedPlanes {
         let stride = self.planes.stride();
         let u = stride * (y / 2) + x / 2;
         mark(&mut self.odd_marks, u);
-        self.live_marks.mark_cells(u, u, u, u, Changes::BOTH);
-        mark_around(&mut self.even_marks, u, stride, Changes::BOTH);
+        let changes = Changes::of_cell(x, y);
+        self.live_marks.mark_cells(u, u, u, u, changes);
+        mark_around(&mut self.even_marks, u, stride, changes);
         values.put(&mut self.planes, x, y, signal);
         self.drop_dead(u, u, u, u);
     }

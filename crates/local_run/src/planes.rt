@@ -7,8 +7,8 @@ ghost use Rattle.bbm_rule.specs.Plane.{turned};
 ghost use Rattle.bbm_rule.specs.Rows.{mate};
 ghost use Rattle.bbm_rule.specs.Words.{AreTurned};
 ghost use Rattle.local_run.specs.Across.{TurnsAcross};
-ghost use Rattle.local_run.specs.Turns.{AntiStays, DiagonalStays, MainStays, SwapsPart, TurnsPart};
-ghost use Rattle.std.specs.Prelude.{ℕ, ◌≡◌, ◌+◌, ◌-◌, ◌*◌, ◌/◌, ◌%◌, ◌<◌, ◌≤◌, ◌⊎◌, length, bit_xor, slice_index, vec_len, IfOk, false, true};
+ghost use Rattle.local_run.specs.Turns.{AntiStays, DiagonalStays, MainStays, SwapsPart, TurnsPart, is_main};
+ghost use Rattle.std.specs.Prelude.{ℕ, ◌≡◌, ◌+◌, ◌-◌, ◌*◌, ◌/◌, ◌%◌, ◌<◌, ◌≤◌, ◌⊎◌, length, bit_xor, slice_index, vec_len, IfOk, false, true, not};
 
 use crate::live::LiveMarks;
 use crate::marks::drop_if_dead;
@@ -235,11 +235,15 @@ impl Changes {
         anti: true,
     };
 
-    /// The turn that changes both diagonals.
-    pub const BOTH: Changes = Changes {
-        main: true,
-        anti: true,
-    };
+    /// Returns the change of the diagonal alone that a cell, counted from the halo, is on in its block of the odd
+    /// partition.
+    pub fn of_cell(x: usize, y: usize) -> Changes
+        ensures main { result.main ≡ is_main x y }
+        ensures anti { result.anti ≡ not (is_main x y) }
+    {
+        let main = x % 2 == y % 2;
+        Changes { main, anti: !main }
+    }
 
     /// Returns whether the turn changes no diagonal, so that the block stays.
     pub fn is_none(self) -> bool
@@ -602,8 +606,8 @@ impl Planes {
     pub fn set_word(&mut self, x: usize, y: usize, k: usize, word: u64)
         requires { (x / 2 < self.old.stride) × (y / 2 < self.old.rows) × (k < self.old.words) }
         ensures set { SetsWord x y k word self.old self.new }
-        ensures cells { let u = self.old.stride * (y / 2) + x / 2 in ChangesCells true true u u u u
-            self.old self.new }
+        ensures cells { let u = self.old.stride * (y / 2) + x / 2 in
+            ChangesCells (is_main x y) (not (is_main x y)) u u u u self.old self.new }
         ensures size { HasSize self.old.words self.old.stride self.old.rows self.new }
     {
         let at = self.words * (self.stride * (y / 2) + x / 2) + k;

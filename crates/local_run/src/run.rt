@@ -2,27 +2,50 @@
 ghost use Rattle.std.specs.Prelude.{◌≡◌, ◌+◌, ◌%◌, ◌<◌, IfOk, MatchOption, false};
 ghost use Rattle.std.specs.Arc.{arc_value};
 ghost use Rattle.local_run.specs.Faults.{IsLeastFault, IsLeastKeepFault};
-ghost use Rattle.local_run.specs.Quiet.{AreLines};
-ghost use Rattle.local_run.specs.Scans.{IsFirstAt, IsNextStop, IsPassed, IsReady, Shows};
+ghost use Rattle.local_run.specs.Scans.{HasHalo, IsFirst, IsFirstAt, IsFree, IsNextStop, IsPassed, IsReady, IsSought, Shows};
 ghost use Rattle.local_run.specs.Shown.{digest_of, number_of, job_of, fault_of, keep_of};
 
+use crate::border::set_border;
 use crate::fault::{Fault, KeepFault, Kind};
 use crate::finding::Finding;
 use crate::keep::least_keep;
 use crate::leaps::next_time;
 use crate::marked_planes::MarkedPlanes;
 use crate::planes::Planes;
-use crate::scan::{are_edges_right, first_fault, first_stop_fault};
+use crate::scan::{first_fault, first_stop_fault};
 use crate::steps::{even_time, odd_time, put_start};
 use crate::values::Values;
 use module_job::Job;
 use std::alloc::{AllocError, Global};
 use std::sync::Arc;
 
-// The first fault of a time before the last, where `next` is the place of the first stop that is not earlier. Where
-// there is none, `next` is then the place of the first later stop.
+// The first fault of an edge at an odd time before the last. The cells of the halo become what their signals say.
+fn edge_fault(
+    marked_planes: &mut MarkedPlanes,
+    values: &Values,
+    job: &Job,
+    time: u32,
+) -> Option<Fault>
+    requires ready { IsReady job.now values.now }
+    requires sought { IsSought job.now time Kind.Edge }
+    requires shows { Shows job.now values.now time marked_planes.old.planes }
+    ensures shows { Shows job.now values.now time marked_planes.new.planes }
+    ensures halo { HasHalo job.now values.now time marked_planes.new.planes }
+    ensures fault { MatchOption result (IsFree job.now values.now time Kind.Edge)
+        (λ f. IsFirst job.now values.now time Kind.Edge f) }
+{
+    marked_planes.look_at(values, job, time);
+    if set_border(marked_planes, values, job, time) {
+        return None;
+    }
+    first_fault(marked_planes, values, job, time, Kind::Edge)
+}
+
+// The first fault of a time before the last, where `next` is the place of the first stop that is not earlier. If there
+// is none, `next` is then the place of the first later stop. At an odd time the cells of the halo become what their
+// signals say.
 fn time_fault(
-    marked_planes: &MarkedPlanes,
+    marked_planes: &mut MarkedPlanes,
     values: &Values,
     job: &Job,
     time: u32,
@@ -30,14 +53,15 @@ fn time_fault(
 ) -> Option<Fault>
     requires ready { IsReady job.now values.now }
     requires early { time < job.now.steps }
-    requires shows { Shows job.now values.now time marked_planes.now.planes }
-    requires lines { time % 2 ≡ 1 → AreLines job.now time marked_planes.now.line_marks.items }
+    requires shows { Shows job.now values.now time marked_planes.old.planes }
     requires next { IsNextStop job.now time next.old }
-    ensures { MatchOption result (IsPassed job.now values.now time next.new)
+    ensures shows { Shows job.now values.now time marked_planes.new.planes }
+    ensures halo { time % 2 ≡ 1 → HasHalo job.now values.now time marked_planes.new.planes }
+    ensures fault { MatchOption result (IsPassed job.now values.now time next.new)
         (λ f. IsFirstAt job.now values.now time f) }
 {
-    if time % 2 == 1 && !are_edges_right(marked_planes, values, job, time) {
-        if let Some(fault) = first_fault(marked_planes, values, job, time, Kind::Edge) {
+    if time % 2 == 1 {
+        if let Some(fault) = edge_fault(marked_planes, values, job, time) {
             return Some(fault);
         }
     }
@@ -48,7 +72,7 @@ fn time_fault(
 fn one_step(marked_planes: &mut MarkedPlanes, values: &Values, job: &Job, time: u32) -> bool
     requires ready { IsReady job.now values.now }
     requires shows { Shows job.now values.now time marked_planes.old.planes }
-    requires lines { time % 2 ≡ 1 → AreLines job.now time marked_planes.old.line_marks.items }
+    requires halo { time % 2 ≡ 1 → HasHalo job.now values.now time marked_planes.old.planes }
     ensures next { Shows job.now values.now (time + 1) marked_planes.new.planes }
     ensures stays { result ≡ false → Shows job.now values.now time marked_planes.new.planes }
 {
@@ -75,10 +99,7 @@ fn least_fault(alloc: Global, values: &Values, job: &Job) -> Result<Option<Fault
     let mut time = 0;
     let mut changed = true;
     'times: while time < steps {
-        if time % 2 == 1 {
-            marked_planes.look_at(values, job, time);
-        }
-        if let Some(fault) = time_fault(&marked_planes, values, job, time, &mut next) {
+        if let Some(fault) = time_fault(&mut marked_planes, values, job, time, &mut next) {
             return Ok(Some(fault));
         }
         let before = changed;

@@ -4,10 +4,9 @@ ghost use Rattle.circuit.specs.Meaning.{wires};
 ghost use Rattle.module_box.specs.Boxes.{in_box};
 ghost use Rattle.local_run.specs.Faults.{assignments};
 ghost use Rattle.local_run.specs.Places.{inner};
-ghost use Rattle.local_run.specs.Quiet.{AreLines};
 ghost use Rattle.local_run.specs.Lanes.{lane};
 ghost use Rattle.module_job.specs.Signals.{is_live};
-ghost use Rattle.local_run.specs.Scans.{HasEdgeAt, HasEdgesIn, IsFirst, IsFound, IsFree, IsLeastBelow, IsMissed, IsNextStop, IsReady, IsSought, IsStride, Shows, is_defined, valuation};
+ghost use Rattle.local_run.specs.Scans.{IsFirst, IsFound, IsFree, IsLeastBelow, IsMissed, IsNextStop, IsReady, IsSought, IsStride, Shows, is_defined, valuation};
 
 use crate::fault::{Fault, Kind};
 use crate::marked_planes::MarkedPlanes;
@@ -34,8 +33,8 @@ fn first_live(marked_planes: &MarkedPlanes, values: &Values, x: usize, y: usize)
     values.first_difference(marked_planes.planes(), x, y, Signal::Zero)
 }
 
-// The least assignment under which the cell at a column and row of the box has a fault of the kind.
-fn cell_fault(
+/// Returns the least assignment under which the cell at a column and row of the box has a fault of the kind.
+pub fn cell_fault(
     marked_planes: &MarkedPlanes,
     values: &Values,
     job: &Job,
@@ -118,119 +117,6 @@ pub fn first_fault(
         }
     }
     None
-}
-
-// Whether a cell, counted from the halo, carries what its edge signal says, where it is in the ring.
-fn is_edge_right(
-    marked_planes: &MarkedPlanes,
-    values: &Values,
-    job: &Job,
-    time: u32,
-    x: usize,
-    y: usize,
-) -> bool
-    requires ready { IsReady job.now values.now }
-    requires shows { Shows job.now values.now time marked_planes.now.planes }
-    requires sought { IsSought job.now time Kind.Edge }
-    requires place { (x < job.now.area.w + 2) × (y < job.now.area.h + 2) }
-    ensures { result ≡ true → HasEdgeAt job.now values.now time x y }
-{
-    let area = job.area();
-    if x == 0 || y == 0 {
-        return true;
-    }
-    if area.w as usize <= x - 1 || area.h as usize <= y - 1 {
-        return true;
-    }
-    cell_fault(marked_planes, values, job, time, Kind::Edge, x - 1, y - 1).is_none()
-}
-
-// The same, where most cells have no line and are dead.
-#[inline(always)]
-fn is_right(
-    marked_planes: &MarkedPlanes,
-    values: &Values,
-    job: &Job,
-    time: u32,
-    x: usize,
-    y: usize,
-) -> bool
-    requires ready { IsReady job.now values.now }
-    requires shows { Shows job.now values.now time marked_planes.now.planes }
-    requires lines { AreLines job.now time marked_planes.now.line_marks.items }
-    requires sought { IsSought job.now time Kind.Edge }
-    requires place { (x < job.now.area.w + 2) × (y < job.now.area.h + 2) }
-    ensures { result ≡ true → HasEdgeAt job.now values.now time x y }
-{
-    let _area = job.area();
-    if !marked_planes.has_line(x, y) && !marked_planes.may_be_live(x, y) {
-        return true;
-    }
-    is_edge_right(marked_planes, values, job, time, x, y)
-}
-
-// Whether the two cells of a row, counted from the halo, that stand in a column of the planes carry what their edge
-// signals say, where they are in the ring.
-fn are_both_right(
-    marked_planes: &MarkedPlanes,
-    values: &Values,
-    job: &Job,
-    time: u32,
-    column: usize,
-    y: usize,
-) -> bool
-    requires ready { IsReady job.now values.now }
-    requires shows { Shows job.now values.now time marked_planes.now.planes }
-    requires lines { AreLines job.now time marked_planes.now.line_marks.items }
-    requires sought { IsSought job.now time Kind.Edge }
-    requires place { (column < job.now.area.w / 2 + 1) × (y < job.now.area.h + 2) }
-    ensures left { result ≡ true → HasEdgeAt job.now values.now time (2 * column) y }
-    ensures right { result ≡ true → HasEdgeAt job.now values.now time (2 * column + 1) y }
-{
-    is_right(marked_planes, values, job, time, 2 * column, y)
-        && is_right(marked_planes, values, job, time, 2 * column + 1, y)
-}
-
-// Whether the cells of the ring in a column and row of the planes carry what their edge signals say.
-fn are_edges_right_in(
-    marked_planes: &MarkedPlanes,
-    values: &Values,
-    job: &Job,
-    time: u32,
-    column: usize,
-    row: usize,
-) -> bool
-    requires ready { IsReady job.now values.now }
-    requires shows { Shows job.now values.now time marked_planes.now.planes }
-    requires lines { AreLines job.now time marked_planes.now.line_marks.items }
-    requires sought { IsSought job.now time Kind.Edge }
-    requires place { (column < job.now.area.w / 2 + 1) × (row < job.now.area.h / 2 + 1) }
-    ensures { result ≡ true → HasEdgesIn job.now values.now time column row }
-{
-    are_both_right(marked_planes, values, job, time, column, 2 * row)
-        && are_both_right(marked_planes, values, job, time, column, 2 * row + 1)
-}
-
-/// Returns whether the cells of the ring carry what their edge signals say. Only `true` is proved to be right.
-pub fn are_edges_right(marked_planes: &MarkedPlanes, values: &Values, job: &Job, time: u32) -> bool
-    requires ready { IsReady job.now values.now }
-    requires shows { Shows job.now values.now time marked_planes.now.planes }
-    requires lines { AreLines job.now time marked_planes.now.line_marks.items }
-    requires sought { IsSought job.now time Kind.Edge }
-    ensures { result ≡ true → IsFree job.now values.now time Kind.Edge }
-{
-    let _area = job.area();
-    let planes = marked_planes.planes();
-    let cells = planes.cells();
-    let mut u = marked_planes.next_border(0);
-    'border: while u < cells {
-        let (column, row) = planes.place(u);
-        if !are_edges_right_in(marked_planes, values, job, time, column, row) {
-            return false;
-        }
-        u = marked_planes.next_border(u + 1);
-    }
-    true
 }
 
 // The least assignment under which the cell of a stop is not as its wire, at the stop's time.

@@ -1,9 +1,10 @@
 //! The values of the wires of a job under all assignments of its cuts.
-ghost use Rattle.std.specs.Prelude.{ℕ, ◌≡◌, ◌≢◌, ◌+◌, ◌*◌, ◌/◌, ◌^◌, ◌<◌, ◌≤◌, false, true, length, IfOk};
+ghost use Rattle.std.specs.Prelude.{ℕ, ◌≡◌, ◌≢◌, ◌+◌, ◌*◌, ◌/◌, ◌^◌, ◌<◌, ◌≤◌, false, true, not, length, IfOk};
 ghost use Rattle.bbm_rule.specs.Bits.{bit};
 ghost use Rattle.module_job.specs.Jobs.{IsJob};
 ghost use Rattle.module_job.specs.Signals.{is_live};
 ghost use Rattle.local_run.specs.Calm.{ChangesCells};
+ghost use Rattle.local_run.specs.Turns.{is_main};
 ghost use Rattle.local_run.specs.Lanes.{lane};
 ghost use Rattle.local_run.specs.Scans.{HasRow, IsLeastBelow, IsReady, IsShown, KeepsDefined, PutsCell, is_defined, valuation};
 ghost use Rattle.module_box.specs.LocalValues.{value_of};
@@ -213,8 +214,8 @@ impl Values {
         requires words { (self.now.words ≡ planes.old.words) × (self.now.words ≤ 64) }
         requires row { HasRow self.now signal }
         ensures put { PutsCell self.now x y signal planes.old planes.new }
-        ensures cells { let u = planes.old.stride * (y / 2) + x / 2 in ChangesCells true true u u u
-            u planes.old planes.new }
+        ensures cells { let u = planes.old.stride * (y / 2) + x / 2 in
+            ChangesCells (is_main x y) (not (is_main x y)) u u u u planes.old planes.new }
     {
         for k in 0..self.words {
             planes.set_word(x, y, k, self.word(signal, k));

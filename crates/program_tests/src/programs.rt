@@ -32,7 +32,7 @@ const HELP: &str = concat!(
     "Exit statuses:\n",
     "  0  each wire has its value\n",
     "  1  a gate has no row for its inputs\n",
-    "  2  the words of the command were refused\n",
+    "  2  the arguments are wrong\n",
     "  3  the text was refused, with the line `refused LINE CODE`\n",
     "  4  a read or a write failed, or the text is longer than 16 MiB\n",
     "  5  memory ran out\n",

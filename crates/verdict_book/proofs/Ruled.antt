@@ -1,4 +1,4 @@
--- A reply tells of the book's digest and jobs alone, and of whether a finding is held.
+-- A reply depends only on the book's digest, its jobs, and whether the book already has a finding of that number.
 use Rattle.std.proofs.Common.{◌≡◌, ◌∙◌, ℕ, List, false, length}
 use Rattle.std.specs.Prelude.{is_some}
 use Rattle.module_job.specs.Jobs.{JobView}

@@ -12,12 +12,12 @@ times-preserved c =
     let range = rw c.steps-steps.ensures at next.range in
     next_run c.args.job.now c.args.values.now c.times.time c.next_time-time.result c.times.next c.time_fault.new.next
     c.times.marked_planes.planes c.one_step-changed.new.marked_planes.planes c.times.changed c.one_step-changed.result
-    c.requires c.times.invariant (omega (arith, range)) c.in_default.ensures one.next one.stays range next.leap
+    c.requires c.times.invariant (omega (arith, range)) c.in_default.ensures.fault one.next one.stays range next.leap
     next.next
 
 pub returns-in-Some : goal.returns-in-Some
 returns-in-Some c = early_least c.args.job.now c.args.values.now c.times.time c.in-Some.fault c.requires
-    (omega (arith, c.times-test.true, c.steps-steps.ensures)) c.times.invariant.free c.in-Some.ensures
+    (omega (arith, c.times-test.true, c.steps-steps.ensures)) c.times.invariant.free c.in-Some.ensures.fault
 
 pub first_stop_fault-requires-clause-shows : goal.first_stop_fault-requires-clause-shows
 first_stop_fault-requires-clause-shows c =

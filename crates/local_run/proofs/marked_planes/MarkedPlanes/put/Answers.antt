@@ -13,7 +13,7 @@ invariant_of-self-clause-odd_calm c =
     let marks = rw (v, c.stride-stride.ensures.stride_is_exact) at c.mark.ensures in
     let e = c.put.ensures in
     subst (λ (m : List ℕ). OddCalm m c.put.new.planes) (sym items)
-    (odd_kept_by_odd true true _ f.odd_marks.items c.mark.new.marks f.planes c.put.new.planes e.put.size e.cells marks
+    (odd_kept_by_odd _ _ _ f.odd_marks.items c.mark.new.marks f.planes c.put.new.planes e.put.size e.cells marks
     f.odd_calm)
 
 pub invariant_of-self-clause-even_calm : goal.invariant_of-self-clause-even_calm
@@ -21,10 +21,11 @@ invariant_of-self-clause-even_calm c =
     let f = c.args.self.now in
     let v = c.deref_mut-2.ensures.value in
     let items = with_items_is f.even_marks c.mark_around.new.marks (omega (arith, ap length v, f.even_marks.ok.0)) in
-    let marks = rw (v, c.stride-stride.ensures.stride_is_exact) at c.mark_around.ensures in
+    let marks = rw (v, c.stride-stride.ensures.stride_is_exact, c.of_cell-changes.ensures.main,
+        c.of_cell-changes.ensures.anti) at c.mark_around.ensures in
     let e = c.put.ensures in
     subst (λ (m : List ℕ). EvenCalm m c.put.new.planes) (sym items)
-    (even_kept_by_odd true true _ f.even_marks.items c.mark_around.new.marks f.planes c.put.new.planes e.put.size
+    (even_kept_by_odd _ _ _ f.even_marks.items c.mark_around.new.marks f.planes c.put.new.planes e.put.size
     e.cells marks f.even_calm)
 
 pub invariant_of-self-clause-all_dead : goal.invariant_of-self-clause-all_dead
@@ -32,6 +33,7 @@ invariant_of-self-clause-all_dead c =
     let f = c.args.self.now in
     let e = c.put.ensures in
     let l = c.mark_cells.ensures in
-    let l = rw c.stride-stride.ensures.stride_is_exact at l in
-    cells_dead true true _ _ _ _ f.live_marks c.mark_cells.new.self f.planes c.put.new.planes e.put.size e.cells l.odd
+    let l = rw (c.stride-stride.ensures.stride_is_exact, c.of_cell-changes.ensures.main,
+        c.of_cell-changes.ensures.anti) at l in
+    cells_dead _ _ _ _ _ _ f.live_marks c.mark_cells.new.self f.planes c.put.new.planes e.put.size e.cells l.odd
     l.right l.down l.even f.all_dead

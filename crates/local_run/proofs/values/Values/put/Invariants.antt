@@ -1,6 +1,7 @@
-use Rattle.std.proofs.Common.{◌≡◌, ℕ, true, ◌<◌, ◌+◌, ◌*◌, ◌/◌}
+use Rattle.std.proofs.Common.{◌≡◌, ℕ, not, ◌<◌, ◌+◌, ◌*◌, ◌/◌}
 use Rattle.module_job.specs.Signals.{is_live}
 use Rattle.local_run.specs.Calm.{ChangesCells}
+use Rattle.local_run.specs.Turns.{is_main}
 use Rattle.local_run.specs.Lanes.{lane, HasSize}
 use Rattle.local_run.specs.Scans.{valuation}
 use Rattle.local_run.proofs.values.Values.put.Given as goal
@@ -11,5 +12,6 @@ invariant-loop-k l = record {
   there : (a : ℕ) → a < 64 * l.k → lane l.planes a l.x l.y ≡ is_live (valuation l.self a) l.signal;
   rest : (a x' y' : ℕ) → a < 64 * l.self.words → x' / 2 < l.fn.planes.stride → ((x' ≡ l.x) × (y' ≡ l.y) → ⊥) →
       lane l.planes a x' y' ≡ lane l.fn.planes a x' y';
-  cells : let u = l.fn.planes.stride * (l.y / 2) + l.x / 2 in ChangesCells true true u u u u l.fn.planes l.planes;
+  cells : let u = l.fn.planes.stride * (l.y / 2) + l.x / 2 in
+      ChangesCells (is_main l.x l.y) (not (is_main l.x l.y)) u u u u l.fn.planes l.planes;
 }

@@ -1,5 +1,5 @@
 use Rattle.std.proofs.Common.{arith, inr, sym}
-use Rattle.local_run.proofs.steps.halo_signal.Goals as goal
+use Rattle.local_run.proofs.border.halo_signal.Goals as goal
 
 pub has_line-requires : goal.has_line-requires
 has_line-requires c =

@@ -1,0 +1,153 @@
+//! The cells of ring and halo at an odd time.
+ghost use Rattle.std.specs.Prelude.{◌≡◌, ◌+◌, ◌/◌, ◌<◌, true};
+ghost use Rattle.circuit.specs.Meaning.{wires};
+ghost use Rattle.module_box.specs.Schedules.{signal_at};
+ghost use Rattle.module_job.specs.Jobs.{IsJob};
+ghost use Rattle.module_job.specs.Signals.{IsBelow};
+ghost use Rattle.local_run.specs.Places.{outer};
+ghost use Rattle.local_run.specs.Quiet.{AreLines};
+ghost use Rattle.local_run.specs.Scans.{HasEdgeAt, HasEdgesIn, HasHalo, HasHaloAt, HasHaloIn, IsFree, IsOuter, IsReady, IsSought, SameButIn, SameElsewhere, Shows};
+
+use crate::fault::Kind;
+use crate::marked_planes::MarkedPlanes;
+use crate::places::halo_at;
+use crate::scan::cell_fault;
+use crate::values::Values;
+use module_box::Signal;
+use module_job::Job;
+
+// What a cell, counted from the halo, carries at an odd time, if it is in the halo. Where no line says something it is
+// not sought.
+fn halo_signal(marked_planes: &MarkedPlanes, job: &Job, time: u32, x: usize, y: usize) -> Signal
+    requires job { IsJob job.now }
+    requires stride { marked_planes.now.planes.stride ≡ job.now.area.w / 2 + 1 }
+    requires rows { marked_planes.now.planes.rows ≡ job.now.area.h / 2 + 1 }
+    requires lines { AreLines job.now time marked_planes.now.line_marks.items }
+    requires place { (x < job.now.area.w + 2) × (y < job.now.area.h + 2) }
+    ensures signal_is_exact { result
+        ≡ signal_at job.now.halos time (outer job.now.area.x x) (outer job.now.area.y y) }
+    ensures below { IsBelow (wires job.now.locals.netlist) result }
+{
+    if marked_planes.has_line(x, y) {
+        halo_at(job, time, x, y)
+    } else {
+        Signal::Zero
+    }
+}
+
+// Sets a cell of the halo to what its signal says.
+#[tactic(auto, using(crate::proofs::Scans::row_from))]
+fn set_halo_cell(
+    marked_planes: &mut MarkedPlanes,
+    values: &Values,
+    job: &Job,
+    time: u32,
+    x: usize,
+    y: usize,
+)
+    requires ready { IsReady job.now values.now }
+    requires shows { Shows job.now values.now time marked_planes.old.planes }
+    requires lines { AreLines job.now time marked_planes.old.line_marks.items }
+    requires place { (x < job.now.area.w + 2) × (y < job.now.area.h + 2) }
+    requires outer { IsOuter job.now.area x y }
+    ensures shows { Shows job.now values.now time marked_planes.new.planes }
+    ensures lines { marked_planes.new.line_marks ≡ marked_planes.old.line_marks }
+    ensures here { HasHaloAt job.now values.now time marked_planes.new.planes x y }
+    ensures rest { SameElsewhere job.now marked_planes.old.planes marked_planes.new.planes x y }
+{
+    let signal = halo_signal(marked_planes, job, time, x, y);
+    if values.is_different(marked_planes.planes(), x, y, signal) {
+        marked_planes.put(values, x, y, signal);
+    }
+}
+
+// Sets a cell of box or halo, counted from the halo, to what its halo signal says, if it is in the halo. Returns whether
+// it carries what its edge signal says, if it is in the ring; only `true` is proved to be right.
+#[inline(always)]
+fn set_border_cell(
+    marked_planes: &mut MarkedPlanes,
+    values: &Values,
+    job: &Job,
+    time: u32,
+    x: usize,
+    y: usize,
+) -> bool
+    requires ready { IsReady job.now values.now }
+    requires shows { Shows job.now values.now time marked_planes.old.planes }
+    requires lines { AreLines job.now time marked_planes.old.line_marks.items }
+    requires sought { IsSought job.now time Kind.Edge }
+    requires place { (x < job.now.area.w + 2) × (y < job.now.area.h + 2) }
+    ensures shows { Shows job.now values.now time marked_planes.new.planes }
+    ensures lines { marked_planes.new.line_marks ≡ marked_planes.old.line_marks }
+    ensures edge { result ≡ true → HasEdgeAt job.now values.now time x y }
+    ensures halo { HasHaloAt job.now values.now time marked_planes.new.planes x y }
+    ensures rest { SameElsewhere job.now marked_planes.old.planes marked_planes.new.planes x y }
+{
+    let area = job.area();
+    // Most cells have no line and are dead.
+    if !marked_planes.has_line(x, y) && !marked_planes.may_be_live(x, y) {
+        return true;
+    }
+    if 1 <= x && x <= area.w as usize && 1 <= y && y <= area.h as usize {
+        return cell_fault(marked_planes, values, job, time, Kind::Edge, x - 1, y - 1).is_none();
+    }
+    set_halo_cell(marked_planes, values, job, time, x, y);
+    true
+}
+
+// Does the same for the four cells in a column and row of the planes.
+fn set_border_cells(
+    marked_planes: &mut MarkedPlanes,
+    values: &Values,
+    job: &Job,
+    time: u32,
+    column: usize,
+    row: usize,
+) -> bool
+    requires ready { IsReady job.now values.now }
+    requires shows { Shows job.now values.now time marked_planes.old.planes }
+    requires lines { AreLines job.now time marked_planes.old.line_marks.items }
+    requires sought { IsSought job.now time Kind.Edge }
+    requires place { (column < job.now.area.w / 2 + 1) × (row < job.now.area.h / 2 + 1) }
+    ensures shows { Shows job.now values.now time marked_planes.new.planes }
+    ensures lines { marked_planes.new.line_marks ≡ marked_planes.old.line_marks }
+    ensures edges { result ≡ true → HasEdgesIn job.now values.now time column row }
+    ensures halo { HasHaloIn job.now values.now time marked_planes.new.planes column row }
+    ensures rest { SameButIn job.now marked_planes.old.planes marked_planes.new.planes column row }
+{
+    let x = 2 * column;
+    let y = 2 * row;
+    let first = set_border_cell(marked_planes, values, job, time, x, y);
+    let second = set_border_cell(marked_planes, values, job, time, x + 1, y);
+    let third = set_border_cell(marked_planes, values, job, time, x, y + 1);
+    let fourth = set_border_cell(marked_planes, values, job, time, x + 1, y + 1);
+    first & second & third & fourth
+}
+
+/// Sets the cells of the halo to what their signals say, and returns whether the cells of the ring carry what their edge
+/// signals say. Only `true` is proved to be right.
+pub fn set_border(
+    marked_planes: &mut MarkedPlanes,
+    values: &Values,
+    job: &Job,
+    time: u32,
+) -> bool
+    requires ready { IsReady job.now values.now }
+    requires shows { Shows job.now values.now time marked_planes.old.planes }
+    requires lines { AreLines job.now time marked_planes.old.line_marks.items }
+    requires sought { IsSought job.now time Kind.Edge }
+    ensures shows { Shows job.now values.now time marked_planes.new.planes }
+    ensures halo { HasHalo job.now values.now time marked_planes.new.planes }
+    ensures edges { result ≡ true → IsFree job.now values.now time Kind.Edge }
+{
+    let _area = job.area();
+    let cells = marked_planes.planes().cells();
+    let mut is_right = true;
+    let mut u = marked_planes.next_border(0);
+    'border: while u < cells {
+        let (column, row) = marked_planes.planes().place(u);
+        is_right &= set_border_cells(marked_planes, values, job, time, column, row);
+        u = marked_planes.next_border(u + 1);
+    }
+    is_right
+}
