@@ -1,5 +1,5 @@
 -- Runs that stay as they are, and times that can be leapt over
-use Rattle.std.proofs.Common.{◌≡◌, ◌≢◌, ℕ, zero, suc, ◌<◌, ◌≤◌, ◌+◌, ◌-◌, ◌%◌, ◌&&◌, ◌||◌, List, length, Option, Some}
+use Rattle.std.proofs.Common.{◌≡◌, ◌≢◌, ℕ, zero, suc, ◌<◌, ◌≤◌, ◌+◌, ◌-◌, ◌%◌, ◌&&◌, ◌||◌, List, [], length, Option, Some}
 use Rattle.std.proofs.Common.{None, Less, Greater, refl, arith, sym, ◌∙◌, ap, ap₂, inl, inr, subst}
 use Rattle.std.specs.Prelude.{ℤ, ◌+ℤ◌, slice_get, unwrap_or}
 use Rattle.std.proofs.lemmas.Option.{slice_get_within}
@@ -15,13 +15,26 @@ use Rattle.module_box.specs.declared.schedules.Moment.{Moment}
 use Rattle.module_box.specs.declared.schedules.Signal.TheVariants.{Zero}
 use Rattle.module_box.specs.Moves.{moved_signals}
 use Rattle.module_box.proofs.MovedBoxes.{signals_moved}
-use Rattle.module_box.proofs.Rising.{event_none}
+use Rattle.module_box.specs.declared.schedules.Signal.{Signal}
+use Rattle.module_box.proofs.Rising.{event_found, event_none, is_first, moment_total}
 use Rattle.module_job.specs.Jobs.{JobView}
 use Rattle.module_job.specs.Signals.{is_live}
 use Rattle.local_run.specs.Laws.{QuietRunsStay, NoNewEdgeFaults}
 use Rattle.local_run.specs.Leaps.{HasNoEvents, IsOddOf, IsSteady, IsTimeBetween, StaysUpTo}
 use Rattle.local_run.specs.Runs.{with_halo, local_run}
 use Rattle.local_run.proofs.LocalRuns.{even_or_odd, local_even, local_odd, step_all_same}
+
+-- ---- the signal of an event
+pub event_there : (es : List Event) (k : ℕ) (m : Moment) (e : Event) → IsRising moment_cmp moment_of es →
+    slice_get es k ≡ Some e → e.at ≡ m → event_at es m.time m.cell.x m.cell.y ≡ Some e.signal
+event_there es k m e rising at same =
+    event_found es k e m same at (is_first moment_cmp moment_of es k e moment_total rising at)
+
+pub signal_there : (s : Signals) (t : ℕ) (x y : ℤ) (v : Signal) → s.all_times ≡ [] → event_at s.events t x y ≡ Some v →
+    v ≡ signal_at s t x y
+unfolding signal_at all_times_at
+signal_there s t x y v none e =
+    sym (ap₂ (λ h z. unwrap_or (all_times_at h x y) (unwrap_or z Zero)) none e)
 
 -- ---- steps at times of one parity are the same
 partner_alike : (k m : ℕ) (x : ℤ) → k % 2 ≡ m % 2 → partner k x ≡ partner m x

@@ -1,7 +1,7 @@
 -- Cells of which no line of a module says anything
 use Rattle.std.proofs.Common.{◌≡◌, ℕ, ◌<◌, ◌+◌, ◌*◌, ◌/◌, ◌%◌, ◌≤◌, arith, sym, ◌∙◌, ap, ap₂, List, slice_get, Some}
 use Rattle.std.proofs.Common.{inl, inr}
-use Rattle.std.specs.Prelude.{ℤ, ◌+ℤ◌}
+use Rattle.std.specs.Prelude.{ℤ, pos, ◌+ℤ◌, ◌-ℤ◌}
 use Rattle.std.proofs.lemmas.Int.{ints}
 use Rattle.bbm_rule.specs.declared.block.Cell.{Cell}
 use Rattle.module_box.specs.Schedules.{Signals, signal_at}
@@ -13,7 +13,7 @@ use Rattle.module_box.specs.Moves.{moved_signals}
 use Rattle.module_box.proofs.MovedBoxes.{signals_moved}
 use Rattle.module_box.proofs.Rising.{all_times_none, event_none}
 use Rattle.module_job.specs.Shapes.{shift_to_origin}
-use Rattle.local_run.specs.Places.{outer}
+use Rattle.local_run.specs.Places.{inner, outer}
 use Rattle.bbm_rule.specs.Marks.{MarksOne}
 use Rattle.local_run.specs.Leaps.{IsTimeBetween}
 use Rattle.local_run.specs.Quiet.{AreAllTimesMarked, IsCellMarked, IsQuietIn, KeepsMarks, LacksLine, line_at, number_at}
@@ -102,3 +102,28 @@ quiet_moved s b t marks quiet x y lx ly free =
     ∙ ap₂ (signal_at (moved_signals (shift_to_origin b.x) (shift_to_origin b.y) s) t) (outer_back b.x x)
     (outer_back b.y y)
     ∙ quiet x y lx ly free
+
+-- what a shape carries at a cell, counted from its corner or from its halo, is what the job carries there
+inner_back : (c k : ℕ) → inner c k +ℤ shift_to_origin c ≡ pos k
+unfolding inner
+inner_back c k = omega (arith, ints)
+
+pub inner_signal : (s : Signals) (b : Box2) (t x y : ℕ) →
+    signal_at (moved_signals (shift_to_origin b.x) (shift_to_origin b.y) s) t (pos x) (pos y)
+    ≡ signal_at s t (inner b.x x) (inner b.y y)
+inner_signal s b t x y =
+    sym (ap₂ (signal_at (moved_signals (shift_to_origin b.x) (shift_to_origin b.y) s) t) (inner_back b.x x)
+    (inner_back b.y y))
+    ∙ signals_moved (shift_to_origin b.x) (shift_to_origin b.y) s t (inner b.x x) (inner b.y y)
+
+from_halo : (c k : ℕ) → outer c k +ℤ shift_to_origin c ≡ pos k -ℤ pos 1
+unfolding outer
+from_halo c k = omega (arith, ints)
+
+pub outer_signal : (s : Signals) (b : Box2) (t x y : ℕ) →
+    signal_at (moved_signals (shift_to_origin b.x) (shift_to_origin b.y) s) t (pos x -ℤ pos 1) (pos y -ℤ pos 1)
+    ≡ signal_at s t (outer b.x x) (outer b.y y)
+outer_signal s b t x y =
+    sym (ap₂ (signal_at (moved_signals (shift_to_origin b.x) (shift_to_origin b.y) s) t) (from_halo b.x x)
+    (from_halo b.y y))
+    ∙ signals_moved (shift_to_origin b.x) (shift_to_origin b.y) s t (outer b.x x) (outer b.y y)

@@ -29,7 +29,7 @@ fn halo_signal(marked_planes: &MarkedPlanes, job: &Job, time: u32, x: usize, y: 
     ensures below { IsBelow (wires job.now.locals.netlist) result }
 {
     if marked_planes.has_line(x, y) {
-        halo_at(job, time, x, y)
+        halo_at(job, time, x, y, marked_planes.line_places().halos)
     } else {
         Signal::Zero
     }

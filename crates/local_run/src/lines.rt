@@ -3,15 +3,15 @@
 ghost use Rattle.module_job.specs.Jobs.{IsJob};
 ghost use Rattle.module_job.specs.Shapes.{shape_of};
 ghost use Rattle.module_box.specs.Moments.{moment_cmp};
-ghost use Rattle.module_box.specs.Schedules.{IsRising, moment_of};
+ghost use Rattle.module_box.specs.Schedules.{IsRising, event_at, moment_of, signal_at};
 ghost use Rattle.local_run.specs.Quiet.{AreAllTimesMarks, AreAllTimesMarked, AreLines, at_corner, HasRoom, IsCellMarked, IsQuietIn, KeepsMarks};
 ghost use Rattle.local_run.specs.Places.{outer};
-ghost use Rattle.std.specs.Prelude.{ℕ, ◌≢◌, MatchOption, ◌≡◌, ◌<◌, ◌+◌, ◌*◌, ◌/◌, ◌%◌, ◌^◌, ◌≤◌, length, slice_index, slice_get, Some, IfOk};
+ghost use Rattle.std.specs.Prelude.{ℕ, [], true, ◌≢◌, MatchOption, ◌≡◌, ◌<◌, ◌+◌, ◌*◌, ◌/◌, ◌%◌, ◌^◌, ◌≤◌, length, slice_index, slice_get, Some, IfOk, IfSome};
 
 use crate::leaps::first_event_from;
 use bbm_rule::Cell;
 use bbm_rule::marks::mark;
-use module_box::{AllTimes, Box2, Event, Schedule};
+use module_box::{AllTimes, Box2, Event, Moment, Schedule, Signal};
 use module_job::{Job, Shape};
 use std::alloc::{AllocError, Global};
 
@@ -83,8 +83,14 @@ fn mark_events(marks: &mut [u64], area: Box2, list: &[Event], first: usize, end:
     }
 }
 
-// Marks the cells of the events of a time, which are sought from a place on, and tells their place.
-fn mark_events_at(marks: &mut [u64], area: Box2, list: &[Event], place: usize, time: u32) -> usize
+// Marks the cells of the events of a time, which are sought from a place on, and returns their places.
+fn mark_events_at(
+    marks: &mut [u64],
+    area: Box2,
+    list: &[Event],
+    place: usize,
+    time: u32,
+) -> EventPlaces
     requires room_for_marks { HasRoom area marks.old }
     requires rising { IsRising moment_cmp moment_of list.now }
     requires range { time < 65536 }
@@ -95,18 +101,18 @@ fn mark_events_at(marks: &mut [u64], area: Box2, list: &[Event], place: usize, t
     let first = first_event_from(list, place, time);
     let end = first_event_from(list, first, time + 1);
     mark_events(marks, area, list, first, end);
-    end
+    EventPlaces { first, end }
 }
 
 // Marks the cells of which a schedule says something at the time, where those of its signals at all times have marks.
-// Its events are sought from a place on, and it tells that of the first later one.
+// Its events are sought from a place on. Returns their places.
 fn mark_schedule(
     marks: &mut [u64],
     area: Box2,
     schedule: &Schedule,
     place: usize,
     time: u32,
-) -> usize
+) -> EventPlaces
     requires room_for_marks { HasRoom area marks.old }
     requires range { time < 65536 }
     requires all_times { AreAllTimesMarked schedule.now area marks.old }
@@ -128,20 +134,73 @@ fn box_of(shape: &Shape) -> Box2
     }
 }
 
-/// The places of edge and halo lines of a job at which a search for those of a time begins.
+/// The places of the events of one time in a list of events: from `first` up to before `end`.
 ///
-/// They may be any. The search takes the fewest looks from the first line after an earlier time.
+/// They may be any: a search only begins there.
+#[derive(Clone, Copy)]
+pub struct EventPlaces {
+    first: usize,
+    end: usize,
+}
+
+/// The places of the edge and halo lines of the time that was looked at last.
 #[derive(Clone, Copy)]
 pub struct LinePlaces {
-    edges: usize,
-    halos: usize,
+    /// Those of the edge lines.
+    pub edges: EventPlaces,
+    /// Those of the halo lines.
+    pub halos: EventPlaces,
 }
 
 impl LinePlaces {
-    /// Returns the places of the first lines.
+    /// Returns the places before the first lines.
     pub fn first() -> LinePlaces {
-        LinePlaces { edges: 0, halos: 0 }
+        let none = EventPlaces { first: 0, end: 0 };
+        LinePlaces {
+            edges: none,
+            halos: none,
+        }
     }
+}
+
+// The most events of a time among which a cell's event is sought one by one.
+const MOST_NEAR_EVENTS: usize = 8;
+
+// The signal of the event of a moment, if it is among the events at a few places.
+fn event_near(events: &[Event], moment: Moment, near: EventPlaces) -> Option<Signal>
+    requires { IsRising moment_cmp moment_of events.now }
+    ensures { IfSome result
+        (λ s. event_at events.now moment.time moment.cell.x moment.cell.y ≡ Some s) }
+{
+    if near.end > near.first.saturating_add(MOST_NEAR_EVENTS) {
+        return None;
+    }
+    for k in near.first..near.end.min(events.len()) {
+        let event = events[k];
+        if event.at == moment {
+            return Some(event.signal);
+        }
+    }
+    None
+}
+
+// Whether no signal at all times is in the schedule.
+fn has_events_alone(schedule: &Schedule) -> bool
+    ensures { result ≡ true → schedule.now.all_times ≡ [] }
+{
+    schedule.all_times().is_empty()
+}
+
+/// Returns the signal of a cell at a time, as [`Schedule::at`] does. It looks first at the events at a few places.
+pub fn signal_near(schedule: &Schedule, moment: Moment, near: EventPlaces) -> Signal
+    ensures { result ≡ signal_at schedule.now moment.time moment.cell.x moment.cell.y }
+{
+    if has_events_alone(schedule) {
+        if let Some(signal) = event_near(schedule.events(), moment, near) {
+            return signal;
+        }
+    }
+    schedule.at(moment.time, moment.cell)
 }
 
 /// Marks the cells of which an edge or halo line says something at the time.
@@ -154,8 +213,8 @@ pub fn mark_lines(marks: &mut [u64], places: &mut LinePlaces, job: &Job, time: u
 {
     let shape: &Shape = job.shape();
     let area = box_of(shape);
-    places.edges = mark_schedule(marks, area, shape.edges(), places.edges, time);
-    places.halos = mark_schedule(marks, area, shape.halos(), places.halos, time);
+    places.edges = mark_schedule(marks, area, shape.edges(), places.edges.end, time);
+    places.halos = mark_schedule(marks, area, shape.halos(), places.halos.end, time);
 }
 
 // Marks the cells of which an edge or halo line says something at all times.

@@ -11,7 +11,7 @@ ghost use Rattle.local_run.specs.Borders.{AllInner, AllInner-prop, ArePassed};
 ghost use Rattle.local_run.specs.Calm.{OddCalm, OddCalm-prop, EvenCalm, EvenCalm-prop};
 ghost use Rattle.local_run.specs.Live.{AllDead, AllDead-prop, HasMarks};
 ghost use Rattle.std.specs.Int.{div_ceil};
-ghost use Rattle.std.specs.Prelude.{ℕ, ◌≡◌, ◌≢◌, ◌+◌, ◌*◌, ◌/◌, ◌%◌, ◌<◌, ◌≤◌, ◌⊎◌, vec_len, IfOk, false};
+ghost use Rattle.std.specs.Prelude.{ℕ, ◌≡◌, ◌≢◌, ◌+◌, ◌*◌, ◌/◌, ◌%◌, ◌<◌, ◌≤◌, ◌⊎◌, vec_len, IfOk, true, false};
 
 use crate::lines::{CELL_WORDS, LinePlaces, line_number, mark_lines};
 use crate::live::LiveMarks;
@@ -129,6 +129,13 @@ impl MarkedPlanes {
         ensures { result.now ≡ self.now.planes }
     {
         &self.planes
+    }
+
+    /// Returns the places of the edge and halo lines of the time that was looked at last.
+    pub fn line_places(&self) -> LinePlaces
+        ensures { result ≡ self.now.line_places }
+    {
+        self.line_places
     }
 
     /// Marks the cells of which an edge or halo line of the job says something at a time.
@@ -474,6 +481,17 @@ impl MarkedPlanes {
         is_turned
     }
 
+    // Whether block u of the even partition is the last of its row. A division takes long, so most blocks are known to
+    // be others by their lack of a mark.
+    #[inline(always)]
+    fn is_last(&self, u: usize) -> bool
+        requires { u < self.now.planes.stride * self.now.planes.rows }
+        ensures last { result ≡ true → (u + 1) % self.now.planes.stride ≡ 0 }
+        ensures other { result ≡ false → (u + 1) % self.now.planes.stride ≢ 0 }
+    {
+        is_marked(&self.border_marks, u) && (u + 1) % self.planes.stride() == 0
+    }
+
     // Turns block u of the even partition, unless it stays, and tells whether it turned it. The last block of a row is
     // not in the box and stays: its cells stand in the halo, at the right end of two rows and at the left end of the
     // next two.
@@ -490,7 +508,7 @@ impl MarkedPlanes {
         ensures last { (u + 1) % self.old.planes.stride ≡ 0 → self.new.planes ≡ self.old.planes }
         ensures stays { result ≡ false → self.new.planes ≡ self.old.planes }
     {
-        if (u + 1) % self.planes.stride() == 0 {
+        if self.is_last(u) {
             unmark(&mut self.even_marks, u);
             return false;
         }

@@ -1,5 +1,5 @@
 //! Cells of a job by their places in its box, and in the box together with its halo.
-ghost use Rattle.std.specs.Prelude.{◌≡◌, ◌+◌, ◌<◌, ◌≤◌, IsTrue};
+ghost use Rattle.std.specs.Prelude.{pos, ◌≡◌, ◌+◌, ◌-ℤ◌, ◌<◌, ◌≤◌, IsTrue};
 ghost use Rattle.circuit.specs.Meaning.{wires};
 ghost use Rattle.module_box.specs.Boxes.{in_box, in_ring};
 ghost use Rattle.module_box.specs.Schedules.{signal_at};
@@ -7,9 +7,10 @@ ghost use Rattle.module_job.specs.Jobs.{job_demand, job_start};
 ghost use Rattle.module_job.specs.Signals.{IsBelow, IsDemandBelow};
 ghost use Rattle.local_run.specs.Places.{inner, outer, IsSmall};
 
+use crate::lines::{EventPlaces, signal_near};
 use bbm_rule::Cell;
-use module_box::{Box2, Signal};
-use module_job::{Demand, Job};
+use module_box::{Box2, Moment, Signal};
+use module_job::{Demand, Job, Shape};
 
 /// Returns the cell at a column and row of the box.
 ///
@@ -26,16 +27,27 @@ pub fn inner_cell(area: Box2, x: usize, y: usize) -> Cell
     }
 }
 
-/// Returns the cell at a column and row that are counted from the halo.
-#[tactic(auto, unfolding(crate::specs::Places::outer))]
-pub fn outer_cell(area: Box2, x: usize, y: usize) -> Cell
-    requires { IsSmall area x y }
-    ensures x { result.x ≡ outer area.x x }
-    ensures y { result.y ≡ outer area.y y }
+// The cell at a column and row of a box whose corner is at (0, 0).
+fn box_cell(x: usize, y: usize) -> Cell
+    requires { (x ≤ 66) × (y ≤ 66) }
+    ensures x { result.x ≡ pos x }
+    ensures y { result.y ≡ pos y }
 {
     Cell {
-        x: (area.x as usize + x) as i32 - 1,
-        y: (area.y as usize + y) as i32 - 1,
+        x: x as i32,
+        y: y as i32,
+    }
+}
+
+// The cell at a column and row that are counted from the halo of such a box.
+fn halo_cell(x: usize, y: usize) -> Cell
+    requires { (x ≤ 66) × (y ≤ 66) }
+    ensures x { result.x ≡ pos x -ℤ pos 1 }
+    ensures y { result.y ≡ pos y -ℤ pos 1 }
+{
+    Cell {
+        x: x as i32 - 1,
+        y: y as i32 - 1,
     }
 }
 
@@ -59,24 +71,32 @@ pub fn demand_at(job: &Job, x: usize, y: usize) -> Demand
     job.demand(inner_cell(job.area(), x, y))
 }
 
-/// Returns what the cell at a column and row of the box carries at an odd time, if it is in the ring.
-pub fn edge_at(job: &Job, time: u32, x: usize, y: usize) -> Signal
+/// Returns what the cell at a column and row of the box carries at an odd time, if it is in the ring. Its event is sought
+/// first at some places, whatever they are.
+pub fn edge_at(job: &Job, time: u32, x: usize, y: usize, near: EventPlaces) -> Signal
     requires { (x < job.now.area.w) × (y < job.now.area.h) }
     ensures signal_is_exact { result
         ≡ signal_at job.now.edges time (inner job.now.area.x x) (inner job.now.area.y y) }
     ensures below { IsBelow (wires job.now.locals.netlist) result }
 {
-    job.edge(time, inner_cell(job.area(), x, y))
+    let _area = job.area();
+    let shape: &Shape = job.shape();
+    let cell = box_cell(x, y);
+    signal_near(shape.edges(), Moment { time, cell }, near)
 }
 
-/// Returns what the cell at a column and row, counted from the halo, carries at an odd time, if it is in the halo.
-pub fn halo_at(job: &Job, time: u32, x: usize, y: usize) -> Signal
+/// Returns what the cell at a column and row, counted from the halo, carries at an odd time, if it is in the halo. Its
+/// event is sought first at some places, whatever they are.
+pub fn halo_at(job: &Job, time: u32, x: usize, y: usize, near: EventPlaces) -> Signal
     requires { (x < job.now.area.w + 2) × (y < job.now.area.h + 2) }
     ensures signal_is_exact { result
         ≡ signal_at job.now.halos time (outer job.now.area.x x) (outer job.now.area.y y) }
     ensures below { IsBelow (wires job.now.locals.netlist) result }
 {
-    job.halo(time, outer_cell(job.area(), x, y))
+    let _area = job.area();
+    let shape: &Shape = job.shape();
+    let cell = halo_cell(x, y);
+    signal_near(shape.halos(), Moment { time, cell }, near)
 }
 
 /// Returns whether the cell at a column and row of the box is in its ring.

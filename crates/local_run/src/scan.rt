@@ -57,7 +57,8 @@ pub fn cell_fault(
             if !is_ring(job, x, y) {
                 return None;
             }
-            values.first_difference(planes, 1 + x, 1 + y, edge_at(job, time, x, y))
+            let near = marked_planes.line_places().edges;
+            values.first_difference(planes, 1 + x, 1 + y, edge_at(job, time, x, y, near))
         }
         Kind::Stop => None,
         Kind::End => match demand_at(job, x, y) {

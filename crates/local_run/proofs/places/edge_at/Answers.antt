@@ -1,26 +1,22 @@
-use Rattle.std.proofs.Common.{◌≡◌, ◌+◌, ◌<◌, ◌≤◌, ℕ, ℤ, arith, subst, sym, ap, ◌∙◌}
-use Rattle.std.proofs.lemmas.Int.{ints}
+use Rattle.std.proofs.Common.{◌≡◌, subst, sym, ap, ◌∙◌}
 use Rattle.circuit.specs.Meaning.{wires}
-use Rattle.module_box.specs.Moves.{IsSmall}
-use Rattle.module_box.specs.declared.boxes.Box2.{Box2}
+use Rattle.module_box.specs.Schedules.{signal_at}
+use Rattle.module_job.specs.Shapes.{ShapeView, shape_of}
 use Rattle.module_job.specs.Signals.{IsBelow}
-use Rattle.local_run.specs.Places.{inner}
 use Rattle.local_run.proofs.OwnWires.{edge_below}
+use Rattle.local_run.proofs.QuietLemmas.{inner_signal}
 use Rattle.local_run.proofs.places.edge_at.Goals as goal
 
-near : (z : ℤ) (a w n : ℕ) → z ≡ inner a n → n < w → a + w ≤ 512 → IsSmall z
-unfolding inner
-near z a w n e lt few = (omega (arith, ints, e), omega (arith, ints, e, lt, few))
-
-pub edge-requires : goal.edge-requires
-edge-requires c =
-    let is = c.area.ensures.good in (
-      near _ c.args.job.now.area.x c.args.job.now.area.w c.args.x
-          (c.inner_cell.ensures.x ∙ ap (λ (b : Box2). inner b.x c.args.x) c.area.ensures.area) c.requires.0 is.width.2,
-      near _ c.args.job.now.area.y c.args.job.now.area.h c.args.y
-          (c.inner_cell.ensures.y ∙ ap (λ (b : Box2). inner b.y c.args.y) c.area.ensures.area) c.requires.1 is.height.2,
-    )
+pub returns-clause-signal_is_exact : goal.returns-clause-signal_is_exact
+returns-clause-signal_is_exact c =
+    let j = c.args.job.now in
+    let shape : c.deref-shape.result.now ≡ shape_of j = c.deref-shape.ensures ∙ c.shape.ensures in
+    let edges = c.edges.ensures ∙ ap (λ (s : ShapeView). s.edges) shape in
+    c.signal_near.ensures
+    ∙ (λ i. signal_at (edges i) c.args.time (c.box_cell-cell.ensures.x i) (c.box_cell-cell.ensures.y i))
+    ∙ inner_signal j.edges j.area c.args.time c.args.x c.args.y
 
 pub returns-clause-below : goal.returns-clause-below
-returns-clause-below c = subst (IsBelow (wires c.args.job.now.locals.netlist)) (sym c.edge.ensures)
-    (edge_below c.args.job.now c.args.time _ _ c.area.ensures.good.own)
+returns-clause-below c = subst (IsBelow (wires c.args.job.now.locals.netlist))
+    (sym (returns-clause-signal_is_exact c))
+    (edge_below c.args.job.now c.args.time _ _ c.area-area.ensures.good.own)

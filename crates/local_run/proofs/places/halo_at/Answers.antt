@@ -1,26 +1,22 @@
-use Rattle.std.proofs.Common.{◌≡◌, ◌+◌, ◌<◌, ◌≤◌, ℕ, ℤ, arith, subst, sym, ap, ◌∙◌}
-use Rattle.std.proofs.lemmas.Int.{ints}
+use Rattle.std.proofs.Common.{◌≡◌, subst, sym, ap, ◌∙◌}
 use Rattle.circuit.specs.Meaning.{wires}
-use Rattle.module_box.specs.Moves.{IsSmall}
-use Rattle.module_box.specs.declared.boxes.Box2.{Box2}
+use Rattle.module_box.specs.Schedules.{signal_at}
+use Rattle.module_job.specs.Shapes.{ShapeView, shape_of}
 use Rattle.module_job.specs.Signals.{IsBelow}
-use Rattle.local_run.specs.Places.{outer}
 use Rattle.local_run.proofs.OwnWires.{halo_below}
+use Rattle.local_run.proofs.QuietLemmas.{outer_signal}
 use Rattle.local_run.proofs.places.halo_at.Goals as goal
 
-near : (z : ℤ) (a w n : ℕ) → z ≡ outer a n → n < w + 2 → a + w ≤ 512 → IsSmall z
-unfolding outer
-near z a w n e lt few = (omega (arith, ints, e), omega (arith, ints, e, lt, few))
-
-pub halo-requires : goal.halo-requires
-halo-requires c =
-    let is = c.area.ensures.good in (
-      near _ c.args.job.now.area.x c.args.job.now.area.w c.args.x
-          (c.outer_cell.ensures.x ∙ ap (λ (b : Box2). outer b.x c.args.x) c.area.ensures.area) c.requires.0 is.width.2,
-      near _ c.args.job.now.area.y c.args.job.now.area.h c.args.y
-          (c.outer_cell.ensures.y ∙ ap (λ (b : Box2). outer b.y c.args.y) c.area.ensures.area) c.requires.1 is.height.2,
-    )
+pub returns-clause-signal_is_exact : goal.returns-clause-signal_is_exact
+returns-clause-signal_is_exact c =
+    let j = c.args.job.now in
+    let shape : c.deref-shape.result.now ≡ shape_of j = c.deref-shape.ensures ∙ c.shape.ensures in
+    let halos = c.halos.ensures ∙ ap (λ (s : ShapeView). s.halos) shape in
+    c.signal_near.ensures
+    ∙ (λ i. signal_at (halos i) c.args.time (c.halo_cell-cell.ensures.x i) (c.halo_cell-cell.ensures.y i))
+    ∙ outer_signal j.halos j.area c.args.time c.args.x c.args.y
 
 pub returns-clause-below : goal.returns-clause-below
-returns-clause-below c = subst (IsBelow (wires c.args.job.now.locals.netlist)) (sym c.halo.ensures)
-    (halo_below c.args.job.now c.args.time _ _ c.area.ensures.good.own)
+returns-clause-below c = subst (IsBelow (wires c.args.job.now.locals.netlist))
+    (sym (returns-clause-signal_is_exact c))
+    (halo_below c.args.job.now c.args.time _ _ c.area-area.ensures.good.own)
