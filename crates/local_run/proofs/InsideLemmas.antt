@@ -18,7 +18,7 @@ pub not_last : (s r u : ℕ) (marks : List ℕ) → 0 < s → AllInner s r marks
 not_last s r u marks ls inner lu free last =
     let at : s * (u / s) + u % s ≡ u = div-add-mod u s in
     let row : u / s < r = by_lt_or_le (u / s) r (λ h. h)
-        (λ h. let m : s * r ≤ s * (u / s) = mul-le-mul_left s h in absurd (omega arith)) in
+    (λ h. let m : s * r ≤ s * (u / s) = mul-le-mul_left s h in absurd (omega arith)) in
     let is = inner (u % s) (u / s) (mod-lt u ls) row (subst (IsUnmarked marks) (sym at) free) in
     let next : (u + 1) % s ≡ u % s + 1 =
     ap (λ n. (n + 1) % s) (sym at) ∙ next_in_row s (u / s) (u % s) is.1 in

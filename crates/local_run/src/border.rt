@@ -126,12 +126,7 @@ fn set_border_cells(
 
 /// Sets the cells of the halo to what their signals say, and returns whether the cells of the ring carry what their edge
 /// signals say. Only `true` is proved to be right.
-pub fn set_border(
-    marked_planes: &mut MarkedPlanes,
-    values: &Values,
-    job: &Job,
-    time: u32,
-) -> bool
+pub fn set_border(marked_planes: &mut MarkedPlanes, values: &Values, job: &Job, time: u32) -> bool
     requires ready { IsReady job.now values.now }
     requires shows { Shows job.now values.now time marked_planes.old.planes }
     requires lines { AreLines job.now time marked_planes.old.line_marks.items }

@@ -1,4 +1,4 @@
-use Rattle.std.proofs.Common.{arith, ℕ, true, ◌<◌, ◌+◌, ◌*◌, ◌/◌, ◌≡◌, ◌∙◌, ap, ap₂, subst, sym, refl, vec_items}
+use Rattle.std.proofs.Common.{arith, ℕ, ◌<◌, ◌+◌, ◌*◌, ◌/◌, ◌≡◌, ◌∙◌, ap, ap₂, subst, sym, refl, vec_items}
 use Rattle.std.specs.Prelude.{ℤ}
 use Rattle.std.proofs.lemmas.Bool.{and_parts}
 use Rattle.bbm_rule.proofs.BitLemmas.{by_lt_or_le, by_eq_or_not}
@@ -45,7 +45,7 @@ border-preserved c =
     ∙ ap₂ (λ s r. s * r) c.requires.shows.size.1 c.requires.shows.size.2 in
     let new = ap₂ (λ s r. s * r) e.shows.size.1 e.shows.size.2 in
     let here : (x y : ℕ) → x < j.area.w + 2 → number_at j.area x y ≡ c.border.u →
-        (x / 2 ≡ c.place-column.result.0) × (y / 2 ≡ c.place-column.result.1) =
+    (x / 2 ≡ c.place-column.result.0) × (y / 2 ≡ c.place-column.result.1) =
     λ x y lx is. same_place (j.area.w / 2 + 1) c.place-column.result.0 c.place-column.result.1 x y
     (omega (arith, at.column, stride)) (omega arith) (number ∙ sym is) in
     let lines = subst (λ m. AreLines j c.args.time (vec_items m)) (sym (e.lines ∙ m.lines)) c.requires.lines in

@@ -1,4 +1,4 @@
-use Rattle.std.proofs.Common.{◌<◌, ◌∙◌, sym, arith}
+use Rattle.std.proofs.Common.{◌∙◌, sym, arith}
 use Rattle.local_run.proofs.InsideLemmas.{not_last}
 use Rattle.local_run.proofs.marked_planes.MarkedPlanes.is_last.Goals as goal
 
