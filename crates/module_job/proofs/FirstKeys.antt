@@ -19,6 +19,11 @@ first_found keys n key None there known = record { same = refl; first = λ i lt 
 first_found keys n key (Some f) there known =
     record { same = known.1 ∙ sym there; first = λ i lt e. known.2 i lt (e ∙ there) }
 
+pub found_within : (keys : List (List ℕ)) (n : ℕ) (key : List ℕ) (o : Option ℕ) → IsFirstOf keys n key o →
+    unwrap_or o n < n + 1
+found_within keys n key None known = omega arith
+found_within keys n key (Some f) known = let lt = known.0 in omega (arith, lt)
+
 -- one more key
 same_one : (x y : List ℕ) (o : Option (List ℕ)) → o ≡ Some x → o ≡ Some y → x ≡ y
 same_one x y o e f = cc

@@ -1,11 +1,11 @@
 -- Shapes at their places in a list of references.
-use Rattle.std.proofs.Common.{◌≡◌, ℕ, ◌+◌, ◌<◌, List, [], ◌∷◌, ◌++◌, map, length, take, get_or, Option, Some, zero, suc}
-use Rattle.std.proofs.Common.{refl, sym, ap, ap₂, subst, ◌∙◌, arith, inl, inr}
+use Rattle.std.proofs.Common.{◌≡◌, ℕ, ◌+◌, ◌<◌, List, [], ◌∷◌, ◌++◌, map, length, get_or, Option, Some, zero, suc}
+use Rattle.std.proofs.Common.{refl, sym, ap, subst, ◌∙◌, arith, inl, inr}
 use Rattle.std.specs.Prelude.{slice_get, slice_index, unwrap_or}
 use Rattle.std.specs.Option.{option_map}
 use Rattle.std.proofs.lemmas.Bool.{cases_lt}
 use Rattle.std.proofs.lemmas.Grind.{common_steps}
-use Rattle.std.proofs.lemmas.List.{length-map, map-append, take_more}
+use Rattle.std.proofs.lemmas.List.{length-map}
 use Rattle.std.proofs.lemmas.Option.{slice_get-map, slice_get-get_or}
 use Rattle.module_job.specs.Groups.{AreGroups, AreKeys, IsFirstLike}
 use Rattle.module_job.specs.Shapes.{ShapeView}
@@ -48,23 +48,15 @@ made_keys shapes key = record {
   same = λ i k e. slice_get-map key shapes i ∙ ap (option_map key) e ∙ sym (slice_get-map key shapes k);
 }
 
--- ---- a list that is made element by element of another
-pub pushed_one : {B C : Type 0} (g : B → C) (new old : List C) (x : C) (xs : List B) (i : ℕ) (d : B) →
-    new ≡ old ++ x ∷ [] → i < length xs → old ≡ map g (take i xs) → x ≡ g (get_or xs i d) →
-    new ≡ map g (take (i + 1) xs)
-pushed_one g new old x xs i d is lt before here =
-    is ∙ ap₂ (λ l y. l ++ y ∷ []) before here
-    ∙ sym (ap (map g) (take_more xs i d lt) ∙ map-append g (take i xs) (get_or xs i d ∷ []))
-
-pub pushed_value : {A B C : Type 0} (v : A → C) (g : B → C) (new old : List A) (x : A) (xs : List B) (i : ℕ) (d : B) →
-    new ≡ old ++ x ∷ [] → i < length xs → map v old ≡ map g (take i xs) → v x ≡ g (get_or xs i d) →
-    map v new ≡ map g (take (i + 1) xs)
-pushed_value v g new old x xs i d is lt before here =
-    pushed_one g (map v new) (map v old) (v x) xs i d (ap (map v) is ∙ map-append v old (x ∷ [])) lt before here
-
+-- ---- a list that is made of another in two steps
 pub map_twice : {A B C : Type 0} (f : A → B) (g : B → C) (xs : List A) → map g (map f xs) ≡ map (λ x. g (f x)) xs
 map_twice f g [] = refl
 map_twice f g (x ∷ xs) = ap (λ l. g (f x) ∷ l) (map_twice f g xs)
+
+pub value_twice : {A B C : Type 0} (v : A → B) (g : B → C) (xs : List A) (k : ℕ) (d : A) (c : C) → k < length xs →
+    d ≡ get_or xs k d → c ≡ g (v d) → slice_get (map g (map v xs)) k ≡ Some c
+value_twice v g xs k d c lt is e =
+    ap (λ l. slice_get l k) (map_twice v g xs) ∙ value_at (λ x. g (v x)) xs k d c lt is e
 
 -- ---- one key is that at the same place
 read_is : {A : Type 0} (xs : List A) (i : ℕ) (d : A) → get_or xs i d ≡ unwrap_or (slice_get xs i) d

@@ -2,6 +2,7 @@ pub mod CellEntries
 pub mod EqualJobs
 pub mod FirstKeys
 pub mod FirstShapes
+pub mod FirstSummaries
 pub mod NumberedCells
 pub mod ShapeParts
 pub mod SparseLists

@@ -9,3 +9,4 @@ pub mod ShapeView
 pub mod Shapes
 pub mod Signals
 pub mod SparseNumbers
+pub mod Summaries

@@ -1,26 +1,27 @@
 //! Jobs of the same shape.
-ghost use Rattle.std.specs.Prelude.{◌≡◌, ◌<◌, List, ℕ, length, map, if◌then◌else◌, unwrap_or, Some, IfOk};
+ghost use Rattle.std.specs.Prelude.{◌≡◌, ◌≢◌, ◌<◌, ◌↔◌, ℕ, length, map, if◌then◌else◌, slice_get, unwrap_or, Some, IfOk, IsTrue};
 ghost use Rattle.std.specs.Arc.{arc_value};
 ghost use Rattle.indexmap.specs.IndexMap.{get};
-ghost use Rattle.module_job.specs.Groups.{AreGroups, AreKeys, IsFirstLike, same_key};
+ghost use Rattle.module_job.specs.Groups.{AreGroups, AreKeys, IsFirstLike};
 ghost use Rattle.module_job.specs.Shapes.{shape_of};
 
 use crate::job::Job;
 use crate::shape::Shape;
 use indexmap::IndexMap;
 use std::alloc::{AllocError, Global};
+use std::hash::Hash;
 use std::sync::Arc;
 
 // The number that the map has for the key. Where it has none, this one from now on.
-fn first_with(
-    firsts: &mut IndexMap<[u8; 32], usize>,
-    key: [u8; 32],
+fn first_with<K: Copy + Eq + Hash>(
+    firsts: &mut IndexMap<K, usize>,
+    key: K,
     number: usize,
 ) -> Result<usize, AllocError>
-    ensures first { IfOk result (λ first. first ≡ unwrap_or (get same_key firsts.old key) number) }
-    ensures first_is_added { IfOk result (λ first. (other : List ℕ) →
-        get same_key firsts.new other
-        ≡ (if same_key key other then Some first else get same_key firsts.old other)) }
+    ensures first { IfOk result (λ first. first ≡ unwrap_or (get K.eq firsts.old key) number) }
+    ensures first_is_added { IfOk result (λ first. (other : K) →
+        get K.eq firsts.new other
+        ≡ (if K.eq key other then Some first else get K.eq firsts.old other)) }
 {
     if let Some(first) = firsts.get(&key) {
         return Ok(*first);
@@ -88,17 +89,57 @@ pub fn shape_groups(
     Ok(groups)
 }
 
+// Whether two jobs have the same shape.
+fn have_same_shape(jobs: &[Arc<Job>], one: usize, other: usize) -> bool
+    requires one { one < length jobs.now }
+    requires other { other < length jobs.now }
+    ensures { IsTrue result ↔ (slice_get (map shape_of (map arc_value jobs.now)) one
+        ≡ slice_get (map shape_of (map arc_value jobs.now)) other) }
+{
+    if one == other {
+        return true;
+    }
+    let left: &Shape = jobs[one].shape();
+    let right: &Shape = jobs[other].shape();
+    *left == *right
+}
+
+// The number of the first job that has the shape of this one. None before `first` has it.
+fn first_of_shape(jobs: &[Arc<Job>], first: usize, number: usize) -> usize
+    requires number { number < length jobs.now }
+    requires none_before { (i : ℕ) → i < first →
+        slice_get (map shape_of (map arc_value jobs.now)) i
+        ≢ slice_get (map shape_of (map arc_value jobs.now)) number }
+    ensures { IsFirstLike (map shape_of (map arc_value jobs.now)) number result }
+{
+    'earlier: for earlier in first..number {
+        if have_same_shape(jobs, earlier, number) {
+            return earlier;
+        }
+    }
+    number
+}
+
 /// Returns for each job the number of the first that has the same shape.
+///
+/// It compares a shape with the first one that has its summary. If the two differ, it makes the key of the shape, and
+/// compares the shape with the first one of this key that also differs from the first of its summary. It compares more
+/// only if these two differ too, which would be a collision of SHA-256.
 pub fn job_groups(alloc: Global, jobs: &[Arc<Job>]) -> Result<Vec<usize>, AllocError>
     ensures { IfOk result (λ groups. AreGroups (map shape_of (map arc_value jobs.now))
         groups.items) }
 {
-    let mut shapes = Vec::with_capacity(alloc, jobs.len())?;
-    let mut keys = Vec::with_capacity(alloc, jobs.len())?;
-    'jobs: for job in jobs {
-        let shape = job.shape();
-        keys.push(shape.key(alloc)?)?;
-        shapes.push(shape.clone()?)?;
+    let mut summaries = IndexMap::new(alloc);
+    let mut keys = IndexMap::new(alloc);
+    let mut groups = Vec::with_capacity(alloc, jobs.len())?;
+    'jobs: for number in 0..jobs.len() {
+        let shape: &Shape = jobs[number].shape();
+        let mut group = first_with(&mut summaries, shape.summary(), number)?;
+        if !have_same_shape(jobs, group, number) {
+            let first = first_with(&mut keys, shape.key(alloc)?, number)?;
+            group = first_of_shape(jobs, first, number);
+        }
+        groups.push(group)?;
     }
-    shape_groups(alloc, &shapes, &keys)
+    Ok(groups)
 }

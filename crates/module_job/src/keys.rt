@@ -36,7 +36,8 @@ pub(crate) fn demand_number(demand: Demand) -> u64
     }
 }
 
-fn integer_number(integer: i32) -> u64
+/// Returns the number of an integer: 0 for 0, 1 for -1, 2 for 1, 3 for -2 and so on.
+pub(crate) fn integer_number(integer: i32) -> u64
     ensures { result ≡ integer_number integer }
 {
     let size = integer.unsigned_abs() as u64;

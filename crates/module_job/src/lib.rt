@@ -13,6 +13,7 @@ pub mod laws;
 mod shape;
 mod sparse_numbers;
 mod stops;
+mod summaries;
 
 pub use cell_lists::{Demands, Starts};
 pub use groups::{job_groups, shape_groups};

@@ -1,50 +1,105 @@
-use Rattle.std.proofs.Common.{◌≡◌, List, ℕ, map, take, get_or, sym, ap, subst, ◌∙◌}
+use Rattle.std.proofs.Common.{◌≡◌, ◌+◌, ◌<◌, [], ◌∷◌, ℕ, List, map, length, Some, sym, ap, subst, ◌∙◌, arith}
+use Rattle.std.specs.Prelude.{slice_get, slice_index, unwrap_or}
 use Rattle.std.specs.Arc.{arc_value}
-use Rattle.std.proofs.lemmas.List.{take_all}
-use Rattle.module_job.specs.Groups.{AreKeys}
+use Rattle.indexmap.specs.IndexMap.{get}
+use Rattle.std.proofs.lemmas.Bool.{false≢true}
+use Rattle.std.proofs.lemmas.List.{length-append, length-map}
+use Rattle.module_job.specs.Groups.{IsFirstLike, same_key}
 use Rattle.module_job.specs.Keys.{shape_key}
-use Rattle.module_job.specs.Shapes.{ShapeView, shape_of}
-use Rattle.module_job.proofs.FirstShapes.{made_keys, map_twice, pushed_one, pushed_value}
+use Rattle.module_job.specs.Shapes.{shape_of}
+use Rattle.module_job.specs.Summaries.{shape_summary}
+use Rattle.module_job.proofs.FirstKeys.{IsFirstOf, found_within, known_more}
+use Rattle.module_job.proofs.FirstShapes.{all_groups, group_more, value_twice}
+use Rattle.module_job.proofs.FirstSummaries.{first_like, head_like, head_same, heads_more, is_head, others_more}
+use Rattle.module_job.proofs.FirstSummaries.{AreHeadsBefore, value_of}
 use Rattle.module_job.proofs.groups.job_groups.Goals as goal
+use Rattle.module_job.proofs.groups.job_groups.Goals.{then-not-have_same_shape+in_ok-key+in_ok-first}
+use Rattle.module_job.proofs.groups.job_groups.Goals.{else-not-have_same_shape}
+
+pub have_same_shape-requires : goal.have_same_shape-requires
+have_same_shape-requires c =
+    let summary : List ℕ = c.summary.result in
+    let within = found_within _ c.jobs.number summary (get same_key c.jobs.summaries summary)
+    (c.jobs.invariant.summaries summary) in
+    record { one = omega (arith, within, c.in_ok-group.ensures.first, c.jobs-test.true); other = c.jobs-test.true }
+
+pub first_of_shape-group-requires : goal.first_of_shape-group-requires
+first_of_shape-group-requires c =
+    let js = c.args.jobs.now in
+    let shapes = map shape_of (map arc_value js) in
+    let n : ℕ = c.jobs.number in
+    let t = c.deref-shape.result.now in
+    let there : slice_get shapes n ≡ Some t =
+    value_twice arc_value shape_of js n _ t c.jobs-test.true c.index-jobs-number.is
+    (c.deref-shape.ensures ∙ c.shape.ensures ∙ ap shape_of c.deref.ensures) in
+    let summary : List ℕ = c.summary.result in
+    let like = head_like shape_summary shapes n t summary (get same_key c.jobs.summaries summary) c.in_ok-group.group
+    there c.summary.ensures c.in_ok-group.ensures.first (c.jobs.invariant.summaries summary) in
+    let first = c.in_ok-first.ensures.first
+    ∙ ap (λ (k : List ℕ). unwrap_or (get same_key c.jobs.keys k) n) c.in_ok-key.ensures.key in
+    record {
+      number = c.jobs-test.true;
+      none_before = λ i lt e.
+          let head = c.jobs.invariant.keys t i (subst (λ (m : ℕ). i < m) first lt) (e ∙ there) in
+          false≢true (sym c.if-not-have_same_shape.true
+          ∙ c.have_same_shape.ensures.1 (head_same shape_summary shapes n c.in_ok-group.group t there like head));
+    }
 
 pub jobs-preserved : goal.jobs-preserved
 jobs-preserved c =
-    let jobs = c.args.jobs.now in
-    let d = c.job-item.result in
-    let there : arc_value c.shape-shape.result.now ≡ shape_of (arc_value (get_or jobs c.jobs.job-index d)) =
-    c.shape-shape.ensures ∙ ap shape_of c.deref.ensures ∙ ap (λ j. shape_of (arc_value j)) c.job-item.is in
-    let copied : arc_value c.in_ok-clone.field-0 ≡ arc_value c.shape-shape.result.now = c.in_ok-clone.ensures.cases in
-    let key : c.in_ok-key.field-0 ≡ shape_key (shape_of (arc_value (get_or jobs c.jobs.job-index d))) =
-    c.in_ok-key.ensures.key ∙ ap shape_key (c.deref-in-jobs.ensures ∙ there) in
+    let js = c.args.jobs.now in
+    let shapes = map shape_of (map arc_value js) in
+    let n : ℕ = c.jobs.number in
+    let t = c.deref-shape.result.now in
+    let there : slice_get shapes n ≡ Some t =
+    value_twice arc_value shape_of js n _ t c.jobs-test.true c.index-jobs-number.is
+    (c.deref-shape.ensures ∙ c.shape.ensures ∙ ap shape_of c.deref.ensures) in
+    let summary : List ℕ = c.summary.result in
+    let head : ℕ = c.in_ok-group.group in
+    let is = c.in_ok-group.ensures.first in
+    let like : IsFirstLike (map shape_summary shapes) n head =
+    head_like shape_summary shapes n t summary (get same_key c.jobs.summaries summary) head there c.summary.ensures is
+    (c.jobs.invariant.summaries summary) in
+    let old : List ℕ = c.jobs.groups.items in
+    let g : ℕ = c.if-not-have_same_shape.group in
+    let here : IsFirstLike shapes n g = elim c.if-not-have_same_shape.branch [
+      | then-not-have_same_shape+in_ok-key+in_ok-first w ↦
+          subst (IsFirstLike shapes n) (sym w.group-is) w.first_of_shape-group.ensures
+      | else-not-have_same_shape w ↦ subst (IsFirstLike shapes n) (sym w.group-is)
+          (first_like shape_summary shapes n head like (c.have_same_shape.ensures.0 w.if-not-have_same_shape.false))
+    ] in
+    let items = c.in_ok-push.ensures.items in
+    let longer = ap length items in
+    let sum = length-append old (g ∷ []) in
     record {
-      shapes = pushed_value arc_value
-          (λ j. shape_of (arc_value j)) c.push-in-jobs.new.self.items c.jobs.shapes.items c.in_ok-clone.field-0 jobs
-          c.jobs.job-index d c.in_ok-push-2.ensures.items c.jobs-test.true c.jobs.invariant.shapes (copied ∙ there);
-      keys = pushed_one (λ j. shape_key (shape_of (arc_value j))) c.push.new.self.items c.jobs.keys.items
-          c.in_ok-key.field-0 jobs c.jobs.job-index d c.in_ok-push.ensures.items c.jobs-test.true c.jobs.invariant.keys
-          key;
+      count = omega (arith, longer, sum, c.jobs.invariant.count);
+      each = λ k lt. subst (λ (gs : List ℕ). IsFirstLike shapes k (slice_index gs k)) (sym items)
+          (group_more shapes old n g c.jobs.invariant.count c.jobs.invariant.each here k lt);
+      summaries = λ other. subst (IsFirstOf (map shape_summary shapes) (n + 1) other)
+          (sym (c.in_ok-group.ensures.first_is_added other))
+          (known_more _ n summary other (get same_key c.jobs.summaries summary) (get same_key c.jobs.summaries other)
+          head (value_of shape_summary shapes n t there ∙ ap Some (sym c.summary.ensures))
+          (c.jobs.invariant.summaries summary) is (c.jobs.invariant.summaries other));
+      keys = elim c.if-not-have_same_shape.branch [
+        | then-not-have_same_shape+in_ok-key+in_ok-first w ↦ others_more shape_summary shape_key shapes n
+            (get same_key c.jobs.keys) (get same_key c.if-not-have_same_shape.keys) t w.in_ok-key.field-0
+            w.in_ok-first.first there w.in_ok-key.ensures.key w.in_ok-first.ensures.first
+            (λ other. ap (λ m. get same_key m other) w.keys-is ∙ w.in_ok-first.ensures.first_is_added other)
+            c.jobs.invariant.keys
+        | else-not-have_same_shape w ↦ heads_more shape_summary shape_key shapes n
+            (get same_key c.if-not-have_same_shape.keys) t there
+            (is_head shape_summary shapes n head t there like
+            (c.have_same_shape.ensures.0 w.if-not-have_same_shape.false))
+            (subst (λ m. AreHeadsBefore shape_summary shape_key shapes n (get same_key m)) (sym w.keys-is)
+            c.jobs.invariant.keys)
+      ];
     }
-
-pub shape_groups-requires : goal.shape_groups-requires
-shape_groups-requires c =
-    let jobs = c.args.jobs.now in
-    let all : take c.jobs.job-index jobs ≡ jobs = take_all c.jobs.job-index jobs c.jobs-test.false in
-    let shapes : map arc_value c.deref-2.result.now ≡ map shape_of (map arc_value jobs) =
-    ap (map arc_value) c.deref-2.ensures.value ∙ c.jobs.invariant.shapes ∙ ap (map (λ j. shape_of (arc_value j))) all
-    ∙ sym (map_twice arc_value shape_of jobs) in
-    let keys : c.deref-3.result.now ≡ map shape_key (map shape_of (map arc_value jobs)) =
-    c.deref-3.ensures.value ∙ c.jobs.invariant.keys ∙ ap (map (λ j. shape_key (shape_of (arc_value j)))) all
-    ∙ sym (ap (map shape_key) (map_twice arc_value shape_of jobs)
-    ∙ map_twice (λ j. shape_of (arc_value j)) shape_key jobs) in
-    subst (λ (ss : List ShapeView). AreKeys ss c.deref-3.result.now) (sym shapes)
-    (subst (λ (ks : List (List ℕ)). AreKeys (map shape_of (map arc_value jobs)) ks) (sym keys)
-    (made_keys (map shape_of (map arc_value jobs)) shape_key))
 
 pub returns : goal.returns
 returns c =
-    let jobs = c.args.jobs.now in
-    let all : take c.jobs.job-index jobs ≡ jobs = take_all c.jobs.job-index jobs c.jobs-test.false in
-    let shapes : map arc_value c.deref-2.result.now ≡ map shape_of (map arc_value jobs) =
-    ap (map arc_value) c.deref-2.ensures.value ∙ c.jobs.invariant.shapes ∙ ap (map (λ j. shape_of (arc_value j))) all
-    ∙ sym (map_twice arc_value shape_of jobs) in
-    rw (← shapes) c.shape_groups.ensures
+    let shapes = map shape_of (map arc_value c.args.jobs.now) in
+    let long = length-map (map arc_value c.args.jobs.now) shape_of in
+    let long' = length-map c.args.jobs.now arc_value in
+    let all : c.jobs.number ≡ length shapes =
+    omega (arith, long, long', c.jobs-test.false, c.jobs.auto.number-end) in
+    all_groups shapes c.jobs.groups.items c.jobs.number all c.jobs.invariant.count c.jobs.invariant.each

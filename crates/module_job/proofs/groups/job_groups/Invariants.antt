@@ -1,12 +1,25 @@
--- The shapes of those before, and their keys.
-use Rattle.std.proofs.Common.{◌≡◌, map, take}
+-- The jobs before have their groups. The maps have the first number of each summary, and of each key of a shape that
+-- differs from the first with its summary.
+use Rattle.std.proofs.Common.{◌≡◌, ℕ, ◌<◌, List, map, length}
+use Rattle.std.specs.Prelude.{slice_index}
 use Rattle.std.specs.Arc.{arc_value}
+use Rattle.indexmap.specs.IndexMap.{get}
+use Rattle.module_job.specs.Groups.{IsFirstLike, same_key}
 use Rattle.module_job.specs.Keys.{shape_key}
 use Rattle.module_job.specs.Shapes.{shape_of}
+use Rattle.module_job.specs.Summaries.{shape_summary}
+use Rattle.module_job.proofs.FirstKeys.{IsFirstOf}
+use Rattle.module_job.proofs.FirstSummaries.{AreHeadsBefore}
 use Rattle.module_job.proofs.groups.job_groups.Given as goal
 
 abbrev pub invariant-jobs : goal.invariant-jobs
 invariant-jobs l = record {
-  shapes : map arc_value l.shapes.items ≡ map (λ j. shape_of (arc_value j)) (take l.job-index l.jobs);
-  keys : l.keys.items ≡ map (λ j. shape_key (shape_of (arc_value j))) (take l.job-index l.jobs);
+  count : length l.groups.items ≡ l.number;
+  each : (k : ℕ) → k < l.number →
+      IsFirstLike (map shape_of (map arc_value l.jobs)) k (slice_index l.groups.items k);
+  summaries : (summary : List ℕ) →
+      IsFirstOf (map shape_summary (map shape_of (map arc_value l.jobs))) l.number summary
+      (get same_key l.summaries summary);
+  keys : AreHeadsBefore shape_summary shape_key (map shape_of (map arc_value l.jobs)) l.number
+      (get same_key l.keys);
 }

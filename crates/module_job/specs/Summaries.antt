@@ -1,0 +1,26 @@
+-- The summary of a shape: some of its numbers, by which most shapes that differ can be told apart at once
+use Rattle.std.specs.Prelude.{ℕ, ◌-◌, pos, List, ◌∷◌, ◌++◌, length, slice_get, unwrap_or}
+use Rattle.module_box.specs.declared.schedules.Event.{Event}
+use Rattle.module_box.specs.declared.schedules.AllTimes.{AllTimes}
+use Rattle.module_box.specs.declared.schedules.Signal.TheVariants.{Zero}
+use Rattle.module_job.specs.Keys.{all_times_numbers, event_numbers}
+use Rattle.module_job.specs.Shapes.{ShapeView}
+
+-- the last event, or that the cell (0, 0) is dead at time 0 if there is none
+abbrev pub last_event : List Event → Event
+last_event events = unwrap_or (slice_get events (length events - 1))
+    (record { at = record { time = 0; cell = record { x = pos 0; y = pos 0 } }; signal = Zero })
+
+-- the last signal at all times, or that the cell (0, 0) is dead if there is none
+abbrev pub last_all_times : List AllTimes → AllTimes
+last_all_times all_times = unwrap_or (slice_get all_times (length all_times - 1))
+    (record { cell = record { x = pos 0; y = pos 0 }; signal = Zero })
+
+-- The sides, how many gates and stops and signals of edges and halos there are, and the last of these signals. Two
+-- shapes with different summaries differ, since a summary is made of the shape alone.
+unfoldable pub shape_summary : ShapeView → List ℕ
+shape_summary s =
+    s.width ∷ s.height ∷ length s.netlist.gates ∷ length s.stops
+    ∷ length s.edges.all_times ∷ length s.edges.events ∷ length s.halos.all_times ∷ length s.halos.events
+    ∷ all_times_numbers (last_all_times s.edges.all_times)
+    ++ event_numbers (last_event s.edges.events) ++ event_numbers (last_event s.halos.events)

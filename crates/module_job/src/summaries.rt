@@ -1,0 +1,73 @@
+//! Summaries of shapes: some of their numbers, which take few steps to find.
+ghost use Rattle.std.specs.Prelude.{◌≡◌};
+ghost use Rattle.module_job.specs.Summaries.{last_all_times, last_event, shape_summary};
+
+use crate::keys::{integer_number, signal_number};
+use crate::shape::Shape;
+use bbm_rule::Cell;
+use module_box::{AllTimes, Event, Moment, Signal};
+
+// The cell that stands for that of a signal where a list has none.
+const CORNER: Cell = Cell { x: 0, y: 0 };
+
+// The last event, or that the corner is dead at time 0 if there is none.
+fn last_event(events: &[Event]) -> Event
+    ensures { result ≡ last_event events.now }
+{
+    match events.last() {
+        Some(event) => *event,
+        None => Event {
+            at: Moment {
+                time: 0,
+                cell: CORNER,
+            },
+            signal: Signal::Zero,
+        },
+    }
+}
+
+// The last signal at all times, or that the corner is dead if there is none.
+fn last_all_times(all_times: &[AllTimes]) -> AllTimes
+    ensures { result ≡ last_all_times all_times.now }
+{
+    match all_times.last() {
+        Some(last) => *last,
+        None => AllTimes {
+            cell: CORNER,
+            signal: Signal::Zero,
+        },
+    }
+}
+
+impl Shape {
+    /// Returns numbers that are the same for shapes that are the same, and differ for most others.
+    #[tactic(auto, unfolding(crate::specs::Summaries::shape_summary))]
+    pub(crate) fn summary(&self) -> [u64; 19]
+        ensures { result ≡ shape_summary self.now }
+    {
+        let edge = last_event(self.edges.events());
+        let halo = last_event(self.halos.events());
+        let always = last_all_times(self.edges.all_times());
+        [
+            self.width as u64,
+            self.height as u64,
+            self.wiring.gates() as u64,
+            self.stops.len() as u64,
+            self.edges.all_times().len() as u64,
+            self.edges.events().len() as u64,
+            self.halos.all_times().len() as u64,
+            self.halos.events().len() as u64,
+            integer_number(always.cell.x),
+            integer_number(always.cell.y),
+            signal_number(always.signal),
+            edge.at.time as u64,
+            integer_number(edge.at.cell.x),
+            integer_number(edge.at.cell.y),
+            signal_number(edge.signal),
+            halo.at.time as u64,
+            integer_number(halo.at.cell.x),
+            integer_number(halo.at.cell.y),
+            signal_number(halo.signal),
+        ]
+    }
+}
