@@ -122,9 +122,9 @@ fn first_of_shape(jobs: &[Arc<Job>], first: usize, number: usize) -> usize
 
 /// Returns for each job the number of the first that has the same shape.
 ///
-/// It compares a shape with the first one that has its summary. If the two differ, it makes the key of the shape, and
-/// compares the shape with the first one of this key that also differs from the first of its summary. It compares more
-/// only if these two differ too, which would be a collision of SHA-256.
+/// It compares a shape with the first one that has its summary. Only if the two differ, it makes the key of the shape.
+/// It then compares the shape with the first one that has this key and that differs from the first of its summary too.
+/// It compares more only if these two differ, which would be a collision of SHA-256.
 pub fn job_groups(alloc: Global, jobs: &[Arc<Job>]) -> Result<Vec<usize>, AllocError>
     ensures { IfOk result (λ groups. AreGroups (map shape_of (map arc_value jobs.now))
         groups.items) }

@@ -7,7 +7,7 @@ use crate::shape::Shape;
 use bbm_rule::Cell;
 use module_box::{AllTimes, Event, Moment, Signal};
 
-// The cell that stands for that of a signal where a list has none.
+// The cell of a signal that a list does not have.
 const CORNER: Cell = Cell { x: 0, y: 0 };
 
 // The last event, or that the corner is dead at time 0 if there is none.
@@ -40,7 +40,9 @@ fn last_all_times(all_times: &[AllTimes]) -> AllTimes
 }
 
 impl Shape {
-    /// Returns numbers that are the same for shapes that are the same, and differ for most others.
+    /// Returns some numbers of the shape, which differ for most shapes that differ.
+    ///
+    /// The time that it takes does not depend on the lengths of the lists.
     #[tactic(auto, unfolding(crate::specs::Summaries::shape_summary))]
     pub(crate) fn summary(&self) -> [u64; 19]
         ensures { result ≡ shape_summary self.now }
