@@ -80,7 +80,7 @@ fn lines_at(
 ) -> Result<Vec<Border>, AllocError>
     ensures { IfOk result (λ halos. halos.items ≡ edges_at entries.now places.now) }
 {
-    let mut halos = Vec::new(alloc);
+    let mut halos = Vec::with_capacity(alloc, places.len())?;
     'places: for place in places {
         push_edge_at(&mut halos, entries, *place)?;
     }
@@ -193,7 +193,7 @@ pub(crate) fn full_lines(
         ≡ with_halos g (modules_of entries.now) (slice_lines part.now)) }
 {
     let halos = halos_at(alloc, entries, places)?;
-    let mut full = Vec::new(alloc);
+    let mut full = Vec::with_capacity(alloc, part.lines.len() + halos.len())?;
     push_early(&mut full, part.lines)?;
     push_halos(&mut full, halos.as_slice())?;
     push_stops(&mut full, part.lines)?;

@@ -187,7 +187,7 @@ fn no_places(alloc: Global, count: usize) -> Result<Vec<Vec<u32>>, AllocError>
 fn boxes_of(alloc: Global, parts: &[ModuleSlice]) -> Result<Vec<Box2>, AllocError>
     ensures { IfOk result (λ boxes. boxes.items ≡ areas (map slice_lines parts.now)) }
 {
-    let mut boxes = Vec::new(alloc);
+    let mut boxes = Vec::with_capacity(alloc, parts.len())?;
     'parts: for part in parts {
         boxes.push(part.area)?;
     }

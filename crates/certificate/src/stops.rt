@@ -64,7 +64,7 @@ pub(crate) fn stops_of(
     ensures { IfOk result (λ stops. AreStops (circuit_of circuit.now) locals.now
         (flat_map stop_in lines.now) stops.items) }
 {
-    let mut stops = Vec::new(alloc);
+    let mut stops = Vec::with_capacity(alloc, lines.len())?;
     'lines: for line in lines {
         push_stop(&mut stops, circuit, locals, line)?;
     }

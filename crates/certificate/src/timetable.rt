@@ -115,9 +115,10 @@ pub(crate) fn signals_of(
     ensures events { IfOk result (λ s. All (λ e. IsBelow (wires locals.now.netlist) e.signal)
         s.events) }
 {
+    // Room for each line costs less than a count of those of this side: it is freed soon, and most is never touched.
     let mut table = Timetable {
-        all_times: Vec::new(alloc),
-        events: Vec::new(alloc),
+        all_times: Vec::with_capacity(alloc, lines.len())?,
+        events: Vec::with_capacity(alloc, lines.len())?,
     };
     'lines: for line in lines {
         table.add_line(circuit, locals, side, line)?;
