@@ -1,8 +1,8 @@
 -- The signals of edge or halo lines over the wires of a module
-use Rattle.std.specs.Prelude.{◌≡◌, pos, ◌≤ℤ◌, List, map, IfSome, IsTrue}
+use Rattle.std.specs.Prelude.{◌≡◌, ◌<◌, pos, ◌≤ℤ◌, ℕ, List, Option, Some, map, IfSome, IsTrue}
 use Rattle.std.specs.List.{All}
 use Rattle.bbm_rule.specs.declared.block.Cell.{Cell}
-use Rattle.circuit.specs.Meaning.{Circuit, wires}
+use Rattle.circuit.specs.Meaning.{Circuit, wire_of, wires}
 use Rattle.module_box.specs.Locals.{LocalNet, circuit_wire}
 use Rattle.certificate_lines.specs.Entries.{edge_in, halo_in}
 use Rattle.certificate.specs.Jobs.{line_signals}
@@ -10,6 +10,7 @@ use Rattle.certificate_lines.specs.Rules.{is_local}
 use Rattle.module_job.specs.Signals.{IsBelow, renumber_all_times, renumber_event}
 use Rattle.certificate_lines.specs.declared.certificate_line.Border.{Border}
 use Rattle.certificate_lines.specs.declared.certificate_line.CertificateLine.{CertificateLine}
+use Rattle.certificate.specs.declared.timetable.NamedWire.{NamedWire}
 use Rattle.certificate.specs.declared.timetable.Side.{Side}
 use Rattle.certificate.specs.declared.timetable.Side.TheVariants.{Ring, Halo}
 use Rattle.certificate.specs.declared.timetable.Timetable.{Timetable}
@@ -28,9 +29,19 @@ pub record IsLow (c : Cell) : Type 0 where
   pub column : (pos 0 ≤ℤ c.x) × (c.x ≤ℤ pos 511)
   pub row : (pos 0 ≤ℤ c.y) × (c.y ≤ℤ pos 511)
 
+-- the wire of the name has this number among the module's wires
+pub record IsWireOf (c : Circuit) (l : LocalNet) (name : List ℕ) (number : ℕ) : Type 0 where
+  pub same : wire_of c name ≡ Some (circuit_wire l number)
+  pub below : number < wires l.netlist
+
+-- the wire that was named last, if there is one, has the number of its name
+abbrev pub IsLastWire : Circuit → LocalNet → Option NamedWire → Type 0
+IsLastWire c l last = IfSome last (λ w. IsWireOf c l w.name.now w.wire)
+
 -- what is held and what happens is what the lines say, and each wire is one of the module's
 pub record IsTimetable (c : Circuit) (l : LocalNet) (es : List Border) (t : Timetable) : Type 0 where
   pub all_times : map (renumber_all_times (circuit_wire l)) t.all_times.items ≡ (line_signals c es).all_times
   pub events : map (renumber_event (circuit_wire l)) t.events.items ≡ (line_signals c es).events
   pub own_all_times : All (λ h. IsBelow (wires l.netlist) h.signal) t.all_times.items
   pub own_events : All (λ e. IsBelow (wires l.netlist) e.signal) t.events.items
+  pub last : IsLastWire c l t.last

@@ -8,7 +8,7 @@ ghost use Rattle.certificate.specs.Jobs.{event_by, all_times_by, line_signal, li
 ghost use Rattle.certificate_lines.specs.Orders.{AreInOrder};
 ghost use Rattle.certificate_lines.specs.Rules.{is_local};
 ghost use Rattle.module_job.specs.Signals.{IsBelow, renumber_signal, renumber_signals};
-ghost use Rattle.certificate.specs.Timetables.{IsTimetable, borders_in, IsNamedLocal};
+ghost use Rattle.certificate.specs.Timetables.{IsLastWire, IsTimetable, IsWireOf, borders_in, IsNamedLocal};
 ghost use Rattle.certificate_lines.specs.declared.certificate_line.Border.{Border};
 
 use crate::layout_tables::local_name;
@@ -25,32 +25,75 @@ pub(crate) enum Side {
     Halo,
 }
 
-// What the lines so far say: at all odd times, and at single ones.
-#[derive(Drop)]
-struct Timetable {
-    all_times: Vec<AllTimes>,
-    events: Vec<Event>,
+// A name, and the number of its wire among those that the module knows.
+#[derive(Clone, Copy)]
+struct NamedWire<'a> {
+    name: &'a Name,
+    wire: u16,
 }
 
-fn local_signal(circuit: &Circuit, locals: &Locals, signal: &Option<Name>) -> Signal
+// What the lines so far say: at all odd times, and at single ones. And the wire that they named last.
+#[derive(Drop)]
+struct Timetable<'a> {
+    all_times: Vec<AllTimes>,
+    events: Vec<Event>,
+    last: Option<NamedWire<'a>>,
+}
+
+// The number of the wire of this name, which becomes the last one.
+fn next_wire<'a>(
+    circuit: &Circuit,
+    locals: &Locals,
+    last: &mut Option<NamedWire<'a>>,
+    name: &'a Name,
+) -> u16
+    requires { IsTrue (is_local (circuit_of circuit.now) locals.now.circuit_wires name.now) }
+    ensures same_wire { IsLastWire (circuit_of circuit.now) locals.now last.old →
+        IsWireOf (circuit_of circuit.now) locals.now name.now result }
+    ensures last { IsLastWire (circuit_of circuit.now) locals.now last.old →
+        IsLastWire (circuit_of circuit.now) locals.now last.new }
+{
+    // Many lines name the wire of the line before: to compare names costs less than to look one up by its hash.
+    if let Some(known) = *last {
+        if *known.name == *name {
+            return known.wire;
+        }
+    }
+    let wire = local_name(circuit, locals, name);
+    *last = Some(NamedWire { name, wire });
+    wire
+}
+
+// The signal of a line. If it names a wire, this becomes the last one.
+fn local_signal<'a>(
+    circuit: &Circuit,
+    locals: &Locals,
+    last: &mut Option<NamedWire<'a>>,
+    signal: &'a Option<Name>,
+) -> Signal
     requires { IfSome signal.now
         (λ name. IsTrue (is_local (circuit_of circuit.now) locals.now.circuit_wires name)) }
-    ensures same_signal { renumber_signal (circuit_wire locals.now) result
+    ensures same_signal { IsLastWire (circuit_of circuit.now) locals.now last.old →
+        renumber_signal (circuit_wire locals.now) result
         ≡ line_signal (circuit_of circuit.now) signal.now }
-    ensures own_wire { IsBelow (wires locals.now.netlist) result }
+    ensures own_wire { IsLastWire (circuit_of circuit.now) locals.now last.old →
+        IsBelow (wires locals.now.netlist) result }
+    ensures last { IsLastWire (circuit_of circuit.now) locals.now last.old →
+        IsLastWire (circuit_of circuit.now) locals.now last.new }
 {
     match signal {
         None => Signal::One,
-        Some(name) => Signal::Wire(local_name(circuit, locals, name)),
+        Some(name) => Signal::Wire(next_wire(circuit, locals, last, name)),
     }
 }
 
-impl Timetable {
+impl<'a> Timetable<'a> {
     fn push(&mut self, border: &Border, signal: Signal) -> Result<(), AllocError>
         ensures all_times { OnOk result (self.new.all_times.items
             ≡ self.old.all_times.items ++ all_times_by border.now border.now.time signal) }
         ensures events { OnOk result (self.new.events.items
             ≡ self.old.events.items ++ event_by border.now border.now.time signal) }
+        ensures last { self.new.last ≡ self.old.last }
     {
         let cell = border.cell;
         match border.time {
@@ -64,13 +107,18 @@ impl Timetable {
     }
 
     // Adds an edge or halo line.
-    fn add(&mut self, circuit: &Circuit, locals: &Locals, border: &Border) -> Result<(), AllocError>
+    fn add(
+        &mut self,
+        circuit: &Circuit,
+        locals: &Locals,
+        border: &'a Border,
+    ) -> Result<(), AllocError>
         requires { IsNamedLocal (circuit_of circuit.now) locals.now border.now }
         ensures { OnOk result ((es : List Border) →
             IsTimetable (circuit_of circuit.now) locals.now es self.old →
             IsTimetable (circuit_of circuit.now) locals.now (es ++ border.now ∷ []) self.new) }
     {
-        let signal = local_signal(circuit, locals, &border.signal);
+        let signal = local_signal(circuit, locals, &mut self.last, &border.signal);
         self.push(border, signal)
     }
 
@@ -80,7 +128,7 @@ impl Timetable {
         circuit: &Circuit,
         locals: &Locals,
         side: Side,
-        line: &CertificateLine,
+        line: &'a CertificateLine,
     ) -> Result<(), AllocError>
         requires { All (IsNamedLocal (circuit_of circuit.now) locals.now)
             (borders_in side line.now) }
@@ -119,6 +167,7 @@ pub(crate) fn signals_of(
     let mut table = Timetable {
         all_times: Vec::with_capacity(alloc, lines.len())?,
         events: Vec::with_capacity(alloc, lines.len())?,
+        last: None,
     };
     'lines: for line in lines {
         table.add_line(circuit, locals, side, line)?;

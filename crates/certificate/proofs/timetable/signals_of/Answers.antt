@@ -13,7 +13,7 @@ use Rattle.certificate.proofs.timetable.signals_of.Goals as goal
 
 pub lines-init : goal.lines-init
 lines-init c = no_lines (circuit_of c.args.circuit.now) c.args.locals.now _ c.in_ok-with_capacity.ensures.items
-    c.in_ok-with_capacity-2.ensures.items
+    c.in_ok-with_capacity-2.ensures.items tt
 
 -- src/timetable.rt:127:9
 pub add_line-requires : goal.add_line-requires

@@ -1,13 +1,16 @@
+use Rattle.std.proofs.Common.{sym, subst}
 use Rattle.circuit.specs.Bridge.{circuit_of}
+use Rattle.certificate.specs.Timetables.{IsLastWire}
 use Rattle.certificate.proofs.TimetableLemmas.{both_ok, with_border}
 use Rattle.certificate.proofs.timetable.Timetable.add.Goals as goal
 
--- src/timetable.rt:75:5
 pub returns : goal.returns
 returns c =
     let s = c.local_signal-signal in
     let circuit = circuit_of c.args.circuit.now in
     let locals = c.args.locals.now in
     both_ok c.push.result _ _ _ (λ h e es t.
-    with_border circuit locals es c.args.border.now s.result c.args.self.now c.push.new.self s.ensures.same_signal
-    s.ensures.own_wire h e t) c.push.ensures.all_times c.push.ensures.events
+    with_border circuit locals es c.args.border.now s.result c.args.self.now c.push.new.self
+    (s.ensures.same_signal t.last) (s.ensures.own_wire t.last) h e
+    (subst (IsLastWire circuit locals) (sym c.push.ensures.last) (s.ensures.last t.last)) t)
+    c.push.ensures.all_times c.push.ensures.events
