@@ -38,7 +38,7 @@ pub record IsWireOf (c : Circuit) (l : LocalNet) (name : List ℕ) (number : ℕ
 abbrev pub IsLastWire : Circuit → LocalNet → Option NamedWire → Type 0
 IsLastWire c l last = IfSome last (λ w. IsWireOf c l w.name.now w.wire)
 
--- what is held and what happens is what the lines say, and each wire is one of the module's
+-- what is held and what happens is what the lines say, each wire is one of the module's, and so is the last one
 pub record IsTimetable (c : Circuit) (l : LocalNet) (es : List Border) (t : Timetable) : Type 0 where
   pub all_times : map (renumber_all_times (circuit_wire l)) t.all_times.items ≡ (line_signals c es).all_times
   pub events : map (renumber_event (circuit_wire l)) t.events.items ≡ (line_signals c es).events
