@@ -18,7 +18,7 @@ use Rattle.module_box.specs.declared.schedules.Signal.{Signal}
 use Rattle.certificate.specs.Jobs.{all_times_by, event_by, line_signal}
 use Rattle.certificate_lines.specs.Orders.{AreInOrder}
 use Rattle.module_job.specs.Signals.{IsBelow, renumber_signal, renumber_all_times, renumber_event}
-use Rattle.certificate.specs.Timetables.{IsLastWire, IsTimetable, borders_in}
+use Rattle.certificate.specs.Timetables.{AreNamedWires, IsTimetable, borders_in}
 use Rattle.certificate_lines.specs.declared.certificate_line.Border.{Border}
 use Rattle.certificate_lines.specs.declared.certificate_line.CertificateLine.{CertificateLine}
 use Rattle.certificate.specs.declared.timetable.Side.{Side}
@@ -93,9 +93,9 @@ module _ (c : Circuit) (l : LocalNet) where
   pub with_border : (es : List Border) (e : Border) (s : Signal) (old new : Timetable) →
       renumber_signal (circuit_wire l) s ≡ line_signal c e.signal → IsBelow (wires l.netlist) s →
       new.all_times.items ≡ old.all_times.items ++ all_times_by e e.time s →
-      new.events.items ≡ old.events.items ++ event_by e e.time s → IsLastWire c l new.last →
+      new.events.items ≡ old.events.items ++ event_by e e.time s → AreNamedWires c l new.slots →
       IsTimetable c l es old → IsTimetable c l (es ++ e ∷ []) new
-  with_border es e s old new same own all_times events last t = record {
+  with_border es e s old new same own all_times events slots t = record {
     all_times = more_all_times es e s old.all_times.items new.all_times.items same all_times t.all_times;
     events = more_events es e s old.events.items new.events.items same events t.events;
     own_all_times = subst (All (λ h. IsBelow (wires l.netlist) h.signal)) (sym all_times)
@@ -104,19 +104,19 @@ module _ (c : Circuit) (l : LocalNet) where
     own_events = subst (All (λ h. IsBelow (wires l.netlist) h.signal)) (sym events)
         (All-append (λ h. IsBelow (wires l.netlist) h.signal) old.events.items _ t.own_events
         (own_event (wires l.netlist) e e.time s own));
-    last = last;
+    slots = slots;
   }
 
-  pub no_lines : (t : Timetable) → t.all_times.items ≡ [] → t.events.items ≡ [] → IsLastWire c l t.last →
+  pub no_lines : (t : Timetable) → t.all_times.items ≡ [] → t.events.items ≡ [] → AreNamedWires c l t.slots →
       IsTimetable c l [] t
-  no_lines t h e last = record {
+  no_lines t h e slots = record {
     all_times = ap (map (renumber_all_times (circuit_wire l))) h;
     events = ap (map (renumber_event (circuit_wire l))) e;
     own_all_times = subst (All (λ h. IsBelow (wires l.netlist) h.signal)) (sym h)
         (All-nil (λ h. IsBelow (wires l.netlist) h.signal));
     own_events = subst (All (λ h. IsBelow (wires l.netlist) h.signal)) (sym e)
         (All-nil (λ h. IsBelow (wires l.netlist) h.signal));
-    last = last;
+    slots = slots;
   }
 
   pub next_table : (side : Side) (lines : List CertificateLine) (i : ℕ) (line : CertificateLine) (t : Timetable) →

@@ -34,14 +34,14 @@ pub record IsWireOf (c : Circuit) (l : LocalNet) (name : List ℕ) (number : ℕ
   pub same : wire_of c name ≡ Some (circuit_wire l number)
   pub below : number < wires l.netlist
 
--- the wire that was named last, if there is one, has the number of its name
-abbrev pub IsLastWire : Circuit → LocalNet → Option NamedWire → Type 0
-IsLastWire c l last = IfSome last (λ w. IsWireOf c l w.name.now w.wire)
+-- the wires in slots have the numbers of their names
+abbrev pub AreNamedWires : Circuit → LocalNet → List (Option NamedWire) → Type 0
+AreNamedWires c l slots = All (λ slot. IfSome slot (λ w. IsWireOf c l w.name.now w.wire)) slots
 
--- what is held and what happens is what the lines say, each wire is one of the module's, and so is the last one
+-- what is held and what happens is what the lines say, each wire is one of the module's, and so are those in slots
 pub record IsTimetable (c : Circuit) (l : LocalNet) (es : List Border) (t : Timetable) : Type 0 where
   pub all_times : map (renumber_all_times (circuit_wire l)) t.all_times.items ≡ (line_signals c es).all_times
   pub events : map (renumber_event (circuit_wire l)) t.events.items ≡ (line_signals c es).events
   pub own_all_times : All (λ h. IsBelow (wires l.netlist) h.signal) t.all_times.items
   pub own_events : All (λ e. IsBelow (wires l.netlist) e.signal) t.events.items
-  pub last : IsLastWire c l t.last
+  pub slots : AreNamedWires c l t.slots

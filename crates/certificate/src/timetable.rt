@@ -1,5 +1,5 @@
 //! The signals of a module's edge and halo lines, over the wires that the module knows.
-ghost use Rattle.std.specs.Prelude.{◌≡◌, ◌++◌, [], ◌∷◌, List, IfOk, IfSome, IsTrue, OnOk};
+ghost use Rattle.std.specs.Prelude.{◌≡◌, ◌<◌, ◌++◌, [], ◌∷◌, List, IfOk, IfSome, IsTrue, OnOk};
 ghost use Rattle.std.specs.List.{All, flat_map};
 ghost use Rattle.circuit.specs.Bridge.{circuit_of};
 ghost use Rattle.circuit.specs.Meaning.{wires};
@@ -8,7 +8,7 @@ ghost use Rattle.certificate.specs.Jobs.{event_by, all_times_by, line_signal, li
 ghost use Rattle.certificate_lines.specs.Orders.{AreInOrder};
 ghost use Rattle.certificate_lines.specs.Rules.{is_local};
 ghost use Rattle.module_job.specs.Signals.{IsBelow, renumber_signal, renumber_signals};
-ghost use Rattle.certificate.specs.Timetables.{IsLastWire, IsTimetable, IsWireOf, borders_in, IsNamedLocal};
+ghost use Rattle.certificate.specs.Timetables.{AreNamedWires, IsTimetable, IsWireOf, borders_in, IsNamedLocal};
 ghost use Rattle.certificate_lines.specs.declared.certificate_line.Border.{Border};
 
 use crate::layout_tables::local_name;
@@ -32,58 +32,73 @@ struct NamedWire<'a> {
     wire: u16,
 }
 
-// What the lines so far say: at all odd times, and at single ones. And the wire that they named last.
+// The slots of the names that are remembered.
+const SLOT_COUNT: usize = 64;
+
+// What the lines so far say: at all odd times, and at single ones. And wires that they named, in slots.
 #[derive(Drop)]
 struct Timetable<'a> {
     all_times: Vec<AllTimes>,
     events: Vec<Event>,
-    last: Option<NamedWire<'a>>,
+    slots: [Option<NamedWire<'a>>; SLOT_COUNT],
 }
 
-// The number of the wire of this name, which becomes the last one.
-fn next_wire<'a>(
+// The slot of a name, by its last two bytes, in which the names of a module's wires mostly differ.
+fn slot_of(name: &Name) -> usize
+    ensures { result < 64 }
+{
+    match name.bytes() {
+        [.., ten, one] => (10 * *ten as usize + *one as usize) % SLOT_COUNT,
+        [one] => *one as usize % SLOT_COUNT,
+        [] => 0,
+    }
+}
+
+// The number of the wire of this name, which gets its slot.
+fn slot_wire<'a>(
     circuit: &Circuit,
     locals: &Locals,
-    last: &mut Option<NamedWire<'a>>,
+    slots: &mut [Option<NamedWire<'a>>; SLOT_COUNT],
     name: &'a Name,
 ) -> u16
     requires { IsTrue (is_local (circuit_of circuit.now) locals.now.circuit_wires name.now) }
-    ensures same_wire { IsLastWire (circuit_of circuit.now) locals.now last.old →
+    ensures same_wire { AreNamedWires (circuit_of circuit.now) locals.now slots.old →
         IsWireOf (circuit_of circuit.now) locals.now name.now result }
-    ensures last { IsLastWire (circuit_of circuit.now) locals.now last.old →
-        IsLastWire (circuit_of circuit.now) locals.now last.new }
+    ensures slots { AreNamedWires (circuit_of circuit.now) locals.now slots.old →
+        AreNamedWires (circuit_of circuit.now) locals.now slots.new }
 {
-    // Many lines name the wire of the line before: to compare names costs less than to look one up by its hash.
-    if let Some(known) = *last {
+    // The lines of a module name few wires: to compare names costs less than to look one up by its hash.
+    let slot = slot_of(name);
+    if let Some(known) = slots[slot] {
         if *known.name == *name {
             return known.wire;
         }
     }
     let wire = local_name(circuit, locals, name);
-    *last = Some(NamedWire { name, wire });
+    slots[slot] = Some(NamedWire { name, wire });
     wire
 }
 
-// The signal of a line. If it names a wire, this becomes the last one.
+// The signal of a line. If it names a wire, this gets its slot.
 fn local_signal<'a>(
     circuit: &Circuit,
     locals: &Locals,
-    last: &mut Option<NamedWire<'a>>,
+    slots: &mut [Option<NamedWire<'a>>; SLOT_COUNT],
     signal: &'a Option<Name>,
 ) -> Signal
     requires { IfSome signal.now
         (λ name. IsTrue (is_local (circuit_of circuit.now) locals.now.circuit_wires name)) }
-    ensures same_signal { IsLastWire (circuit_of circuit.now) locals.now last.old →
+    ensures same_signal { AreNamedWires (circuit_of circuit.now) locals.now slots.old →
         renumber_signal (circuit_wire locals.now) result
         ≡ line_signal (circuit_of circuit.now) signal.now }
-    ensures own_wire { IsLastWire (circuit_of circuit.now) locals.now last.old →
+    ensures own_wire { AreNamedWires (circuit_of circuit.now) locals.now slots.old →
         IsBelow (wires locals.now.netlist) result }
-    ensures last { IsLastWire (circuit_of circuit.now) locals.now last.old →
-        IsLastWire (circuit_of circuit.now) locals.now last.new }
+    ensures slots { AreNamedWires (circuit_of circuit.now) locals.now slots.old →
+        AreNamedWires (circuit_of circuit.now) locals.now slots.new }
 {
     match signal {
         None => Signal::One,
-        Some(name) => Signal::Wire(next_wire(circuit, locals, last, name)),
+        Some(name) => Signal::Wire(slot_wire(circuit, locals, slots, name)),
     }
 }
 
@@ -93,7 +108,7 @@ impl<'a> Timetable<'a> {
             ≡ self.old.all_times.items ++ all_times_by border.now border.now.time signal) }
         ensures events { OnOk result (self.new.events.items
             ≡ self.old.events.items ++ event_by border.now border.now.time signal) }
-        ensures last { self.new.last ≡ self.old.last }
+        ensures slots { self.new.slots ≡ self.old.slots }
     {
         let cell = border.cell;
         match border.time {
@@ -106,7 +121,7 @@ impl<'a> Timetable<'a> {
         Ok(())
     }
 
-    // Adds an edge or halo line. Inlined, since a call costs as much as a line whose wire is the last one.
+    // Adds an edge or halo line. Inlined, since a call costs as much as a line whose wire is remembered.
     #[inline(always)]
     fn add(
         &mut self,
@@ -119,7 +134,7 @@ impl<'a> Timetable<'a> {
             IsTimetable (circuit_of circuit.now) locals.now es self.old →
             IsTimetable (circuit_of circuit.now) locals.now (es ++ border.now ∷ []) self.new) }
     {
-        let signal = local_signal(circuit, locals, &mut self.last, &border.signal);
+        let signal = local_signal(circuit, locals, &mut self.slots, &border.signal);
         self.push(border, signal)
     }
 
@@ -168,7 +183,7 @@ pub(crate) fn signals_of(
     let mut table = Timetable {
         all_times: Vec::with_capacity(alloc, lines.len())?,
         events: Vec::with_capacity(alloc, lines.len())?,
-        last: None,
+        slots: [None; SLOT_COUNT],
     };
     'lines: for line in lines {
         table.add_line(circuit, locals, side, line)?;

@@ -1,11 +1,13 @@
-use Rattle.std.proofs.Common.{sym, ap, ◌∙◌, subst, map}
+use Rattle.std.proofs.Common.{None, sym, ap, ◌∙◌, subst, map}
+use Rattle.std.specs.Prelude.{IfSome}
 use Rattle.std.specs.List.{All, flat_map}
+use Rattle.std.proofs.lemmas.List.Elements.{All-replicate}
 use Rattle.circuit.specs.Bridge.{circuit_of}
 use Rattle.circuit.specs.Meaning.{wires}
 use Rattle.module_box.specs.Locals.{circuit_wire}
 use Rattle.certificate.specs.Jobs.{line_signals}
 use Rattle.module_job.specs.Signals.{IsBelow, renumber_all_times, renumber_event}
-use Rattle.certificate.specs.Timetables.{IsNamedLocal, borders_in}
+use Rattle.certificate.specs.Timetables.{IsNamedLocal, IsWireOf, borders_in}
 use Rattle.certificate_lines.proofs.FlatParts.{flat_at}
 use Rattle.certificate.proofs.TimetableLemmas.{no_lines, next_table, all_lines, table_all_times_rises}
 use Rattle.certificate.proofs.TimetableLemmas.{table_events_rise}
@@ -13,7 +15,9 @@ use Rattle.certificate.proofs.timetable.signals_of.Goals as goal
 
 pub lines-init : goal.lines-init
 lines-init c = no_lines (circuit_of c.args.circuit.now) c.args.locals.now _ c.in_ok-with_capacity.ensures.items
-    c.in_ok-with_capacity-2.ensures.items tt
+    c.in_ok-with_capacity-2.ensures.items
+    (All-replicate (λ slot. IfSome slot (λ w. IsWireOf (circuit_of c.args.circuit.now) c.args.locals.now w.name.now w.wire)) 64
+    None tt)
 
 -- src/timetable.rt:127:9
 pub add_line-requires : goal.add_line-requires
