@@ -1,13 +1,14 @@
 -- The signals of a module after one more line.
 use Rattle.std.proofs.Common.{◌≡◌, ℕ, ◌<◌, List, [], ◌∷◌, ◌++◌, ◌+◌, ◌≤◌, length, Option, Some, None, take, get_or}
 use Rattle.std.proofs.Common.{refl, sym, ap, subst, ◌∙◌, map}
+use Rattle.std.specs.Prelude.{IfSome, replicate}
 use Rattle.std.specs.List.{All, flat_map}
 use Rattle.std.specs.Result.{OnOk}
 use Rattle.std.specs.declared.result.Result.{Result}
 use Rattle.std.specs.declared.result.Result.TheVariants.{Ok, Err}
 use Rattle.std.proofs.lemmas.Grind.{flat_map-append}
 use Rattle.std.proofs.lemmas.List.{append-nil, map-append, flat_map_more, take_all, take_more}
-use Rattle.std.proofs.lemmas.List.Elements.{All-nil, All-cons, All-append}
+use Rattle.std.proofs.lemmas.List.Elements.{All-nil, All-cons, All-append, All-replicate}
 use Rattle.circuit.specs.Meaning.{Circuit, wires}
 use Rattle.module_box.specs.Locals.{LocalNet, circuit_wire}
 use Rattle.module_box.specs.Moments.{cell_cmp, moment_cmp}
@@ -18,9 +19,11 @@ use Rattle.module_box.specs.declared.schedules.Signal.{Signal}
 use Rattle.certificate.specs.Jobs.{all_times_by, event_by, line_signal}
 use Rattle.certificate_lines.specs.Orders.{AreInOrder}
 use Rattle.module_job.specs.Signals.{IsBelow, renumber_signal, renumber_all_times, renumber_event}
-use Rattle.certificate.specs.Timetables.{AreNamedWires, IsTimetable, borders_in}
+use Rattle.certificate.specs.NamedWires.{AreNamedWires, IsWireOf}
+use Rattle.certificate.specs.Timetables.{IsTimetable, borders_in}
 use Rattle.certificate_lines.specs.declared.certificate_line.Border.{Border}
 use Rattle.certificate_lines.specs.declared.certificate_line.CertificateLine.{CertificateLine}
+use Rattle.certificate.specs.declared.named_wires.NamedWire.{NamedWire}
 use Rattle.certificate.specs.declared.timetable.Side.{Side}
 use Rattle.certificate.specs.declared.timetable.Side.TheVariants.{Ring, Halo}
 use Rattle.certificate.specs.declared.timetable.Timetable.{Timetable}
@@ -106,6 +109,11 @@ module _ (c : Circuit) (l : LocalNet) where
         (own_event (wires l.netlist) e e.time s own));
     slots = slots;
   }
+
+  pub no_names : (slots : List (Option NamedWire)) → slots ≡ replicate 64 None → AreNamedWires c l slots
+  no_names slots e =
+      let named : Option NamedWire → Type 0 = λ slot. IfSome slot (λ w. IsWireOf c l w.name.now w.wire) in
+      subst (All named) (sym e) (All-replicate named 64 None tt)
 
   pub no_lines : (t : Timetable) → t.all_times.items ≡ [] → t.events.items ≡ [] → AreNamedWires c l t.slots →
       IsTimetable c l [] t

@@ -1,16 +1,16 @@
 -- The signals of edge or halo lines over the wires of a module
-use Rattle.std.specs.Prelude.{◌≡◌, ◌<◌, pos, ◌≤ℤ◌, ℕ, List, Option, Some, map, IfSome, IsTrue}
+use Rattle.std.specs.Prelude.{◌≡◌, pos, ◌≤ℤ◌, List, map, IfSome, IsTrue}
 use Rattle.std.specs.List.{All}
 use Rattle.bbm_rule.specs.declared.block.Cell.{Cell}
-use Rattle.circuit.specs.Meaning.{Circuit, wire_of, wires}
+use Rattle.circuit.specs.Meaning.{Circuit, wires}
 use Rattle.module_box.specs.Locals.{LocalNet, circuit_wire}
 use Rattle.certificate_lines.specs.Entries.{edge_in, halo_in}
 use Rattle.certificate.specs.Jobs.{line_signals}
+use Rattle.certificate.specs.NamedWires.{AreNamedWires}
 use Rattle.certificate_lines.specs.Rules.{is_local}
 use Rattle.module_job.specs.Signals.{IsBelow, renumber_all_times, renumber_event}
 use Rattle.certificate_lines.specs.declared.certificate_line.Border.{Border}
 use Rattle.certificate_lines.specs.declared.certificate_line.CertificateLine.{CertificateLine}
-use Rattle.certificate.specs.declared.timetable.NamedWire.{NamedWire}
 use Rattle.certificate.specs.declared.timetable.Side.{Side}
 use Rattle.certificate.specs.declared.timetable.Side.TheVariants.{Ring, Halo}
 use Rattle.certificate.specs.declared.timetable.Timetable.{Timetable}
@@ -28,15 +28,6 @@ IsNamedLocal c l e = IfSome e.signal (λ name. IsTrue (is_local c l.circuit_wire
 pub record IsLow (c : Cell) : Type 0 where
   pub column : (pos 0 ≤ℤ c.x) × (c.x ≤ℤ pos 511)
   pub row : (pos 0 ≤ℤ c.y) × (c.y ≤ℤ pos 511)
-
--- the wire of the name has this number among the module's wires
-pub record IsWireOf (c : Circuit) (l : LocalNet) (name : List ℕ) (number : ℕ) : Type 0 where
-  pub same : wire_of c name ≡ Some (circuit_wire l number)
-  pub below : number < wires l.netlist
-
--- the wires in slots have the numbers of their names
-abbrev pub AreNamedWires : Circuit → LocalNet → List (Option NamedWire) → Type 0
-AreNamedWires c l slots = All (λ slot. IfSome slot (λ w. IsWireOf c l w.name.now w.wire)) slots
 
 -- what is held and what happens is what the lines say, each wire is one of the module's, and so are those in slots
 pub record IsTimetable (c : Circuit) (l : LocalNet) (es : List Border) (t : Timetable) : Type 0 where

@@ -14,6 +14,7 @@ mod jobs;
 mod kept;
 pub mod laws;
 mod layout_tables;
+mod named_wires;
 mod printing;
 mod reading;
 mod stops;

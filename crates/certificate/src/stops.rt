@@ -8,10 +8,11 @@ ghost use Rattle.certificate_lines.specs.Entries.{stop_in};
 ghost use Rattle.certificate.specs.Jobs.{line_stops};
 ghost use Rattle.certificate_lines.specs.Rules.{is_local};
 ghost use Rattle.module_job.specs.Signals.{renumber_stop};
+ghost use Rattle.certificate.specs.NamedWires.{AreNamedWires};
 ghost use Rattle.certificate.specs.StopLists.{AreStops};
 ghost use Rattle.certificate_lines.specs.declared.certificate_line.StopLine.{StopLine as Line};
 
-use crate::layout_tables::local_name;
+use crate::named_wires::{NamedWire, SLOT_COUNT, empty_slots, slot_wire};
 use certificate_lines::{CertificateLine, StopLine};
 use circuit::Circuit;
 use module_box::{Locals, Moment};
@@ -19,35 +20,47 @@ use module_job::Stop;
 use std::alloc::{AllocError, Global};
 
 // A stop line over the wires that the module knows.
-fn local_stop(circuit: &Circuit, locals: &Locals, line: &StopLine) -> Stop
-    requires { IsTrue (is_local (circuit_of circuit.now) locals.now.circuit_wires line.now.wire) }
+fn local_stop<'a>(
+    circuit: &Circuit,
+    locals: &Locals,
+    slots: &mut [Option<NamedWire<'a>>; SLOT_COUNT],
+    line: &'a StopLine,
+) -> Stop
+    requires local { IsTrue
+        (is_local (circuit_of circuit.now) locals.now.circuit_wires line.now.wire) }
+    requires slots { AreNamedWires (circuit_of circuit.now) locals.now slots.old }
     ensures same_stop { renumber_stop (circuit_wire locals.now) result ∷ []
         ≡ line_stops (circuit_of circuit.now) (line.now ∷ []) }
     ensures own_wire { result.wire < wires locals.now.netlist }
+    ensures slots { AreNamedWires (circuit_of circuit.now) locals.now slots.new }
 {
     let at = Moment {
         time: line.time,
         cell: line.cell,
     };
-    let wire = local_name(circuit, locals, &line.wire);
+    let wire = slot_wire(circuit, locals, slots, &line.wire);
     Stop { at, wire }
 }
 
 // Adds a line, if it is a stop.
-fn push_stop(
+fn push_stop<'a>(
     stops: &mut Vec<Stop>,
     circuit: &Circuit,
     locals: &Locals,
-    line: &CertificateLine,
+    slots: &mut [Option<NamedWire<'a>>; SLOT_COUNT],
+    line: &'a CertificateLine,
 ) -> Result<(), AllocError>
-    requires { All (λ s. IsTrue (is_local (circuit_of circuit.now) locals.now.circuit_wires s.wire))
+    requires local { All
+        (λ s. IsTrue (is_local (circuit_of circuit.now) locals.now.circuit_wires s.wire))
         (stop_in line.now) }
-    ensures { OnOk result ((ss : List Line) →
+    requires slots { AreNamedWires (circuit_of circuit.now) locals.now slots.old }
+    ensures stops { OnOk result ((ss : List Line) →
         AreStops (circuit_of circuit.now) locals.now ss stops.old.items →
         AreStops (circuit_of circuit.now) locals.now (ss ++ stop_in line.now) stops.new.items) }
+    ensures slots { AreNamedWires (circuit_of circuit.now) locals.now slots.new }
 {
     if let CertificateLine::Stop(stop) = line {
-        stops.push(local_stop(circuit, locals, stop))?;
+        stops.push(local_stop(circuit, locals, slots, stop))?;
     }
     Ok(())
 }
@@ -65,8 +78,9 @@ pub(crate) fn stops_of(
         (flat_map stop_in lines.now) stops.items) }
 {
     let mut stops = Vec::with_capacity(alloc, lines.len())?;
+    let mut slots = empty_slots();
     'lines: for line in lines {
-        push_stop(&mut stops, circuit, locals, line)?;
+        push_stop(&mut stops, circuit, locals, &mut slots, line)?;
     }
     Ok(stops)
 }

@@ -1,5 +1,5 @@
 //! The signals of a module's edge and halo lines, over the wires that the module knows.
-ghost use Rattle.std.specs.Prelude.{◌≡◌, ◌<◌, ◌++◌, [], ◌∷◌, List, IfOk, IfSome, IsTrue, OnOk};
+ghost use Rattle.std.specs.Prelude.{◌≡◌, ◌++◌, [], ◌∷◌, List, IfOk, IfSome, IsTrue, OnOk};
 ghost use Rattle.std.specs.List.{All, flat_map};
 ghost use Rattle.circuit.specs.Bridge.{circuit_of};
 ghost use Rattle.circuit.specs.Meaning.{wires};
@@ -8,10 +8,11 @@ ghost use Rattle.certificate.specs.Jobs.{event_by, all_times_by, line_signal, li
 ghost use Rattle.certificate_lines.specs.Orders.{AreInOrder};
 ghost use Rattle.certificate_lines.specs.Rules.{is_local};
 ghost use Rattle.module_job.specs.Signals.{IsBelow, renumber_signal, renumber_signals};
-ghost use Rattle.certificate.specs.Timetables.{AreNamedWires, IsTimetable, IsWireOf, borders_in, IsNamedLocal};
+ghost use Rattle.certificate.specs.Timetables.{IsTimetable, borders_in, IsNamedLocal};
+ghost use Rattle.certificate.specs.NamedWires.{AreNamedWires};
 ghost use Rattle.certificate_lines.specs.declared.certificate_line.Border.{Border};
 
-use crate::layout_tables::local_name;
+use crate::named_wires::{NamedWire, SLOT_COUNT, empty_slots, slot_wire};
 use certificate_lines::{Border, CertificateLine};
 use circuit::Circuit;
 use module_box::{AllTimes, Event, Locals, Moment, Schedule, Signal};
@@ -25,58 +26,12 @@ pub(crate) enum Side {
     Halo,
 }
 
-// A name, and the number of its wire among those that the module knows.
-#[derive(Clone, Copy)]
-struct NamedWire<'a> {
-    name: &'a Name,
-    wire: u16,
-}
-
-// The slots of the names that are remembered.
-const SLOT_COUNT: usize = 64;
-
 // What the lines so far say: at all odd times, and at single ones. And wires that they named, in slots.
 #[derive(Drop)]
 struct Timetable<'a> {
     all_times: Vec<AllTimes>,
     events: Vec<Event>,
     slots: [Option<NamedWire<'a>>; SLOT_COUNT],
-}
-
-// The slot of a name, by its last two bytes, in which the names of a module's wires mostly differ.
-fn slot_of(name: &Name) -> usize
-    ensures { result < 64 }
-{
-    match name.bytes() {
-        [.., ten, one] => (10 * *ten as usize + *one as usize) % SLOT_COUNT,
-        [one] => *one as usize % SLOT_COUNT,
-        [] => 0,
-    }
-}
-
-// The number of the wire of this name, which gets its slot.
-fn slot_wire<'a>(
-    circuit: &Circuit,
-    locals: &Locals,
-    slots: &mut [Option<NamedWire<'a>>; SLOT_COUNT],
-    name: &'a Name,
-) -> u16
-    requires { IsTrue (is_local (circuit_of circuit.now) locals.now.circuit_wires name.now) }
-    ensures same_wire { AreNamedWires (circuit_of circuit.now) locals.now slots.old →
-        IsWireOf (circuit_of circuit.now) locals.now name.now result }
-    ensures slots { AreNamedWires (circuit_of circuit.now) locals.now slots.old →
-        AreNamedWires (circuit_of circuit.now) locals.now slots.new }
-{
-    // The lines of a module name few wires: to compare names costs less than to look one up by its hash.
-    let slot = slot_of(name);
-    if let Some(known) = slots[slot] {
-        if *known.name == *name {
-            return known.wire;
-        }
-    }
-    let wire = local_name(circuit, locals, name);
-    slots[slot] = Some(NamedWire { name, wire });
-    wire
 }
 
 // The signal of a line. If it names a wire, this gets its slot.
@@ -183,7 +138,7 @@ pub(crate) fn signals_of(
     let mut table = Timetable {
         all_times: Vec::with_capacity(alloc, lines.len())?,
         events: Vec::with_capacity(alloc, lines.len())?,
-        slots: [None; SLOT_COUNT],
+        slots: empty_slots(),
     };
     'lines: for line in lines {
         table.add_line(circuit, locals, side, line)?;

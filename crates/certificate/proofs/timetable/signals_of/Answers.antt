@@ -1,37 +1,31 @@
-use Rattle.std.proofs.Common.{None, sym, ap, ◌∙◌, subst, map}
-use Rattle.std.specs.Prelude.{IfSome}
+use Rattle.std.proofs.Common.{sym, ap, ◌∙◌, subst, map}
 use Rattle.std.specs.List.{All, flat_map}
-use Rattle.std.proofs.lemmas.List.Elements.{All-replicate}
 use Rattle.circuit.specs.Bridge.{circuit_of}
 use Rattle.circuit.specs.Meaning.{wires}
 use Rattle.module_box.specs.Locals.{circuit_wire}
 use Rattle.certificate.specs.Jobs.{line_signals}
 use Rattle.module_job.specs.Signals.{IsBelow, renumber_all_times, renumber_event}
-use Rattle.certificate.specs.Timetables.{IsNamedLocal, IsWireOf, borders_in}
+use Rattle.certificate.specs.Timetables.{IsNamedLocal, borders_in}
 use Rattle.certificate_lines.proofs.FlatParts.{flat_at}
-use Rattle.certificate.proofs.TimetableLemmas.{no_lines, next_table, all_lines, table_all_times_rises}
+use Rattle.certificate.proofs.TimetableLemmas.{no_lines, no_names, next_table, all_lines, table_all_times_rises}
 use Rattle.certificate.proofs.TimetableLemmas.{table_events_rise}
 use Rattle.certificate.proofs.timetable.signals_of.Goals as goal
 
 pub lines-init : goal.lines-init
 lines-init c = no_lines (circuit_of c.args.circuit.now) c.args.locals.now _ c.in_ok-with_capacity.ensures.items
     c.in_ok-with_capacity-2.ensures.items
-    (All-replicate (λ slot. IfSome slot (λ w. IsWireOf (circuit_of c.args.circuit.now) c.args.locals.now w.name.now w.wire)) 64
-    None tt)
+    (no_names (circuit_of c.args.circuit.now) c.args.locals.now _ c.empty_slots.ensures)
 
--- src/timetable.rt:127:9
 pub add_line-requires : goal.add_line-requires
 add_line-requires c = flat_at (IsNamedLocal (circuit_of c.args.circuit.now) c.args.locals.now)
     (borders_in c.args.side) c.args.lines.now c.requires.local c.lines.line-index c.line-item.result c.lines-test.true
     c.line-item.is
 
--- src/timetable.rt:126:5
 pub lines-preserved : goal.lines-preserved
 lines-preserved c = next_table
     (circuit_of c.args.circuit.now) c.args.locals.now c.args.side c.args.lines.now c.lines.line-index c.line-item.result
     _ c.lines-test.true c.line-item.is (c.in_ok-add_line.ensures _ c.lines.invariant)
 
--- src/timetable.rt:129:8
 pub new-requires-clause-all_times : goal.new-requires-clause-all_times
 new-requires-clause-all_times c =
     table_all_times_rises (circuit_of c.args.circuit.now) c.args.locals.now c.args.side c.args.lines.now _
@@ -39,14 +33,12 @@ new-requires-clause-all_times c =
     (all_lines (circuit_of c.args.circuit.now) c.args.locals.now c.args.side c.args.lines.now c.lines.line-index _
     c.lines-test.false c.lines.invariant)
 
--- src/timetable.rt:129:8
 pub new-requires-clause-events : goal.new-requires-clause-events
 new-requires-clause-events c =
     table_events_rise (circuit_of c.args.circuit.now) c.args.locals.now c.args.side c.args.lines.now _ c.requires.order
     (all_lines (circuit_of c.args.circuit.now) c.args.locals.now c.args.side c.args.lines.now c.lines.line-index _
     c.lines-test.false c.lines.invariant)
 
--- src/timetable.rt:110:1
 pub returns-clause-same_signals : goal.returns-clause-same_signals
 returns-clause-same_signals c =
     let t = all_lines (circuit_of c.args.circuit.now) c.args.locals.now c.args.side c.args.lines.now c.lines.line-index
@@ -66,13 +58,11 @@ returns-clause-same_signals c =
       events = es;
     }) t.events
 
--- src/timetable.rt:110:1
 pub returns-clause-all_times : goal.returns-clause-all_times
 returns-clause-all_times c =
     subst (All (λ h. IsBelow (wires c.args.locals.now.netlist) h.signal))
     (sym c.new.ensures.all_times) c.lines.invariant.own_all_times
 
--- src/timetable.rt:110:1
 pub returns-clause-events : goal.returns-clause-events
 returns-clause-events c =
     subst (All (λ e. IsBelow (wires c.args.locals.now.netlist) e.signal))

@@ -1,6 +1,6 @@
 use Rattle.std.proofs.Common.{sym, subst}
 use Rattle.circuit.specs.Bridge.{circuit_of}
-use Rattle.certificate.specs.Timetables.{AreNamedWires}
+use Rattle.certificate.specs.NamedWires.{AreNamedWires}
 use Rattle.certificate.proofs.TimetableLemmas.{both_ok, with_border}
 use Rattle.certificate.proofs.timetable.Timetable.add.Goals as goal
 
