@@ -10,6 +10,7 @@ use module_box::Locals;
 use section_text::Name;
 
 /// The count of slots.
+// In `conformance/data/bouncers_64_v1.txt` 96 of 100 lines find their name in a slot. With one slot 2 of 100 would.
 pub(crate) const SLOT_COUNT: usize = 64;
 
 /// A name, and the number of its wire among those that the module knows.
