@@ -15,7 +15,7 @@ use crate::line_tables::LineTables;
 use crate::order::does_follow;
 use crate::rules::{
     border_code, cut_code, is_bad_place, is_bad_side, is_local_name, keep_code, may_be_edge,
-    may_be_halo, may_be_stop, use_code,
+    may_be_halo, may_be_stop, stop_code, use_code,
 };
 use crate::stars::{has_star, make_room_for_stars, note_stars};
 use crate::tiles::is_full;
@@ -124,16 +124,16 @@ impl<'a> Builder<'a> {
             CertificateLine::Edge(border) => {
                 let starred = has_star(&self.edges, border.cell);
                 let placed = may_be_edge(size, counts.area, starred, border);
-                border_code(&self.tables, borders, &self.known, placed, border.signal)
+                border_code(&self.tables, borders, &self.known, placed, &border.signal)
             }
             CertificateLine::Halo(border) => {
                 let starred = has_star(&self.halos, border.cell);
                 let placed = may_be_halo(size, counts.area, starred, border);
-                border_code(&self.tables, borders, &self.known, placed, border.signal)
+                border_code(&self.tables, borders, &self.known, placed, &border.signal)
             }
             CertificateLine::Stop(stop) => {
                 let placed = may_be_stop(size, counts.area, stop);
-                border_code(&self.tables, borders, &self.known, placed, Some(stop.wire))
+                stop_code(&self.tables, borders, &self.known, placed, &stop.wire)
             }
         }
     }

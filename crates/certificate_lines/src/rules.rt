@@ -130,34 +130,44 @@ pub(crate) fn keep_code(
     None
 }
 
-#[tactic(auto, unfolding(crate::specs::Rules::signal_fault))]
-fn signal_code(
-    tables: &LineTables,
-    known: &IndexSet<u16>,
-    signal: Option<Name>,
-) -> Option<RefusalCode>
-    ensures { result ≡ signal_fault tables.now.circuit known.now.keys signal }
+// The code of a wire's name: it must be that of a local wire.
+fn name_code(tables: &LineTables, known: &IndexSet<u16>, name: &Name) -> Option<RefusalCode>
+    ensures { result ≡ wire_fault known.now.keys (wire_of tables.now.circuit name.now) }
 {
-    let name = signal?;
-    match tables.wire(&name) {
+    match tables.wire(name) {
         None => Some(RefusalCode::UnknownName),
         Some(wire) if knows(known, wire) => None,
         Some(_) => Some(RefusalCode::NotLocal),
     }
 }
 
-/// Returns the code of an edge, halo or stop line, if `count` of them are before it.
+#[tactic(auto, unfolding(crate::specs::Rules::signal_fault))]
+fn signal_code(
+    tables: &LineTables,
+    known: &IndexSet<u16>,
+    signal: &Option<Name>,
+) -> Option<RefusalCode>
+    ensures { result ≡ signal_fault tables.now.circuit known.now.keys signal.now }
+{
+    match signal {
+        None => None,
+        Some(name) => name_code(tables, known, name),
+    }
+}
+
+/// Returns the code of an edge or halo line, if `count` edge, halo and stop lines are before it.
 ///
-/// `placed` says whether the line may have its cell and time.
+/// `placed` says whether the line may have its cell and time. The signal is passed by reference, since a copy of its 34
+/// bytes costs more than the tests.
 #[tactic(auto, unfolding(crate::specs::Rules::border_fault))]
 pub(crate) fn border_code(
     tables: &LineTables,
     count: usize,
     known: &IndexSet<u16>,
     placed: bool,
-    signal: Option<Name>,
+    signal: &Option<Name>,
 ) -> Option<RefusalCode>
-    ensures { result ≡ border_fault tables.now.circuit count known.now.keys placed signal }
+    ensures { result ≡ border_fault tables.now.circuit count known.now.keys placed signal.now }
 {
     if count >= MAX_TIMED_LINES {
         return Some(RefusalCode::PastLimit);
@@ -166,6 +176,29 @@ pub(crate) fn border_code(
         return Some(RefusalCode::NoPlace);
     }
     signal_code(tables, known, signal)
+}
+
+/// Returns the code of a stop line, if `count` edge, halo and stop lines are before it.
+///
+/// `placed` says whether the line may have its cell and time.
+#[tactic(auto, unfolding(crate::specs::Rules::border_fault, crate::specs::Rules::signal_fault))]
+pub(crate) fn stop_code(
+    tables: &LineTables,
+    count: usize,
+    known: &IndexSet<u16>,
+    placed: bool,
+    wire: &Name,
+) -> Option<RefusalCode>
+    ensures { result
+        ≡ border_fault tables.now.circuit count known.now.keys placed (Some wire.now) }
+{
+    if count >= MAX_TIMED_LINES {
+        return Some(RefusalCode::PastLimit);
+    }
+    if !placed {
+        return Some(RefusalCode::NoPlace);
+    }
+    name_code(tables, known, wire)
 }
 
 // Whether a line may have its time, where its cell has a `*` or has none.
