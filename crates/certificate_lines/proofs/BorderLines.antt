@@ -1,5 +1,5 @@
 -- The form of a line by whether it has five words
-use Rattle.std.proofs.Common.{◌≡◌, ◌==◌, if◌then◌else◌, ℕ, Bool, true, false, List, ◌∷◌, length, Option, Some, None}
+use Rattle.std.proofs.Common.{◌≡◌, ◌==◌, if◌then◌else◌, ℕ, Bool, true, false, List, length, Option, Some, None}
 use Rattle.std.proofs.Common.{refl, sym, ap, ◌∙◌, inl, inr}
 use Rattle.std.specs.Prelude.{codes, slice_get}
 use Rattle.std.specs.Str.{bytes_eq}
@@ -13,12 +13,27 @@ use Rattle.section_text.specs.declared.section.Form.TheVariants.{Header, Item, E
 use Rattle.certificate_lines.specs.Forms.{Line, area_of, border_of, form_of, short_form_of, stop_of}
 use Rattle.certificate_lines.specs.declared.certificate_line.CertificateLine.TheVariants.{Module, Cut, Use, Keep, Edge}
 use Rattle.certificate_lines.specs.declared.certificate_line.CertificateLine.TheVariants.{Halo, Stop}
+use Rattle.certificate_lines.specs.declared.certificate_line.Border.{Border}
 
 same_none : (b : Bool) (x : Option Line) → x ≡ None → (if b then None else x) ≡ None
 same_none true x e = refl
 same_none false x e = e
 
 -- ---- lines of five words
+
+-- a line of five words that begins with `edge`
+pub edge_form : (w : FiveWords) (o : Option Border) → bytes_eq w.first.now (codes "edge") ≡ true →
+    o ≡ border_of (listed w) → (o >>= λ e. Some (Item (Edge e))) ≡ form_of (listed w)
+unfolding form_of is_word_at
+edge_form w o edge is = ap (λ z. z >>= λ e. Some (Item (Edge e))) is ∙ sym (cond-true _ _ _ edge)
+
+-- a line of five words that begins with `halo`
+pub halo_form : (w : FiveWords) (o : Option Border) → bytes_eq w.first.now (codes "edge") ≡ false →
+    bytes_eq w.first.now (codes "halo") ≡ true → o ≡ border_of (listed w) →
+    (o >>= λ e. Some (Item (Halo e))) ≡ form_of (listed w)
+unfolding form_of is_word_at
+halo_form w o edge halo is =
+    ap (λ z. z >>= λ e. Some (Item (Halo e))) is ∙ sym (cond-false _ _ _ edge ∙ cond-true _ _ _ halo)
 
 -- a line of five words that begins with no keyword of such lines has no form
 pub no_long_form : (w : FiveWords) → bytes_eq w.first.now (codes "edge") ≡ false →

@@ -1,5 +1,5 @@
 //! The line forms of the certificate section.
-ghost use Rattle.std.specs.Prelude.{◌≡◌};
+ghost use Rattle.std.specs.Prelude.{◌≡◌, codes, false};
 ghost use Rattle.std.specs.Str.{bytes_eq};
 ghost use Rattle.section_text.specs.Listed.{listed};
 ghost use Rattle.section_text.specs.Words.{words_of, lone};
@@ -82,25 +82,45 @@ fn is_keyword(word: &[u8], keyword: &[u8]) -> bool
     word == keyword
 }
 
-// The form of a line of five words.
-#[tactic(auto, unfolding(crate::specs::Forms::form_of, section_text::specs::Words::is_word_at))]
-fn long_form(words: &FiveWords) -> Option<Form<u32, CertificateLine>>
-    ensures { result ≡ form_of (listed words.now) }
+// Whether a word is `edge`. A pattern is compared in place, without a call.
+fn is_edge_word(word: &[u8]) -> bool
+    ensures { result ≡ bytes_eq word.now (codes "edge") }
 {
-    if is_keyword(words.first, b"edge") {
-        Some(Form::Item(CertificateLine::Edge(border_of_words(words)?)))
-    } else if is_keyword(words.first, b"halo") {
-        Some(Form::Item(CertificateLine::Halo(border_of_words(words)?)))
-    } else if is_keyword(words.first, b"stop") {
-        Some(Form::Item(CertificateLine::Stop(stop_of_words(words)?)))
+    match word {
+        [b'e', b'd', b'g', b'e'] => true,
+        _ => false,
+    }
+}
+
+// Whether a word is `halo`.
+fn is_halo_word(word: &[u8]) -> bool
+    ensures { result ≡ bytes_eq word.now (codes "halo") }
+{
+    match word {
+        [b'h', b'a', b'l', b'o'] => true,
+        _ => false,
+    }
+}
+
+// The form of a line of five words that is no edge or halo line.
+#[inline(never)]
+#[tactic(auto, unfolding(crate::specs::Forms::form_of, section_text::specs::Words::is_word_at))]
+fn other_form(words: FiveWords) -> Option<Form<u32, CertificateLine>>
+    requires no_edge { bytes_eq words.first.now (codes "edge") ≡ false }
+    requires no_halo { bytes_eq words.first.now (codes "halo") ≡ false }
+    ensures { result ≡ form_of (listed words.entry) }
+{
+    if is_keyword(words.first, b"stop") {
+        Some(Form::Item(CertificateLine::Stop(stop_of_words(&words)?)))
     } else if is_keyword(words.first, b"module") {
-        Some(Form::Item(CertificateLine::Module(area_of_words(words)?)))
+        Some(Form::Item(CertificateLine::Module(area_of_words(&words)?)))
     } else {
         None
     }
 }
 
 // The form of a line that has not five words.
+#[inline(never)]
 #[tactic(auto, unfolding(crate::specs::Forms::short_form_of))]
 fn short_form(feed: &Feed, line: &Line) -> Option<Form<u32, CertificateLine>>
     requires { IsLine feed.now line.now }
@@ -122,12 +142,24 @@ fn short_form(feed: &Feed, line: &Line) -> Option<Form<u32, CertificateLine>>
 }
 
 /// Returns the form of a line, if it has one. It passes over the words of a line of five once.
+///
+/// Most lines of a certificate are edge and halo lines. So these are formed here, and the others in functions of their
+/// own, since each call that returns a form copies its 64 bytes.
 pub fn line_form(feed: &Feed, line: &Line) -> Option<Form<u32, CertificateLine>>
     requires { IsLine feed.now line.now }
     ensures { result ≡ form_of (words_of (line_bytes feed.now line.now)) }
 {
-    match feed.five_words(line) {
-        Some(words) => long_form(&words),
-        None => short_form(feed, line),
+    let Some(words) = feed.five_words(line) else {
+        return short_form(feed, line);
+    };
+    let is_edge = is_edge_word(words.first);
+    if !is_edge && !is_halo_word(words.first) {
+        return other_form(words);
+    }
+    let border = border_of_words(&words)?;
+    if is_edge {
+        Some(Form::Item(CertificateLine::Edge(border)))
+    } else {
+        Some(Form::Item(CertificateLine::Halo(border)))
     }
 }
