@@ -14,7 +14,10 @@ use Rattle.certificate_lines.specs.declared.certificate_line.CertificateLine.The
 use Rattle.certificate_lines.specs.Entries.{last_of}
 use Rattle.certificate_lines.specs.Orders.{AreInOrder, rank_of, number_of, cell_of, line_cmp, is_cut, may_precede}
 use Rattle.certificate_lines.specs.Orders.{may_follow}
+use Rattle.certificate_lines.specs.Versions.{line_order}
+use Rattle.certificate_lines.specs.declared.certificate_line.Border.{Border}
 use Rattle.certificate_lines.proofs.Lists.{or_parts, or_right}
+use Rattle.certificate_lines.proofs.StarLemmas.{or_none}
 
 line_total : IsTotalOrder line_cmp
 unfolding line_cmp
@@ -57,6 +60,16 @@ by_less i j h = rw h refl
 by_cuts : (i j : CertificateLine) → is_cut i ≡ true → is_cut j ≡ true → may_precede i j ≡ true
 unfolding may_precede
 by_cuts i j h k = or_right _ (is_cut i && is_cut j) (rw (h, k) refl)
+
+-- two edge lines are in order by time and cell
+pub edges_precede : (d e : Border) → is_lt (line_order d e) ≡ may_precede (Edge d) (Edge e)
+unfolding may_precede line_cmp line_order rank_of number_of cell_of is_cut
+edges_precede d e = sym (or_none _)
+
+-- so are two halo lines
+pub halos_precede : (d e : Border) → is_lt (line_order d e) ≡ may_precede (Halo d) (Halo e)
+unfolding may_precede line_cmp line_order rank_of number_of cell_of is_cut
+halos_precede d e = sym (or_none _)
 
 -- how two lines may stand one before the other
 precede_parts : (i j : CertificateLine) → may_precede i j ≡ true →

@@ -1,5 +1,6 @@
 //! The order of the lines of a module.
 ghost use Rattle.std.specs.Prelude.{◌≡◌, List};
+ghost use Rattle.std.specs.Ordering.{is_lt};
 ghost use Rattle.certificate_lines.specs.Entries.{last_of};
 ghost use Rattle.certificate_lines.specs.Orders.{AreInOrder, rank_of, time_rank, number_of, cell_of, line_cmp, is_cut, may_precede, may_follow};
 ghost use Rattle.certificate_lines.specs.Versions.{line_order};
@@ -87,12 +88,40 @@ fn is_cut_line(entry: &CertificateLine) -> bool
     }
 }
 
-// Whether the first line may stand before the second.
+// Whether the first of two lines of any kinds may stand before the second.
+#[inline(never)]
 #[tactic(auto, unfolding(crate::specs::Orders::may_precede))]
-fn does_precede(first: &CertificateLine, second: &CertificateLine) -> bool
+fn does_any_precede(first: &CertificateLine, second: &CertificateLine) -> bool
     ensures { result ≡ may_precede first.now second.now }
 {
     compare(first, second).is_lt() | (is_cut_line(first) & is_cut_line(second))
+}
+
+// Whether the first of two edge lines, or of two halo lines, may stand before the second.
+#[tactic(auto, unfolding(crate::specs::Versions::line_order))]
+fn does_border_precede(first: &Border, second: &Border) -> bool
+    ensures { result ≡ is_lt (line_order first.now second.now) }
+{
+    match rank_of_time(first.time).cmp(&rank_of_time(second.time)) {
+        Ordering::Less => true,
+        Ordering::Equal => compare_cells(first.cell, second.cell).is_lt(),
+        Ordering::Greater => false,
+    }
+}
+
+// Whether the first line may stand before the second. Most lines follow a line of their kind.
+fn does_precede(first: &CertificateLine, second: &CertificateLine) -> bool
+    ensures { result ≡ may_precede first.now second.now }
+{
+    match (first, second) {
+        (CertificateLine::Edge(first), CertificateLine::Edge(second)) => {
+            does_border_precede(first, second)
+        }
+        (CertificateLine::Halo(first), CertificateLine::Halo(second)) => {
+            does_border_precede(first, second)
+        }
+        _ => does_any_precede(first, second),
+    }
 }
 
 /// Returns whether a line may follow the lines of a module, of which this is the last.
