@@ -1,6 +1,6 @@
 -- The cells of lines with a star.
 use Rattle.std.proofs.Common.{◌≡◌, Bool, true, false, ◌&&◌, ◌||◌, if◌then◌else◌, List, [], ◌∷◌, ◌++◌, Option, Some}
-use Rattle.std.proofs.Common.{None, refl, sym, ap, ◌∙◌, is_some}
+use Rattle.std.proofs.Common.{None, length, refl, sym, ap, ◌∙◌, is_some}
 use Rattle.std.specs.Prelude.{ℕ}
 use Rattle.std.specs.List.{list_any}
 use Rattle.std.proofs.lemmas.List.Folds.{list_any-append}
@@ -50,3 +50,7 @@ pub no_star : (keys : List Cell) (e : Border) → is_some e.time ≡ true → (c
     list_any (same_cell c) keys ≡ (list_any (same_cell c) keys || is_starred c e)
 no_star keys e some c = sym (ap (λ (b : Bool). list_any (same_cell c) keys || b)
     (timed e.time (same_cell c e.cell) some) ∙ or_none _)
+
+pub none_starred : (keys : List Cell) (c : Cell) → length keys ≡ 0 → false ≡ list_any (same_cell c) keys
+none_starred [] c none = refl
+none_starred (k ∷ keys) c none = absurd cc

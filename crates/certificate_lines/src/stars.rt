@@ -1,5 +1,5 @@
 //! The cells of lines with a `*`.
-ghost use Rattle.std.specs.Prelude.{◌≡◌, ◌<◌, ◌≤◌, ◌||◌, length, OnOk};
+ghost use Rattle.std.specs.Prelude.{◌≡◌, ◌<◌, ◌≤◌, ◌||◌, ◌++◌, ◌∷◌, [], if◌then◌else◌, length, OnOk};
 ghost use Rattle.std.specs.List.{list_any};
 ghost use Rattle.indexmap.specs.IndexSet.{spare};
 ghost use Rattle.certificate_lines.specs.Entries.{edge_in, halo_in};
@@ -11,14 +11,33 @@ use bbm_rule::Cell;
 use indexmap::IndexSet;
 use std::alloc::AllocError;
 
-/// Returns whether a line with a `*` is for the cell.
+/// Returns whether a line with a `*` is for the cell. If no line has one, it hashes nothing.
+#[tactic(auto, using(crate::proofs::StarLemmas::none_starred))]
 pub(crate) fn has_star(stars: &IndexSet<Cell>, cell: Cell) -> bool
     ensures { result ≡ list_any (same_cell cell) stars.now.keys }
 {
+    if stars.is_empty() {
+        return false;
+    }
     stars.contains(&cell)
 }
 
+// Puts a cell behind the others, if it is not among them, where there is room.
+#[inline(never)]
+fn put_cell(stars: &mut IndexSet<Cell>, cell: Cell)
+    requires { 0 < spare stars.old }
+    ensures { stars.new.keys
+        ≡ (if list_any (same_cell cell) stars.old.keys then stars.old.keys
+        else stars.old.keys ++ cell ∷ []) }
+{
+    match stars.insert(cell) {
+        Ok(_) => {}
+        Err(_) => unreachable!(),
+    }
+}
+
 // Notes the cell of a line that has a `*`, where there is room.
+#[inline(always)]
 #[tactic(auto, using(crate::proofs::StarLemmas::star_noted, crate::proofs::StarLemmas::no_star))]
 fn note_star(stars: &mut IndexSet<Cell>, border: &Border)
     requires { 0 < spare stars.old }
@@ -29,10 +48,7 @@ fn note_star(stars: &mut IndexSet<Cell>, border: &Border)
     if border.time.is_some() {
         return;
     }
-    match stars.insert(border.cell) {
-        Ok(_) => {}
-        Err(_) => unreachable!(),
-    }
+    put_cell(stars, border.cell);
 }
 
 /// Makes room for the cell of an edge or halo line.
