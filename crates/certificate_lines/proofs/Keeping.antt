@@ -22,7 +22,7 @@ use Rattle.certificate_lines.specs.Rules.{lacks_port, words_fault, line_fault, i
 use Rattle.certificate_lines.specs.Modules.{IsModule}
 use Rattle.certificate_lines.specs.BuilderView.{AreBuilt, AreWires, IsInner, IsLastModule, IsTracked, IsTrackedWith}
 use Rattle.certificate_lines.specs.BuilderView.{IsWritten}
-use Rattle.certificate_lines.specs.BuilderView.{counted, IsSmall, outs_at, wires_in}
+use Rattle.certificate_lines.specs.BuilderView.{counted, IsSmall, last_inner, outs_at, wires_in}
 use Rattle.certificate_lines.specs.declared.certificate_line.Border.{Border}
 use Rattle.certificate_lines.specs.declared.certificate_line.Counts.{Counts}
 use Rattle.certificate_lines.specs.declared.certificate_line.CertificateLine.{CertificateLine}
@@ -33,6 +33,7 @@ use Rattle.certificate_lines.proofs.BuiltLemmas.{built_none, module_built, line_
 use Rattle.certificate_lines.proofs.Growing.{modules_push, flat_push, flat_same, last_at, last_pushed, last_changed}
 use Rattle.certificate_lines.proofs.Growing.{last_mapped}
 use Rattle.certificate_lines.proofs.Lists.{some_is}
+use Rattle.certificate_lines.proofs.OrderLemmas.{inner_pushed, module_pushed}
 use Rattle.certificate_lines.proofs.KnownLemmas.{none_new}
 use Rattle.certificate_lines.proofs.LackedWires.{wires_begun, wires_more}
 use Rattle.certificate_lines.proofs.ModulePushes.{no_code, both_none, not_false, new_wire, good_use, cuts_cut}
@@ -441,8 +442,9 @@ module _ (g : Setting) (es : List CertificateLine) (covered new_covered : Board)
 -- ---- with the wires of all modules
 
 pub with_none : (g : Setting) (covered : Board) → covered.width ≡ g.size.w → covered.height ≡ g.size.h →
-    ((x y : ℤ) → live covered x y ≡ false) → (e h : List Cell) → IsTrackedWith g [] covered [] None [] [] [] e h
-unfolding modules_of
+    ((x y : ℤ) → live covered x y ≡ false) → (e h : List Cell) →
+    IsTrackedWith g [] covered [] (last_inner []) [] [] [] e h
+unfolding modules_of last_of
 with_none g covered w high dead e h = record { kept = kept_none g covered w high dead [] e h; wires = refl }
 
 module _ (g : Setting) (es : List CertificateLine) (covered : Board) (counts : List Counts)
@@ -453,18 +455,20 @@ module _ (g : Setting) (es : List CertificateLine) (covered : Board) (counts : L
       after ≡ change_last (counted i) counts → (e' h' : List Cell)
       → ((c : Cell) → list_any (same_cell c) e' ≡ (list_any (same_cell c) e || list_any (is_starred c) (edge_in i)))
       → ((c : Cell) → list_any (same_cell c) h' ≡ (list_any (same_cell c) h || list_any (is_starred c) (halo_in i)))
-      → IsTrackedWith g (es ++ i ∷ []) covered after (Some i) names earlier (local ++ wires_in g.circuit i) e' h'
+      → IsTrackedWith g (es ++ i ∷ []) covered after (last_inner (es ++ i ∷ [])) names earlier
+      (local ++ wires_in g.circuit i) e' h'
   with_inner i inner good after now e' h' stars halo_stars =
       let line = does_line g es i inner good
       (last_good g es covered counts last names local e h was.kept good.module_lines good.last) in
-      record {
+      subst (λ l. IsTrackedWith g (es ++ i ∷ []) covered after l names earlier (local ++ wires_in g.circuit i) e' h')
+      (sym (inner_pushed es i inner)) (record {
         kept = kept_inner g es covered counts last names local e h was.kept i inner good after now e' h' stars
             halo_stars;
         wires = subst (λ ms. AreWires g.circuit ms earlier (local ++ wires_in g.circuit i))
             (sym (modules_push es i ∙ line.line))
             (wires_more g.circuit (with_line i) (modules_of es) good.module_lines earlier local
             (wires_in g.circuit i) good.last line.wires was.wires);
-      }
+      })
 
   pub with_module : (new_covered : Board) (new_names : List (List ℕ)) (b : Box2) →
       module_fault g (modules_of es) (last_module es) b ≡ None →
@@ -472,12 +476,15 @@ module _ (g : Setting) (es : List CertificateLine) (covered : Board) (counts : L
       HasSameSize covered new_covered
       → ((f : List ℕ → Bool) → list_any f new_names ≡ list_any (λ p. in_box b p.cell.x p.cell.y && f p.name) g.ports)
       → IsTrackedWith g (es ++ Module b ∷ []) new_covered
-      (counts ++ record { area = b; cuts = 0; gates = 0; edges = 0; halos = 0; stops = 0 } ∷ []) None new_names
-      (earlier ++ local ∷ []) [] [] []
+      (counts ++ record { area = b; cuts = 0; gates = 0; edges = 0; halos = 0; stops = 0 } ∷ [])
+      (last_inner (es ++ Module b ∷ [])) new_names (earlier ++ local ∷ []) [] [] []
   unfolding add_line
-  with_module new_covered new_names b good after size ports = record {
-    kept = kept_module g es covered new_covered counts last names new_names local e h was.kept b good after
-        size ports;
-    wires = subst (λ ms. AreWires g.circuit ms (earlier ++ local ∷ []) []) (sym (modules_push es (Module b)))
-        (wires_begun g.circuit (modules_of es) (record { area = b; lines = [] }) earlier local refl was.wires);
-  }
+  with_module new_covered new_names b good after size ports =
+      subst (λ l. IsTrackedWith g (es ++ Module b ∷ []) new_covered
+      (counts ++ record { area = b; cuts = 0; gates = 0; edges = 0; halos = 0; stops = 0 } ∷ []) l new_names
+      (earlier ++ local ∷ []) [] [] []) (sym (module_pushed es b)) (record {
+        kept = kept_module g es covered new_covered counts last names new_names local e h was.kept b good after
+            size ports;
+        wires = subst (λ ms. AreWires g.circuit ms (earlier ++ local ∷ []) []) (sym (modules_push es (Module b)))
+            (wires_begun g.circuit (modules_of es) (record { area = b; lines = [] }) earlier local refl was.wires);
+      })

@@ -1,5 +1,6 @@
 -- Lines in order: what comes after the last comes after all.
-use Rattle.std.proofs.Common.{◌≡◌, ◌⊎◌, ℕ, Bool, true, false, ◌&&◌, List, [], ◌∷◌, Some, None, Less, Equal, Greater}
+use Rattle.std.proofs.Common.{◌≡◌, ◌⊎◌, ℕ, Bool, true, false, ◌&&◌, List, [], ◌∷◌, ◌++◌, Some, None, Less, Equal}
+use Rattle.std.proofs.Common.{Greater}
 use Rattle.std.proofs.Common.{Ordering, refl, sym, ap, ◌∙◌, inl, inr}
 use Rattle.std.specs.List.{list_all}
 use Rattle.std.specs.Cmp.{IsTotalOrder}
@@ -16,7 +17,10 @@ use Rattle.certificate_lines.specs.Orders.{AreInOrder, rank_of, number_of, cell_
 use Rattle.certificate_lines.specs.Orders.{may_follow}
 use Rattle.certificate_lines.specs.Versions.{line_order}
 use Rattle.certificate_lines.specs.declared.certificate_line.Border.{Border}
+use Rattle.certificate_lines.specs.BuilderView.{IsInner, inner_of, last_inner}
+use Rattle.certificate_lines.proofs.Growing.{last_pushed}
 use Rattle.certificate_lines.proofs.Lists.{or_parts, or_right}
+use Rattle.module_box.specs.declared.boxes.Box2.{Box2}
 use Rattle.certificate_lines.proofs.StarLemmas.{or_none}
 
 line_total : IsTotalOrder line_cmp
@@ -151,3 +155,43 @@ pub follows_none : (lines : List CertificateLine) (i : CertificateLine) → last
 unfolding may_follow
 follows_none [] i none = refl
 follows_none (x ∷ lines) i none = absurd (has_last x lines none)
+
+-- ---- the last line of all
+
+-- a `module` line comes before every other line
+module_first : (b : Box2) (i : CertificateLine) → IsInner i → may_precede (Module b) i ≡ true
+unfolding may_precede line_cmp rank_of number_of cell_of is_cut
+module_first b (Module b') inner = absurd inner
+module_first b (Cut n) inner = refl
+module_first b (Use k) inner = refl
+module_first b (Keep k) inner = refl
+module_first b (Edge e) inner = refl
+module_first b (Halo e) inner = refl
+module_first b (Stop s) inner = refl
+
+pub follows_inner : (lines : List CertificateLine) (l i : CertificateLine) → IsInner i → AreInOrder lines →
+    last_of lines ≡ inner_of (Some l) → may_precede l i ≡ may_follow lines i
+follows_inner lines (Module b) i inner order last = module_first b i inner ∙ follows_none lines i last
+follows_inner lines (Cut n) i inner order last = follows_last lines (Cut n) i order last
+follows_inner lines (Use k) i inner order last = follows_last lines (Use k) i order last
+follows_inner lines (Keep k) i inner order last = follows_last lines (Keep k) i order last
+follows_inner lines (Edge e) i inner order last = follows_last lines (Edge e) i order last
+follows_inner lines (Halo e) i inner order last = follows_last lines (Halo e) i order last
+follows_inner lines (Stop s) i inner order last = follows_last lines (Stop s) i order last
+
+-- the last line after one more line
+pub inner_pushed : (entries : List CertificateLine) (i : CertificateLine) → IsInner i →
+    last_inner (entries ++ i ∷ []) ≡ Some i
+inner_pushed entries i inner = ap inner_of (last_pushed entries i) ∙ inner_is i inner
+  where
+    inner_is : (i : CertificateLine) → IsInner i → inner_of (Some i) ≡ Some i
+    inner_is (Module b) inner = absurd inner
+    inner_is (Cut n) inner = refl
+    inner_is (Use k) inner = refl
+    inner_is (Keep k) inner = refl
+    inner_is (Edge e) inner = refl
+    inner_is (Halo e) inner = refl
+    inner_is (Stop s) inner = refl
+
+pub module_pushed : (entries : List CertificateLine) (b : Box2) → last_inner (entries ++ Module b ∷ []) ≡ None
+module_pushed entries b = ap inner_of (last_pushed entries (Module b))

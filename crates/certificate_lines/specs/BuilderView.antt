@@ -114,9 +114,25 @@ pub record IsTrackedWith (g : Setting) (es : List CertificateLine) (covered : Bo
   pub kept : IsTracked g es covered counts last names local e h
   pub wires : AreWires g.circuit (modules_of es) earlier local
 
+-- the line, if it is no `module` line
+abbrev pub inner_of : Option CertificateLine → Option CertificateLine
+inner_of None = None
+inner_of (Some (Module b)) = None
+inner_of (Some (Cut n)) = Some (Cut n)
+inner_of (Some (Use k)) = Some (Use k)
+inner_of (Some (Keep k)) = Some (Keep k)
+inner_of (Some (Edge e)) = Some (Edge e)
+inner_of (Some (Halo e)) = Some (Halo e)
+inner_of (Some (Stop s)) = Some (Stop s)
+
+-- the last line of the last module, if it has one, by all lines
+abbrev pub last_inner : List CertificateLine → Option CertificateLine
+last_inner entries = inner_of (last_of entries)
+
 -- the fields of every builder: its tables are those of its lines
 abbrev pub IsBuilder : Inside → Type 0
-IsBuilder a = IsTrackedWith a.tables a.entries.items a.covered a.modules.items a.last a.names.items
+IsBuilder a = IsTrackedWith a.tables a.entries.items a.covered a.modules.items (last_inner a.entries.items)
+    a.names.items
     (map (λ s. s.keys) a.earlier.items) a.known.keys a.edges.keys a.halos.keys
 
 -- ---- the counts of a module with one more line

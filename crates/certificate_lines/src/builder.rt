@@ -43,8 +43,7 @@ pub struct Builder<'a> {
     covered: Grid,
     // the wires that are local in each module before the last, behind none
     pub(crate) earlier: Vec<IndexSet<u16>>,
-    // of the last module: its last line, the names of its ports, its local wires, and its cells with a `*`
-    last: Option<CertificateLine>,
+    // of the last module: the names of its ports, its local wires, and its cells with a `*`
     names: Vec<Name>,
     pub(crate) known: IndexSet<u16>,
     edges: IndexSet<Cell>,
@@ -84,7 +83,6 @@ impl<'a> Builder<'a> {
             modules: Vec::new(alloc),
             covered,
             earlier: Vec::new(alloc),
-            last: None,
             names: Vec::new(alloc),
             known: IndexSet::new(alloc),
             edges: IndexSet::new(alloc),
@@ -140,12 +138,13 @@ impl<'a> Builder<'a> {
 
     // The code of a line of a module.
     fn inner_code(&self, entry: &CertificateLine) -> Option<RefusalCode>
+        requires { IsInner entry.now }
         ensures { result ≡ inner_fault self.now.setting (last_module self.now.entries) entry.now }
     {
         let Some(counts) = last_counts(&self.modules) else {
             return Some(RefusalCode::OutOfOrder);
         };
-        if !does_follow(&self.last, entry) {
+        if !does_follow(self.entries.as_slice(), entry) {
             return Some(RefusalCode::OutOfOrder);
         }
         self.words_code(counts, entry)
@@ -174,7 +173,6 @@ impl<'a> Builder<'a> {
         learn_line(&mut self.known, &self.tables, &entry);
         note_stars(&mut self.edges, &mut self.halos, &entry);
         count_in_last(&mut self.modules, &entry);
-        self.last = Some(entry);
         Ok(())
     }
 }
@@ -265,7 +263,6 @@ impl<'a> Builder<'a> {
         };
         let Box2 { x, y, w, h } = area;
         fill_rectangle(&mut self.covered, Rectangle { x, y, w, h });
-        self.last = None;
         self.names = names;
         self.edges.truncate(0);
         self.halos.truncate(0);
@@ -315,7 +312,6 @@ impl<'a> Builder<'a> {
             modules,
             covered: _,
             earlier: _,
-            last: _,
             names: _,
             known: _,
             edges: _,

@@ -4,6 +4,7 @@ ghost use Rattle.std.specs.Ordering.{is_lt};
 ghost use Rattle.certificate_lines.specs.Entries.{last_of};
 ghost use Rattle.certificate_lines.specs.Orders.{AreInOrder, rank_of, time_rank, number_of, cell_of, line_cmp, is_cut, may_precede, may_follow};
 ghost use Rattle.certificate_lines.specs.Versions.{line_order};
+ghost use Rattle.certificate_lines.specs.BuilderView.{IsInner, last_inner};
 ghost use Rattle.certificate_lines.specs.declared.certificate_line.CertificateLine.{CertificateLine};
 
 use crate::certificate_line::{Border, CertificateLine};
@@ -124,12 +125,16 @@ fn does_precede(first: &CertificateLine, second: &CertificateLine) -> bool
     }
 }
 
-/// Returns whether a line may follow the lines of a module, of which this is the last.
-pub(crate) fn does_follow(last: &Option<CertificateLine>, entry: &CertificateLine) -> bool
-    ensures { (lines : List CertificateLine) → AreInOrder lines → last_of lines ≡ last.now →
+/// Returns whether a line of a module may follow the lines of the last module of a certificate.
+///
+/// A `module` line comes before all lines of its module.
+pub(crate) fn does_follow(entries: &[CertificateLine], entry: &CertificateLine) -> bool
+    requires { IsInner entry.now }
+    ensures { (lines : List CertificateLine) → AreInOrder lines →
+        last_of lines ≡ last_inner entries.now →
         result ≡ may_follow lines entry.now }
 {
-    match last {
+    match entries.last() {
         None => true,
         Some(last) => does_precede(last, entry),
     }

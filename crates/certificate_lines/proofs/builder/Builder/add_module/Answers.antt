@@ -3,7 +3,7 @@ use Rattle.std.specs.List.{list_any}
 use Rattle.module_box.specs.Boxes.{in_box}
 use Rattle.certificate_lines.specs.Entries.{modules_of, last_module}
 use Rattle.certificate_lines.specs.Rules.{module_fault}
-use Rattle.certificate_lines.specs.BuilderView.{BuilderView}
+use Rattle.certificate_lines.specs.BuilderView.{BuilderView, last_inner}
 use Rattle.certificate_lines.proofs.Keeping.{with_module}
 use Rattle.certificate_lines.proofs.builder.Builder.add_module.Goals as goal
 
@@ -24,7 +24,7 @@ invariant_of-self-2 c =
       c.truncate-2.ensures.keys,
     )
     (with_module c.self.inside.tables c.self.inside.entries.items c.self.inside.covered c.self.inside.modules.items
-    c.self.inside.last c.self.inside.names.items
+    (last_inner c.self.inside.entries.items) c.self.inside.names.items
     (map (λ s. s.keys) c.self.inside.earlier.items) c.self.inside.known.keys c.self.inside.edges.keys
     c.self.inside.halos.keys c.self.invariant
     c.fill_rectangle.new.grid c.in-Ok.names.items c.args.area good c.fill_rectangle.ensures.filled
