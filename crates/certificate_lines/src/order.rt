@@ -103,10 +103,12 @@ fn does_any_precede(first: &CertificateLine, second: &CertificateLine) -> bool
 fn does_border_precede(first: &Border, second: &Border) -> bool
     ensures { result ≡ is_lt (line_order first.now second.now) }
 {
-    match rank_of_time(first.time).cmp(&rank_of_time(second.time)) {
-        Ordering::Less => true,
-        Ordering::Equal => compare_cells(first.cell, second.cell).is_lt(),
-        Ordering::Greater => false,
+    let first_time = rank_of_time(first.time);
+    let second_time = rank_of_time(second.time);
+    if first_time == second_time {
+        compare_cells(first.cell, second.cell).is_lt()
+    } else {
+        first_time < second_time
     }
 }
 
