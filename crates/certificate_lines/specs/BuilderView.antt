@@ -12,7 +12,7 @@ use Rattle.module_box.specs.Tiling.{AreOwners, Owning}
 use Rattle.module_box.specs.declared.boxes.Box2.{Box2}
 use Rattle.certificate_lines.specs.Entries.{Setting, ModuleLines, modules_of, last_of, areas, counts_of, known, edges}
 use Rattle.certificate_lines.specs.Entries.{halos}
-use Rattle.certificate_lines.specs.Rules.{in_boxes, is_local_wire, is_starred, same_cell, lacks_port}
+use Rattle.certificate_lines.specs.Rules.{in_boxes, is_local_wire, is_star, is_starred, same_cell, lacks_port}
 use Rattle.certificate_lines.specs.Modules.{HasFewLines, IsModule}
 use Rattle.certificate_lines.specs.Versions.{is_strange}
 use Rattle.certificate_lines.specs.declared.certificate_line.Border.{Border}
@@ -152,6 +152,10 @@ pub record IsSmall (k : Counts) : Type 0 where
   pub few_cuts : k.cuts ≤ 12
   pub few_gates : k.gates ≤ 64
   pub few_borders : k.edges + k.halos + k.stops ≤ 65536
+
+-- those of the edge or halo lines that have a `*`
+abbrev pub starred : List Border → List Border
+starred lines = filter (λ e. is_star e.time) lines
 
 -- the line is no `module` line
 abbrev pub IsInner : CertificateLine → Type 0

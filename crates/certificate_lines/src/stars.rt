@@ -2,6 +2,7 @@
 ghost use Rattle.std.specs.Prelude.{◌≡◌, ◌<◌, ◌≤◌, ◌||◌, ◌++◌, ◌∷◌, [], if◌then◌else◌, length, OnOk};
 ghost use Rattle.std.specs.List.{list_any};
 ghost use Rattle.indexmap.specs.IndexSet.{spare};
+ghost use Rattle.certificate_lines.specs.BuilderView.{starred};
 ghost use Rattle.certificate_lines.specs.Entries.{edge_in, halo_in};
 ghost use Rattle.certificate_lines.specs.Rules.{same_cell, is_starred};
 ghost use Rattle.bbm_rule.specs.declared.block.Cell.{Cell};
@@ -40,7 +41,7 @@ fn put_cell(stars: &mut IndexSet<Cell>, cell: Cell)
 #[inline(always)]
 #[tactic(auto, using(crate::proofs::StarLemmas::star_noted, crate::proofs::StarLemmas::no_star))]
 fn note_star(stars: &mut IndexSet<Cell>, border: &Border)
-    requires { 0 < spare stars.old }
+    requires { length (starred (border.now ∷ [])) ≤ spare stars.old }
     ensures { (c : Cell) →
         list_any (same_cell c) stars.new.keys
         ≡ (list_any (same_cell c) stars.old.keys || is_starred c border.now) }
@@ -51,7 +52,19 @@ fn note_star(stars: &mut IndexSet<Cell>, border: &Border)
     put_cell(stars, border.cell);
 }
 
-/// Makes room for the cell of an edge or halo line.
+// Makes room for the cell of a line that has a `*`.
+#[inline(always)]
+fn make_room_for_star(stars: &mut IndexSet<Cell>, border: &Border) -> Result<(), AllocError>
+    ensures keys { stars.new.keys ≡ stars.old.keys }
+    ensures room { OnOk result (length (starred (border.now ∷ [])) ≤ spare stars.new) }
+{
+    if border.time.is_some() {
+        return Ok(());
+    }
+    stars.reserve(1)
+}
+
+/// Makes room for the cell of an edge or halo line that has a `*`.
 pub(crate) fn make_room_for_stars(
     edges: &mut IndexSet<Cell>,
     halos: &mut IndexSet<Cell>,
@@ -59,12 +72,12 @@ pub(crate) fn make_room_for_stars(
 ) -> Result<(), AllocError>
     ensures edges { edges.new.keys ≡ edges.old.keys }
     ensures halos { halos.new.keys ≡ halos.old.keys }
-    ensures edge_room { OnOk result (length (edge_in entry.now) ≤ spare edges.new) }
-    ensures halo_room { OnOk result (length (halo_in entry.now) ≤ spare halos.new) }
+    ensures edge_room { OnOk result (length (starred (edge_in entry.now)) ≤ spare edges.new) }
+    ensures halo_room { OnOk result (length (starred (halo_in entry.now)) ≤ spare halos.new) }
 {
     match entry {
-        CertificateLine::Edge(_) => edges.reserve(1),
-        CertificateLine::Halo(_) => halos.reserve(1),
+        CertificateLine::Edge(border) => make_room_for_star(edges, border),
+        CertificateLine::Halo(border) => make_room_for_star(halos, border),
         _ => Ok(()),
     }
 }
@@ -75,8 +88,8 @@ pub(crate) fn note_stars(
     halos: &mut IndexSet<Cell>,
     entry: &CertificateLine,
 )
-    requires edges { length (edge_in entry.now) ≤ spare edges.old }
-    requires halos { length (halo_in entry.now) ≤ spare halos.old }
+    requires edges { length (starred (edge_in entry.now)) ≤ spare edges.old }
+    requires halos { length (starred (halo_in entry.now)) ≤ spare halos.old }
     ensures edges { (c : Cell) →
         list_any (same_cell c) edges.new.keys
         ≡ (list_any (same_cell c) edges.old.keys || list_any (is_starred c) (edge_in entry.now)) }
