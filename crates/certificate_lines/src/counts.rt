@@ -10,13 +10,12 @@ use crate::certificate_line::{Border, CertificateLine, Counts, StopLine};
 use module_box::Box2;
 use section_text::{LineFault, Name};
 
-// One more line of a module.
+// Counts one more line of a module.
 #[tactic(auto, unfolding(crate::specs::BuilderView::counted))]
-fn count_line(counts: Counts, entry: &CertificateLine) -> Counts
-    requires { IsSmall counts }
-    ensures { result ≡ counted entry.now counts }
+fn count_line(counts: &mut Counts, entry: &CertificateLine)
+    requires { IsSmall counts.old }
+    ensures { counts.new ≡ counted entry.now counts.old }
 {
-    let mut counts = counts;
     match entry {
         CertificateLine::Module(_) => {}
         CertificateLine::Cut(_) => counts.cuts += 1,
@@ -26,7 +25,6 @@ fn count_line(counts: Counts, entry: &CertificateLine) -> Counts
         CertificateLine::Halo(_) => counts.halos += 1,
         CertificateLine::Stop(_) => counts.stops += 1,
     }
-    counts
 }
 
 /// Returns the counts of the last module.
@@ -45,7 +43,7 @@ pub(crate) fn count_in_last(modules: &mut Vec<Counts>, entry: &CertificateLine)
         return;
     }
     let at = modules.len() - 1;
-    modules[at] = count_line(modules[at], entry);
+    count_line(&mut modules[at], entry);
 }
 
 // These three name the types inside an entry, which the borrow checker wants to see where an entry is moved.

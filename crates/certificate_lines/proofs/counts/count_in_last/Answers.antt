@@ -12,12 +12,12 @@ pub count_line-requires : goal.count_line-requires
 count_line-requires c =
     let some : 0 < length c.args.modules.now.items = grind arith in
     let at : c.len-at.result - 1 ≡ length c.args.modules.now.items - 1 = grind arith in
-    c.requires c.index.result.now
-    (last_is_at c.args.modules.now.items (c.len-at.result - 1) c.index.result.now at some c.index.ensures)
+    c.requires c.index_mut.result.now
+    (last_is_at c.args.modules.now.items (c.len-at.result - 1) c.index_mut.result.now at some c.index_mut.ensures.value)
 
 pub returns : goal.returns
 returns c =
     let some : 0 < length c.args.modules.now.items = grind arith in
     let at : c.len-at.result - 1 ≡ length c.args.modules.now.items - 1 = grind arith in
     set_at (counted c.args.entry.now) c.args.modules.now.items
-    (c.len-at.result - 1) c.index.result.now c.count_line.result at some c.index.ensures c.count_line.ensures
+    (c.len-at.result - 1) c.index_mut.result.now c.count_line.new.counts at some c.index_mut.ensures.value c.count_line.ensures
