@@ -131,6 +131,7 @@ pub(crate) fn keep_code(
 }
 
 // The code of a wire's name: it must be that of a local wire.
+#[inline(never)]
 fn name_code(tables: &LineTables, known: &IndexSet<u16>, name: &Name) -> Option<RefusalCode>
     ensures { result ≡ wire_fault known.now.keys (wire_of tables.now.circuit name.now) }
 {
@@ -141,6 +142,7 @@ fn name_code(tables: &LineTables, known: &IndexSet<u16>, name: &Name) -> Option<
     }
 }
 
+#[inline(always)]
 #[tactic(auto, unfolding(crate::specs::Rules::signal_fault))]
 fn signal_code(
     tables: &LineTables,
@@ -159,6 +161,7 @@ fn signal_code(
 ///
 /// `placed` says whether the line may have its cell and time. The signal is passed by reference, since a copy of its 34
 /// bytes costs more than the tests.
+#[inline(always)]
 #[tactic(auto, unfolding(crate::specs::Rules::border_fault))]
 pub(crate) fn border_code(
     tables: &LineTables,
