@@ -23,9 +23,9 @@ pub(crate) fn has_star(stars: &IndexSet<Cell>, cell: Cell) -> bool
     stars.contains(&cell)
 }
 
-// Puts a cell behind the others, if it is not among them, where there is room.
+// Puts the cell of a line with a `*` behind the others, if it is not among them, where there is room.
 #[inline(never)]
-fn put_cell(stars: &mut IndexSet<Cell>, cell: Cell)
+fn insert_star(stars: &mut IndexSet<Cell>, cell: Cell)
     requires { 0 < spare stars.old }
     ensures { stars.new.keys
         ≡ (if list_any (same_cell cell) stars.old.keys then stars.old.keys
@@ -49,7 +49,7 @@ fn note_star(stars: &mut IndexSet<Cell>, border: &Border)
     if border.time.is_some() {
         return;
     }
-    put_cell(stars, border.cell);
+    insert_star(stars, border.cell);
 }
 
 // Makes room for the cell of a line that has a `*`.
