@@ -1,25 +1,25 @@
 -- Cells of a halo, and the modules that have them
-use Rattle.std.proofs.Common.{◌≡◌, ℕ, ◌+◌, ◌-◌, ◌<◌, ◌≤◌, ◌%◌, List, map, length, Bool, true, false, ◌||◌, ◌&&◌, Some}
+use Rattle.std.proofs.Common.{◌≡◌, ℕ, ◌+◌, ◌-◌, ◌*◌, ◌/◌, ◌<◌, ◌≤◌, ◌%◌, List, map, length, Bool, true, false, ◌||◌, ◌&&◌, Some}
 use Rattle.std.proofs.Common.{sym}
 use Rattle.std.proofs.Common.{ap, ap₂, subst, ◌∙◌, inl, inr, ◌⊎◌, arith, get_or}
 use Rattle.std.specs.Prelude.{ℤ, pos, ◌+ℤ◌, ◌-ℤ◌, ◌≢◌, ◌↔◌, IsTrue, slice_get, option_map}
 use Rattle.std.specs.Arc.{arc_value}
 use Rattle.std.proofs.lemmas.List.{length-map}
 use Rattle.std.proofs.lemmas.Option.{slice_get-map, slice_get-get_or, slice_get_within}
-use Rattle.std.proofs.lemmas.Bool.{and_parts, and_from}
+use Rattle.std.proofs.lemmas.Bool.{and_parts, and_from, cases_Bool, false≢true}
 use Rattle.std.proofs.lemmas.Int.{ints}
 use Rattle.bbm_rule.specs.Spans.{in_span}
 use Rattle.bbm_rule.proofs.Spans.{span_from, span_parts}
-use Rattle.module_box.specs.Boxes.{in_box, in_halo}
+use Rattle.module_box.specs.Boxes.{IsEven, in_box, in_halo}
 use Rattle.bbm_rule.specs.declared.block.Cell.{Cell}
 use Rattle.module_box.specs.Moves.{IsNear, IsSmall}
-use Rattle.module_box.specs.Tiling.{owner_of}
+use Rattle.module_box.specs.Tiling.{Owning, owner_of, rectangle_of}
 use Rattle.module_box.specs.declared.boxes.Box2.{Box2}
 use Rattle.module_box.specs.declared.schedules.Signal.{Signal}
 use Rattle.module_box.proofs.BoxCells.{in_span_nat, in_box_nats, same_some}
 use Rattle.module_box.proofs.NearBoxes.{near_one, near_parts}
 use Rattle.module_job.specs.Jobs.{JobView, IsJob}
-use Rattle.border_match.specs.Boards.{job_halo, job_edge, jobs_of, HasNoHaloBetween, IsAround, IsReady, Faults}
+use Rattle.border_match.specs.Boards.{job_halo, job_edge, jobs_of, IsBoxBetween, IsAround, IsReady, Faults}
 use Rattle.border_match.specs.Boards.{Differ}
 use Rattle.border_match.specs.declared.borders.Borders.{Borders}
 use Rattle.border_match.specs.declared.fault.BorderFault.{BorderFault}
@@ -123,6 +123,13 @@ pub box_no_halo : (a : Box2) (x y : ℤ) → in_box a x y ≡ true → in_halo a
 unfolding in_halo
 box_no_halo a x y h = rw h
 
+-- a cell of the halo is not in the box
+pub halo_out : (a : Box2) (x y : ℤ) → in_halo a x y ≡ true → in_box a x y ≡ false
+halo_out a x y halo = elim (cases_Bool (in_box a x y)) [
+  | inr e ↦ e
+  | inl inside ↦ absurd (false≢true (sym (box_no_halo a x y inside) ∙ halo))
+]
+
 -- the cells of a row from one in the box up to the box's last are in it
 row_inside : (a : Box2) (x c : ℕ) (y : ℤ) → in_box a (pos x) y ≡ true → x ≤ c → c < a.x + a.w →
     in_box a (pos c) y ≡ true
@@ -132,22 +139,58 @@ row_inside a x c y h le lt =
     let from = span_parts a.x a.w x both.0 in
     and_from _ _ (span_from a.x a.w c (omega (arith, from.0)) lt) both.1
 
-box_ends_after : (a : Box2) (x : ℕ) (y : ℤ) → in_box a (pos (x + 1)) y ≡ true → x < a.x + a.w
+box_ends_after : (a : Box2) (x : ℕ) (y : ℤ) → in_box a (pos (x + 2)) y ≡ true → x < a.x + a.w
 unfolding in_box
 box_ends_after a x y h =
-    let both = and_parts (in_span a.x a.w (pos (x + 1))) (in_span a.y a.h y) h in
-    let at = span_parts a.x a.w (x + 1) both.0 in
+    let both = and_parts (in_span a.x a.w (pos (x + 2))) (in_span a.y a.h y) h in
+    let at = span_parts a.x a.w (x + 2) both.0 in
     omega (arith, at.1)
 
--- after a column whose next cell is in the box, the cells up to the end of the box's row are in it
-pub box_skipped : (b : Borders) (a : Box2) (x y : ℕ) (cx cy : ℤ) (r : Bool) → a ≡ b.job.now.area → cx ≡ pos (x + 1) →
-    cy ≡ pos y → r ≡ in_box a cx cy → r ≡ true → (x < a.x + a.w) × HasNoHaloBetween b y x (a.x + a.w)
-box_skipped b a x y cx cy r same ex ey is holds =
-    let inside : in_box a (pos (x + 1)) (pos y) ≡ true = sym (ap₂ (in_box a) ex ey) ∙ sym is ∙ holds in (
+-- after an even column whose next even one has a cell in the box, the cells up to the end of the box's row are in it
+pub box_skipped : (b : Borders) (a : Box2) (x y : ℕ) (cx cy : ℤ) (r : Bool) → a ≡ b.job.now.area → cx ≡ pos (x + 2) →
+    cy ≡ pos y → r ≡ in_box a cx cy → r ≡ true → x % 2 ≡ 0 → (x < a.x + a.w) × IsBoxBetween b y x (a.x + a.w)
+box_skipped b a x y cx cy r same ex ey is holds even =
+    let inside : in_box a (pos (x + 2)) (pos y) ≡ true = sym (ap₂ (in_box a) ex ey) ∙ sym is ∙ holds in (
       box_ends_after a x (pos y) inside,
-      λ c after before. ap (λ (z : Box2). in_halo z (pos c) (pos y)) (sym same)
-          ∙ box_no_halo a (pos c) (pos y) (row_inside a (x + 1) c (pos y) inside (omega arith) before),
+      λ c after before corner. ap (λ (z : Box2). in_box z (pos c) (pos y)) (sym same)
+          ∙ row_inside a (x + 2) c (pos y) inside (omega (arith, after, corner, even)) before,
     )
+
+-- a cell is in an even box if the corner of its block is
+pub corner_out : (a : Box2) (x y : ℕ) → IsEven a → in_box a (pos x) (pos y) ≡ false →
+    in_box a (pos (2 * (x / 2))) (pos (2 * (y / 2))) ≡ false
+unfolding in_box
+corner_out a x y even out = elim (cases_Bool (in_box a (pos (2 * (x / 2))) (pos (2 * (y / 2))))) [
+  | inr e ↦ e
+  | inl inside ↦
+      let both = and_parts (in_span a.x a.w (pos (2 * (x / 2)))) (in_span a.y a.h (pos (2 * (y / 2)))) inside in
+      let px = span_parts a.x a.w (2 * (x / 2)) both.0 in
+      let py = span_parts a.y a.h (2 * (y / 2)) both.1 in
+      let ex = even.x in let ew = even.w in let ey = even.y in let eh = even.h in
+      absurd (false≢true (sym out ∙ and_from _ _
+      (span_from a.x a.w x (omega (arith, px.0)) (omega (arith, px.1, ex, ew)))
+      (span_from a.y a.h y (omega (arith, py.0)) (omega (arith, py.1, ey, eh)))))
+]
+
+-- the corner of a cell's block is in a rectangle at (0, 0) that has the cell
+pub corner_in : (w h x y : ℕ) → in_box (rectangle_of w h) (pos x) (pos y) ≡ true →
+    in_box (rectangle_of w h) (pos (2 * (x / 2))) (pos (2 * (y / 2))) ≡ true
+unfolding in_box
+corner_in w h x y inside =
+    let both = and_parts (in_span 0 w (pos x)) (in_span 0 h (pos y)) inside in
+    let px = span_parts 0 w x both.0 in
+    let py = span_parts 0 h y both.1 in
+    and_from _ _ (span_from 0 w (2 * (x / 2)) (omega arith) (omega (arith, px.1)))
+    (span_from 0 h (2 * (y / 2)) (omega arith) (omega (arith, py.1)))
+
+-- and has the same owner
+pub corner_owner : (o : Owning) (x y : ℕ) →
+    owner_of o (pos (2 * (x / 2))) (pos (2 * (y / 2))) ≡ owner_of o (pos x) (pos y)
+unfolding owner_of
+corner_owner o x y =
+    let ex : 2 * (x / 2) / 2 ≡ x / 2 = omega arith in
+    let ey : 2 * (y / 2) / 2 ≡ y / 2 = omega arith in
+    ap₂ (λ r k. get_or o.numbers (r * (o.width / 2) + k) 0) ey ex
 
 -- where a fault is
 pub placed : (b : Borders) (f : BorderFault) → Faults b f → IsPlaced b f.cell.x f.cell.y

@@ -1,15 +1,17 @@
 -- The numbers of the modules that have cells of a module's halo, noted one by one.
-use Rattle.std.proofs.Common.{◌≡◌, ℕ, ◌+◌, ◌-◌, ◌<◌, ◌≤◌, List, [], ◌∷◌, ◌++◌, Bool, true, false, ◌||◌}
-use Rattle.std.proofs.Common.{refl, sym, subst, ◌∙◌, inl, inr, ◌⊎◌, arith}
+use Rattle.std.proofs.Common.{◌≡◌, ℕ, ◌+◌, ◌-◌, ◌*◌, ◌/◌, ◌%◌, ◌<◌, ◌≤◌, List, [], ◌∷◌, ◌++◌, Bool, true, false, ◌||◌}
+use Rattle.std.proofs.Common.{refl, sym, ap, ap₂, subst, ◌∙◌, inl, inr, ◌⊎◌, arith}
 use Rattle.std.specs.Prelude.{ℤ, pos, ◌==◌}
 use Rattle.std.proofs.lemmas.Bool.{and_parts, false≢true}
 use Rattle.std.proofs.lemmas.Bool.Decides.{nat_tests}
 use Rattle.std.proofs.lemmas.List.Folds.{list_any-append}
-use Rattle.module_box.specs.Boxes.{in_box, in_halo}
+use Rattle.module_box.specs.Boxes.{IsEven, in_box, in_halo}
+use Rattle.module_box.specs.Tiling.{owner_of, rectangle_of}
+use Rattle.module_box.specs.declared.boxes.Box2.{Box2}
 use Rattle.module_box.specs.Locals.{is_among}
-use Rattle.border_match.proofs.Cells.{cell_placed}
-use Rattle.border_match.specs.Boards.{AreOwnersNoted, AreRowsNotedAbove, IsNoted, IsRowNoted, IsRowNotedBefore}
-use Rattle.border_match.specs.Boards.{HasNoHaloBetween, KeepsNumbers}
+use Rattle.border_match.proofs.Cells.{cell_placed, corner_in, corner_out, corner_owner, halo_out}
+use Rattle.border_match.specs.Boards.{AreOwnersNoted, AreRowsNotedAbove, IsOwnerNoted, IsRowNoted, IsRowNotedBefore}
+use Rattle.border_match.specs.Boards.{IsBoxBetween, IsReady, KeepsNumbers}
 use Rattle.border_match.specs.declared.borders.Borders.{Borders}
 
 -- ---- one number more
@@ -48,9 +50,9 @@ last_among ks k = list_any-append (is_it k) ks (k ∷ [])
 
 -- ---- columns of a row, and rows
 
-pub noted_still : (b : Borders) (old new : List ℕ) (x y : ℤ) → KeepsNumbers old new → IsNoted b old x y →
-    IsNoted b new x y
-noted_still b old new x y keeps noted there = keeps _ (noted there)
+pub noted_still : (b : Borders) (old new : List ℕ) (x y : ℤ) → KeepsNumbers old new → IsOwnerNoted b old x y →
+    IsOwnerNoted b new x y
+noted_still b old new x y keeps noted inside out = keeps _ (noted inside out)
 
 pub lower_or_same : (i m : ℕ) → i < m + 1 → (i < m) ⊎ (i ≡ m)
 lower_or_same i m h = grind arith
@@ -58,59 +60,56 @@ lower_or_same i m h = grind arith
 before_at_after : (i m : ℕ) → (i < m) ⊎ ((i ≡ m) ⊎ (m < i))
 before_at_after i m = grind arith
 
-pub no_column : (b : Borders) (ks : List ℕ) (y x : ℕ) → x ≡ b.job.now.area.x - 1 → IsRowNotedBefore b ks y x
-no_column b ks y x from c lt there =
-    let both = and_parts (in_box b.whole (pos c) (pos y)) (in_halo b.job.now.area (pos c) (pos y)) there in
-    let p = cell_placed b (pos c) (pos y) both.0 both.1 in
-    let same = pos_same c p.column p.x in
-    let left = p.left in
-    absurd (omega (arith, left, lt, same, from))
-  where
-    pos_same : (i k : ℕ) → pos i ≡ pos k → i ≡ k
-    pos_same i k e = cc
+pub no_column : (b : Borders) (ks : List ℕ) (y x : ℕ) → x ≡ b.job.now.area.x - 2 → IsRowNotedBefore b ks y x
+no_column b ks y x from c lt even around = absurd (omega (arith, lt, around, from))
 
 pub column_more : (b : Borders) (old new : List ℕ) (y x z : ℕ) (cx cy : ℤ) → cx ≡ pos x → cy ≡ pos y →
-    HasNoHaloBetween b y x z → IsRowNotedBefore b old y x → KeepsNumbers old new → IsNoted b new cx cy →
+    IsBoxBetween b y x z → IsRowNotedBefore b old y x → KeepsNumbers old new → IsOwnerNoted b new cx cy →
     IsRowNotedBefore b new y z
-column_more b old new y x z cx cy ex ey none before keeps here c lt = elim (before_at_after c x) [
-  | inl l ↦ noted_still b old new (pos c) (pos y) keeps (before c l)
+column_more b old new y x z cx cy ex ey box before keeps here c lt even around = elim (before_at_after c x) [
+  | inl l ↦ noted_still b old new (pos c) (pos y) keeps (before c l even around)
   | inr from ↦ elim from [
-    | inl same ↦ subst (λ (n : ℕ). IsNoted b new (pos n) (pos y)) (sym same)
-        (subst (λ (z : ℤ). IsNoted b new (pos x) z) ey (subst (λ (z : ℤ). IsNoted b new z cy) ex here))
-    | inr gt ↦ λ there. absurd (false≢true (sym (none c gt lt) ∙ (and_parts _ _ there).1))
+    | inl same ↦ subst (λ (n : ℕ). IsOwnerNoted b new (pos n) (pos y)) (sym same)
+        (subst (λ (z : ℤ). IsOwnerNoted b new (pos x) z) ey (subst (λ (z : ℤ). IsOwnerNoted b new z cy) ex here))
+    | inr gt ↦ λ inside out. absurd (false≢true (sym out ∙ box c gt lt even))
   ]
 ]
 
 pub all_columns : (b : Borders) (ks : List ℕ) (y x : ℕ) → b.job.now.area.x + b.job.now.area.w + 1 ≤ x →
     IsRowNotedBefore b ks y x → IsRowNoted b ks y
-all_columns b ks y x end before z there =
-    let both = and_parts (in_box b.whole z (pos y)) (in_halo b.job.now.area z (pos y)) there in
-    let p = cell_placed b z (pos y) both.0 both.1 in
-    let right = p.right in
-    subst (λ (w : ℤ). IsNoted b ks w (pos y)) (sym p.x) (before p.column (omega (arith, right, end))) there
+all_columns b ks y x end before c lt even around = before c (omega (arith, lt, end)) even around
 
-pub no_row : (b : Borders) (ks : List ℕ) (y : ℕ) → y ≡ b.job.now.area.y - 1 → AreRowsNotedAbove b ks y
-no_row b ks y from r lt x there =
-    let both = and_parts (in_box b.whole x (pos r)) (in_halo b.job.now.area x (pos r)) there in
-    let p = cell_placed b x (pos r) both.0 both.1 in
-    let same = pos_same r p.row p.y in
-    let top = p.top in
-    absurd (omega (arith, top, lt, same, from))
-  where
-    pos_same : (i k : ℕ) → pos i ≡ pos k → i ≡ k
-    pos_same i k e = cc
+pub no_row : (b : Borders) (ks : List ℕ) (y : ℕ) → y ≡ b.job.now.area.y - 2 → AreRowsNotedAbove b ks y
+no_row b ks y from r lt even around = absurd (omega (arith, lt, around, from))
 
-pub row_more : (b : Borders) (old new : List ℕ) (y : ℕ) → AreRowsNotedAbove b old y → KeepsNumbers old new →
-    IsRowNoted b new y → AreRowsNotedAbove b new (y + 1)
-row_more b old new y above keeps here r lt = elim (lower_or_same r y lt) [
-  | inl l ↦ λ x. noted_still b old new x (pos r) keeps (above r l x)
-  | inr same ↦ subst (IsRowNoted b new) (sym same) here
+pub row_more : (b : Borders) (old new : List ℕ) (y : ℕ) → y % 2 ≡ 0 → AreRowsNotedAbove b old y →
+    KeepsNumbers old new → IsRowNoted b new y → AreRowsNotedAbove b new (y + 2)
+row_more b old new y corner above keeps here r lt even around = elim (before_at_after r y) [
+  | inl l ↦ λ c lc ec ac. noted_still b old new (pos c) (pos r) keeps (above r l even around c lc ec ac)
+  | inr from ↦ elim from [
+    | inl same ↦ subst (IsRowNoted b new) (sym same) here
+    | inr gt ↦ absurd (omega (arith, gt, lt, even, corner))
+  ]
 ]
 
-pub all_rows : (b : Borders) (ks : List ℕ) (y : ℕ) → b.job.now.area.y + b.job.now.area.h + 1 ≤ y →
-    AreRowsNotedAbove b ks y → AreOwnersNoted b ks
-all_rows b ks y end above x z there =
-    let both = and_parts (in_box b.whole x z) (in_halo b.job.now.area x z) there in
+-- a cell of the halo has the owner of the corner of its block
+pub all_rows : (b : Borders) (ks : List ℕ) (y : ℕ) → IsReady b → IsEven b.job.now.area →
+    b.job.now.area.y + b.job.now.area.h + 1 ≤ y → AreRowsNotedAbove b ks y → AreOwnersNoted b ks
+all_rows b ks y ready even end above x z there =
+    let area = b.job.now.area in
+    let o = b.owners.now in
+    let both = and_parts (in_box b.whole x z) (in_halo area x z) there in
     let p = cell_placed b x z both.0 both.1 in
-    let bottom = p.bottom in
-    subst (λ (w : ℤ). IsNoted b ks x w) (sym p.y) (above p.row (omega (arith, bottom, end)) x) there
+    let left = p.left in let right = p.right in let top = p.top in let bottom = p.bottom in
+    let inside : in_box (rectangle_of o.width o.height) (pos p.column) (pos p.row) ≡ true =
+    sym (ap₂ (in_box (rectangle_of o.width o.height)) p.x p.y)
+    ∙ ap (λ (w : Box2). in_box w x z) (sym ready.0.same) ∙ both.0 in
+    let out : in_box area (pos p.column) (pos p.row) ≡ false =
+    sym (ap₂ (in_box area) p.x p.y) ∙ halo_out area x z both.1 in
+    let noted = above (2 * (p.row / 2)) (omega (arith, bottom, end)) (omega arith) (omega (arith, top))
+    (2 * (p.column / 2)) (omega (arith, right)) (omega arith) (omega (arith, left))
+    (ap (λ (w : Box2). in_box w (pos (2 * (p.column / 2))) (pos (2 * (p.row / 2)))) ready.0.same
+    ∙ corner_in o.width o.height p.column p.row inside)
+    (corner_out area p.column p.row even out) in
+    subst (λ (n : ℕ). is_among ks n ≡ true)
+    (corner_owner o p.column p.row ∙ sym (ap₂ (owner_of o) p.x p.y)) noted

@@ -1,6 +1,6 @@
 -- Border faults by the jobs of the modules, and the parts of a search for them
 use Rattle.std.specs.Prelude.{◌≡◌, ◌≢◌, ℕ, ℤ, pos, ◌+◌, ◌+ℤ◌, ◌≤ℤ◌, ◌<◌, ◌%◌, ◌&&◌, true, false, List, [], length, map}
-use Rattle.std.specs.Prelude.{Bool, ◌⊎◌, Some, None, slice_get, IsTrue}
+use Rattle.std.specs.Prelude.{Bool, ◌≤◌, ◌⊎◌, Some, None, slice_get, IsTrue}
 use Rattle.std.specs.List.{All}
 use Rattle.std.specs.Arc.{arc_value}
 use Rattle.bbm_rule.specs.declared.block.Cell.{Cell}
@@ -79,9 +79,9 @@ pub record MayBeFault (b : Borders) (f : BorderFault) : Type 0 where
 abbrev pub Differ : Borders → ℕ → ℤ → ℤ → Type 0
 Differ b t x y = AreDifferent b.owners.now (jobs_of b) b.job.now t x y
 
--- no cell of row y between the columns x and z is in the module's halo
-abbrev pub HasNoHaloBetween : Borders → ℕ → ℕ → ℕ → Type 0
-HasNoHaloBetween b y x z = (c : ℕ) → x < c → c < z → in_halo b.job.now.area (pos c) (pos y) ≡ false
+-- the cells of row y in the even columns between the columns x and z are in the module's box
+abbrev pub IsBoxBetween : Borders → ℕ → ℕ → ℕ → Type 0
+IsBoxBetween b y x z = (c : ℕ) → x < c → c < z → c % 2 ≡ 0 → in_box b.job.now.area (pos c) (pos y) ≡ true
 
 -- the cell (x, y) is in the columns and rows of the box or next to them, as the cells of its halo are
 pub record IsAround (a : Box2) (x y : ℤ) : Type 0 where
@@ -216,14 +216,21 @@ IsNoted b ks x y = (in_box b.whole x y && in_halo b.job.now.area x y) ≡ true �
 abbrev pub AreOwnersNoted : Borders → List ℕ → Type 0
 AreOwnersNoted b ks = (x y : ℤ) → IsNoted b ks x y
 
--- the same of the cells of row y
-abbrev pub IsRowNoted : Borders → List ℕ → ℕ → Type 0
-IsRowNoted b ks y = (x : ℤ) → IsNoted b ks x (pos y)
+-- If the cell (x, y) is in the rectangle and not in the box, the number of the module that has it is one of these. A
+-- block of two by two cells whose corner is even has one owner, so only the corners of such blocks are noted
+abbrev pub IsOwnerNoted : Borders → List ℕ → ℤ → ℤ → Type 0
+IsOwnerNoted b ks x y = in_box b.whole x y ≡ true → in_box b.job.now.area x y ≡ false →
+    IsTrue (is_among ks (owner_of b.owners.now x y))
 
--- the same of those before column x
+-- the same of the corners in row y that are before column x, from the first block with cells of the halo on
 abbrev pub IsRowNotedBefore : Borders → List ℕ → ℕ → ℕ → Type 0
-IsRowNotedBefore b ks y x = (c : ℕ) → c < x → IsNoted b ks (pos c) (pos y)
+IsRowNotedBefore b ks y x =
+    (c : ℕ) → c < x → c % 2 ≡ 0 → b.job.now.area.x ≤ c + 2 → IsOwnerNoted b ks (pos c) (pos y)
+
+-- the same of all corners in row y up to the last block with cells of the halo
+abbrev pub IsRowNoted : Borders → List ℕ → ℕ → Type 0
+IsRowNoted b ks y = IsRowNotedBefore b ks y (b.job.now.area.x + b.job.now.area.w + 1)
 
 -- the same of the rows above row y
 abbrev pub AreRowsNotedAbove : Borders → List ℕ → ℕ → Type 0
-AreRowsNotedAbove b ks y = (r : ℕ) → r < y → IsRowNoted b ks r
+AreRowsNotedAbove b ks y = (r : ℕ) → r < y → r % 2 ≡ 0 → b.job.now.area.y ≤ r + 2 → IsRowNoted b ks r

@@ -1,5 +1,5 @@
 //! The borders of one module.
-ghost use Rattle.std.specs.Prelude.{pos, ◌+◌, ◌≤◌, ◌+ℤ◌, ◌≤ℤ◌, ◌≡◌, ◌≢◌, ◌<◌, ◌↔◌, ◌&&◌, false, List, [], length, map, slice_get, slice_set, true, IsTrue, Some, IfNone, IfSome, IfOk, OnOk};
+ghost use Rattle.std.specs.Prelude.{pos, ◌+◌, ◌%◌, ◌≤◌, ◌+ℤ◌, ◌≤ℤ◌, ◌≡◌, ◌≢◌, ◌<◌, ◌↔◌, ◌&&◌, false, List, [], length, map, slice_get, slice_set, true, IsTrue, Some, IfNone, IfSome, IfOk, OnOk};
 ghost use Rattle.std.specs.Arc.{arc_value};
 ghost use Rattle.circuit.specs.Meaning.{wires};
 ghost use Rattle.module_box.specs.Boxes.{in_box, in_halo};
@@ -7,7 +7,7 @@ ghost use Rattle.module_box.specs.Locals.{circuit_wire};
 ghost use Rattle.module_box.specs.Moves.{IsNear, moved_all_times, moved_cell};
 ghost use Rattle.module_box.specs.Tiling.{owner_of};
 ghost use Rattle.module_job.specs.Signals.{IsBelow, renumber_signal};
-ghost use Rattle.border_match.specs.Boards.{AddsMark, AreMarked, AreNumbers, AreOwnersNoted, Differ, Faults, IsEdgeNamed, IsEdgeNamedAt, DiffersAlways, DiffersAlwaysAt, HasNoHaloBetween, IsAround, IsAtEvent, IsAtEventOf, IsListed, IsNamedOf, IsPlaceOf, IsUnmarked, IsNoted, IsReady, IsRowNoted, IsStarred, KeepsNumbers, MayBeFault, job_edge, job_halo, jobs_of};
+ghost use Rattle.border_match.specs.Boards.{AddsMark, AreMarked, AreNumbers, AreOwnersNoted, Differ, Faults, IsEdgeNamed, IsEdgeNamedAt, DiffersAlways, DiffersAlwaysAt, IsBoxBetween, IsAround, IsAtEvent, IsAtEventOf, IsListed, IsNamedOf, IsPlaceOf, IsUnmarked, IsNoted, IsOwnerNoted, IsReady, IsRowNoted, IsStarred, KeepsNumbers, MayBeFault, job_edge, job_halo, jobs_of};
 ghost use Rattle.border_match.specs.Candidates.{IsBetter, IsLeast};
 ghost use Rattle.border_match.specs.declared.fault.BorderFault.{BorderFault};
 
@@ -450,7 +450,7 @@ impl<'a> Borders<'a> {
     fn note_owner(&self, near: &mut Vec<usize>, cell: Cell) -> Result<(), AllocError>
         requires ready { IsReady self.now }
         requires below { AreNumbers self.now near.old.items }
-        ensures noted { OnOk result (IsNoted self.now near.new.items cell.x cell.y) }
+        ensures noted { OnOk result (IsOwnerNoted self.now near.new.items cell.x cell.y) }
         ensures kept { OnOk result (KeepsNumbers near.old.items near.new.items) }
         ensures below { OnOk result (AreNumbers self.now near.new.items) }
     {
@@ -469,26 +469,25 @@ impl<'a> Borders<'a> {
         Ok(())
     }
 
-    // Returns the next column after `x` in which row `y` may have a cell of the halo. The columns between are in the
-    // box.
+    // Returns the next even column after `x` in which the cell of row `y` may be outside the box.
     fn next_column(&self, x: u32, y: u32) -> u32
-        requires column { x < 1024 }
+        requires column { (x < 1024) × (x % 2 ≡ 0) }
         requires row { y < 1024 }
-        ensures after { x < result }
-        ensures none_between { HasNoHaloBetween self.now y x result }
+        ensures after { (x < result) × (result % 2 ≡ 0) }
+        ensures box_between { IsBoxBetween self.now y x result }
     {
         let area = self.job.area();
         let next = Cell {
-            x: (x + 1) as i32,
+            x: (x + 2) as i32,
             y: y as i32,
         };
         if area.holds(next) {
             return area.x + area.w;
         }
-        x + 1
+        x + 2
     }
 
-    // Adds the numbers of the modules that have cells of the module's halo in a row.
+    // Adds the numbers of the modules that have the blocks of the module's halo whose corners are in row `y`.
     fn note_row(&self, near: &mut Vec<usize>, y: u32) -> Result<(), AllocError>
         requires ready { IsReady self.now }
         requires below { AreNumbers self.now near.old.items }
@@ -499,7 +498,7 @@ impl<'a> Borders<'a> {
     {
         let area = self.job.area();
         let end = area.x + area.w + 1;
-        let mut x = area.x.saturating_sub(1);
+        let mut x = area.x.saturating_sub(2);
         'columns: while x < end {
             let cell = Cell {
                 x: x as i32,
@@ -511,16 +510,20 @@ impl<'a> Borders<'a> {
         Ok(())
     }
 
-    // The numbers of the modules that have cells of the module's halo.
+    // The numbers of the modules that have cells of the module's halo. Boxes have even corners and sides, so each block
+    // of two by two cells with an even corner has one owner.
     fn near_modules(&self, alloc: Global) -> Result<Vec<usize>, AllocError>
         requires { IsReady self.now }
         ensures noted { IfOk result (λ near. AreOwnersNoted self.now near.items) }
         ensures below { IfOk result (λ near. AreNumbers self.now near.items) }
     {
         let area = self.job.area();
+        let end = area.y + area.h + 1;
         let mut near = Vec::new(alloc);
-        'rows: for y in area.y.saturating_sub(1)..area.y + area.h + 1 {
+        let mut y = area.y.saturating_sub(2);
+        'rows: while y < end {
             self.note_row(&mut near, y)?;
+            y += 2;
         }
         Ok(near)
     }

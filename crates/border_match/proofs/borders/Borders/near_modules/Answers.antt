@@ -10,8 +10,10 @@ pub rows-init : goal.rows-init
 rows-init c =
     let b = c.args.self.now in
     let top = ap (λ (a : Box2). a.y) c.area-area.ensures.area in
-    let from : c.saturating_sub-y.result ≡ b.job.now.area.y - 1 = omega (arith, top, c.saturating_sub-y.ensures) in
+    let from : c.saturating_sub-y.result ≡ b.job.now.area.y - 2 = omega (arith, top, c.saturating_sub-y.ensures) in
+    let even = c.area-area.ensures.good.even.y in
     record {
+      even = omega (arith, from, even);
       noted = no_row b _ c.saturating_sub-y.result from;
       below = subst (AreNumbers b) (sym c.new-near.ensures.items) (All-nil (λ (k : ℕ). k < length b.jobs.now));
     }
@@ -19,9 +21,11 @@ rows-init c =
 pub rows-preserved : goal.rows-preserved
 rows-preserved c =
     let now = c.in_ok-note_row.ensures in
+    let even = c.rows.invariant.even in
     record {
-      noted = row_more c.args.self.now c.rows.near.items c.note_row.new.near.items c.rows.y c.rows.invariant.noted
-          now.kept now.noted;
+      even = omega (arith, even);
+      noted = row_more c.args.self.now c.rows.near.items c.note_row.new.near.items c.rows.y even
+          c.rows.invariant.noted now.kept now.noted;
       below = now.below;
     }
 
@@ -32,6 +36,7 @@ returns c =
     let high = ap (λ (a : Box2). a.h) c.area-area.ensures.area in
     let end : b.job.now.area.y + b.job.now.area.h + 1 ≤ c.rows.y = omega (arith, top, high, c.rows-test.false) in
     record {
-      noted = all_rows b c.rows.near.items c.rows.y end c.rows.invariant.noted;
+      noted = all_rows b c.rows.near.items c.rows.y c.requires c.area-area.ensures.good.even end
+          c.rows.invariant.noted;
       below = c.rows.invariant.below;
     }

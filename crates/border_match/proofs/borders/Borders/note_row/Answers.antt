@@ -8,8 +8,10 @@ pub columns-init : goal.columns-init
 columns-init c =
     let b = c.args.self.now in
     let left = ap (λ (a : Box2). a.x) c.area-area.ensures.area in
-    let from : c.saturating_sub-x.result ≡ b.job.now.area.x - 1 = omega (arith, left, c.saturating_sub-x.ensures) in
+    let from : c.saturating_sub-x.result ≡ b.job.now.area.x - 2 = omega (arith, left, c.saturating_sub-x.ensures) in
+    let even = c.area-area.ensures.good.even.x in
     record {
+      even = omega (arith, from, even);
       noted = no_column b c.args.near.now.items c.args.y c.saturating_sub-x.result from;
       kept = λ k h. h;
       below = c.requires.below;
@@ -20,8 +22,9 @@ columns-preserved c =
     let now = c.in_ok-note_owner.ensures in
     let before = c.columns.invariant in
     record {
+      even = c.next_column-x.ensures.after.1;
       noted = column_more c.args.self.now c.columns.near.items c.note_owner.new.near.items c.args.y c.columns.x _ _ _
-          (search rules) (search rules) c.next_column-x.ensures.none_between before.noted now.kept now.noted;
+          (search rules) (search rules) c.next_column-x.ensures.box_between before.noted now.kept now.noted;
       kept = λ k h. now.kept k (before.kept k h);
       below = now.below;
     }
