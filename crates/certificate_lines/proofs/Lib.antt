@@ -24,6 +24,7 @@ pub mod OddBlocks
 pub mod OrderLemmas
 pub mod Pairs
 pub mod PortLemmas
+pub mod RowLemmas
 pub mod StarLemmas
 pub mod TableLemmas
 pub mod TileLemmas

@@ -1,5 +1,5 @@
 -- The tables of ports, and the ports in a box.
-use Rattle.std.proofs.Common.{◌≡◌, ℕ, zero, suc, ◌+◌, ◌*◌, ◌<◌, ◌≤◌, ℤ, pos, Bool, true, false, ◌&&◌, ◌||◌}
+use Rattle.std.proofs.Common.{◌≡◌, ℕ, zero, suc, ◌+◌, ◌*◌, ◌<◌, ◌≤◌, ℤ, Bool, true, false, ◌&&◌, ◌||◌}
 use Rattle.std.proofs.Common.{if◌then◌else◌}
 use Rattle.std.proofs.Common.{List, [], ◌∷◌, ◌++◌, ◌-◌, nat_eq, set, take, to_z, w32, drop, length, length-take-le}
 use Rattle.std.proofs.Common.{get_or, replicate, Option}
@@ -9,8 +9,7 @@ use Rattle.std.specs.List.{flat_map, list_all, list_any, range_with_len}
 use Rattle.std.specs.Option.{option_map_or}
 use Rattle.std.proofs.Math.Nat.{mul-le-mul_right}
 use Rattle.std.proofs.Math.Seq.{take-suc}
-use Rattle.std.proofs.lemmas.Bool.{and_parts, and_from, eqb-true}
-use Rattle.bbm_rule.proofs.Spans.{span_from, span_parts}
+use Rattle.std.proofs.lemmas.Bool.{and_parts, eqb-true}
 use Rattle.std.proofs.lemmas.List.{get_or-drop, length-set, length-replicate, get_or_default, get_or-set_same}
 use Rattle.std.proofs.lemmas.List.{get_or-set_other}
 use Rattle.std.proofs.lemmas.List.Folds.{list_any-append}
@@ -24,10 +23,11 @@ use Rattle.pattern.specs.declared.layout_line.LayoutHeader.{LayoutHeader}
 use Rattle.pattern.specs.declared.layout_line.Port.{Port}
 use Rattle.module_box.specs.Boxes.{in_box}
 use Rattle.module_box.specs.declared.boxes.Box2.{Box2}
-use Rattle.module_box.specs.Places.{place_in}
-use Rattle.certificate_lines.specs.PortTables.{port_at, AreOnBoard, number_at, one_later}
+use Rattle.certificate_lines.specs.PortTables.{port_at, AreInBox, AreNumberedRows, AreOnBoard, entry_of, entry_place}
+use Rattle.certificate_lines.specs.PortTables.{number_at, one_later}
 use Rattle.certificate_lines.specs.Rules.{box_cells, whole}
-use Rattle.certificate_lines.proofs.BoxPlaces.{box_length, box_place}
+use Rattle.certificate_lines.proofs.RowLemmas.{all_zero, entry_few, entry_own, filled, filled_less, filled_more}
+use Rattle.certificate_lines.proofs.RowLemmas.{filled_none}
 use Rattle.certificate_lines.proofs.Lists.{same_truth, passed, any_at, some_is}
 use Rattle.certificate_lines.proofs.LayoutPorts.{port_stands, none_stands}
 use Rattle.bbm_rule.proofs.SameCells.{cell_same, cell_itself}
@@ -210,79 +210,6 @@ within_take (x ∷ xs) zero i q e = absurd cc
 within_take (x ∷ xs) (suc k) zero q e = (omega arith, e)
 within_take (x ∷ xs) (suc k) (suc i) q e = let r = within_take xs k i q e in (omega (arith, r.0), r.1)
 
--- ---- how many entries have a number
-
-unfoldable pub filled : List ℕ → ℕ
-filled [] = 0
-filled (zero ∷ xs) = filled xs
-filled (suc n ∷ xs) = suc (filled xs)
-
-filled_none : (n : ℕ) → filled (replicate n zero) ≡ 0
-unfolding filled
-filled_none zero = refl
-filled_none (suc n) = filled_none n
-
-filled_more : (xs : List ℕ) (i d v : ℕ) → i < length xs → get_or xs i d ≡ 0 →
-    filled (set xs i (suc v)) ≡ suc (filled xs)
-unfolding filled
-filled_more [] i d v lt e = absurd (omega arith)
-filled_more (zero ∷ xs) zero d v lt e = refl
-filled_more (suc n ∷ xs) zero d v lt e = absurd (omega arith)
-filled_more (zero ∷ xs) (suc i) d v lt e = filled_more xs i d v (omega arith) e
-filled_more (suc n ∷ xs) (suc i) d v lt e = ap suc (filled_more xs i d v (omega arith) e)
-
-filled_most : (xs : List ℕ) → filled xs ≤ length xs
-unfolding filled
-filled_most [] = omega arith
-filled_most (zero ∷ xs) = let m = filled_most xs in omega (arith, m)
-filled_most (suc n ∷ xs) = let m = filled_most xs in omega (arith, m)
-
-filled_less : (xs : List ℕ) (i d : ℕ) → i < length xs → get_or xs i d ≡ 0 → filled xs < length xs
-unfolding filled
-filled_less [] i d lt e = absurd (omega arith)
-filled_less (zero ∷ xs) zero d lt e = let m = filled_most xs in omega (arith, m)
-filled_less (suc n ∷ xs) zero d lt e = absurd (omega arith)
-filled_less (zero ∷ xs) (suc i) d lt e = let m = filled_less xs i d (omega arith) e in omega (arith, m)
-filled_less (suc n ∷ xs) (suc i) d lt e = let m = filled_less xs i d (omega arith) e in omega (arith, m)
-
--- ---- the places of a box
-
-pub place_within : (b : Box2) (x y : ℤ) → in_box b x y ≡ true → place_in b x y < b.w * b.h
-place_within b x y h =
-    let lt = slice_get_within (box_cells b) (place_in b x y) (record { x = x; y = y }) (box_place b x y h) in
-    omega (arith, lt, box_length b)
-
-place_own : (b : Box2) (c d : Cell) → in_box b c.x c.y ≡ true → in_box b d.x d.y ≡ true →
-    place_in b c.x c.y ≡ place_in b d.x d.y → c ≡ d
-place_own b c d h k same =
-    some_is c d (sym (box_place b c.x c.y h) ∙ ap (λ (i : ℕ). slice_get (box_cells b) i) same ∙ box_place b d.x d.y k)
-
--- a row of a box
-pub row_inside : (b : Box2) (x y k : ℕ) → in_box b (pos x) (pos y) ≡ true → x + k < b.x + b.w →
-    in_box b (pos (x + k)) (pos y) ≡ true
-unfolding in_box
-row_inside b x y k h l =
-    let p = and_parts _ _ h in
-    let s = span_parts b.x b.w x p.0 in
-    and_from _ _ (span_from b.x b.w (x + k) (omega (arith, s.0)) l) p.1
-
-pub row_place : (b : Box2) (x y k : ℕ) → in_box b (pos x) (pos y) ≡ true →
-    place_in b (pos (x + k)) (pos y) ≡ place_in b (pos x) (pos y) + k
-unfolding in_box
-row_place b x y k h =
-    let s = span_parts b.x b.w x (and_parts _ _ h).0 in
-    omega (arith, s.0)
-
-pub row_within : (b : Box2) (x y n : ℕ) → in_box b (pos x) (pos y) ≡ true → x + n ≤ b.x + b.w →
-    place_in b (pos x) (pos y) + n ≤ b.w * b.h
-unfolding in_box
-row_within b x y n h l =
-    let p = and_parts _ _ h in
-    let s = span_parts b.x b.w x p.0 in
-    let t = span_parts b.y b.h y p.1 in
-    let m : (y - b.y + 1) * b.w ≤ b.h * b.w = mul-le-mul_right b.w (omega (arith, t.0, t.1)) in
-    omega (arith, m, s.0)
-
 -- entries that are all zero
 zero_at : (numbers : List ℕ) (n k : ℕ) → list_all (λ m. nat_eq m 0) (take n numbers) ≡ true → k < n →
     get_or numbers k 0 ≡ 0
@@ -296,48 +223,67 @@ pub part_zero : (numbers : List ℕ) (p n k : ℕ) → list_all (λ m. nat_eq m 
     get_or numbers (p + k) 0 ≡ 0
 part_zero numbers p n k all l = sym (get_or-drop p numbers k 0) ∙ zero_at (drop p numbers) n k all l
 
-pub few_places : (w h : ℕ) → w ≤ 512 → h ≤ 512 → w * h ≤ 262144
-few_places w h p q =
-    let m : w * h ≤ 512 * h = mul-le-mul_right h p in
-    omega (arith, m, q)
+pub few_entries : (count w h : ℕ) → count ≤ h → w ≤ 512 → h ≤ 512 → count * w ≤ 262144
+few_entries count w h few p q =
+    let m : count * w ≤ 512 * w = mul-le-mul_right w (omega (arith, few, q)) in
+    omega (arith, m, p)
 
 pub entry_is : (numbers : List ℕ) (place n : ℕ) → n ≡ get_or numbers place n → place < length numbers →
     n ≡ get_or numbers place 0
 entry_is numbers place n is lt = is ∙ get_or_default numbers place n 0 lt
 
+pub placed : (numbers : List ℕ) (o : Option ℕ) (place : ℕ) → o ≡ Some place →
+    entry_of numbers o ≡ get_or numbers place 0
+unfolding entry_of
+placed numbers o place e = ap (entry_of numbers) e
+
+pub unplaced : (numbers : List ℕ) (o : Option ℕ) → o ≡ None → entry_of numbers o ≡ 0
+unfolding entry_of
+unplaced numbers o e = ap (entry_of numbers) e
+
+-- an entry at another place
+kept_entry : (numbers : List ℕ) (place v : ℕ) (o : Option ℕ) → (o ≡ Some place → ⊥) →
+    entry_of (set numbers place v) o ≡ entry_of numbers o
+unfolding entry_of
+kept_entry numbers place v None other = refl
+kept_entry numbers place v (Some j) other =
+    get_or-set_other numbers place j v 0 (λ same. other (ap (λ (i : ℕ). Some i) same))
+
 -- ---- a table of the ports so far
 
-pub record IsFilling (b : Box2) (ports : List Port) (k : ℕ) (numbers : List ℕ) : Type 0 where
-  pub sized : length numbers ≡ b.w * b.h
-  pub numbered : (x y : ℤ) → in_box b x y ≡ true → get_or numbers (place_in b x y) 0 ≡ number_at (take k ports) x y
-  pub count : filled numbers ≡ k
+pub record IsFilling (b : Box2) (ports : List Port) (rows : List ℕ) (count k : ℕ) (numbers : List ℕ) : Type 0 where
+  pub sized : length numbers ≡ count * b.w
+  pub numbered : (x y : ℤ) → in_box b x y ≡ true →
+      entry_of numbers (entry_place b rows x y) ≡ number_at (take k ports) x y
+  pub counted : filled numbers ≡ k
 
-all_zero : (n i : ℕ) → get_or {A = ℕ} (replicate n zero) i zero ≡ zero
-all_zero zero i = refl
-all_zero (suc n) zero = refl
-all_zero (suc n) (suc i) = all_zero n i
+no_entry : (n : ℕ) (o : Option ℕ) → entry_of (replicate n zero) o ≡ 0
+unfolding entry_of
+no_entry n None = refl
+no_entry n (Some place) = all_zero n place
 
-pub no_ports : (b : Box2) (ports : List Port) (n : ℕ) → n ≡ b.w * b.h → IsFilling b ports 0 (replicate n zero)
+pub no_ports : (b : Box2) (ports : List Port) (rows : List ℕ) (count n : ℕ) → n ≡ count * b.w →
+    IsFilling b ports rows count 0 (replicate n zero)
 unfolding number_at
-no_ports b ports n is = record {
+no_ports b ports rows count n is = record {
   sized = length-replicate n 0 ∙ is;
-  numbered = λ x y h. all_zero n (place_in b x y) ∙ ap (λ (ps : List Port). number_at ps x y) (sym (take_none ports));
-  count = filled_none n;
+  numbered = λ x y h. no_entry n (entry_place b rows x y)
+      ∙ ap (λ (ps : List Port). number_at ps x y) (sym (take_none ports));
+  counted = filled_none n;
 }
   where
     take_none : (ps : List Port) → take 0 ps ≡ []
     take_none [] = refl
     take_none (p ∷ ps) = refl
 
-abbrev pub AreInBox : Box2 → List Port → Type 0
-AreInBox b ports = (i : ℕ) (p : Port) → slice_get ports i ≡ Some p → in_box b p.cell.x p.cell.y ≡ true
-
 pub in_whole : (s : LayoutHeader) (b : Box2) → b ≡ whole s → (ports : List Port) → AreOnBoard s ports → AreInBox b ports
 unfolding in_box
 in_whole s b is ports on_board i p at = ap (λ (a : Box2). in_box a p.cell.x p.cell.y) is ∙ on_board i p at
 
-module _ (b : Box2) (ports : List Port) (apart : HaveOwnCells ports) (inside : AreInBox b ports) (k : ℕ) (p : Port)
-    (at : slice_get ports k ≡ Some p) (numbers : List ℕ) (so_far : IsFilling b ports k numbers) where
+module _ (b : Box2) (ports : List Port) (apart : HaveOwnCells ports) (inside : AreInBox b ports) (rows : List ℕ)
+    (count : ℕ) (are : AreNumberedRows b ports rows count) (k : ℕ) (p : Port) (at : slice_get ports k ≡ Some p)
+    (place : ℕ) (there : entry_place b rows p.cell.x p.cell.y ≡ Some place) (numbers : List ℕ)
+    (so_far : IsFilling b ports rows count k numbers) where
   here_inside : in_box b p.cell.x p.cell.y ≡ true
   here_inside = inside k p at
 
@@ -350,15 +296,19 @@ module _ (b : Box2) (ports : List Port) (apart : HaveOwnCells ports) (inside : A
   unnumbered_so_far : number_at (take k ports) p.cell.x p.cell.y ≡ 0
   unnumbered_so_far = none_there (take k ports) p.cell.x p.cell.y not_before
 
-  pub entry_free : get_or numbers (place_in b p.cell.x p.cell.y) 0 ≡ 0
-  entry_free = so_far.numbered p.cell.x p.cell.y here_inside ∙ unnumbered_so_far
+  entry_free : get_or numbers place 0 ≡ 0
+  entry_free = sym (placed numbers (entry_place b rows p.cell.x p.cell.y) place there)
+      ∙ so_far.numbered p.cell.x p.cell.y here_inside ∙ unnumbered_so_far
 
-  pub entry_there : place_in b p.cell.x p.cell.y < length numbers
-  entry_there = let lt = place_within b p.cell.x p.cell.y here_inside in omega (arith, lt, so_far.sized)
+  pub entry_there : place < length numbers
+  entry_there =
+      let lt = entry_few b ports rows count are p.cell.x p.cell.y place here_inside there in
+      omega (arith, lt, so_far.sized)
 
-  pub number_small : k < b.w * b.h
-  number_small = let lt = filled_less numbers (place_in b p.cell.x p.cell.y) 0 entry_there entry_free in
-      omega (arith, lt, so_far.sized, so_far.count)
+  pub number_small : k < count * b.w
+  number_small =
+      let lt = filled_less numbers place 0 entry_there entry_free in
+      omega (arith, lt, so_far.sized, so_far.counted)
 
   within : k < length ports
   within = slice_get_within ports k p at
@@ -376,31 +326,32 @@ module _ (b : Box2) (ports : List Port) (apart : HaveOwnCells ports) (inside : A
   so_many = length-take-le k ports (omega (arith, within))
 
   numbered_after : (c : Cell) → in_box b c.x c.y ≡ true → (on : Bool) → is_at p.cell c.x c.y ≡ on
-      → get_or (set numbers (place_in b p.cell.x p.cell.y) (k + 1)) (place_in b c.x c.y) 0
+      → entry_of (set numbers place (k + 1)) (entry_place b rows c.x c.y)
       ≡ number_at (take k ports ++ p ∷ []) c.x c.y
   numbered_after c h true on =
       let same : p.cell ≡ c = cell_same p.cell c on in
-      subst (λ (d : Cell). get_or (set numbers (place_in b p.cell.x p.cell.y) (k + 1)) (place_in b d.x d.y) 0
+      subst (λ (d : Cell). entry_of (set numbers place (k + 1)) (entry_place b rows d.x d.y)
       ≡ number_at (take k ports ++ p ∷ []) d.x d.y) same
-      (get_or-set_same numbers (place_in b p.cell.x p.cell.y) (k + 1) 0 entry_there
+      (placed (set numbers place (k + 1)) (entry_place b rows p.cell.x p.cell.y) place there
+      ∙ get_or-set_same numbers place (k + 1) 0 entry_there
       ∙ suc_is ∙ ap suc (sym so_many)
       ∙ sym (push_here (take k ports) p p.cell.x p.cell.y (cell_itself p.cell) unnumbered_so_far))
   numbered_after c h false off =
-      get_or-set_other numbers (place_in b p.cell.x p.cell.y) (place_in b c.x c.y) (k + 1) 0
-      (λ same. clash (ap (λ (d : Cell). is_at p.cell d.x d.y) (place_own b c p.cell h here_inside same)))
+      kept_entry numbers place (k + 1) (entry_place b rows c.x c.y)
+      (λ same. clash (ap (λ (d : Cell). is_at p.cell d.x d.y)
+      (entry_own b ports rows count are c p.cell place h here_inside same there)))
       ∙ so_far.numbered c.x c.y h ∙ sym (push_elsewhere (take k ports) p c.x c.y off)
     where
       clash : is_at p.cell c.x c.y ≡ is_at p.cell p.cell.x p.cell.y → ⊥
       clash e = cc (e, off, cell_itself p.cell)
 
-  pub one_more : (place number : ℕ) → place ≡ place_in b p.cell.x p.cell.y → number ≡ k + 1 →
-      IsFilling b ports (k + 1) (set numbers place number)
-  one_more place number is also = rw (is, also) (record {
-    sized = length-set numbers (place_in b p.cell.x p.cell.y) (k + 1) ∙ so_far.sized;
+  pub one_more : (number : ℕ) → number ≡ k + 1 → IsFilling b ports rows count (k + 1) (set numbers place number)
+  one_more number also = rw also (record {
+    sized = length-set numbers place (k + 1) ∙ so_far.sized;
     numbered = λ x y h. numbered_after (record { x = x; y = y }) h _ refl
         ∙ ap (λ (ps : List Port). number_at ps x y) (sym longer);
-    count = ap (λ (n : ℕ). filled (set numbers (place_in b p.cell.x p.cell.y) n)) suc_is
-        ∙ filled_more numbers (place_in b p.cell.x p.cell.y) 0 k entry_there entry_free ∙ ap suc so_far.count
+    counted = ap (λ (n : ℕ). filled (set numbers place n)) suc_is
+        ∙ filled_more numbers place 0 k entry_there entry_free ∙ ap suc so_far.counted
         ∙ sym suc_is;
   })
 

@@ -1,12 +1,13 @@
 -- Tables of the ports of a layout by their cells, and their view
-use Rattle.std.specs.Prelude.{◌≡◌, ℕ, zero, suc, ℤ, ◌*◌, ◌≤◌, true, false, if◌then◌else◌, List, [], ◌∷◌, length, get_or}
-use Rattle.std.specs.Prelude.{Some, None, slice_get, Option}
+use Rattle.std.specs.Prelude.{◌≡◌, ℕ, zero, suc, ℤ, ◌+◌, ◌-◌, ◌*◌, ◌<◌, ◌≤◌, true, false, if◌then◌else◌, List, [], ◌∷◌}
+use Rattle.std.specs.Prelude.{length, get_or, Some, None, slice_get, Option}
+use Rattle.std.specs.Int.RustNames.{unsigned_abs}
 use Rattle.bbm_rule.specs.Plane.{is_at}
 use Rattle.pattern.specs.Layout.{in_layout}
 use Rattle.pattern.specs.declared.layout_line.LayoutHeader.{LayoutHeader}
 use Rattle.pattern.specs.declared.layout_line.Port.{Port}
 use Rattle.module_box.specs.Boxes.{in_box}
-use Rattle.module_box.specs.Places.{place_in}
+use Rattle.module_box.specs.declared.boxes.Box2.{Box2}
 use Rattle.certificate_lines.specs.declared.ports.PortTable.TheInside.{Inside}
 
 -- the name of the port at the cell (x, y)
@@ -28,14 +29,44 @@ unfoldable pub number_at : List Port → ℤ → ℤ → ℕ
 number_at [] x y = 0
 number_at (p ∷ ports) x y = if is_at p.cell x y then 1 else one_later (number_at ports x y)
 
+-- the ports are inside the box
+abbrev pub AreInBox : Box2 → List Port → Type 0
+AreInBox b ports = (i : ℕ) (p : Port) → slice_get ports i ≡ Some p → in_box b p.cell.x p.cell.y ≡ true
+
+-- the place of a column's entry among the entries of the numbered rows, which have `width` entries each; a row of the
+-- number 0 has no entries
+unfoldable pub place_after : ℕ → ℕ → ℕ → Option ℕ
+place_after width zero column = None
+place_after width (suc row) column = Some (row * width + column)
+
+-- the place of the entry of the cell (x, y), from the numbers of the box's rows
+abbrev pub entry_place : Box2 → List ℕ → ℤ → ℤ → Option ℕ
+entry_place b rows x y = place_after b.w (get_or rows (unsigned_abs y - b.y) 0) (unsigned_abs x - b.x)
+
+-- the entry at a place, and 0 for no place
+unfoldable pub entry_of : List ℕ → Option ℕ → ℕ
+entry_of numbers None = 0
+entry_of numbers (Some place) = get_or numbers place 0
+
+-- each row of the box with a port has a number from 1 to `count` that no other row has
+pub record AreNumberedRows (b : Box2) (ports : List Port) (rows : List ℕ) (count : ℕ) : Type 0 where
+  pub sized : length rows ≡ b.h
+  pub few : count ≤ b.h
+  pub most : (row : ℕ) → get_or rows row 0 ≤ count
+  pub own : (row other n : ℕ) → get_or rows row 0 ≡ suc n → get_or rows other 0 ≡ suc n → row ≡ other
+  pub each : (i : ℕ) (p : Port) → slice_get ports i ≡ Some p → 0 < get_or rows (unsigned_abs p.cell.y - b.y) 0
+
 -- the ports of a table, from its fields
 abbrev pub table_ports : Inside → List Port
 table_ports a = a.ports.now
 
--- the table has the number of the port at each cell of the area, row by row, and no port is elsewhere
+-- each cell of a numbered row has an entry, which is the number of the port there, or 0. No port is in a row without a
+-- number, or outside the area.
 pub record IsPortTable (a : Inside) : Type 0 where
   pub small : (a.area.w ≤ 512) × (a.area.h ≤ 512)
-  pub sized : length a.numbers.items ≡ a.area.w * a.area.h
+  pub sized : length a.rows.items ≡ a.area.h
+  pub within : (x y : ℤ) (place : ℕ) → in_box a.area x y ≡ true → entry_place a.area a.rows.items x y ≡ Some place →
+      place < length a.numbers.items
   pub numbered : (x y : ℤ) → in_box a.area x y ≡ true →
-      get_or a.numbers.items (place_in a.area x y) 0 ≡ number_at a.ports.now x y
+      entry_of a.numbers.items (entry_place a.area a.rows.items x y) ≡ number_at a.ports.now x y
   pub elsewhere : (x y : ℤ) → in_box a.area x y ≡ false → port_at a.ports.now x y ≡ None

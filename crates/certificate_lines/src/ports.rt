@@ -1,13 +1,14 @@
 //! The ports of a layout by their cells.
-ghost use Rattle.std.specs.Prelude.{◌≡◌, ◌+◌, ◌<◌, ◌≤◌, ℕ, nat_eq, pos, true, None, OnOk, IfOk};
+ghost use Rattle.std.specs.Prelude.{◌≡◌, ◌+◌, ◌<◌, ◌≤◌, ℕ, length, nat_eq, pos, true, None, OnOk, IfOk};
 ghost use Rattle.std.specs.List.{list_all};
 ghost use Rattle.pattern.specs.Layout.{HaveOwnCells};
 ghost use Rattle.pattern.specs.Lines.{size_fault};
-ghost use Rattle.certificate_lines.specs.PortTables.{port_at, AreOnBoard};
+ghost use Rattle.module_box.specs.Boxes.{in_box};
+ghost use Rattle.certificate_lines.specs.PortTables.{port_at, entry_place, AreInBox, AreNumberedRows, AreOnBoard};
 
 use crate::tiles::whole_of;
 use bbm_rule::Cell;
-use module_box::{Box2, place_in};
+use module_box::Box2;
 use pattern::{Layout, LayoutHeader, Port};
 use section_text::Name;
 use std::alloc::{AllocError, Global};
@@ -15,11 +16,15 @@ use std::marker::Model;
 
 /// The inputs or the outputs of a layout, with a table by which the port at a cell is looked up. Contracts see the
 /// ports.
+///
+/// Only rows with a port have entries in the table, since most rows of a layout have none.
 #[derive(Drop)]
 pub struct PortTable<'a> {
     area: Box2,
     ports: &'a [Port],
-    // for each cell of the area, row by row, the number of its port plus one, or 0 where there is none
+    // for each row of the area, its number among the rows with a port, counted from 1, or 0 if it has none
+    rows: Vec<u32>,
+    // for each cell of the rows with a port, row by row, the number of its port plus one, or 0 where there is none
     numbers: Vec<u32>,
 }
 
@@ -36,6 +41,40 @@ impl<'a> Model for PortTable<'a> {
     ghost invariant = { IsPortTable };
 }
 
+// The place of a cell's number in a table with these rows, if the cell's row has numbers.
+#[inline(always)]
+fn entry_place(area: Box2, rows: &[u32], cell: Cell) -> Option<usize>
+    requires inside { in_box area cell.x cell.y ≡ true }
+    requires small { area.w ≤ 512 }
+    requires sized { length rows.now ≡ area.h }
+    ensures { result ≡ entry_place area rows.now cell.x cell.y }
+{
+    let row = rows[(cell.y.unsigned_abs() - area.y) as usize] as usize;
+    if row == 0 {
+        return None;
+    }
+    let column = (cell.x.unsigned_abs() - area.x) as usize;
+    Some((row - 1) * area.w as usize + column)
+}
+
+// The numbers of an area's rows with a port, counted from 1, with 0 for each other row; and how many have a port.
+fn number_rows(alloc: Global, area: Box2, ports: &[Port]) -> Result<(Vec<u32>, u32), AllocError>
+    requires inside { AreInBox area ports.now }
+    requires small { area.h ≤ 512 }
+    ensures { IfOk result (λ numbered. AreNumberedRows area ports.now numbered.0.items numbered.1) }
+{
+    let mut rows = vec![in alloc; 0u32; area.h as usize]?;
+    let mut count = 0u32;
+    'ports: for number in 0..ports.len() {
+        let row = (ports[number].cell.y.unsigned_abs() - area.y) as usize;
+        if rows[row] == 0 {
+            count += 1;
+            rows[row] = count;
+        }
+    }
+    Ok((rows, count))
+}
+
 // The table of some ports, of which no two stand at one cell.
 fn index_ports<'a>(
     alloc: Global,
@@ -48,15 +87,17 @@ fn index_ports<'a>(
     ensures { IfOk result (λ table. table ≡ ports.now) }
 {
     let area = whole_of(size);
-    let cells = area.w as usize * area.h as usize;
-    let mut numbers = vec![in alloc; 0u32; cells]?;
+    let (rows, count) = number_rows(alloc, area, ports)?;
+    let mut numbers = vec![in alloc; 0u32; count as usize * area.w as usize]?;
     'ports: for number in 0..ports.len() {
-        let at = place_in(area, ports[number].cell);
-        numbers[at] = number as u32 + 1;
+        if let Some(place) = entry_place(area, &rows, ports[number].cell) {
+            numbers[place] = number as u32 + 1;
+        }
     }
     Ok(PortTable {
         area,
         ports,
+        rows,
         numbers,
     })
 }
@@ -98,7 +139,10 @@ impl<'a> PortTable<'a> {
         if !self.area.holds(first) || u64::from(x + width) > end {
             return false;
         }
-        let place = place_in(self.area, first);
+        let place = match entry_place(self.area, &self.rows, first) {
+            None => return true,
+            Some(place) => place,
+        };
         are_all_zero(&self.numbers[place..place + width as usize])
     }
 
@@ -109,7 +153,8 @@ impl<'a> PortTable<'a> {
         if !self.area.holds(cell) {
             return None;
         }
-        let number = self.numbers[place_in(self.area, cell)] as usize;
+        let place = entry_place(self.area, &self.rows, cell)?;
+        let number = self.numbers[place] as usize;
         if number == 0 {
             return None;
         }

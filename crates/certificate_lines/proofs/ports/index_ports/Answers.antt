@@ -1,4 +1,5 @@
-use Rattle.std.proofs.Common.{◌≡◌, ◌∙◌, ℕ, ◌+◌, ◌<◌, ◌≤◌, None, List, length, refl, subst, sym, ap, arith}
+use Rattle.std.proofs.Common.{◌≡◌, ◌∙◌, ℕ, ◌+◌, ◌<◌, ◌≤◌, None, List, length, refl, subst, sym, ap, arith, Some, get_or}
+use Rattle.std.specs.Prelude.{slice_get}
 use Rattle.std.proofs.lemmas.Option.{slice_get-get_or}
 use Rattle.std.proofs.Math.Seq.{take-length}
 use Rattle.pattern.specs.Layout.{HaveOwnCells}
@@ -7,84 +8,126 @@ use Rattle.pattern.specs.declared.layout_line.LayoutHeader.{LayoutHeader}
 use Rattle.pattern.specs.declared.layout_line.Port.{Port}
 use Rattle.pattern.proofs.InsideLemmas.{size_sides}
 use Rattle.module_box.specs.declared.boxes.Box2.{Box2}
-use Rattle.certificate_lines.specs.PortTables.{AreOnBoard, number_at}
+use Rattle.certificate_lines.specs.PortTables.{AreNumberedRows, AreOnBoard, entry_place, number_at}
 use Rattle.certificate_lines.specs.Rules.{whole}
-use Rattle.certificate_lines.proofs.TableLemmas.{IsFilling, in_whole, few_places, no_ports, entry_there, number_small}
+use Rattle.certificate_lines.proofs.RowLemmas.{entry_few, entry_some}
+use Rattle.certificate_lines.proofs.TableLemmas.{IsFilling, in_whole, few_entries, no_ports, number_small}
 use Rattle.certificate_lines.proofs.TableLemmas.{one_more, none_outside}
 use Rattle.certificate_lines.proofs.ports.index_ports.Goals as goal
+use Rattle.certificate_lines.proofs.ports.index_ports.Goals.{in-Some, in_default}
 
 abbrev AreSmall : Box2 → Type 0
 AreSmall b = (b.w ≤ 512) × (b.h ≤ 512)
 
+small_sides : (s : LayoutHeader) → size_fault s ≡ None → (b : Box2) → b ≡ whole s → AreSmall b
+small_sides s limits b is = let sides = size_sides s limits in subst AreSmall (sym is) (sides.0.most, sides.1.most)
+
+pub number_rows-requires-clause-inside : goal.number_rows-requires-clause-inside
+number_rows-requires-clause-inside c =
+    in_whole c.args.size c.whole_of-area.result c.whole_of-area.ensures c.args.ports.now c.requires.inside
+
+pub number_rows-requires-clause-small : goal.number_rows-requires-clause-small
+number_rows-requires-clause-small c =
+    (small_sides c.args.size c.requires.limits c.whole_of-area.result c.whole_of-area.ensures).1
+
 pub ports-init : goal.ports-init
 ports-init c =
     let zeros = c.in_ok-numbers.ensures.items_if_clones_equal (λ y h. h) in
-    subst (λ (ns : List ℕ). IsFilling c.whole_of-area.result c.args.ports.now 0 ns) (sym zeros)
-    (no_ports c.whole_of-area.result c.args.ports.now _ refl)
+    subst (λ (ns : List ℕ).
+    IsFilling c.whole_of-area.result c.args.ports.now c.in_ok-rows.rows.items c.in_ok-rows.count 0 ns) (sym zeros)
+    (no_ports c.whole_of-area.result c.args.ports.now c.in_ok-rows.rows.items c.in_ok-rows.count _ refl)
 
-pub place_in-at-requires-clause-inside : goal.place_in-at-requires-clause-inside
-place_in-at-requires-clause-inside c =
+pub entry_place-requires-clause-inside : goal.entry_place-requires-clause-inside
+entry_place-requires-clause-inside c =
     in_whole c.args.size c.whole_of-area.result c.whole_of-area.ensures c.args.ports.now c.requires.inside
     c.ports.number _
     (slice_get-get_or c.args.ports.now c.ports.number c.index-ports-number.result c.ports-test.true)
 
-pub place_in-at-requires-clause-small : goal.place_in-at-requires-clause-small
-place_in-at-requires-clause-small c =
-    let sides = size_sides c.args.size c.requires.limits in
-    subst AreSmall (sym c.whole_of-area.ensures) (sides.0.most, sides.1.most)
+pub entry_place-requires-clause-small : goal.entry_place-requires-clause-small
+entry_place-requires-clause-small c =
+    (small_sides c.args.size c.requires.limits c.whole_of-area.result c.whole_of-area.ensures).0
 
--- there are no more ports than cells
+-- a port at a place among the numbers has a number that fits
 few : (s : LayoutHeader) → size_fault s ≡ None → (b : Box2) → b ≡ whole s → (ports : List Port) → HaveOwnCells ports →
-    AreOnBoard s ports → (k : ℕ) (d : Port) → k < length ports → (numbers : List ℕ) → IsFilling b ports k numbers →
-    k + 1 < 4294967296
-few s limits b is ports apart on_board k d lt numbers filling =
-    let sides = size_sides s limits in
-    let small : AreSmall b = subst AreSmall (sym is) (sides.0.most, sides.1.most) in
-    let most = few_places b.w b.h small.0 small.1 in
-    let below = number_small b ports apart (in_whole s b is ports on_board) k _
-    (slice_get-get_or ports k d lt) numbers filling in
+    AreOnBoard s ports → (rows : List ℕ) (count : ℕ) → AreNumberedRows b ports rows count → (k : ℕ) (p : Port) →
+    slice_get ports k ≡ Some p → (place : ℕ) → entry_place b rows p.cell.x p.cell.y ≡ Some place → (numbers : List ℕ) →
+    IsFilling b ports rows count k numbers → k + 1 < 4294967296
+few s limits b is ports apart on_board rows count are k p at place there numbers filling =
+    let small = small_sides s limits b is in
+    let most = few_entries count b.w b.h are.few small.0 small.1 in
+    let below = number_small b ports apart (in_whole s b is ports on_board) rows count are k p at place there numbers
+    filling in
     omega (arith, most, below)
 
 pub overflow_cast-number : goal.overflow_cast-number
 overflow_cast-number c =
+    let p : Port = get_or c.args.ports.now c.ports.number c.index-ports-number.result in
+    let at = slice_get-get_or c.args.ports.now c.ports.number c.index-ports-number.result c.ports-test.true in
+    let there : entry_place c.whole_of-area.result c.in_ok-rows.rows.items p.cell.x p.cell.y ≡ Some c.in-Some.place =
+    sym (ap (λ (rows : List ℕ). entry_place c.whole_of-area.result rows p.cell.x p.cell.y) c.deref.ensures.value)
+    ∙ sym c.entry_place.ensures ∙ c.in-Some.is in
     let lt = few c.args.size c.requires.limits c.whole_of-area.result c.whole_of-area.ensures c.args.ports.now
-    c.requires.apart c.requires.inside c.ports.number c.index-ports-number.result c.ports-test.true
-    c.ports.numbers.items c.ports.invariant in
+    c.requires.apart c.requires.inside c.in_ok-rows.rows.items c.in_ok-rows.count c.in_ok-rows.ensures
+    c.ports.number p at c.in-Some.place there c.ports.numbers.items c.ports.invariant in
     omega (arith, lt)
 
 pub overflow_add-number : goal.overflow_add-number
 overflow_add-number c =
+    let p : Port = get_or c.args.ports.now c.ports.number c.index-ports-number.result in
+    let at = slice_get-get_or c.args.ports.now c.ports.number c.index-ports-number.result c.ports-test.true in
+    let there : entry_place c.whole_of-area.result c.in_ok-rows.rows.items p.cell.x p.cell.y ≡ Some c.in-Some.place =
+    sym (ap (λ (rows : List ℕ). entry_place c.whole_of-area.result rows p.cell.x p.cell.y) c.deref.ensures.value)
+    ∙ sym c.entry_place.ensures ∙ c.in-Some.is in
     let lt = few c.args.size c.requires.limits c.whole_of-area.result c.whole_of-area.ensures c.args.ports.now
-    c.requires.apart c.requires.inside c.ports.number c.index-ports-number.result c.ports-test.true
-    c.ports.numbers.items c.ports.invariant in
+    c.requires.apart c.requires.inside c.in_ok-rows.rows.items c.in_ok-rows.count c.in_ok-rows.ensures
+    c.ports.number p at c.in-Some.place there c.ports.numbers.items c.ports.invariant in
     omega (arith, lt)
 
 pub index_mut-requires : goal.index_mut-requires
 index_mut-requires c =
-    let inside = in_whole c.args.size c.whole_of-area.result c.whole_of-area.ensures c.args.ports.now
-    c.requires.inside in
+    let p : Port = get_or c.args.ports.now c.ports.number c.index-ports-number.result in
     let at = slice_get-get_or c.args.ports.now c.ports.number c.index-ports-number.result c.ports-test.true in
-    let lt = entry_there c.whole_of-area.result c.args.ports.now c.requires.apart inside c.ports.number _ at
-    c.ports.numbers.items c.ports.invariant in
-    omega (arith, lt, c.place_in-at.ensures)
+    let inside = in_whole c.args.size c.whole_of-area.result c.whole_of-area.ensures c.args.ports.now
+    c.requires.inside c.ports.number p at in
+    let there : entry_place c.whole_of-area.result c.in_ok-rows.rows.items p.cell.x p.cell.y ≡ Some c.in-Some.place =
+    sym (ap (λ (rows : List ℕ). entry_place c.whole_of-area.result rows p.cell.x p.cell.y) c.deref.ensures.value)
+    ∙ sym c.entry_place.ensures ∙ c.in-Some.is in
+    let lt = entry_few c.whole_of-area.result c.args.ports.now c.in_ok-rows.rows.items c.in_ok-rows.count
+    c.in_ok-rows.ensures p.cell.x p.cell.y c.in-Some.place inside there in
+    omega (arith, lt, c.ports.invariant.sized)
 
 pub ports-preserved : goal.ports-preserved
 ports-preserved c =
+    let p : Port = get_or c.args.ports.now c.ports.number c.index-ports-number.result in
+    let at = slice_get-get_or c.args.ports.now c.ports.number c.index-ports-number.result c.ports-test.true in
     let inside = in_whole c.args.size c.whole_of-area.result c.whole_of-area.ensures c.args.ports.now
     c.requires.inside in
-    let at = slice_get-get_or c.args.ports.now c.ports.number c.index-ports-number.result c.ports-test.true in
-    one_more c.whole_of-area.result c.args.ports.now c.requires.apart inside c.ports.number _ at c.ports.numbers.items
-    c.ports.invariant c.place_in-at.result (c.ports.number + 1) c.place_in-at.ensures refl
+    let there : entry_place c.whole_of-area.result c.in_ok-rows.rows.items p.cell.x p.cell.y ≡ c.entry_place.result =
+    sym (ap (λ (rows : List ℕ). entry_place c.whole_of-area.result rows p.cell.x p.cell.y) c.deref.ensures.value)
+    ∙ sym c.entry_place.ensures in
+    elim c.match-entry_place.branch [
+      | in-Some w ↦ rw w.numbers-is
+          (one_more c.whole_of-area.result c.args.ports.now c.requires.apart inside c.in_ok-rows.rows.items
+          c.in_ok-rows.count c.in_ok-rows.ensures c.ports.number p at w.in-Some.place (there ∙ w.in-Some.is)
+          c.ports.numbers.items c.ports.invariant (c.ports.number + 1) refl)
+      | in_default w ↦ absurd (entry_some c.whole_of-area.result c.args.ports.now c.in_ok-rows.rows.items
+          c.in_ok-rows.count c.in_ok-rows.ensures c.ports.number p at (there ∙ w.in_default.is))
+    ]
 
 pub invariant_of-result : goal.invariant_of-result
 invariant_of-result c =
-    let sides = size_sides c.args.size c.requires.limits in
-    let full : IsFilling c.whole_of-area.result c.args.ports.now (length c.args.ports.now) c.ports.numbers.items =
-    subst (λ n. IsFilling c.whole_of-area.result c.args.ports.now n c.ports.numbers.items)
-    (omega arith) c.ports.invariant in
+    let small = small_sides c.args.size c.requires.limits c.whole_of-area.result c.whole_of-area.ensures in
+    let full : IsFilling c.whole_of-area.result c.args.ports.now c.in_ok-rows.rows.items c.in_ok-rows.count
+    (length c.args.ports.now) c.ports.numbers.items =
+    subst (λ n. IsFilling c.whole_of-area.result c.args.ports.now c.in_ok-rows.rows.items c.in_ok-rows.count n
+    c.ports.numbers.items) (omega arith) c.ports.invariant in
     record {
-      small = subst AreSmall (sym c.whole_of-area.ensures) (sides.0.most, sides.1.most);
-      sized = full.sized;
+      small = small;
+      sized = c.in_ok-rows.ensures.sized;
+      within = λ x y place h e.
+          let lt = entry_few c.whole_of-area.result c.args.ports.now c.in_ok-rows.rows.items c.in_ok-rows.count
+          c.in_ok-rows.ensures x y place h e in
+          omega (arith, lt, full.sized);
       numbered = λ x y h. full.numbered x y h
           ∙ ap (λ (ps : List Port). number_at ps x y) (take-length c.args.ports.now);
       elsewhere = none_outside c.whole_of-area.result c.args.ports.now

@@ -3,4 +3,4 @@ use Rattle.certificate_lines.proofs.TableLemmas.{IsFilling}
 use Rattle.certificate_lines.proofs.ports.index_ports.Given as goal
 
 abbrev pub invariant-ports : goal.invariant-ports
-invariant-ports l = IsFilling l.area l.ports l.number l.numbers.items
+invariant-ports l = IsFilling l.area l.ports l.rows.items l.count l.number l.numbers.items

@@ -1,0 +1,293 @@
+-- The numbers of the rows with a port, for the contracts of `entry_place` and `number_rows`.
+use Rattle.std.proofs.Common.{◌≡◌, ◌∙◌, ◌⊎◌, ℕ, zero, suc, ◌+◌, ◌-◌, ◌*◌, ◌<◌, ◌≤◌, ℤ, true, List, [], ◌∷◌, length}
+use Rattle.std.proofs.Common.{get_or}
+use Rattle.std.proofs.Common.{set, replicate, Option, Some, None, refl, sym, ap, ap₂, subst, inl, inr, arith}
+use Rattle.std.specs.Prelude.{pos, slice_get}
+use Rattle.std.specs.Option.{option_map}
+use Rattle.std.specs.Int.RustNames.{unsigned_abs}
+use Rattle.std.proofs.lemmas.Bool.{and_parts, and_from, cases_lt}
+use Rattle.bbm_rule.proofs.Spans.{span_from, span_parts}
+use Rattle.std.proofs.lemmas.List.{length-set, length-replicate, get_or_default, get_or-set_same}
+use Rattle.std.proofs.lemmas.Option.{slice_get_within}
+use Rattle.bbm_rule.specs.declared.block.Cell.{Cell}
+use Rattle.pattern.specs.declared.layout_line.Port.{Port}
+use Rattle.module_box.specs.Boxes.{in_box}
+use Rattle.module_box.specs.declared.boxes.Box2.{Box2}
+use Rattle.module_box.proofs.BoxCells.{abs_within, in_table}
+use Rattle.module_box.proofs.FromCorner.{abs_from}
+use Rattle.certificate_lines.specs.PortTables.{AreNumberedRows, entry_place, place_after}
+use Rattle.module_box.specs.Places.{place_in}
+use Rattle.certificate_lines.specs.Rules.{box_cells}
+use Rattle.certificate_lines.proofs.BoxPlaces.{box_place}
+use Rattle.certificate_lines.proofs.Lists.{some_is}
+
+-- ---- how many entries have a number
+
+unfoldable pub filled : List ℕ → ℕ
+filled [] = 0
+filled (zero ∷ xs) = filled xs
+filled (suc n ∷ xs) = suc (filled xs)
+
+pub filled_none : (n : ℕ) → filled (replicate n zero) ≡ 0
+unfolding filled
+filled_none zero = refl
+filled_none (suc n) = filled_none n
+
+pub filled_more : (xs : List ℕ) (i d v : ℕ) → i < length xs → get_or xs i d ≡ 0 →
+    filled (set xs i (suc v)) ≡ suc (filled xs)
+unfolding filled
+filled_more [] i d v lt e = absurd (omega arith)
+filled_more (zero ∷ xs) zero d v lt e = refl
+filled_more (suc n ∷ xs) zero d v lt e = absurd (omega arith)
+filled_more (zero ∷ xs) (suc i) d v lt e = filled_more xs i d v (omega arith) e
+filled_more (suc n ∷ xs) (suc i) d v lt e = ap suc (filled_more xs i d v (omega arith) e)
+
+pub filled_most : (xs : List ℕ) → filled xs ≤ length xs
+unfolding filled
+filled_most [] = omega arith
+filled_most (zero ∷ xs) = let m = filled_most xs in omega (arith, m)
+filled_most (suc n ∷ xs) = let m = filled_most xs in omega (arith, m)
+
+pub filled_less : (xs : List ℕ) (i d : ℕ) → i < length xs → get_or xs i d ≡ 0 → filled xs < length xs
+unfolding filled
+filled_less [] i d lt e = absurd (omega arith)
+filled_less (zero ∷ xs) zero d lt e = let m = filled_most xs in omega (arith, m)
+filled_less (suc n ∷ xs) zero d lt e = absurd (omega arith)
+filled_less (zero ∷ xs) (suc i) d lt e = let m = filled_less xs i d (omega arith) e in omega (arith, m)
+filled_less (suc n ∷ xs) (suc i) d lt e = let m = filled_less xs i d (omega arith) e in omega (arith, m)
+
+pub all_zero : (n i : ℕ) → get_or {A = ℕ} (replicate n zero) i zero ≡ zero
+all_zero zero i = refl
+all_zero (suc n) zero = refl
+all_zero (suc n) (suc i) = all_zero n i
+
+-- ---- the rows of a box
+
+-- a cell of a box is in one of its rows and columns
+pub sides : (b : Box2) (x y : ℤ) → in_box b x y ≡ true →
+    (unsigned_abs x - b.x < b.w) × (unsigned_abs y - b.y < b.h)
+sides b x y h =
+    let low = abs_from b x y h in
+    let high = abs_within b x y h in
+    (omega (arith, low.0, high.0), omega (arith, low.1, high.1))
+
+-- an entry after one entry is set
+set_at : (xs : List ℕ) (i j v : ℕ) → i < length xs →
+    ((j ≡ i) × (get_or (set xs i v) j 0 ≡ v)) ⊎ (get_or (set xs i v) j 0 ≡ get_or xs j 0)
+set_at [] i j v lt = absurd (omega arith)
+set_at (x ∷ xs) zero zero v lt = inl (refl, refl)
+set_at (x ∷ xs) zero (suc j) v lt = inr refl
+set_at (x ∷ xs) (suc i) zero v lt = inr refl
+set_at (x ∷ xs) (suc i) (suc j) v lt = elim (set_at xs i j v (omega arith)) [
+  | inl here ↦ inl (ap suc here.0, here.1)
+  | inr there ↦ inr there
+]
+
+-- the rows of the first k ports have numbers
+pub record AreRowsSoFar (b : Box2) (ports : List Port) (k : ℕ) (rows : List ℕ) (count : ℕ) : Type 0 where
+  pub sized : length rows ≡ b.h
+  pub counted : filled rows ≡ count
+  pub most : (row : ℕ) → get_or rows row 0 ≤ count
+  pub own : (row other n : ℕ) → get_or rows row 0 ≡ suc n → get_or rows other 0 ≡ suc n → row ≡ other
+  pub each : (i : ℕ) (p : Port) → i < k → slice_get ports i ≡ Some p →
+      0 < get_or rows (unsigned_abs p.cell.y - b.y) 0
+
+pub no_rows : (b : Box2) (ports : List Port) (n : ℕ) → n ≡ b.h → AreRowsSoFar b ports 0 (replicate n zero) 0
+no_rows b ports n is = record {
+  sized = length-replicate n 0 ∙ is;
+  counted = filled_none n;
+  most = λ row. let z = all_zero n row in omega (arith, z);
+  own = λ row other m e f. absurd (let z = all_zero n row in omega (arith, z, e));
+  each = λ i p lt at. absurd (omega arith);
+}
+
+module _ (b : Box2) (ports : List Port) (k : ℕ) (p : Port) (at : slice_get ports k ≡ Some p)
+    (inside : in_box b p.cell.x p.cell.y ≡ true) (rows : List ℕ) (count : ℕ)
+    (so_far : AreRowsSoFar b ports k rows count) where
+  abbrev here : ℕ
+  here = unsigned_abs p.cell.y - b.y
+
+  pub row_there : here < length rows
+  row_there = let lt = (sides b p.cell.x p.cell.y inside).1 in omega (arith, lt, so_far.sized)
+
+  -- the number of the port's row, as it was read
+  pub read_row : (y n : ℕ) → y ≡ unsigned_abs p.cell.y → n ≡ get_or rows (y - b.y) n → n ≡ get_or rows here 0
+  read_row y n is read =
+      let row : y - b.y ≡ here = ap (λ (j : ℕ). j - b.y) is in
+      read ∙ ap (λ (j : ℕ). get_or rows j n) row ∙ get_or_default rows here n 0 row_there
+
+  -- what holds of the rows of the earlier ports and of this one's row
+  each_more : (after : List ℕ) → ((row : ℕ) → 0 < get_or rows row 0 → 0 < get_or after row 0) →
+      0 < get_or after here 0 → (i : ℕ) (q : Port) → i < k + 1 → slice_get ports i ≡ Some q → 0 < get_or after (unsigned_abs q.cell.y - b.y) 0
+  each_more after kept now i q lt e = elim (cases_lt i k) [
+    | inl before ↦ kept (unsigned_abs q.cell.y - b.y) (so_far.each i q before e)
+    | inr late ↦
+        let same : k ≡ i = omega (arith, lt, late) in
+        let port : p ≡ q = some_is p q (sym at ∙ ap (λ (j : ℕ). slice_get ports j) same ∙ e) in
+        subst (λ (r : Port). 0 < get_or after (unsigned_abs r.cell.y - b.y) 0) port now
+  ]
+
+  pub row_kept : 0 < get_or rows here 0 → AreRowsSoFar b ports (k + 1) rows count
+  row_kept now = record {
+    sized = so_far.sized;
+    counted = so_far.counted;
+    most = so_far.most;
+    own = so_far.own;
+    each = each_more rows (λ row h. h) now;
+  }
+
+  pub count_below : get_or rows here 0 ≡ 0 → count < b.h
+  count_below none =
+      let lt = filled_less rows here 0 row_there none in
+      omega (arith, lt, so_far.sized, so_far.counted)
+
+  most_after : (row : ℕ) → get_or (set rows here (suc count)) row 0 ≤ suc count
+  most_after row = elim (set_at rows here row (suc count) row_there) [
+    | inl now ↦ omega (arith, now.1)
+    | inr old ↦ let m = so_far.most row in omega (arith, old, m)
+  ]
+
+  own_after : (row other n : ℕ) → get_or (set rows here (suc count)) row 0 ≡ suc n →
+      get_or (set rows here (suc count)) other 0 ≡ suc n → row ≡ other
+  own_after row other n e f = elim (set_at rows here row (suc count) row_there) [
+    | inl now ↦ elim (set_at rows here other (suc count) row_there) [
+      | inl also ↦ now.0 ∙ sym also.0
+      | inr old ↦ let m = so_far.most other in absurd (omega (arith, now.1, old, m, e, f))
+    ]
+    | inr old ↦ elim (set_at rows here other (suc count) row_there) [
+      | inl also ↦ let m = so_far.most row in absurd (omega (arith, also.1, old, m, e, f))
+      | inr too ↦ so_far.own row other n (sym old ∙ e) (sym too ∙ f)
+    ]
+  ]
+
+  stays : (row : ℕ) → 0 < get_or rows row 0 → 0 < get_or (set rows here (suc count)) row 0
+  stays row h = elim (set_at rows here row (suc count) row_there) [
+    | inl now ↦ omega (arith, now.1)
+    | inr old ↦ omega (arith, old, h)
+  ]
+
+  pub row_set : (row n : ℕ) → row ≡ here → n ≡ suc count → get_or rows here 0 ≡ 0 →
+      AreRowsSoFar b ports (k + 1) (set rows row n) n
+  row_set row n is also none = rw (is, also) (record {
+    sized = length-set rows here (suc count) ∙ so_far.sized;
+    counted = filled_more rows here 0 count row_there none ∙ ap suc so_far.counted;
+    most = most_after;
+    own = own_after;
+    each = each_more (set rows here (suc count)) stays
+        (let now = get_or-set_same rows here (suc count) 0 row_there in omega (arith, now));
+  })
+
+pub rows_done : (b : Box2) (ports : List Port) (k : ℕ) (rows : List ℕ) (count : ℕ) → length ports ≤ k →
+    AreRowsSoFar b ports k rows count → AreNumberedRows b ports rows count
+rows_done b ports k rows count all full = record {
+  sized = full.sized;
+  few = let m = filled_most rows in omega (arith, m, full.sized, full.counted);
+  most = full.most;
+  own = full.own;
+  each = λ i p at. let lt = slice_get_within ports i p at in full.each i p (omega (arith, lt, all)) at;
+}
+
+-- ---- the places of the entries
+
+place_few : (width row column count place : ℕ) → column < width → row ≤ count →
+    place_after width row column ≡ Some place → place < count * width
+unfolding place_after
+place_few width zero column count place near few e = absurd cc
+place_few width (suc row) column count place near few e =
+    let lt = in_table row count column width (omega (arith, few)) near in
+    let is : row * width + column ≡ place = some_is _ _ e in
+    omega (arith, lt, is)
+
+pub same_table : (r s c d w : ℕ) → c < w → d < w → r * w + c ≡ s * w + d → r ≡ s
+same_table r s c d w p q e = elim (cases_lt r s) [
+  | inl less ↦ absurd (let lt = in_table r s c w less p in omega (arith, lt, e))
+  | inr not_less ↦ elim (cases_lt s r) [
+    | inl more ↦ absurd (let lt = in_table s r d w more q in omega (arith, lt, e))
+    | inr not_more ↦ omega (arith, not_less, not_more)
+  ]
+]
+
+-- two entries at one place are of one column, and their rows have one number
+place_own : (width row other c d place : ℕ) → c < width → d < width → place_after width row c ≡ Some place →
+    place_after width other d ≡ Some place → (n : ℕ) × (row ≡ suc n) × (other ≡ suc n) × (c ≡ d)
+unfolding place_after
+place_own width zero other c d place p q e f = absurd cc
+place_own width (suc row) zero c d place p q e f = absurd cc
+place_own width (suc row) (suc other) c d place p q e f =
+    let first : row * width + c ≡ place = some_is _ _ e in
+    let second : other * width + d ≡ place = some_is _ _ f in
+    let rows : row ≡ other = same_table row other c d width p q (first ∙ sym second) in
+    let starts : row * width ≡ other * width = ap (λ (r : ℕ). r * width) rows in
+    (row, refl, ap suc (sym rows), omega (arith, first, second, starts))
+
+pub none_after : (width row column : ℕ) → row ≡ 0 → None ≡ place_after width row column
+unfolding place_after
+none_after width zero column e = refl
+none_after width (suc row) column e = absurd (omega (arith, e))
+
+pub some_after : (width row column : ℕ) → (row ≡ 0 → ⊥) →
+    Some ((row - 1) * width + column) ≡ place_after width row column
+unfolding place_after
+some_after width zero column e = absurd (e refl)
+some_after width (suc row) column e =
+    let one : suc row - 1 ≡ row = omega arith in
+    ap (λ (r : ℕ). Some (r * width + column)) one
+
+some_place : (width row column : ℕ) → 0 < row → place_after width row column ≡ None → ⊥
+unfolding place_after
+some_place width zero column lt e = omega (arith, lt)
+some_place width (suc row) column lt e = cc e
+
+-- the place some cells further on
+further : (width row column k : ℕ) (o : Option ℕ) → place_after width row column ≡ o →
+    place_after width row (column + k) ≡ option_map (λ (p : ℕ). p + k) o
+unfolding place_after
+further width zero column k o e = sym (ap (option_map (λ (p : ℕ). p + k)) (sym e))
+further width (suc row) column k o e =
+    let sum : row * width + (column + k) ≡ row * width + column + k = omega arith in
+    ap Some sum ∙ ap (option_map (λ (p : ℕ). p + k)) e
+
+-- two cells of a box at one place are one cell
+same_place : (b : Box2) (c d : Cell) → in_box b c.x c.y ≡ true → in_box b d.x d.y ≡ true →
+    place_in b c.x c.y ≡ place_in b d.x d.y → c ≡ d
+same_place b c d h k same =
+    some_is c d (sym (box_place b c.x c.y h) ∙ ap (λ (i : ℕ). slice_get (box_cells b) i) same ∙ box_place b d.x d.y k)
+
+module _ (b : Box2) (ports : List Port) (rows : List ℕ) (count : ℕ) (are : AreNumberedRows b ports rows count) where
+  pub entry_few : (x y : ℤ) (place : ℕ) → in_box b x y ≡ true → entry_place b rows x y ≡ Some place →
+      place < count * b.w
+  entry_few x y place inside e =
+      place_few b.w (get_or rows (unsigned_abs y - b.y) 0) (unsigned_abs x - b.x) count place (sides b x y inside).0
+      (are.most (unsigned_abs y - b.y)) e
+
+  pub entry_own : (c d : Cell) (place : ℕ) → in_box b c.x c.y ≡ true → in_box b d.x d.y ≡ true →
+      entry_place b rows c.x c.y ≡ Some place → entry_place b rows d.x d.y ≡ Some place → c ≡ d
+  entry_own c d place inside also e f =
+      let r = place_own b.w (get_or rows (unsigned_abs c.y - b.y) 0) (get_or rows (unsigned_abs d.y - b.y) 0)
+      (unsigned_abs c.x - b.x) (unsigned_abs d.x - b.x) place (sides b c.x c.y inside).0 (sides b d.x d.y also).0
+      e f in
+      let row = are.own (unsigned_abs c.y - b.y) (unsigned_abs d.y - b.y) r.0 r.1 r.2 in
+      same_place b c d inside also (ap₂ (λ (i j : ℕ). i * b.w + j) row r.3)
+
+  pub entry_some : (i : ℕ) (p : Port) → slice_get ports i ≡ Some p → entry_place b rows p.cell.x p.cell.y ≡ None → ⊥
+  entry_some i p at = some_place b.w (get_or rows (unsigned_abs p.cell.y - b.y) 0) (unsigned_abs p.cell.x - b.x)
+      (are.each i p at)
+
+-- a row of a box
+pub row_inside : (b : Box2) (x y k : ℕ) → in_box b (pos x) (pos y) ≡ true → x + k < b.x + b.w →
+    in_box b (pos (x + k)) (pos y) ≡ true
+unfolding in_box
+row_inside b x y k h l =
+    let p = and_parts _ _ h in
+    let s = span_parts b.x b.w x p.0 in
+    and_from _ _ (span_from b.x b.w (x + k) (omega (arith, s.0)) l) p.1
+
+-- the entries of a row of a box
+pub row_entry : (b : Box2) (rows : List ℕ) (x y k : ℕ) (o : Option ℕ) → in_box b (pos x) (pos y) ≡ true →
+    entry_place b rows (pos x) (pos y) ≡ o →
+    entry_place b rows (pos (x + k)) (pos y) ≡ option_map (λ (p : ℕ). p + k) o
+row_entry b rows x y k o inside e =
+    let low = (abs_from b (pos x) (pos y) inside).0 in
+    let column : x + k - b.x ≡ x - b.x + k = omega (arith, low) in
+    ap (λ (c : ℕ). place_after b.w (get_or rows (y - b.y) 0) c) column
+    ∙ further b.w (get_or rows (y - b.y) 0) (x - b.x) k o e

@@ -1,0 +1,6 @@
+-- The rows of the ports so far have their numbers.
+use Rattle.certificate_lines.proofs.RowLemmas.{AreRowsSoFar}
+use Rattle.certificate_lines.proofs.ports.number_rows.Given as goal
+
+abbrev pub invariant-ports : goal.invariant-ports
+invariant-ports l = AreRowsSoFar l.area l.ports l.number l.rows.items l.count
