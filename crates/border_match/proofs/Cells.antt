@@ -1,5 +1,6 @@
 -- Cells of a halo, and the modules that have them
-use Rattle.std.proofs.Common.{◌≡◌, ℕ, ◌+◌, ◌-◌, ◌*◌, ◌/◌, ◌<◌, ◌≤◌, ◌%◌, List, map, length, Bool, true, false, ◌||◌, ◌&&◌, Some}
+use Rattle.std.proofs.Common.{◌≡◌, ℕ, ◌+◌, ◌-◌, ◌*◌, ◌/◌, ◌<◌, ◌≤◌, ◌%◌, List, map, length, Bool, true, false, ◌||◌}
+use Rattle.std.proofs.Common.{◌&&◌, Some}
 use Rattle.std.proofs.Common.{sym}
 use Rattle.std.proofs.Common.{ap, ap₂, subst, ◌∙◌, inl, inr, ◌⊎◌, arith, get_or}
 use Rattle.std.specs.Prelude.{ℤ, pos, ◌+ℤ◌, ◌-ℤ◌, ◌≢◌, ◌↔◌, IsTrue, slice_get, option_map}

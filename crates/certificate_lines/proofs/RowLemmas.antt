@@ -118,7 +118,8 @@ module _ (b : Box2) (ports : List Port) (k : ℕ) (p : Port) (at : slice_get por
 
   -- what holds of the rows of the earlier ports and of this one's row
   each_more : (after : List ℕ) → ((row : ℕ) → 0 < get_or rows row 0 → 0 < get_or after row 0) →
-      0 < get_or after here 0 → (i : ℕ) (q : Port) → i < k + 1 → slice_get ports i ≡ Some q → 0 < get_or after (unsigned_abs q.cell.y - b.y) 0
+      0 < get_or after here 0 → (i : ℕ) (q : Port) → i < k + 1 → slice_get ports i ≡ Some q →
+      0 < get_or after (unsigned_abs q.cell.y - b.y) 0
   each_more after kept now i q lt e = elim (cases_lt i k) [
     | inl before ↦ kept (unsigned_abs q.cell.y - b.y) (so_far.each i q before e)
     | inr late ↦

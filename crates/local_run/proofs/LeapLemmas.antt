@@ -1,5 +1,6 @@
 -- Runs that stay as they are, and times that can be leapt over
-use Rattle.std.proofs.Common.{◌≡◌, ◌≢◌, ℕ, zero, suc, ◌<◌, ◌≤◌, ◌+◌, ◌-◌, ◌%◌, ◌&&◌, ◌||◌, List, [], length, Option, Some}
+use Rattle.std.proofs.Common.{◌≡◌, ◌≢◌, ℕ, zero, suc, ◌<◌, ◌≤◌, ◌+◌, ◌-◌, ◌%◌, ◌&&◌, ◌||◌, List, [], length, Option}
+use Rattle.std.proofs.Common.{Some}
 use Rattle.std.proofs.Common.{None, Less, Greater, refl, arith, sym, ◌∙◌, ap, ap₂, inl, inr, subst}
 use Rattle.std.specs.Prelude.{ℤ, ◌+ℤ◌, slice_get, unwrap_or}
 use Rattle.std.proofs.lemmas.Option.{slice_get_within}

@@ -61,8 +61,8 @@ fn set_halo_cell(
     }
 }
 
-// Sets a cell of box or halo, counted from the halo, to what its halo signal says, if it is in the halo. Returns whether
-// it carries what its edge signal says, if it is in the ring; only `true` is proved to be right.
+// Sets a cell of box or halo, counted from the halo, to what its halo signal says, if it is in the halo. Returns
+// whether it carries what its edge signal says, if it is in the ring; only `true` is proved to be right.
 #[inline(always)]
 fn set_border_cell(
     marked_planes: &mut MarkedPlanes,
@@ -124,8 +124,8 @@ fn set_border_cells(
     first & second & third & fourth
 }
 
-/// Sets the cells of the halo to what their signals say, and returns whether the cells of the ring carry what their edge
-/// signals say. Only `true` is proved to be right.
+/// Sets the cells of the halo to what their signals say, and returns whether the cells of the ring carry what their
+/// edge signals say. Only `true` is proved to be right.
 pub fn set_border(marked_planes: &mut MarkedPlanes, values: &Values, job: &Job, time: u32) -> bool
     requires ready { IsReady job.now values.now }
     requires shows { Shows job.now values.now time marked_planes.old.planes }

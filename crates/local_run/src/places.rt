@@ -71,8 +71,8 @@ pub fn demand_at(job: &Job, x: usize, y: usize) -> Demand
     job.demand(inner_cell(job.area(), x, y))
 }
 
-/// Returns what the cell at a column and row of the box carries at an odd time, if it is in the ring. Its event is sought
-/// first at some places, whatever they are.
+/// Returns what the cell at a column and row of the box carries at an odd time, if it is in the ring. Its event is
+/// sought first at some places, whatever they are.
 pub fn edge_at(job: &Job, time: u32, x: usize, y: usize, near: EventPlaces) -> Signal
     requires { (x < job.now.area.w) × (y < job.now.area.h) }
     ensures signal_is_exact { result

@@ -25,8 +25,8 @@ pub fn put_start(planes: &mut Planes, values: &Values, job: &Job)
     }
 }
 
-/// Makes an odd step, on the box and its halo, whose cells are what their signals say. Returns whether a cell of the box
-/// may have changed.
+/// Makes an odd step, on the box and its halo, whose cells are what their signals say. Returns whether a cell of the
+/// box may have changed.
 pub fn odd_time(marked_planes: &mut MarkedPlanes, values: &Values, job: &Job, time: u32) -> bool
     requires ready { IsReady job.now values.now }
     requires odd { time % 2 ≡ 1 }

@@ -20,4 +20,5 @@ returns c =
     let some : 0 < length c.args.modules.now.items = grind arith in
     let at : c.len-at.result - 1 ≡ length c.args.modules.now.items - 1 = grind arith in
     set_at (counted c.args.entry.now) c.args.modules.now.items
-    (c.len-at.result - 1) c.index_mut.result.now c.count_line.new.counts at some c.index_mut.ensures.value c.count_line.ensures
+    (c.len-at.result - 1) c.index_mut.result.now c.count_line.new.counts at some c.index_mut.ensures.value
+    c.count_line.ensures

@@ -61,14 +61,16 @@ border-preserved c =
           (λ g. by_eq_or_not (number_at j.area x y) c.border.u
           (λ is. let h = here x y lx is in e.halo x y lx ly h.0 h.1)
           (λ ne. passed_halo j c.args.values.now c.set_border_cells-is_right.new.marked_planes.planes c.args.time
-          (c.border.u + 1) c.next_border-u-in-border.result x y c.set_border_cells-is_right.new.marked_planes.line_marks.items
+          (c.border.u + 1) c.next_border-u-in-border.result x y
+          c.set_border_cells-is_right.new.marked_planes.line_marks.items
           c.requires.ready e.shows lines c.next_border-u-in-border.ensures.passed lx ly (omega arith) before));
       right = λ all x y lx ly before. by_lt_or_le (number_at j.area x y) c.border.u
           (λ h. m.right (and_parts _ _ all).0 x y lx ly h)
           (λ g. by_eq_or_not (number_at j.area x y) c.border.u
           (λ is. let h = here x y lx is in e.edges (and_parts _ _ all).1 x y lx ly h.0 h.1)
           (λ ne. passed_edges j c.args.values.now c.set_border_cells-is_right.new.marked_planes.planes c.args.time
-          (c.border.u + 1) c.next_border-u-in-border.result x y c.set_border_cells-is_right.new.marked_planes.line_marks.items
+          (c.border.u + 1) c.next_border-u-in-border.result x y
+          c.set_border_cells-is_right.new.marked_planes.line_marks.items
           c.requires.ready e.shows lines c.next_border-u-in-border.ensures.passed lx ly (omega arith) before));
     }
 

@@ -50,7 +50,8 @@ returns-clause-edge c = λ h. outer_edge c.args.job.now c.args.values.now c.args
         let ew : c.area-area.result.w ≡ c.args.job.now.area.w = ap (λ (b : Box2). b.w) c.area-area.ensures.area in
         let eh : c.area-area.result.h ≡ c.args.job.now.area.h = ap (λ (b : Box2). b.h) c.area-area.ensures.area in
         elim c.else-x-ge1.branch [
-          | else-x-ge1-via-then-x-ge1+then-x-area+then-y-ge1+else-y-area w ↦ let e = w.if-y-area.false in omega (arith, e)
+          | else-x-ge1-via-then-x-ge1+then-x-area+then-y-ge1+else-y-area w ↦ let e = w.if-y-area.false in
+              omega (arith, e)
           | else-x-ge1-via-then-x-ge1+then-x-area+else-y-ge1 w ↦ let e = w.if-y-ge1.false in omega (arith, e)
           | else-x-ge1-via-then-x-ge1+else-x-area w ↦ let e = w.if-x-area.false in omega (arith, e)
           | else-x-ge1-via-else-x-ge1 w ↦ let e = w.if-x-ge1.false in omega (arith, e)

@@ -13,4 +13,5 @@ invariant_of-self-clause-even_calm c =
     let items = with_items_is f.even_marks c.unmark.new.marks (omega (arith, ap length v, f.even_marks.ok.0)) in
     let sets = rw v at c.unmark.ensures in
     subst (λ (m : List ℕ). EvenCalm m p) (sym items)
-    (last_unmarked u f.even_marks.items c.unmark.new.marks p sets (c.is_last.ensures.last c.if-is_last.true) f.even_calm)
+    (last_unmarked u f.even_marks.items c.unmark.new.marks p sets
+    (c.is_last.ensures.last c.if-is_last.true) f.even_calm)
