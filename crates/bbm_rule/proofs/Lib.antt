@@ -10,6 +10,8 @@ pub mod BoardLemmas
 pub mod Boards
 pub mod CellLemmas
 pub mod MarkLemmas
+mod FillLemmas
+mod GapLemmas
 pub mod BandLemmas
 pub mod GridLemmas
 mod Meetings

@@ -43,12 +43,12 @@ bit_one : (n j : ℕ) → bit_at n j ≡ 1 → bit n j ≡ true
 bit_one n j e = rw (bit-is n j, e) refl
 
 -- the first set bit of a word that is not zero, from a bit on
-record FirstBit (word k : ℕ) : Type 0 where
-  within : k + trailing_zeros w64 (word / 2 ^ k) < 64
-  one : bit (word / 2 ^ k) (trailing_zeros w64 (word / 2 ^ k)) ≡ true
-  none : (j : ℕ) → j < trailing_zeros w64 (word / 2 ^ k) → bit (word / 2 ^ k) j ≡ false
+pub record FirstBit (word k : ℕ) : Type 0 where
+  pub within : k + trailing_zeros w64 (word / 2 ^ k) < 64
+  pub one : bit (word / 2 ^ k) (trailing_zeros w64 (word / 2 ^ k)) ≡ true
+  pub none : (j : ℕ) → j < trailing_zeros w64 (word / 2 ^ k) → bit (word / 2 ^ k) j ≡ false
 
-first_bit : (word k : ℕ) → word / 2 ^ k ≢ 0 → word < 2 ^ 64 → FirstBit word k
+pub first_bit : (word k : ℕ) → word / 2 ^ k ≢ 0 → word < 2 ^ 64 → FirstBit word k
 first_bit word k some small = record {
   within = within;
   one = bit_one (word / 2 ^ k) _ found.1;

@@ -52,14 +52,28 @@ pub(crate) fn put_cell(words: &mut [u64], place: usize, value: bool)
     }
 }
 
-// makes the cells at `count` places live
+// makes the cells at `count` places of one word live
+#[inline(always)]
+fn fill_in_word(words: &mut [u64], first: usize, count: usize)
+    requires inside { first / 64 < length words.old }
+    requires one_word { (0 < count) × (first % 64 + count ≤ 64) }
+    ensures { FillsRun first count words.old words.new }
+{
+    words[first / 64] |= (0xFFFF_FFFF_FFFF_FFFF >> (64 - count)) << (first % 64);
+}
+
+// makes the cells at `count` places live, word by word
 pub(crate) fn fill_cells(words: &mut [u64], first: usize, count: usize)
     requires inside { first + count ≤ 64 * length words.old }
     requires small { length words.old < 2 ^ 32 }
     ensures { FillsRun first count words.old words.new }
 {
-    for place in first..first + count {
-        put_cell(words, place, true);
+    let end = first + count;
+    let mut at = first;
+    'words: while at < end {
+        let next = end.min(64 * (at / 64 + 1));
+        fill_in_word(words, at, next - at);
+        at = next;
     }
 }
 

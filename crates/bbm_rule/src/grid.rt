@@ -9,7 +9,7 @@ ghost use Rattle.bbm_rule.specs.Board.{Board, live, is_inside, HasSameSize, IsSt
 
 use crate::block::Cell;
 use crate::cells::{cell_bit, fill_cells, has_live_margin, place, put_cell, row_of};
-use crate::marks::{mark, next_marked};
+use crate::marks::{mark, next_marked, next_unmarked};
 use crate::rows::{turn_all_aligned, turn_all_shifted};
 use std::alloc::{AllocError, Global};
 use std::marker::Model;
@@ -105,6 +105,20 @@ impl Grid {
     {
         let first = 64 * self.stride * (y as usize + 1) + 1;
         let place = next_marked(&self.words, first + from as usize, first + end as usize);
+        (place - first) as u32
+    }
+
+    /// Returns the first column from `from` on whose cell in row `y` is dead, or `end` if all cells before `end` are
+    /// live. Columns are counted from 0; `end` is at most the width.
+    pub fn next_dead(&self, y: u32, from: u32, end: u32) -> u32
+        requires row { y < self.now.height }
+        requires columns { (from ≤ end) × (end ≤ self.now.width) }
+        ensures range { (from ≤ result) × (result ≤ end) }
+        ensures live { (x : ℕ) → from ≤ x → x < result → live self.now (pos x) (pos y) ≡ true }
+        ensures dead { result < end → live self.now (pos result) (pos y) ≡ false }
+    {
+        let first = 64 * self.stride * (y as usize + 1) + 1;
+        let place = next_unmarked(&self.words, first + from as usize, first + end as usize);
         (place - first) as u32
     }
 

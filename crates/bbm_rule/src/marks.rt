@@ -23,6 +23,25 @@ pub fn next_marked(marks: &[u64], from: usize, end: usize) -> usize
     end
 }
 
+/// Returns the first number from `from` on that has no mark, or `end` if all below it have one.
+pub(crate) fn next_unmarked(marks: &[u64], from: usize, end: usize) -> usize
+    requires within { (from ≤ end) × (end ≤ 64 * length marks.now) × (end < 2 ^ 32) }
+    ensures range { (from ≤ result) × (result ≤ end) }
+    ensures passed { (u : ℕ) → from ≤ u → u < result → cell_at marks.now u ≡ true }
+    ensures unmarked { result < end → IsUnmarked marks.now result }
+{
+    let mut at = from;
+    'search: while at < end {
+        let rest = !marks[at / 64] >> (at % 64);
+        if rest != 0 {
+            let found = at + rest.trailing_zeros() as usize;
+            return if found < end { found } else { end };
+        }
+        at = 64 * (at / 64 + 1);
+    }
+    end
+}
+
 /// Marks a number.
 #[inline(always)]
 pub fn mark(marks: &mut [u64], at: usize)

@@ -1,11 +1,15 @@
 -- The cells so far are live, and the others as they were.
-use Rattle.std.proofs.Common.{◌≡◌, ◌≤◌, ◌<◌, ℕ, true}
+use Rattle.std.proofs.Common.{◌≡◌, ◌≤◌, ◌<◌, ◌-◌, ℕ, true}
 use Rattle.bbm_rule.specs.Rows.{cell_at}
 use Rattle.bbm_rule.proofs.cells.fill_cells.Given as goal
 
-abbrev pub invariant-loop-place : goal.invariant-loop-place
-invariant-loop-place l = record {
-  there : (q : ℕ) → l.first ≤ q → q < l.place → cell_at l.words q ≡ true;
-  before : (q : ℕ) → q < l.first → cell_at l.words q ≡ cell_at l.fn.words q;
-  after : (q : ℕ) → l.place ≤ q → cell_at l.words q ≡ cell_at l.fn.words q;
+abbrev pub invariant-words : goal.invariant-words
+invariant-words l = record {
+  within : (l.fn.first ≤ l.at) × (l.at ≤ l.end);
+  there : (q : ℕ) → l.fn.first ≤ q → q < l.at → cell_at l.words q ≡ true;
+  before : (q : ℕ) → q < l.fn.first → cell_at l.words q ≡ cell_at l.fn.words q;
+  after : (q : ℕ) → l.at ≤ q → cell_at l.words q ≡ cell_at l.fn.words q;
 }
+
+abbrev pub decreases-words : goal.decreases-words
+decreases-words l = l.end - l.at

@@ -1,0 +1,66 @@
+-- A run of cells in one word.
+use Rattle.std.proofs.Common.{◌≡◌, ℕ, true, false, ◌<◌, ◌≤◌, ◌+◌, ◌-◌, ◌*◌, ◌/◌, ◌^◌, ◌%◌, refl, arith, List, length}
+use Rattle.std.proofs.Common.{get_or, set, bit_or, ◌∙◌, ap, ◌||◌}
+use Rattle.std.proofs.lemmas.List.{get_or-set_same, get_or-set_other}
+use Rattle.std.proofs.lemmas.Nat.{pow_pos}
+use Rattle.bbm_rule.specs.Bits.{bit}
+use Rattle.bbm_rule.specs.Rows.{cell_at, FillsRun}
+use Rattle.bbm_rule.proofs.BitLemmas.{by_eq_or_not, bit-or, bit-shr, bit-mod, bit-shl_low, bit-shl_high, bit_above}
+use Rattle.bbm_rule.proofs.MarkLemmas.{bit_ones}
+
+-- n ones from bit k on
+abbrev ones_from : ℕ → ℕ → ℕ
+ones_from n k = 18446744073709551615 / 2 ^ (64 - n) * 2 ^ k % 18446744073709551616
+
+shifted : (n k j : ℕ) → k ≤ j → j < 64 → bit (ones_from n k) j ≡ bit 18446744073709551615 (64 - n + (j - k))
+shifted n k j low high =
+    let e : j ≡ k + (j - k) = omega arith in
+    bit-mod (18446744073709551615 / 2 ^ (64 - n) * 2 ^ k) 64 j high
+    ∙ (ap (bit (18446744073709551615 / 2 ^ (64 - n) * 2 ^ k)) e
+    ∙ (bit-shl_high (18446744073709551615 / 2 ^ (64 - n)) k (j - k) (pow_pos k)
+    ∙ bit-shr 18446744073709551615 (64 - n) (j - k)))
+
+one_inside : (n k j : ℕ) → k ≤ j → j < k + n → k + n ≤ 64 → bit (ones_from n k) j ≡ true
+one_inside n k j low high room = shifted n k j low (omega arith) ∙ bit_ones (64 - n + (j - k)) (omega arith)
+
+zero_before : (n k j : ℕ) → j < k → k ≤ 64 → bit (ones_from n k) j ≡ false
+zero_before n k j low room =
+    bit-mod (18446744073709551615 / 2 ^ (64 - n) * 2 ^ k) 64 j (omega arith)
+    ∙ bit-shl_low (18446744073709551615 / 2 ^ (64 - n)) k j low
+
+zero_after : (n k j : ℕ) → k + n ≤ j → j < 64 → 0 < n → n ≤ 64 → bit (ones_from n k) j ≡ false
+zero_after n k j low high some most =
+    shifted n k j (omega arith) high
+    ∙ bit_above 18446744073709551615 64 (64 - n + (j - k)) (omega arith) (omega arith)
+
+or_true : (a b : _) → b ≡ true → (a || b) ≡ true
+or_true true b e = refl
+or_true false b e = e
+
+or_false : (a b : _) → b ≡ false → (a || b) ≡ a
+or_false true b e = refl
+or_false false b e = e
+
+-- The word at a place with n more ones.
+pub cells_filled : (words : List ℕ) (p n : ℕ) → p / 64 < length words → 0 < n → p % 64 + n ≤ 64 →
+    FillsRun p n words (set words (p / 64) (bit_or (get_or words (p / 64) 0) (ones_from n (p % 64))))
+unfolding cell_at
+cells_filled words p n room some within = record {
+  there = λ q low high.
+      let same : q / 64 ≡ p / 64 = omega arith in
+      rw (same, get_or-set_same words (p / 64) (bit_or (get_or words (p / 64) 0) (ones_from n (p % 64))) 0 room)
+      (bit-or (get_or words (p / 64) 0) (ones_from n (p % 64)) (q % 64)
+      ∙ or_true _ _ (one_inside n (p % 64) (q % 64) (omega arith) (omega arith) within));
+  before = λ q low. by_eq_or_not (q / 64) (p / 64)
+      (λ same.
+      rw (same, get_or-set_same words (p / 64) (bit_or (get_or words (p / 64) 0) (ones_from n (p % 64))) 0 room)
+      (bit-or (get_or words (p / 64) 0) (ones_from n (p % 64)) (q % 64)
+      ∙ or_false _ _ (zero_before n (p % 64) (q % 64) (omega arith) (omega arith))))
+      (λ differs. rw (get_or-set_other words (p / 64) (q / 64) _ 0 differs) refl);
+  after = λ q low. by_eq_or_not (q / 64) (p / 64)
+      (λ same.
+      rw (same, get_or-set_same words (p / 64) (bit_or (get_or words (p / 64) 0) (ones_from n (p % 64))) 0 room)
+      (bit-or (get_or words (p / 64) 0) (ones_from n (p % 64)) (q % 64)
+      ∙ or_false _ _ (zero_after n (p % 64) (q % 64) (omega arith) (omega arith) some (omega arith))))
+      (λ differs. rw (get_or-set_other words (p / 64) (q / 64) _ 0 differs) refl);
+}
