@@ -1,20 +1,50 @@
 -- Cells that are all live.
-use Rattle.std.proofs.Common.{◌≡◌, ℕ, ◌+◌, ◌<◌, Bool, true, false, ◌&&◌, [], ◌∷◌, refl, sym, ap, ap₂, ◌∙◌, arith, to_z}
-use Rattle.std.proofs.Common.{w32}
+use Rattle.std.proofs.Common.{◌≡◌, ℕ, zero, suc, ◌+◌, ◌<◌, ◌≤◌, Bool, true, false, ◌&&◌, refl, sym, ap, ap₂, ◌∙◌, arith}
+use Rattle.std.proofs.Common.{inl, inr, nat_eq}
+use Rattle.std.proofs.lemmas.Bool.{cases_Bool}
+use Rattle.std.proofs.lemmas.Bool.Decides.{nat_tests}
 use Rattle.std.specs.List.{list_all, flat_map, range_with_len}
 use Rattle.std.proofs.lemmas.List.Folds.{list_all-append}
-use Rattle.std.proofs.Math.Bool.{and-true}
+use Rattle.std.proofs.Math.Bool.{and-false}
 use Rattle.bbm_rule.specs.declared.block.Cell.{Cell}
 use Rattle.pattern.specs.Layout.{cell, row_cells}
-use Rattle.pattern.proofs.CellLists.{row_more, flat_map_range_more, cast_cell}
+use Rattle.pattern.proofs.CellLists.{flat_map_range_more}
 
-pub row_longer : (test : Cell → Bool) (x y : ℕ) (full here : Bool) → x < 512 → y < 512 →
-    full ≡ list_all test (row_cells 0 x y) → here ≡ test (record { x = to_z w32 x; y = to_z w32 y }) →
-    (full && here) ≡ list_all test (row_cells 0 (x + 1) y)
-row_longer test x y full here low row before now =
-    ap₂ (λ a b. a && b) before (now ∙ ap test (cast_cell x y low row) ∙ sym (and-true _))
-    ∙ sym (list_all-append test (row_cells 0 x y) (cell x y ∷ []))
-    ∙ ap (list_all test) (sym (row_more 0 x y x (omega arith)))
+all_in_row : (test : Cell → Bool) (x n y : ℕ) → ((k : ℕ) → k < n → test (cell (x + k) y) ≡ true) →
+    list_all test (row_cells x n y) ≡ true
+all_in_row test x zero y all = refl
+all_in_row test x (suc n) y all =
+    let e : x + 0 ≡ x = omega arith in
+    let here = rw e at (all 0 (omega arith)) in
+    rw here (all_in_row test (x + 1) n y (λ k l.
+    let e : x + suc k ≡ x + 1 + k = omega arith in rw e at (all (suc k) (omega arith))))
+
+not_all_in_row : (test : Cell → Bool) (x n y k : ℕ) → k < n → test (cell (x + k) y) ≡ false →
+    list_all test (row_cells x n y) ≡ false
+not_all_in_row test x zero y k l f = absurd (omega arith)
+not_all_in_row test x (suc n) y zero l f =
+    let e : x + 0 ≡ x = omega arith in
+    let f = rw e at f in
+    rw f refl
+not_all_in_row test x (suc n) y (suc k) l f =
+    let e : x + suc k ≡ x + 1 + k = omega arith in
+    let f = rw e at f in
+    rw (not_all_in_row test (x + 1) n y k (omega arith) f) (and-false (test (cell x y)))
+
+-- All n cells of a row pass the test if the first that fails it is past them.
+pub row_full : (test : Cell → Bool) (n y first : ℕ) → first ≤ n →
+    ((k : ℕ) → 0 ≤ k → k < first → test (cell k y) ≡ true) → (first < n → test (cell first y) ≡ false) →
+    nat_eq first n ≡ list_all test (row_cells 0 n y)
+row_full test n y first high all last = elim (cases_Bool (nat_eq first n)) [
+  | inl e ↦
+      let whole : first ≡ n = grind (arith, nat_tests) in
+      e ∙ sym (all_in_row test 0 n y (λ k l.
+      let e : 0 + k ≡ k = omega arith in rw e (all k (omega arith) (omega arith))))
+  | inr e ↦
+      let l : first < n = grind (arith, nat_tests) in
+      let from_zero : 0 + first ≡ first = omega arith in
+      e ∙ sym (not_all_in_row test 0 n y first l (rw from_zero (last l)))
+]
 
 pub rows_longer : (test : Cell → Bool) (w y : ℕ) (full here : Bool) →
     full ≡ list_all test (flat_map (row_cells 0 w) (range_with_len 0 y)) → here ≡ list_all test (row_cells 0 w y) →

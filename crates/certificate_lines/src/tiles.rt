@@ -35,15 +35,7 @@ fn is_row_full(grid: &Grid, w: u32, y: u32) -> bool
     requires row { (y < grid.now.height) × (y < 512) }
     ensures { result ≡ list_all (λ c. live grid.now c.x c.y) (row_cells 0 w y) }
 {
-    let mut full = true;
-    for x in 0..w {
-        let cell = Cell {
-            x: x as i32,
-            y: y as i32,
-        };
-        full &= grid.get(cell);
-    }
-    full
+    grid.next_dead(y, 0, w) == w
 }
 
 /// Returns whether all cells of a rectangle from the cell (0, 0) on, as wide and as high as the grid, are live.
