@@ -4,7 +4,7 @@ use Rattle.std.specs.List.{flat_map}
 use Rattle.std.specs.declared.hash.DefaultHasher.{DefaultHasher}
 use Rattle.std.specs.Hash.DefaultHasher as sip
 use Rattle.memchr.specs.Find.{first_of, matches}
-use Rattle.sha2.specs.Sha256.{sha256}
+use Rattle.sha2.specs.Sha512.{sha512}
 use Rattle.section_text.specs.declared.seed.Seed.{Seed}
 
 -- the hasher that it makes
@@ -15,9 +15,9 @@ initial_hasher s = s.initial
 abbrev pub seed_behind : List ℕ → Seed
 seed_behind digest = record { initial = sip.write sip.initial digest }
 
--- the seed of a text: that of its SHA-256 digest
+-- the seed of a text: that of its SHA-512 digest
 abbrev pub seed_of : List ℕ → Seed
-seed_of text = seed_behind (sha256 text)
+seed_of text = seed_behind (sha512 text)
 
 -- the text through the line feed of an `end` line that begins at a place, which is the line feed before it
 abbrev pub through_end : List ℕ → Option ℕ → List ℕ
