@@ -89,7 +89,8 @@ pub(crate) fn make_room_for_wires(
         known.new) }
 {
     match entry {
-        CertificateLine::Cut(_) => known.reserve(1),
+        // A cut is mostly followed by another one or by a gate, so this makes room for a few wires at once.
+        CertificateLine::Cut(_) => known.reserve(8),
         CertificateLine::Use(number) => match tables.gate(*number) {
             Some(gate) => known.reserve(gate.outs().len()),
             None => Ok(()),

@@ -147,7 +147,9 @@ impl Locals {
         ensures given { IfOk result (λ l. l.netlist.given ≡ length cuts.now) }
     {
         let circuit_gates = gates.to_vec(alloc)?;
-        let mut circuit_wires = IndexSet::new(alloc);
+        // Room for most modules: a gate mostly defines one to three wires.
+        let room = cuts.len().saturating_add(gates.len().saturating_mul(3));
+        let mut circuit_wires = IndexSet::with_capacity(alloc, room)?;
         let gates = add_lines(alloc, &mut circuit_wires, circuit, cuts, gates)?;
         Ok(Locals {
             given: cuts.len(),
