@@ -10,3 +10,4 @@ pub mod PortTables
 pub mod Rules
 pub mod Settings
 pub mod Versions
+pub mod LastNames

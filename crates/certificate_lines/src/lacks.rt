@@ -5,7 +5,9 @@ ghost use Rattle.certificate_lines.specs.Entries.{ModuleLines, areas, edge_in, k
 ghost use Rattle.certificate_lines.specs.ModuleParts.{AreInBox};
 ghost use Rattle.certificate_lines.specs.Rules.{whole};
 ghost use Rattle.module_box.specs.Boxes.{in_box, in_halo};
+ghost use Rattle.circuit.specs.Meaning.{wire_of};
 ghost use Rattle.certificate_lines.specs.BuilderView.{AreModuleOwners, is_lacked, is_strange_outside, is_wire_lacked, lacks_edge};
+ghost use Rattle.certificate_lines.specs.LastNames.{IsLastName};
 ghost use Rattle.certificate_lines.specs.Versions.{is_strange, lacks_wire};
 
 use crate::blocks::odd_partner;
@@ -67,6 +69,34 @@ fn has_unknown(
         }
     }
     false
+}
+
+// The name that was looked up last, and the number of the circuit's wire of that name.
+#[derive(Clone, Copy)]
+struct LastName<'b> {
+    name: &'b Name,
+    wire: Option<u16>,
+}
+
+// Returns the number of the circuit's wire of this name. Most edge lines have the name of the line before them, and to
+// compare two names costs less than to look one up by its hash.
+fn wire_by_last<'b>(
+    tables: &LineTables,
+    last: &mut Option<LastName<'b>>,
+    name: &'b Name,
+) -> Option<u16>
+    requires last { IsLastName tables.now.circuit last.old }
+    ensures wire { result ≡ wire_of tables.now.circuit name.now }
+    ensures last { IsLastName tables.now.circuit last.new }
+{
+    if let Some(known) = *last {
+        if *known.name == *name {
+            return known.wire;
+        }
+    }
+    let wire = tables.wire(name);
+    *last = Some(LastName { name, wire });
+    wire
 }
 
 impl<'a> Builder<'a> {
@@ -185,32 +215,49 @@ impl<'a> Builder<'a> {
     }
 
     // Whether some module has the cell of an edge line in its halo, and lacks its wire.
-    fn is_lacked(&self, owners: &Owners, border: &Border) -> bool
+    fn is_lacked<'b>(
+        &self,
+        owners: &Owners,
+        last: &mut Option<LastName<'b>>,
+        border: &'b Border,
+    ) -> bool
         requires owners { AreModuleOwners self.now owners.now }
+        requires last { IsLastName self.now.setting.circuit last.old }
         requires inside { IsTrue
             (in_box (whole self.now.setting.size) border.now.cell.x border.now.cell.y) }
-        ensures { result
+        ensures lacked { result
             ≡ is_lacked self.now.setting.circuit (modules_of self.now.entries) border.now }
+        ensures last { IsLastName self.now.setting.circuit last.new }
     {
-        // The name is looked up once for all modules beside the cell.
-        match border.signal {
+        match &border.signal {
             None => false,
-            Some(name) => self.is_unknown_beside(owners, border.cell, self.tables.wire(&name)),
+            Some(name) => {
+                // The name is looked up once for all modules beside the cell.
+                let wire = wire_by_last(&self.tables, last, name);
+                self.is_unknown_beside(owners, border.cell, wire)
+            }
         }
     }
 }
 
 impl<'a> Builder<'a> {
     // The same of a line, if it is an edge line.
-    fn is_unknown_line_beside(&self, owners: &Owners, line: &CertificateLine) -> bool
+    fn is_unknown_line_beside<'b>(
+        &self,
+        owners: &Owners,
+        last: &mut Option<LastName<'b>>,
+        line: &'b CertificateLine,
+    ) -> bool
         requires owners { AreModuleOwners self.now owners.now }
+        requires last { IsLastName self.now.setting.circuit last.old }
         requires inside { AreInBox (whole self.now.setting.size) (edge_in line.now) }
-        ensures { result
+        ensures lacked { result
             ≡ list_any (is_lacked self.now.setting.circuit (modules_of self.now.entries))
             (edge_in line.now) }
+        ensures last { IsLastName self.now.setting.circuit last.new }
     {
         match line {
-            CertificateLine::Edge(border) => self.is_lacked(owners, border),
+            CertificateLine::Edge(border) => self.is_lacked(owners, last, border),
             _ => false,
         }
     }
@@ -223,8 +270,9 @@ impl<'a> Builder<'a> {
             ≡ list_any (lacks_edge self.now.setting.circuit (flat_map edge_in lines.now))
             (modules_of self.now.entries) }
     {
+        let mut last = None;
         'lines: for line in lines {
-            if self.is_unknown_line_beside(owners, line) {
+            if self.is_unknown_line_beside(owners, &mut last, line) {
                 return true;
             }
         }

@@ -1,4 +1,3 @@
-use Rattle.std.proofs.Common.{arith}
 use Rattle.bbm_rule.specs.Board.{live}
 use Rattle.certificate_lines.proofs.TileLemmas.{row_full}
 use Rattle.certificate_lines.proofs.tiles.is_row_full.Goals as goal

@@ -2,7 +2,7 @@ use Rattle.certificate_lines.specs.Entries.{modules_of}
 use Rattle.certificate_lines.proofs.OddBlocks.{lacked_constant}
 use Rattle.certificate_lines.proofs.builder.Builder.is_lacked.Goals as goal
 
-pub returns-in-None : goal.returns-in-None
-returns-in-None c =
+pub returns-in-None-clause-lacked : goal.returns-in-None-clause-lacked
+returns-in-None-clause-lacked c =
     let v = c.args.self.now in
     lacked_constant v.setting.circuit (modules_of v.entries) c.args.border.now c.in-None.is

@@ -21,13 +21,13 @@ pub returns-then-is_unknown_line_beside : goal.returns-then-is_unknown_line_besi
 returns-then-is_unknown_line_beside c =
     let v = c.args.self.now in let ms = modules_of v.entries in
     sym (any_here (is_lacked v.setting.circuit ms) edge_in c.args.lines.now c.lines.line-index c.line-item.result
-    c.lines-test.true c.line-item.is (sym c.is_unknown_line_beside.ensures ∙ c.if-is_unknown_line_beside.true))
+    c.lines-test.true c.line-item.is (sym c.is_unknown_line_beside.ensures.lacked ∙ c.if-is_unknown_line_beside.true))
     ∙ lacked_by_lines v.setting.circuit ms (flat_map edge_in c.args.lines.now)
 
 pub returns : goal.returns
 returns c =
     let v = c.args.self.now in let ms = modules_of v.entries in
-    sym c.lines.invariant
+    sym c.lines.invariant.none
     ∙ ap (λ l. list_any (is_lacked v.setting.circuit ms) (flat_map edge_in l))
     (take_all c.lines.line-index c.args.lines.now c.lines-test.false)
     ∙ lacked_by_lines v.setting.circuit ms (flat_map edge_in c.args.lines.now)
