@@ -11,23 +11,6 @@ use crate::layout_line::{LayoutHeader, LayoutLine, Port, Rectangle};
 use bbm_rule::Cell;
 use section_text::{Feed, FiveWords, Form, FourWords, Line, Name, read_number};
 
-/// Returns the cell that a word of a line and the next one are, by its column and its row.
-///
-/// It returns `None` if one of the two words is no number, or is not there.
-#[tactic(auto, unfolding(crate::specs::Forms::cell_from))]
-pub fn read_cell(feed: &Feed, line: &Line, index: usize) -> Option<Cell>
-    requires line { IsLine feed.now line.now }
-    requires near { index ≤ 8 }
-    ensures { result ≡ cell_from (words_of (line_bytes feed.now line.now)) index }
-{
-    let x = feed.number(line, index)?;
-    let y = feed.number(line, index + 1)?;
-    Some(Cell {
-        x: x as i32,
-        y: y as i32,
-    })
-}
-
 fn lone_cell_on(feed: &Feed, line: &Line) -> Option<Cell>
     requires { IsLine feed.now line.now }
     ensures { result ≡ lone_cell (words_of (line_bytes feed.now line.now)) }

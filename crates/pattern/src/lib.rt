@@ -16,7 +16,7 @@ mod run;
 mod taken;
 
 pub use assign::read_assign;
-pub use form::{cell_from_words, read_cell};
+pub use form::cell_from_words;
 pub use layout::Layout;
 pub use layout_line::{LayoutHeader, LayoutLine, Port, Rectangle};
 pub use on::are_on;
