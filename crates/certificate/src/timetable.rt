@@ -134,9 +134,10 @@ pub(crate) fn signals_of(
     ensures events { IfOk result (λ s. All (λ e. IsBelow (wires locals.now.netlist) e.signal)
         s.events) }
 {
-    // Room for each line costs less than a count of those of this side: it is freed soon, and most is never touched.
+    // Few lines have a star. For the others, room for each line costs less than a count of those of this side: it is
+    // freed soon, and most is never touched.
     let mut table = Timetable {
-        all_times: Vec::with_capacity(alloc, lines.len())?,
+        all_times: Vec::new(alloc),
         events: Vec::with_capacity(alloc, lines.len())?,
         slots: empty_slots(),
     };

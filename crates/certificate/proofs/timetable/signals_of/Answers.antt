@@ -12,8 +12,8 @@ use Rattle.certificate.proofs.TimetableLemmas.{table_events_rise}
 use Rattle.certificate.proofs.timetable.signals_of.Goals as goal
 
 pub lines-init : goal.lines-init
-lines-init c = no_lines (circuit_of c.args.circuit.now) c.args.locals.now _ c.in_ok-with_capacity.ensures.items
-    c.in_ok-with_capacity-2.ensures.items
+lines-init c = no_lines (circuit_of c.args.circuit.now) c.args.locals.now _ c.new.ensures.items
+    c.in_ok-with_capacity.ensures.items
     (no_names (circuit_of c.args.circuit.now) c.args.locals.now _ c.empty_slots.ensures)
 
 pub add_line-requires : goal.add_line-requires
@@ -26,15 +26,15 @@ lines-preserved c = next_table
     (circuit_of c.args.circuit.now) c.args.locals.now c.args.side c.args.lines.now c.lines.line-index c.line-item.result
     _ c.lines-test.true c.line-item.is (c.in_ok-add_line.ensures _ c.lines.invariant)
 
-pub new-requires-clause-all_times : goal.new-requires-clause-all_times
-new-requires-clause-all_times c =
+pub new-requires-2-clause-all_times : goal.new-requires-2-clause-all_times
+new-requires-2-clause-all_times c =
     table_all_times_rises (circuit_of c.args.circuit.now) c.args.locals.now c.args.side c.args.lines.now _
     c.requires.order
     (all_lines (circuit_of c.args.circuit.now) c.args.locals.now c.args.side c.args.lines.now c.lines.line-index _
     c.lines-test.false c.lines.invariant)
 
-pub new-requires-clause-events : goal.new-requires-clause-events
-new-requires-clause-events c =
+pub new-requires-2-clause-events : goal.new-requires-2-clause-events
+new-requires-2-clause-events c =
     table_events_rise (circuit_of c.args.circuit.now) c.args.locals.now c.args.side c.args.lines.now _ c.requires.order
     (all_lines (circuit_of c.args.circuit.now) c.args.locals.now c.args.side c.args.lines.now c.lines.line-index _
     c.lines-test.false c.lines.invariant)
@@ -45,12 +45,12 @@ returns-clause-same_signals c =
     _ c.lines-test.false c.lines.invariant in
     let f = circuit_wire c.args.locals.now in
     ap
-    (λ hs. record { all_times = map (renumber_all_times f) hs; events = map (renumber_event f) c.new.result.events })
-    c.new.ensures.all_times ∙
+    (λ hs. record { all_times = map (renumber_all_times f) hs; events = map (renumber_event f) c.new-2.result.events })
+    c.new-2.ensures.all_times ∙
     ap
     (λ es.
     record { all_times = map (renumber_all_times f) c.lines.table.all_times.items; events = map (renumber_event f) es })
-    c.new.ensures.events ∙
+    c.new-2.ensures.events ∙
     ap (λ hs. record { all_times = hs; events = map (renumber_event f) c.lines.table.events.items }) t.all_times ∙
     ap (λ es. record {
       all_times = (line_signals (circuit_of c.args.circuit.now)
@@ -61,9 +61,9 @@ returns-clause-same_signals c =
 pub returns-clause-all_times : goal.returns-clause-all_times
 returns-clause-all_times c =
     subst (All (λ h. IsBelow (wires c.args.locals.now.netlist) h.signal))
-    (sym c.new.ensures.all_times) c.lines.invariant.own_all_times
+    (sym c.new-2.ensures.all_times) c.lines.invariant.own_all_times
 
 pub returns-clause-events : goal.returns-clause-events
 returns-clause-events c =
     subst (All (λ e. IsBelow (wires c.args.locals.now.netlist) e.signal))
-    (sym c.new.ensures.events) c.lines.invariant.own_events
+    (sym c.new-2.ensures.events) c.lines.invariant.own_events
