@@ -21,18 +21,17 @@ same_none false x e = e
 
 -- ---- lines of five words
 
--- a line of five words that begins with `edge`
-pub edge_form : (w : FiveWords) (o : Option Border) → bytes_eq w.first.now (codes "edge") ≡ true →
-    o ≡ border_of (listed w) → (o >>= λ e. Some (Item (Edge e))) ≡ form_of (listed w)
-unfolding form_of is_word_at
-edge_form w o edge is = ap (λ z. z >>= λ e. Some (Item (Edge e))) is ∙ sym (cond-true _ _ _ edge)
+-- a line that begins with `edge`
+pub edge_form : (ws : List (List ℕ)) (o : Option Border) → is_word_at ws 0 (codes "edge") ≡ true →
+    o ≡ border_of ws → (o >>= λ e. Some (Item (Edge e))) ≡ form_of ws
+unfolding form_of
+edge_form ws o edge is = ap (λ z. z >>= λ e. Some (Item (Edge e))) is ∙ sym (cond-true _ _ _ edge)
 
--- a line of five words that begins with `halo`
-pub halo_form : (w : FiveWords) (o : Option Border) → bytes_eq w.first.now (codes "edge") ≡ false →
-    bytes_eq w.first.now (codes "halo") ≡ true → o ≡ border_of (listed w) →
-    (o >>= λ e. Some (Item (Halo e))) ≡ form_of (listed w)
-unfolding form_of is_word_at
-halo_form w o edge halo is =
+-- a line that begins with `halo`
+pub halo_form : (ws : List (List ℕ)) (o : Option Border) → is_word_at ws 0 (codes "edge") ≡ false →
+    is_word_at ws 0 (codes "halo") ≡ true → o ≡ border_of ws → (o >>= λ e. Some (Item (Halo e))) ≡ form_of ws
+unfolding form_of
+halo_form ws o edge halo is =
     ap (λ z. z >>= λ e. Some (Item (Halo e))) is ∙ sym (cond-false _ _ _ edge ∙ cond-true _ _ _ halo)
 
 -- a line of five words that begins with no keyword of such lines has no form
@@ -53,9 +52,13 @@ five_is : {A : Type 0} (b : Bool) (x y : A) → (if b then Some x else None) ≡
 five_is true x y e = same_Some x y e
 five_is false x y e = absurd cc
 
-pub long_form_is : (ws : List (List ℕ)) (w : FiveWords) → Some (listed w) ≡ five ws → form_of (listed w) ≡ form_of ws
+-- the words of a line of five
+pub five_words_are : (ws : List (List ℕ)) (w : FiveWords) → Some (listed w) ≡ five ws → ws ≡ listed w
 unfolding five
-long_form_is ws w e = ap form_of (sym (five_is (length ws == 5) ws (listed w) (sym e)))
+five_words_are ws w e = five_is (length ws == 5) ws (listed w) (sym e)
+
+pub long_form_is : (ws : List (List ℕ)) (w : FiveWords) → Some (listed w) ≡ five ws → form_of (listed w) ≡ form_of ws
+long_form_is ws w e = ap form_of (sym (five_words_are ws w e))
 
 -- ---- lines of another number of words
 

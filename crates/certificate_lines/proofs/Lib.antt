@@ -1,5 +1,6 @@
 pub mod AnyLines
 pub mod BorderLines
+pub mod BorderText
 pub mod BoxPlaces
 pub mod BuiltLemmas
 pub mod CountLemmas

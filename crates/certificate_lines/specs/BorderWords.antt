@@ -1,5 +1,5 @@
 -- The meaning of the words behind the keyword of an edge, halo or stop line
-use Rattle.std.specs.Prelude.{ℕ, List, codes, Option, Some, None, if◌then◌else◌}
+use Rattle.std.specs.Prelude.{ℕ, List, [], ◌∷◌, codes, Option, Some, None, if◌then◌else◌}
 use Rattle.std.specs.Str.{bytes_eq}
 use Rattle.section_text.specs.Words.{number_of, name_of, ◌>>=◌}
 use Rattle.pattern.specs.PortWords.{cell_by}
@@ -13,6 +13,18 @@ time_by w = if bytes_eq w (codes "*") then Some None else (number_of w >>= λ t.
 -- the signal that a word is: `1`, or a name
 unfoldable pub signal_by : List ℕ → Option (Option (List ℕ))
 signal_by w = if bytes_eq w (codes "1") then Some None else (name_of w >>= λ n. Some (Some n))
+
+-- the time that the first of several words is, and the words behind it
+unfoldable pub leading_time : List (List ℕ) → Option (Option ℕ × List (List ℕ))
+leading_time [] = None
+leading_time (word ∷ []) = None
+leading_time (word ∷ next ∷ others) = time_by word >>= λ t. Some (t, next ∷ others)
+
+-- the signal of a line of one word
+unfoldable pub lone_signal : List (List ℕ) → Option (Option (List ℕ))
+lone_signal [] = None
+lone_signal (word ∷ []) = signal_by word
+lone_signal (word ∷ next ∷ others) = None
 
 -- the edge or halo line of four words
 unfoldable pub border_by : List ℕ → List ℕ → List ℕ → List ℕ → Option Border

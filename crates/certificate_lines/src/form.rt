@@ -1,16 +1,18 @@
 //! The line forms of the certificate section.
-ghost use Rattle.std.specs.Prelude.{◌≡◌, codes, false};
+ghost use Rattle.std.specs.Prelude.{◌≡◌, ℕ, List, ◌∷◌, take, codes, false};
+ghost use Rattle.std.specs.Option.{option_map};
 ghost use Rattle.std.specs.Str.{bytes_eq};
 ghost use Rattle.section_text.specs.Listed.{listed};
 ghost use Rattle.section_text.specs.Words.{words_of, lone};
 ghost use Rattle.section_text.specs.Feeds.{IsLine, line_bytes};
 ghost use Rattle.certificate_lines.specs.Forms.{Line as FormLine, area_of, border_of, form_of, short_form_of, stop_of};
-ghost use Rattle.certificate_lines.specs.BorderWords.{signal_by, time_by};
+ghost use Rattle.certificate_lines.specs.BorderWords.{leading_time, signal_by};
 
 use crate::certificate_line::{Border, CertificateLine, StopLine};
+use bbm_rule::Cell;
 use module_box::Box2;
 use pattern::cell_from_words;
-use section_text::{Feed, FiveWords, Form, Line, Name, read_number};
+use section_text::{Feed, FiveWords, Form, Line, Name, read_number, take_number};
 
 #[tactic(auto, unfolding(crate::specs::Forms::area_of, crate::specs::Forms::corner_and_sides, section_text::specs::Words::number_at))]
 fn area_of_words(words: &FiveWords) -> Option<Box2>
@@ -23,14 +25,26 @@ fn area_of_words(words: &FiveWords) -> Option<Box2>
     Some(Box2 { x, y, w, h })
 }
 
-#[tactic(auto, unfolding(crate::specs::BorderWords::time_by))]
-fn time_of(word: &[u8]) -> Option<Option<u32>>
-    ensures { result ≡ time_by word.now }
+// Whether a line begins with a `*` and a space.
+fn begins_with_star(line: &[u8]) -> bool
+    ensures { result ≡ bytes_eq (take 2 line.now) (codes "* ") }
 {
-    if word == b"*".as_slice() {
-        return Some(None);
+    match line {
+        [b'*', b' ', ..] => true,
+        _ => false,
     }
-    Some(Some(read_number(word)?))
+}
+
+// The time that is the first of several words of a line, and what stands behind its space.
+#[inline(always)]
+fn take_time(line: &[u8]) -> Option<(Option<u32>, &[u8])>
+    ensures { option_map (λ r. (r.0, words_of r.1.now)) result ≡ leading_time (words_of line.now) }
+{
+    if begins_with_star(line) {
+        return Some((None, &line[2..]));
+    }
+    let (time, rest) = take_number(line)?;
+    Some((Some(time), rest))
 }
 
 #[tactic(auto, unfolding(crate::specs::BorderWords::signal_by))]
@@ -43,13 +57,19 @@ fn signal_of(word: &[u8]) -> Option<Option<Name>>
     Some(Some(Name::of(word)?))
 }
 
-#[tactic(auto, unfolding(crate::specs::Forms::border_of, crate::specs::Forms::timed_cell, crate::specs::Forms::time_at, crate::specs::Forms::signal_at, pattern::specs::Forms::cell_from, section_text::specs::Words::is_word_at, section_text::specs::Words::number_at, section_text::specs::Words::name_at, pattern::specs::PortWords::cell_by, crate::specs::BorderWords::time_by, crate::specs::BorderWords::signal_by))]
-fn border_of_words(words: &FiveWords) -> Option<Border>
-    ensures { result ≡ border_of (listed words.now) }
+// The content of an edge or halo line, by what stands behind its keyword and a space.
+#[inline(always)]
+fn border_behind(line: &[u8]) -> Option<Border>
+    ensures { (keyword : List ℕ) → result ≡ border_of (keyword ∷ words_of line.now) }
 {
-    let time = time_of(words.second)?;
-    let cell = cell_from_words(words.third, words.fourth)?;
-    let signal = signal_of(words.fifth)?;
+    let (time, line) = take_time(line)?;
+    let (x, line) = take_number(line)?;
+    let (y, line) = take_number(line)?;
+    let signal = signal_of(line)?;
+    let cell = Cell {
+        x: x as i32,
+        y: y as i32,
+    };
     Some(Border { time, cell, signal })
 }
 
@@ -82,22 +102,22 @@ fn is_keyword(word: &[u8], keyword: &[u8]) -> bool
     word == keyword
 }
 
-// Whether a word is `edge`. A pattern is compared in place, without a call.
-fn is_edge_word(word: &[u8]) -> bool
-    ensures { result ≡ bytes_eq word.now (codes "edge") }
+// Whether a line begins with `edge` and a space. A pattern is compared in place, without a call.
+fn is_edge_line(line: &[u8]) -> bool
+    ensures { result ≡ bytes_eq (take 5 line.now) (codes "edge ") }
 {
-    match word {
-        [b'e', b'd', b'g', b'e'] => true,
+    match line {
+        [b'e', b'd', b'g', b'e', b' ', ..] => true,
         _ => false,
     }
 }
 
-// Whether a word is `halo`.
-fn is_halo_word(word: &[u8]) -> bool
-    ensures { result ≡ bytes_eq word.now (codes "halo") }
+// Whether a line begins with `halo` and a space.
+fn is_halo_line(line: &[u8]) -> bool
+    ensures { result ≡ bytes_eq (take 5 line.now) (codes "halo ") }
 {
-    match word {
-        [b'h', b'a', b'l', b'o'] => true,
+    match line {
+        [b'h', b'a', b'l', b'o', b' ', ..] => true,
         _ => false,
     }
 }
@@ -141,7 +161,7 @@ fn short_form(feed: &Feed, line: &Line) -> Option<Form<u32, CertificateLine>>
     }
 }
 
-/// Returns the form of a line, if it has one. It passes over the words of a line of five once.
+/// Returns the form of a line, if it has one. It passes over an edge or halo line once.
 ///
 /// Most lines of a certificate are edge and halo lines. So these are formed here, and the others in functions of their
 /// own, since each call that returns a form copies its 64 bytes.
@@ -149,14 +169,15 @@ pub fn line_form(feed: &Feed, line: &Line) -> Option<Form<u32, CertificateLine>>
     requires { IsLine feed.now line.now }
     ensures { result ≡ form_of (words_of (line_bytes feed.now line.now)) }
 {
-    let Some(words) = feed.five_words(line) else {
-        return short_form(feed, line);
-    };
-    let is_edge = is_edge_word(words.first);
-    if !is_edge && !is_halo_word(words.first) {
+    let bytes = feed.line(line);
+    let is_edge = is_edge_line(bytes);
+    if !is_edge && !is_halo_line(bytes) {
+        let Some(words) = feed.five_words(line) else {
+            return short_form(feed, line);
+        };
         return other_form(words);
     }
-    let border = border_of_words(&words)?;
+    let border = border_behind(&bytes[5..])?;
     if is_edge {
         Some(Form::Item(CertificateLine::Edge(border)))
     } else {

@@ -16,3 +16,4 @@ pub mod Splitting
 pub mod WordsLeft
 pub mod SaidSections
 pub mod MadeSections
+pub mod Leading

@@ -45,7 +45,7 @@ pub number_small : (w : List ℕ) → is_number w ≡ true → read_on 0 w < 10 
 number_small w e = let word = number_word w e in digits_value_short own w 9 word.digits word.few
 
 -- a number of at most nine digits can be written
-is_one : (w : List ℕ) → list_all is_digit w ≡ true → 0 < length w → length w ≤ 9 →
+pub is_one : (w : List ℕ) → list_all is_digit w ≡ true → 0 < length w → length w ≤ 9 →
     (length w ≡ 1) ⊎ (48 < get_or w 0 0) → is_number w ≡ true
 is_one [] digits some few plain = absurd (omega arith)
 is_one (b ∷ bs) digits some few (inl one) = grind (arith, nat_tests)

@@ -2,7 +2,7 @@
 ghost use Rattle.std.specs.Prelude.{drop, take, ◌≡◌, ◌==◌, ℕ, ◌+◌, ◌-◌, ◌^◌, ◌<◌, ◌≤◌, ◌↔◌, true, false, List, [], ◌∷◌, ◌++◌, length, Option, Some, None, Ok, Err, IsTrue, IsOk, IfOk, IfErr, ◌≢◌, OnOk, OnErr, IfNone, IfSome, MatchOption, unwrap_or, slice_get, slice_range, option_and_then, map};
 ghost use Rattle.std.specs.Option.{option_copied, option_map, ForSome};
 ghost use Rattle.std.specs.List.{flat_map, position, list_all};
-ghost use Rattle.section_text.specs.Words.{lines_of, is_digit, is_number, read_on, is_word_at, is_line_feed, is_space, rest_of, words_of, number_of, number_at, name_at, names_at, names_beside_arrow, lone, lone_number, lone_name, second_of_two, three, four, five, words_left};
+ghost use Rattle.section_text.specs.Words.{lines_of, is_digit, is_number, read_on, leading_number, is_word_at, is_line_feed, is_space, rest_of, words_of, number_of, number_at, name_at, names_at, names_beside_arrow, lone, lone_number, lone_name, second_of_two, three, four, five, words_left};
 ghost use Rattle.section_text.specs.declared.code.RefusalCode.TheVariants.{TextCut};
 ghost use Rattle.section_text.specs.declared.fault.ReadFault.TheVariants.{Memory};
 ghost use Rattle.section_text.specs.Listed.{three_listed, four_listed, listed};
@@ -22,6 +22,9 @@ use std::marker::Model;
 
 /// The limit on the length of a text, in bytes: 16 MiB.
 pub const MAX_TEXT_BYTES: usize = 16_777_216;
+
+// The most digits of a number.
+const MAX_DIGITS: usize = 9;
 
 // The most bytes of a text that a seed is of: 1 MiB, which is more than the longest circuit section has.
 const MAX_SEEDED_BYTES: usize = 1_048_576;
@@ -368,6 +371,79 @@ pub fn read_number(word: &[u8]) -> Option<u32>
     }
 }
 
+// The number whose first digit is given and whose others a line begins with, and what stands behind the number's space.
+#[inline(always)]
+fn take_digits(first: u8, line: &[u8]) -> Option<(u32, &[u8])>
+    requires first { (49 ≤ first) × (first ≤ 57) }
+    ensures number { option_map (λ r. (r.0, words_of r.1.now)) result
+        ≡ leading_number (words_of (first ∷ line.now)) }
+    ensures small { IfSome result (λ r. r.0 < 10 ^ 9) }
+{
+    let mut number = u32::from(first - b'0');
+    let most = line.len().min(MAX_DIGITS - 1);
+    for at in 0..most {
+        let b = line[at];
+        if !b.is_ascii_digit() {
+            return if b == b' ' {
+                Some((number, &line[at + 1..]))
+            } else {
+                None
+            };
+        }
+        number = 10 * number + u32::from(b - b'0');
+    }
+    if most < line.len() && line[most] == b' ' {
+        Some((number, &line[most + 1..]))
+    } else {
+        None
+    }
+}
+
+// The number `0` of a line that goes on so behind this digit, and what stands behind its space.
+fn take_zero(line: &[u8]) -> Option<(u32, &[u8])>
+    ensures number { option_map (λ r. (r.0, words_of r.1.now)) result
+        ≡ leading_number (words_of (48 ∷ line.now)) }
+    ensures small { IfSome result (λ r. r.0 < 10 ^ 9) }
+{
+    match line {
+        [b' ', rest @ ..] => Some((0, rest)),
+        _ => None,
+    }
+}
+
+// The number of a line of this first byte, and what stands behind its space.
+#[inline(always)]
+fn take_from(first: u8, line: &[u8]) -> Option<(u32, &[u8])>
+    ensures number { option_map (λ r. (r.0, words_of r.1.now)) result
+        ≡ leading_number (words_of (first ∷ line.now)) }
+    ensures small { IfSome result (λ r. r.0 < 10 ^ 9) }
+{
+    if first == b'0' {
+        return take_zero(line);
+    }
+    if first.is_ascii_digit() {
+        take_digits(first, line)
+    } else {
+        None
+    }
+}
+
+/// Reads the number that is the first of several words of a line, and passes the space behind it.
+///
+/// It returns the number and the rest of the line, or `None` if the first word is no number or the line has no other
+/// word. It passes over the digits once.
+#[inline(always)]
+pub fn take_number(line: &[u8]) -> Option<(u32, &[u8])>
+    ensures number { option_map (λ r. (r.0, words_of r.1.now)) result
+        ≡ leading_number (words_of line.now) }
+    ensures small { IfSome result (λ r. r.0 < 10 ^ 9) }
+{
+    match line {
+        [] => None,
+        [first, rest @ ..] => take_from(*first, rest),
+    }
+}
+
 impl Feed {
     /// Creates the empty text, not closed. It takes no memory until the first piece.
     pub fn new(alloc: Global) -> Feed
@@ -483,8 +559,8 @@ impl Feed {
         &self.bytes[..self.at]
     }
 
-    // The bytes of a line.
-    fn line(&self, line: &Line) -> &[u8]
+    /// Returns the bytes of a line, without its line feed.
+    pub fn line(&self, line: &Line) -> &[u8]
         requires { IsLine self.now line.now }
         ensures { result.now ≡ line_bytes self.now line.now }
     {

@@ -15,7 +15,9 @@ mod spelling;
 
 pub use code::RefusalCode;
 pub use fault::{PushFault, ReadFault, Refusal};
-pub use feed::{Feed, FiveWords, FourWords, Line, MAX_TEXT_BYTES, ThreeWords, read_number};
+pub use feed::{
+    Feed, FiveWords, FourWords, Line, MAX_TEXT_BYTES, ThreeWords, read_number, take_number,
+};
 pub use name::Name;
 pub use names::Names;
 pub use ports::PortNames;

@@ -1,59 +1,70 @@
-use Rattle.std.proofs.Common.{◌≡◌, ◌∙◌, Bool, true, false, Some, None, ap, sym, option_map}
+use Rattle.std.proofs.Common.{◌≡◌, ◌∙◌, ◌∷◌, [], Bool, true, false, Some, None, refl, ap, sym, take, option_map}
 use Rattle.std.specs.Prelude.{codes}
 use Rattle.std.specs.Str.{bytes_eq}
 use Rattle.section_text.specs.Feeds.{line_bytes}
 use Rattle.section_text.specs.Listed.{listed}
 use Rattle.section_text.specs.Words.{words_of}
-use Rattle.certificate_lines.proofs.BorderLines.{edge_form, halo_form, long_form_is, short_form_is}
+use Rattle.certificate_lines.proofs.BorderLines.{five_words_are, long_form_is, short_form_is}
+use Rattle.certificate_lines.proofs.BorderText.{edge_line, halo_line, other_first}
 use Rattle.certificate_lines.proofs.form.line_form.Goals as goal
 use Rattle.certificate_lines.proofs.form.line_form.Goals.{else-not-is_edge-via-else-not-is_edge}
-use Rattle.certificate_lines.proofs.form.line_form.Goals.{else-not-is_edge-via-then-not-is_edge+else-not-is_halo_word}
+use Rattle.certificate_lines.proofs.form.line_form.Goals.{else-not-is_edge-via-then-not-is_edge+else-not-is_halo_line}
 use Rattle.certificate_lines.specs.Forms.{form_of}
 
 both : (b : Bool) → b ≡ true → b ≡ false → ⊥
 both b h k = cc
 
+pub other_form-requires-clause-no_edge : goal.other_form-requires-clause-no_edge
+other_form-requires-clause-no_edge c =
+    let w = c.in-Some.words in
+    other_first (codes "edge") (codes "edge ") c.line-bytes.result.now 5 (λ rest. refl)
+    (sym c.is_edge_line-is_edge.ensures ∙ c.if-not-is_edge.true)
+    w.first.now w.second.now (w.third.now ∷ w.fourth.now ∷ w.fifth.now ∷ [])
+    (ap words_of c.line-bytes.ensures ∙ five_words_are (words_of (line_bytes c.args.feed.now c.args.line.now)) w
+    (ap (option_map listed) (sym c.in-Some.is) ∙ c.five_words.ensures))
+
+pub other_form-requires-clause-no_halo : goal.other_form-requires-clause-no_halo
+other_form-requires-clause-no_halo c =
+    let w = c.in-Some.words in
+    other_first (codes "halo") (codes "halo ") c.line-bytes.result.now 5 (λ rest. refl)
+    (sym c.is_halo_line.ensures ∙ c.if-not-is_halo_line.true)
+    w.first.now w.second.now (w.third.now ∷ w.fourth.now ∷ w.fifth.now ∷ [])
+    (ap words_of c.line-bytes.ensures ∙ five_words_are (words_of (line_bytes c.args.feed.now c.args.line.now)) w
+    (ap (option_map listed) (sym c.in-Some.is) ∙ c.five_words.ensures))
+
 pub returns-in_default : goal.returns-in_default
 returns-in_default c = c.short_form.ensures ∙ short_form_is (words_of (line_bytes c.args.feed.now c.args.line.now))
     (ap (option_map listed) (sym c.in_default.is) ∙ c.five_words.ensures)
 
-pub returns-then-not-is_halo_word : goal.returns-then-not-is_halo_word
-returns-then-not-is_halo_word c = c.other_form.ensures
+pub returns-then-not-is_halo_line : goal.returns-then-not-is_halo_line
+returns-then-not-is_halo_line c = c.other_form.ensures
     ∙ long_form_is (words_of (line_bytes c.args.feed.now c.args.line.now)) c.in-Some.words
     (ap (option_map listed) (sym c.in-Some.is) ∙ c.five_words.ensures)
 
 pub returns-in_err-border : goal.returns-in_err-border
 returns-in_err-border c =
-    let w = c.in-Some.words in
-    let none = sym c.in_err-border.was ∙ c.border_of_words.ensures in
-    let form : None ≡ form_of (listed w) = elim c.else-not-is_edge.branch [
-      | else-not-is_edge-via-then-not-is_edge+else-not-is_halo_word b ↦ halo_form w None
-          (sym c.is_edge_word-is_edge.ensures ∙ b.if-not-is_edge.true)
-          (sym b.is_halo_word.ensures ∙ b.if-not-is_halo_word.false) none
-      | else-not-is_edge-via-else-not-is_edge b ↦ edge_form w None
-          (sym c.is_edge_word-is_edge.ensures ∙ b.if-not-is_edge.false) none
+    let l = c.line-bytes.result.now in
+    let form : None ≡ form_of (words_of l) = elim c.else-not-is_edge.branch [
+      | else-not-is_edge-via-then-not-is_edge+else-not-is_halo_line b ↦ halo_line l None
+          (sym b.is_halo_line.ensures ∙ b.if-not-is_halo_line.false) c.in_err-border.ensures
+      | else-not-is_edge-via-else-not-is_edge b ↦ edge_line l None
+          (sym c.is_edge_line-is_edge.ensures ∙ b.if-not-is_edge.false) c.in_err-border.ensures
     ] in
-    c.from_residual.ensures ∙ form
-    ∙ long_form_is (words_of (line_bytes c.args.feed.now c.args.line.now)) w
-    (ap (option_map listed) (sym c.in-Some.is) ∙ c.five_words.ensures)
+    c.from_residual.ensures ∙ form ∙ ap (λ t. form_of (words_of t)) c.line-bytes.ensures
 
 pub returns-then-is_edge : goal.returns-then-is_edge
 returns-then-is_edge c =
-    let w = c.in-Some.words in
-    edge_form w (Some c.in_ok-border.border) (sym c.is_edge_word-is_edge.ensures ∙ c.if-is_edge.true)
-    (sym c.in_ok-border.was ∙ c.border_of_words.ensures)
-    ∙ long_form_is (words_of (line_bytes c.args.feed.now c.args.line.now)) w
-    (ap (option_map listed) (sym c.in-Some.is) ∙ c.five_words.ensures)
+    edge_line c.line-bytes.result.now (Some c.in_ok-border.border)
+    (sym c.is_edge_line-is_edge.ensures ∙ c.if-is_edge.true) c.in_ok-border.ensures
+    ∙ ap (λ t. form_of (words_of t)) c.line-bytes.ensures
 
 pub returns-else-is_edge : goal.returns-else-is_edge
 returns-else-is_edge c =
-    let w = c.in-Some.words in
-    let halo : bytes_eq w.first.now (codes "halo") ≡ true = elim c.else-not-is_edge.branch [
-      | else-not-is_edge-via-then-not-is_edge+else-not-is_halo_word b ↦
-          sym b.is_halo_word.ensures ∙ b.if-not-is_halo_word.false
+    let l = c.line-bytes.result.now in
+    let halo : bytes_eq (take 5 l) (codes "halo ") ≡ true = elim c.else-not-is_edge.branch [
+      | else-not-is_edge-via-then-not-is_edge+else-not-is_halo_line b ↦
+          sym b.is_halo_line.ensures ∙ b.if-not-is_halo_line.false
       | else-not-is_edge-via-else-not-is_edge b ↦ absurd (both _ b.if-not-is_edge.false c.if-is_edge.false)
     ] in
-    halo_form w (Some c.in_ok-border.border) (sym c.is_edge_word-is_edge.ensures ∙ c.if-is_edge.false) halo
-    (sym c.in_ok-border.was ∙ c.border_of_words.ensures)
-    ∙ long_form_is (words_of (line_bytes c.args.feed.now c.args.line.now)) w
-    (ap (option_map listed) (sym c.in-Some.is) ∙ c.five_words.ensures)
+    halo_line l (Some c.in_ok-border.border) halo c.in_ok-border.ensures
+    ∙ ap (λ t. form_of (words_of t)) c.line-bytes.ensures

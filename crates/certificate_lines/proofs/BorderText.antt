@@ -1,0 +1,231 @@
+-- The content of an edge or halo line, by the bytes behind its keyword.
+use Rattle.std.proofs.Common.{◌≡◌, ◌==◌, ℕ, suc, ◌-◌, ◌<◌, Bool, true, false, List, [], ◌∷◌, ◌++◌, length, take, drop}
+use Rattle.std.proofs.Common.{Option, Some, None, ◌&&◌, refl, sym, ap, subst, ◌∙◌, inl, inr, arith}
+use Rattle.std.specs.Prelude.{codes}
+use Rattle.std.specs.List.{join_with_byte, list_all, onto_first}
+use Rattle.std.specs.Str.{bytes_eq}
+use Rattle.std.proofs.lemmas.Bool.{cases_Bool, cond-false, false≢true}
+use Rattle.std.proofs.lemmas.Bool.Decides.{nat_tests}
+use Rattle.std.proofs.lemmas.List.{take-append-drop, take_rest}
+use Rattle.std.proofs.lemmas.List.Splits.{join_with_byte-slice_split, slice_split-cons_no}
+use Rattle.std.proofs.lemmas.Slice.Eq.{bytes_eq-Decides}
+use Rattle.section_text.specs.Words.{is_lower, is_name, is_name_byte, is_space, is_word_at, leading_number, name_at}
+use Rattle.section_text.specs.Words.{name_of}
+use Rattle.section_text.specs.Words.{number_at, number_of, words_of, ◌>>=◌}
+use Rattle.section_text.proofs.Splitting.{some_words}
+use Rattle.pattern.specs.Forms.{cell_from}
+use Rattle.pattern.specs.Layout.{cell}
+use Rattle.certificate_lines.specs.BorderWords.{leading_time, lone_signal, signal_by, time_by}
+use Rattle.section_text.specs.declared.section.Form.TheVariants.{Item}
+use Rattle.certificate_lines.proofs.BorderLines.{edge_form, halo_form}
+use Rattle.certificate_lines.specs.Forms.{border_of, form_of, signal_at, time_at, timed_cell}
+use Rattle.certificate_lines.specs.declared.certificate_line.Border.{Border}
+use Rattle.certificate_lines.specs.declared.certificate_line.CertificateLine.TheVariants.{Edge, Halo}
+
+-- ---- the first word of a line
+
+begins_with : (m l : List ℕ) (n : ℕ) → bytes_eq (take n l) m ≡ true → l ≡ m ++ drop n l
+begins_with m l n e = sym (take-append-drop n l) ∙ ap (λ t. t ++ drop n l) ((bytes_eq-Decides (take n l) m).0 e)
+
+edge_words : (l : List ℕ) → bytes_eq (take 5 l) (codes "edge ") ≡ true →
+    words_of l ≡ codes "edge" ∷ words_of (drop 5 l)
+edge_words l e = ap words_of (begins_with (codes "edge ") l 5 e)
+
+halo_words : (l : List ℕ) → bytes_eq (take 5 l) (codes "halo ") ≡ true →
+    words_of l ≡ codes "halo" ∷ words_of (drop 5 l)
+halo_words l e = ap words_of (begins_with (codes "halo ") l 5 e)
+
+joined : (l w v : List ℕ) (vs : List (List ℕ)) → words_of l ≡ w ∷ v ∷ vs → l ≡ w ++ 32 ∷ join_with_byte 32 (v ∷ vs)
+joined l w v vs e = sym (join_with_byte-slice_split 32 l) ∙ ap (join_with_byte 32) e
+
+-- the first of several words is not k if the line does not begin with k and a space
+pub other_first : (k m l : List ℕ) (n : ℕ) → ((rest : List ℕ) → bytes_eq (take n (k ++ 32 ∷ rest)) m ≡ true) →
+    bytes_eq (take n l) m ≡ false → (w v : List ℕ) (vs : List (List ℕ)) → words_of l ≡ w ∷ v ∷ vs → bytes_eq w k ≡ false
+other_first k m l n is other w v vs e = elim (cases_Bool (bytes_eq w k)) [
+  | inl same ↦
+      let rest = join_with_byte 32 (v ∷ vs) in
+      let line = joined l w v vs e ∙ ap (λ x. x ++ 32 ∷ rest) ((bytes_eq-Decides w k).0 same) in
+      absurd (false≢true (sym other ∙ ap (λ t. bytes_eq (take n t) m) line ∙ is rest))
+  | inr word ↦ word
+]
+
+-- ---- steps that may fail
+
+step_in_step : {A B C : Type 0} (o : Option A) (f : A → Option B) (g : B → Option C) →
+    ((o >>= f) >>= g) ≡ (o >>= λ a. f a >>= g)
+step_in_step None f g = refl
+step_in_step (Some a) f g = refl
+
+same_steps : {A B : Type 0} (o : Option A) (f g : A → Option B) → ((a : A) → f a ≡ g a) → (o >>= f) ≡ (o >>= g)
+same_steps None f g same = refl
+same_steps (Some a) f g same = same a
+
+no_step : {A B : Type 0} (o : Option A) (f : A → Option B) → ((a : A) → f a ≡ None) → (o >>= f) ≡ None
+no_step None f none = refl
+no_step (Some a) f none = none a
+
+-- ---- the time
+
+star_leads : (ws : List (List ℕ)) → 0 < length ws → Some (None, ws) ≡ leading_time (codes "*" ∷ ws)
+unfolding leading_time time_by
+star_leads [] some = absurd (omega arith)
+star_leads (v ∷ vs) some = refl
+
+pub star_time : (l : List ℕ) → bytes_eq (take 2 l) (codes "* ") ≡ true →
+    Some (None, words_of (drop 2 l)) ≡ leading_time (words_of l)
+star_time l e = star_leads (words_of (drop 2 l)) (some_words (drop 2 l))
+    ∙ sym (ap (λ t. leading_time (words_of t)) (begins_with (codes "* ") l 2 e))
+
+abbrev timed : ℕ × List (List ℕ) → Option (Option ℕ × List (List ℕ))
+timed r = Some (Some r.0, r.1)
+
+time_leads : (ws : List (List ℕ)) →
+    ((w v : List ℕ) (vs : List (List ℕ)) → ws ≡ w ∷ v ∷ vs → bytes_eq w (codes "*") ≡ false) →
+    (leading_number ws >>= timed) ≡ leading_time ws
+unfolding leading_number leading_time time_by
+time_leads [] other = refl
+time_leads (w ∷ []) other = refl
+time_leads (w ∷ v ∷ vs) other =
+    step_in_step (number_of w) (λ n. Some (n, v ∷ vs)) timed
+    ∙ sym (step_in_step (number_of w) (λ t. Some (Some t)) (λ t. Some (t, v ∷ vs)))
+    ∙ ap (λ o. o >>= λ t. Some (t, v ∷ vs)) (sym (cond-false _ _ _ (other w v vs refl)))
+
+pub number_time : (l : List ℕ) (o : Option (ℕ × List (List ℕ))) → bytes_eq (take 2 l) (codes "* ") ≡ false →
+    o ≡ leading_number (words_of l) → (o >>= timed) ≡ leading_time (words_of l)
+number_time l o other is = ap (λ r. r >>= timed) is
+    ∙ time_leads (words_of l) (other_first (codes "*") (codes "* ") l 2 (λ rest. refl) other)
+
+-- ---- the signal
+
+name_letter : (b : ℕ) → is_name_byte b ≡ true → is_space b ≡ false
+name_letter b e = grind (arith, nat_tests)
+
+small_letter : (b : ℕ) → is_lower b ≡ true → is_space b ≡ false
+small_letter b e = grind (arith, nat_tests)
+
+both : (a b : Bool) → (a && b) ≡ true → (a ≡ true) × (b ≡ true)
+both true b e = (refl, e)
+both false b e = absurd cc
+
+letters : (bs : List ℕ) → list_all is_name_byte bs ≡ true → words_of bs ≡ bs ∷ []
+letters [] e = refl
+letters (b ∷ bs) e =
+    let all = both (is_name_byte b) (list_all is_name_byte bs) e in
+    slice_split-cons_no is_space b bs (name_letter b all.0) ∙ ap (onto_first b) (letters bs all.1)
+
+name_word : (w : List ℕ) → is_name w ≡ true → words_of w ≡ w ∷ []
+name_word [] e = absurd cc
+name_word (b ∷ bs) e =
+    let all = both _ (list_all is_name_byte bs) e in
+    slice_split-cons_no is_space b bs (small_letter b (both (is_lower b) _ all.0).0)
+    ∙ ap (onto_first b) (letters bs all.1)
+
+no_signal : (l : List ℕ) → signal_by l ≡ None → (ws : List (List ℕ)) → words_of l ≡ ws → lone_signal ws ≡ signal_by l
+unfolding lone_signal
+no_signal l none [] e = sym none
+no_signal l none (w ∷ []) e = ap signal_by (sym (ap (join_with_byte 32) e) ∙ join_with_byte-slice_split 32 l)
+no_signal l none (w ∷ v ∷ vs) e = sym none
+
+neither : (l : List ℕ) → bytes_eq l (codes "1") ≡ false → is_name l ≡ false → signal_by l ≡ None
+unfolding signal_by name_of
+neither l one name = cond-false _ _ _ one ∙ ap (λ o. o >>= λ n. Some (Some n)) (cond-false _ _ _ name)
+
+alone : (l : List ℕ) → words_of l ≡ l ∷ [] → lone_signal (words_of l) ≡ signal_by l
+unfolding lone_signal
+alone l e = ap lone_signal e
+
+-- a signal has no space, so what is left of a line is its last word
+pub signal_is : (l : List ℕ) → lone_signal (words_of l) ≡ signal_by l
+signal_is l = elim (cases_Bool (bytes_eq l (codes "1"))) [
+  | inl one ↦ alone l (subst (λ w. words_of w ≡ w ∷ []) (sym ((bytes_eq-Decides l (codes "1")).0 one)) refl)
+  | inr other ↦ elim (cases_Bool (is_name l)) [
+    | inl name ↦ alone l (name_word l name)
+    | inr none ↦ no_signal l (neither l other none) (words_of l) refl
+  ]
+]
+
+-- ---- the content, step by step
+
+after_signal : Option ℕ → ℕ → ℕ → Option (List ℕ) → Option Border
+after_signal t x y s = Some (record { time = t; cell = cell x y; signal = s })
+
+after_row : Option ℕ → ℕ → ℕ × List (List ℕ) → Option Border
+after_row t x y = lone_signal y.1 >>= after_signal t x y.0
+
+after_column : Option ℕ → ℕ × List (List ℕ) → Option Border
+after_column t x = leading_number x.1 >>= after_row t x.0
+
+after_time : Option ℕ × List (List ℕ) → Option Border
+after_time t = leading_number t.1 >>= after_column t.0
+
+not_five : (n : ℕ) → (suc (suc (suc (suc (suc (suc n))))) == 5) ≡ false
+not_five n = grind arith
+
+steps : (k : List ℕ) (ws : List (List ℕ)) → border_of (k ∷ ws) ≡ (leading_time ws >>= after_time)
+unfolding border_of timed_cell time_at signal_at cell_from number_at name_at is_word_at leading_time leading_number
+    lone_signal time_by signal_by after_time after_column after_row after_signal
+steps k [] = refl
+steps k (a ∷ []) = refl
+steps k (a ∷ b ∷ []) = sym (step_in_step (time_by a) (λ t. Some (t, b ∷ [])) after_time
+    ∙ no_step (time_by a) _ (λ t. refl))
+steps k (a ∷ b ∷ c ∷ []) = sym (step_in_step (time_by a) (λ t. Some (t, b ∷ c ∷ [])) after_time
+    ∙ no_step (time_by a) _ (λ t. step_in_step (number_of b) (λ n. Some (n, c ∷ [])) (after_column t)
+    ∙ no_step (number_of b) _ (λ x. refl)))
+steps k (a ∷ b ∷ c ∷ d ∷ []) =
+    same_steps (time_by a) _ _ (λ t. step_in_step (number_of b) _ _
+    ∙ same_steps (number_of b) _ _ (λ x. step_in_step (number_of c) _ _))
+    ∙ sym (step_in_step (time_by a) (λ t. Some (t, b ∷ c ∷ d ∷ [])) after_time
+    ∙ same_steps (time_by a) _ _ (λ t. step_in_step (number_of b) (λ n. Some (n, c ∷ d ∷ [])) (after_column t)
+    ∙ same_steps (number_of b) _ _ (λ x. step_in_step (number_of c) (λ n. Some (n, d ∷ [])) (after_row t x))))
+steps k (a ∷ b ∷ c ∷ d ∷ e ∷ ws) =
+    cond-false _ _ _ (not_five (length ws))
+    ∙ sym (step_in_step (time_by a) (λ t. Some (t, b ∷ c ∷ d ∷ e ∷ ws)) after_time
+    ∙ no_step (time_by a) _ (λ t. step_in_step (number_of b) (λ n. Some (n, c ∷ d ∷ e ∷ ws)) (after_column t)
+    ∙ no_step (number_of b) _ (λ x. step_in_step (number_of c) (λ n. Some (n, d ∷ e ∷ ws)) (after_row t x)
+    ∙ no_step (number_of c) _ (λ y. refl))))
+
+pub no_time : (k : List ℕ) (ws : List (List ℕ)) → leading_time ws ≡ None → None ≡ border_of (k ∷ ws)
+no_time k ws t = sym (steps k ws ∙ ap (λ o. o >>= after_time) t)
+
+pub no_column : (k : List ℕ) (ws : List (List ℕ)) (t : Option ℕ) (after : List (List ℕ)) →
+    leading_time ws ≡ Some (t, after) → leading_number after ≡ None → None ≡ border_of (k ∷ ws)
+unfolding after_time
+no_column k ws t after time column =
+    sym (steps k ws ∙ ap (λ o. o >>= after_time) time ∙ ap (λ o. o >>= after_column t) column)
+
+pub no_row : (k : List ℕ) (ws : List (List ℕ)) (t : Option ℕ) (after : List (List ℕ)) (x : ℕ) (rest : List (List ℕ)) →
+    leading_time ws ≡ Some (t, after) → leading_number after ≡ Some (x, rest) → leading_number rest ≡ None →
+    None ≡ border_of (k ∷ ws)
+unfolding after_time after_column
+no_row k ws t after x rest time column row =
+    sym (steps k ws ∙ ap (λ o. o >>= after_time) time ∙ ap (λ o. o >>= after_column t) column
+    ∙ ap (λ o. o >>= after_row t x) row)
+
+pub border_is : (k : List ℕ) (ws : List (List ℕ)) (t : Option ℕ) (after : List (List ℕ)) (x : ℕ) (rest : List (List ℕ))
+    (y : ℕ) (last : List (List ℕ)) → leading_time ws ≡ Some (t, after) → leading_number after ≡ Some (x, rest) →
+    leading_number rest ≡ Some (y, last) →
+    (lone_signal last >>= λ s. Some (record { time = t; cell = cell x y; signal = s })) ≡ border_of (k ∷ ws)
+unfolding after_time after_column after_row after_signal
+border_is k ws t after x rest y last time column row =
+    sym (steps k ws ∙ ap (λ o. o >>= after_time) time ∙ ap (λ o. o >>= after_column t) column
+    ∙ ap (λ o. o >>= after_row t x) row)
+
+-- ---- the form of the line
+
+pub edge_line : (l : List ℕ) (o : Option Border) → bytes_eq (take 5 l) (codes "edge ") ≡ true →
+    ((k : List ℕ) → o ≡ border_of (k ∷ words_of (take (length l - 5) (drop 5 l)))) →
+    (o >>= λ e. Some (Item (Edge e))) ≡ form_of (words_of l)
+unfolding is_word_at
+edge_line l o edge is =
+    edge_form (codes "edge" ∷ words_of (drop 5 l)) o refl
+    (is (codes "edge") ∙ ap (λ t. border_of (codes "edge" ∷ words_of t)) (take_rest l 5))
+    ∙ ap form_of (sym (edge_words l edge))
+
+pub halo_line : (l : List ℕ) (o : Option Border) → bytes_eq (take 5 l) (codes "halo ") ≡ true →
+    ((k : List ℕ) → o ≡ border_of (k ∷ words_of (take (length l - 5) (drop 5 l)))) →
+    (o >>= λ e. Some (Item (Halo e))) ≡ form_of (words_of l)
+unfolding is_word_at
+halo_line l o halo is =
+    halo_form (codes "halo" ∷ words_of (drop 5 l)) o refl refl
+    (is (codes "halo") ∙ ap (λ t. border_of (codes "halo" ∷ words_of t)) (take_rest l 5))
+    ∙ ap form_of (sym (halo_words l halo))

@@ -1,0 +1,254 @@
+-- The number that is the first of several words, byte by byte.
+use Rattle.std.proofs.Common.{◌≡◌, ◌==◌, ◌+◌, ◌-◌, ◌*◌, ◌<◌, ◌≤◌, ℕ, Bool, true, false, List, [], ◌∷◌, ◌++◌, length}
+use Rattle.std.proofs.Common.{Option, Some, None, if◌then◌else◌, ◌&&◌, ◌||◌, nat_lt, drop, take, get_or, refl, sym, ap}
+use Rattle.std.proofs.Common.{subst, ◌∙◌, inl, inr, arith}
+use Rattle.std.specs.List.{list_all, onto_first}
+use Rattle.std.proofs.lemmas.Bool.{cases_Bool, cond-false, cond-true}
+use Rattle.std.proofs.lemmas.Bool.Decides.{nat_tests}
+use Rattle.std.proofs.lemmas.List.{append_assoc, append-nil, at_drop_more, length-append, take_rest}
+use Rattle.std.proofs.lemmas.List.Folds.{list_all-append}
+use Rattle.std.proofs.lemmas.List.Splits.{slice_split-cons_no, slice_split-cons_yes}
+use Rattle.std.proofs.Math.ListN.{drop_of_length-le}
+use Rattle.section_text.specs.Words.{is_digit, is_number, is_space, leading_number, number_of, read_on, words_of, ◌>>=◌}
+use Rattle.section_text.proofs.Numbers.{is_one}
+use Rattle.section_text.proofs.Splitting.{some_words}
+
+-- the number of the digits that a line begins with, after k digits that spell n, and the words behind its space
+unfoldable pub reads : ℕ → ℕ → List ℕ → Option (ℕ × List (List ℕ))
+reads n k [] = None
+reads n k (b ∷ line) = if is_digit b then (if nat_lt k 9 then reads (10 * n + (b - 48)) (k + 1) line else None)
+    else if is_space b then Some (n, words_of line) else None
+
+-- ---- one step
+
+below : (k : ℕ) → k < 9 → nat_lt k 9 ≡ true
+below k few = grind (arith, nat_tests)
+
+not_below : (k : ℕ) → 9 ≤ k → nat_lt k 9 ≡ false
+not_below k full = grind (arith, nat_tests)
+
+other_than : (b : ℕ) → (b ≡ 32 → ⊥) → is_space b ≡ false
+other_than b other = grind (arith, nat_tests)
+
+pub reads_more : (n k : ℕ) (line : List ℕ) (i : ℕ) → i < length line → is_digit (get_or line i 0) ≡ true → k < 9 →
+    reads n k (drop i line) ≡ reads (10 * n + (get_or line i 0 - 48)) (k + 1) (drop (i + 1) line)
+unfolding reads
+reads_more n k line i lt digit few =
+    at_drop_more (reads n k) line i 0 lt ∙ cond-true _ _ _ digit ∙ cond-true _ _ _ (below k few)
+
+pub reads_some : (n k : ℕ) (line : List ℕ) (i : ℕ) → i < length line → get_or line i 0 ≡ 32 →
+    reads n k (drop i line) ≡ Some (n, words_of (drop (i + 1) line))
+unfolding reads
+reads_some n k line i lt space = at_drop_more (reads n k) line i 0 lt ∙ rw space refl
+
+pub reads_none : (n k : ℕ) (line : List ℕ) (i : ℕ) → i < length line → is_digit (get_or line i 0) ≡ false →
+    (get_or line i 0 ≡ 32 → ⊥) → reads n k (drop i line) ≡ None
+unfolding reads
+reads_none n k line i lt digit space = at_drop_more (reads n k) line i 0 lt ∙ cond-false _ _ _ digit
+    ∙ cond-false _ _ _ (other_than (get_or line i 0) space)
+
+-- nine digits without a space behind them
+pub reads_full : (n k : ℕ) (line : List ℕ) (i : ℕ) → i < length line → 9 ≤ k → (get_or line i 0 ≡ 32 → ⊥) →
+    reads n k (drop i line) ≡ None
+unfolding reads
+reads_full n k line i lt full space = at_drop_more (reads n k) line i 0 lt
+    ∙ elim (cases_Bool (is_digit (get_or line i 0))) [
+      | inl digit ↦ cond-true _ _ _ digit ∙ cond-false _ _ _ (not_below k full)
+      | inr other ↦ cond-false _ _ _ other ∙ cond-false _ _ _ (other_than (get_or line i 0) space)
+    ]
+
+pub reads_end : (n k : ℕ) (line : List ℕ) (i : ℕ) → length line ≤ i → reads n k (drop i line) ≡ None
+unfolding reads
+reads_end n k line i le = rw (drop_of_length-le line le) refl
+
+-- ---- words that begin with digits
+
+no_space : (b : ℕ) → is_digit b ≡ true → is_space b ≡ false
+no_space b digit = grind (arith, nat_tests)
+
+both : (a b : Bool) → (a && b) ≡ true → (a ≡ true) × (b ≡ true)
+both true b e = (refl, e)
+both false b e = absurd cc
+
+-- digits before a line become the begin of its first word
+put_before : (ds line w : List ℕ) (ws : List (List ℕ)) → list_all is_digit ds ≡ true → words_of line ≡ w ∷ ws →
+    words_of (ds ++ line) ≡ (ds ++ w) ∷ ws
+put_before [] line w ws digits e = e
+put_before (d ∷ ds) line w ws digits e =
+    let all = both (is_digit d) (list_all is_digit ds) digits in
+    slice_split-cons_no is_space d (ds ++ line) (no_space d all.0) ∙ ap (onto_first d) (put_before ds line w ws all.1 e)
+
+pub first_of : (ws : List (List ℕ)) → 0 < length ws → (w : List ℕ) × (vs : List (List ℕ)) × (ws ≡ w ∷ vs)
+first_of [] some = absurd (omega arith)
+first_of (w ∷ vs) some = (w, vs, refl)
+
+-- the first word of a line that does not begin with a space
+begun : (b : ℕ) (line : List ℕ) → is_space b ≡ false →
+    (w : List ℕ) × (ws : List (List ℕ)) × (words_of (b ∷ line) ≡ (b ∷ w) ∷ ws)
+begun b line other =
+    let first = first_of (words_of line) (some_words line) in
+    (first.0, first.1, slice_split-cons_no is_space b line other ∙ ap (onto_first b) first.2)
+
+no_number : (w : List ℕ) → is_number w ≡ false → number_of w ≡ None
+unfolding number_of
+no_number w e = cond-false _ _ _ e
+
+not_leading : (w : List ℕ) (ws : List (List ℕ)) → is_number w ≡ false → None ≡ leading_number (w ∷ ws)
+unfolding leading_number
+not_leading w [] e = refl
+not_leading w (v ∷ ws) e = sym (ap (λ o. o >>= λ n. Some (n, v ∷ ws)) (no_number w e))
+
+a_number : (w : List ℕ) → is_number w ≡ true → number_of w ≡ Some (read_on 0 w)
+unfolding number_of
+a_number w e = cond-true _ _ _ e
+
+leading_is : (w v : List ℕ) (ws : List (List ℕ)) → is_number w ≡ true →
+    Some (read_on 0 w, v ∷ ws) ≡ leading_number (w ∷ v ∷ ws)
+unfolding leading_number
+leading_is w v ws e = sym (ap (λ o. o >>= λ n. Some (n, v ∷ ws)) (a_number w e))
+
+is_leading : (w line : List ℕ) → is_number w ≡ true →
+    Some (read_on 0 w, words_of line) ≡ leading_number (w ∷ words_of line)
+is_leading w line e =
+    let first = first_of (words_of line) (some_words line) in
+    subst (λ ws. Some (read_on 0 w, ws) ≡ leading_number (w ∷ ws)) (sym first.2) (leading_is w first.0 first.1 e)
+
+read_one_more : (n : ℕ) (ds : List ℕ) (b : ℕ) → read_on n (ds ++ b ∷ []) ≡ 10 * read_on n ds + (b - 48)
+read_one_more n [] b = refl
+read_one_more n (d ∷ ds) b = read_one_more (10 * n + (d - 48)) ds b
+
+and_false : (a b : Bool) → b ≡ false → (a && b) ≡ false
+and_false true b e = e
+and_false false b e = refl
+
+not_all : (ds : List ℕ) (b : ℕ) (w : List ℕ) → is_digit b ≡ false → list_all is_digit (ds ++ b ∷ w) ≡ false
+not_all [] b w other = rw other refl
+not_all (d ∷ ds) b w other = and_false (is_digit d) (list_all is_digit (ds ++ b ∷ w)) (not_all ds b w other)
+
+not_digits : (c : ℕ) (cs : List ℕ) → list_all is_digit (c ∷ cs) ≡ false → is_number (c ∷ cs) ≡ false
+not_digits c cs e = ap (λ a. a && nat_lt (length cs) 9 && (length cs == 0 || nat_lt 48 c)) e
+
+-- a word with another byte is no number, and a word of more than nine bytes is none
+other_byte : (ds : List ℕ) (b : ℕ) (w : List ℕ) → is_digit b ≡ false → is_number (ds ++ b ∷ w) ≡ false
+other_byte [] b w other = not_digits b w (not_all [] b w other)
+other_byte (d ∷ ds) b w other = not_digits d (ds ++ b ∷ w) (not_all (d ∷ ds) b w other)
+
+and_long : (a b c : Bool) → b ≡ false → (a && b && c) ≡ false
+and_long a b c e = rw (e, and_false a false refl) refl
+
+too_long : (ds : List ℕ) (b : ℕ) (w : List ℕ) → 9 ≤ length ds → is_number (ds ++ b ∷ w) ≡ false
+too_long [] b w long = absurd (omega arith)
+too_long (d ∷ ds) b w long =
+    let n = length-append ds (b ∷ w) in
+    and_long (list_all is_digit (d ∷ (ds ++ b ∷ w))) (nat_lt (length (ds ++ b ∷ w)) 9) _
+    (not_below (length (ds ++ b ∷ w)) (omega (arith, n)))
+
+-- ---- the whole
+
+-- one to nine digits, of which the first is no `0`
+pub record IsBegin (ds : List ℕ) : Type 0 where
+  digits : list_all is_digit ds ≡ true
+  some : 0 < length ds
+  few : length ds ≤ 9
+  plain : 48 < get_or ds 0 0
+
+one_more : (ds : List ℕ) (b : ℕ) → IsBegin ds → length ds < 9 → is_digit b ≡ true → IsBegin (ds ++ b ∷ [])
+one_more [] b begin few digit = absurd (omega (arith, begin.some))
+one_more (d ∷ ds) b begin few digit =
+    let n = length-append ds (b ∷ []) in
+    record {
+      digits = list_all-append is_digit (d ∷ ds) (b ∷ []) ∙ rw (begin.digits, digit) refl;
+      some = omega arith;
+      few = omega (arith, n);
+      plain = begin.plain;
+    }
+
+last : (w : List ℕ) → leading_number (w ∷ []) ≡ None
+unfolding leading_number
+last w = refl
+
+reads_is : (ds line : List ℕ) → IsBegin ds →
+    reads (read_on 0 ds) (length ds) line ≡ leading_number (words_of (ds ++ line))
+unfolding reads
+reads_is ds [] begin = sym (ap leading_number (put_before ds [] [] [] begin.digits refl) ∙ last (ds ++ []))
+reads_is ds (b ∷ line) begin = elim (cases_Bool (is_digit b)) [
+  | inl digit ↦ cond-true _ _ _ digit ∙ elim (cases_Bool (nat_lt (length ds) 9)) [
+    | inl few ↦
+        let more = ds ++ b ∷ [] in
+        cond-true _ _ _ few
+        ∙ ap (λ n. reads n (length ds + 1) line) (sym (read_one_more 0 ds b))
+        ∙ ap (λ k. reads (read_on 0 more) k line) (sym (length-append ds (b ∷ [])))
+        ∙ reads_is more line (one_more ds b begin (grind (arith, nat_tests, few)) digit)
+        ∙ ap (λ l. leading_number (words_of l)) (append_assoc ds (b ∷ []) line)
+    | inr full ↦
+        let first = begun b line (no_space b digit) in
+        cond-false _ _ _ full ∙ not_leading (ds ++ b ∷ first.0) first.1
+        (too_long ds b first.0 (grind (arith, nat_tests, full)))
+        ∙ sym (ap leading_number (put_before ds (b ∷ line) (b ∷ first.0) first.1 begin.digits first.2))
+  ]
+  | inr other ↦ cond-false _ _ _ other ∙ elim (cases_Bool (is_space b)) [
+    | inl space ↦ cond-true _ _ _ space
+        ∙ is_leading ds line (is_one ds begin.digits begin.some begin.few (inr begin.plain))
+        ∙ ap (λ w. leading_number (w ∷ words_of line)) (sym (append-nil ds))
+        ∙ sym (ap leading_number (put_before ds (b ∷ line) [] (words_of line) begin.digits
+        (slice_split-cons_yes is_space b line space)))
+    | inr byte ↦
+        let first = begun b line byte in
+        cond-false _ _ _ byte ∙ not_leading (ds ++ b ∷ first.0) first.1 (other_byte ds b first.0 other)
+        ∙ sym (ap leading_number (put_before ds (b ∷ line) (b ∷ first.0) first.1 begin.digits first.2))
+  ]
+]
+
+-- the number of a word that begins with a digit other than `0`
+pub reads_whole : (first : ℕ) (line : List ℕ) → 49 ≤ first → first ≤ 57 →
+    reads (first - 48) 1 line ≡ leading_number (words_of (first ∷ line))
+reads_whole first line low high = ap (λ n. reads n 1 line) (omega arith) ∙ reads_is (first ∷ []) line (record {
+  digits = grind (arith, nat_tests);
+  some = omega arith;
+  few = omega arith;
+  plain = omega arith;
+})
+
+-- ---- words that begin otherwise
+
+zero_is : (line : List ℕ) → Some (0, words_of line) ≡ leading_number (words_of (48 ∷ 32 ∷ line))
+zero_is line = is_leading (48 ∷ []) line refl
+
+plain_zero : (b : ℕ) (w : List ℕ) → is_number (48 ∷ b ∷ w) ≡ false
+plain_zero b w = and_false (list_all is_digit (48 ∷ b ∷ w) && nat_lt (length (b ∷ w)) 9) _ (grind (arith, nat_tests))
+
+zero_goes_on : (b : ℕ) (line : List ℕ) → is_space b ≡ false → None ≡ leading_number (words_of (48 ∷ b ∷ line))
+zero_goes_on b line other =
+    let first = begun b line other in
+    not_leading (48 ∷ b ∷ first.0) first.1 (plain_zero b first.0)
+    ∙ sym (ap leading_number (put_before (48 ∷ []) (b ∷ line) (b ∷ first.0) first.1 refl first.2))
+
+zero_ends : None ≡ leading_number (words_of (48 ∷ []))
+unfolding leading_number
+zero_ends = refl
+
+pub no_digit : (b : ℕ) (line : List ℕ) → is_digit b ≡ false → None ≡ leading_number (words_of (b ∷ line))
+no_digit b line other = elim (cases_Bool (is_space b)) [
+  | inl space ↦ not_leading [] (words_of line) refl
+      ∙ sym (ap leading_number (slice_split-cons_yes is_space b line space))
+  | inr byte ↦
+      let first = begun b line byte in
+      not_leading (b ∷ first.0) first.1 (other_byte [] b first.0 other) ∙ sym (ap leading_number first.2)
+]
+
+pub zero_then : (line : List ℕ) → 0 < length line → get_or line 0 0 ≡ 32 →
+    Some (0, words_of (take (length line - 1) (drop 1 line))) ≡ leading_number (words_of (48 ∷ line))
+zero_then [] some space = absurd (omega arith)
+zero_then (b ∷ line) some space =
+    ap (λ l. Some (0, words_of l)) (take_rest (b ∷ line) 1) ∙ zero_is line
+    ∙ ap (λ s. leading_number (words_of (48 ∷ s ∷ line))) (sym space)
+
+pub zero_else : (line : List ℕ) → (0 < length line → get_or line 0 0 ≡ 32 → ⊥) →
+    None ≡ leading_number (words_of (48 ∷ line))
+zero_else [] other = zero_ends
+zero_else (b ∷ line) other = zero_goes_on b line (other_than b (other (omega arith)))
+
+pub empty_line : (line : List ℕ) → length line ≡ 0 → None ≡ leading_number (words_of line)
+unfolding leading_number
+empty_line [] none = refl
+empty_line (b ∷ line) none = absurd (omega arith)
