@@ -1,6 +1,7 @@
 pub mod EventSignals
 pub mod NearModules
 pub mod FaultOrder
+pub mod FarEvents
 pub mod Least
 pub mod OwnSignals
 pub mod Cells

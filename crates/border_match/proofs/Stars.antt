@@ -1,6 +1,6 @@
 -- Cells of which a line with a star speaks
-use Rattle.std.proofs.Common.{◌≡◌, ℕ, suc, ◌+◌, ◌<◌, ◌≤◌, Bool, true, false, List, [], ◌∷◌, ◌++◌, map, length, take}
-use Rattle.std.proofs.Common.{get_or, Option, Some, None, refl, sym, ap, ap₂, subst, ◌∙◌, inl, inr, ◌⊎◌, arith}
+use Rattle.std.proofs.Common.{◌≡◌, ℕ, suc, ◌+◌, ◌<◌, ◌≤◌, List, [], ◌∷◌, ◌++◌, map, length, take}
+use Rattle.std.proofs.Common.{get_or, Some, None, refl, sym, ap, ap₂, subst, ◌∙◌, inl, inr, ◌⊎◌, arith}
 use Rattle.std.specs.Prelude.{ℤ, pos, ◌+ℤ◌, option_map, slice_get, unwrap_or}
 use Rattle.std.proofs.lemmas.Bool.{cond-false, cases_Bool}
 use Rattle.std.proofs.lemmas.List.{length-map, take_all, take_more}
@@ -21,7 +21,7 @@ use Rattle.module_box.proofs.MovedBoxes.{signals_back}
 use Rattle.module_job.specs.Jobs.{JobView}
 use Rattle.module_job.specs.Shapes.{shift_to_origin}
 use Rattle.module_job.specs.Signals.{renumber_signal}
-use Rattle.border_match.specs.Boards.{AreOwnersNoted, DiffersAlways, DiffersAlwaysAt, Faults, IsAround, IsEdgeStarred}
+use Rattle.border_match.specs.Boards.{AreOwnersNoted, DiffersAlways, DiffersAlwaysAt, Faults, IsAround}
 use Rattle.border_match.specs.Boards.{IsReady, IsStarred, IsStarredAmong, IsStarredBelow, jobs_of}
 use Rattle.border_match.specs.declared.borders.Borders.{Borders}
 use Rattle.border_match.specs.declared.fault.BorderFault.{BorderFault}

@@ -1,18 +1,17 @@
 -- One more event, module or time
-use Rattle.std.proofs.Common.{◌≡◌, ℕ, suc, ◌+◌, ◌-◌, ◌<◌, ◌≤◌, List, [], ◌∷◌, ◌++◌, length, map, take, get_or, Bool}
+use Rattle.std.proofs.Common.{◌≡◌, ℕ, suc, ◌+◌, ◌<◌, ◌≤◌, List, [], ◌∷◌, ◌++◌, length, map, take, get_or, Bool}
 use Rattle.std.proofs.Common.{true}
 use Rattle.std.proofs.Common.{false, Some, None, Less, Equal, Greater, refl, sym, ap, ap₂, subst, ◌∙◌, inl, inr, ◌⊎◌}
 use Rattle.std.proofs.Common.{arith}
-use Rattle.std.specs.Prelude.{ℤ, pos, ◌+ℤ◌, ◌≢◌, option_map, slice_get, unwrap_or}
+use Rattle.std.specs.Prelude.{ℤ, pos, ◌≢◌, option_map, slice_get, unwrap_or}
 use Rattle.std.specs.Ordering.{nat_cmp}
 use Rattle.std.proofs.lemmas.List.{length-map, take_all, take_more}
-use Rattle.std.proofs.lemmas.Option.{slice_get_within, slice_get-get_or, slice_get-map}
+use Rattle.std.proofs.lemmas.Option.{slice_get_within, slice_get-map}
 use Rattle.std.proofs.lemmas.Bool.{cond-false, false≢true, cases_Bool}
 use Rattle.std.proofs.lemmas.Bool.Decides.{nat_tests}
 use Rattle.std.proofs.lemmas.Cmp.{tied_itself}
 use Rattle.std.proofs.lemmas.Int.{ints}
 use Rattle.bbm_rule.specs.declared.block.Cell.{Cell}
-use Rattle.module_box.specs.Boxes.{in_halo}
 use Rattle.module_box.specs.Locals.{circuit_wire, is_among}
 use Rattle.module_box.specs.Moves.{moved_cell, moved_event}
 use Rattle.module_box.specs.Schedules.{Signals, all_times_at, event_at, signal_at, is_then}
@@ -32,15 +31,19 @@ use Rattle.border_match.specs.Boards.{AreOwnersNoted, jobs_of, IsReady, Faults, 
 use Rattle.border_match.specs.Boards.{IsEdgeNamedAmong, IsEdgeNamedAt, DiffersAlways}
 use Rattle.border_match.specs.Boards.{IsAround}
 use Rattle.border_match.specs.Boards.{IsAtEventOf}
+use Rattle.border_match.specs.Surroundings.{AreFar}
 use Rattle.border_match.specs.declared.borders.Borders.{Borders}
 use Rattle.border_match.specs.declared.fault.BorderFault.{BorderFault}
 use Rattle.border_match.proofs.FaultOrder.{border_total}
-use Rattle.border_match.proofs.Cells.{fault_around, placed, reached}
+use Rattle.border_match.proofs.Cells.{fault_around, reached}
 use Rattle.border_match.proofs.NearModules.{among_more, lower_or_same}
 
 pub same_fault : (time : ℕ) (cell : Cell) (f : BorderFault) → f.time ≡ time → f.cell ≡ cell →
     f ≡ record { time = time; cell = cell }
 same_fault time cell f p q = let mk : ℕ → Cell → BorderFault = λ t c. record { time = t; cell = c } in ap₂ mk p q
+
+below_or_from : (i m : ℕ) → (i < m) ⊎ (m ≤ i)
+below_or_from i m = grind arith
 
 before_at_after : (i m : ℕ) → (i < m) ⊎ ((i ≡ m) ⊎ (m < i))
 before_at_after i m = grind arith
@@ -83,34 +86,28 @@ pub cornered_all : (dx dy : ℤ) (es events : List Event) (k : ℕ) → es ≡ m
 cornered_all dx dy es events k are le =
     subst (λ n. n ≤ k) (ap length are ∙ length-map events (moved_event dx dy)) le
 
--- the event at a place is at no cell around the module's box, so it is no fault
-pub around_step : (b : Borders) (other : JobView) (a corner : Box2) (es : List Event) (i : ℕ) (d : Event) (r : Bool)
-    (f : BorderFault) → a ≡ b.job.now.area → corner ≡ other.area →
+-- the events from a place on and before another are at no cell around the module's box, so they are no faults
+pub far_step : (b : Borders) (other : JobView) (a corner : Box2) (es : List Event) (i next : ℕ) (f : BorderFault) →
+    a ≡ b.job.now.area → corner ≡ other.area →
     es ≡ map (moved_event (shift_to_origin other.area.x) (shift_to_origin other.area.y)) other.edges.events →
-    i < length es →
-    (IsAround a ((get_or es i d).at.cell.x +ℤ pos corner.x) ((get_or es i d).at.cell.y +ℤ pos corner.y) → r ≡ true) →
-    r ≡ false → Faults b f → IsNamedBelow (i + 1) other.edges.events f → IsNamedBelow i other.edges.events f
-around_step b other a corner es i d r f same_area same_corner are lt around none g h =
-    elim (lower_or_same h.named.place i h.below) [
-      | inl lower ↦ record { named = h.named; below = lower }
-      | inr same ↦
-          let dx = shift_to_origin other.area.x in let dy = shift_to_origin other.area.y in
-          let there : slice_get other.edges.events i ≡ Some h.named.event =
-          ap (slice_get other.edges.events) (sym same) ∙ h.named.got in
-          let moved : moved_event dx dy h.named.event ≡ get_or es i d =
-          same_some _ _ _
-          (slice_get-map (moved_event dx dy) other.edges.events i ∙ ap (option_map (moved_event dx dy)) there)
-          (ap (λ l. slice_get l i) (sym are) ∙ slice_get-get_or es i d lt) in
-          let ex = ap (λ (z : Box2). z.x) same_corner in
-          let ey = ap (λ (z : Box2). z.y) same_corner in
-          let back : moved_cell (pos corner.x) (pos corner.y) (get_or es i d).at.cell ≡ f.cell =
-          ap (λ (e : Event). moved_cell (pos corner.x) (pos corner.y) e.at.cell) (sym moved)
-          ∙ cell_back dx dy (pos corner.x) (pos corner.y) h.named.event.at.cell (omega (arith, ints, ex))
-          (omega (arith, ints, ey)) ∙ h.named.cell in
-          let at : IsAround a f.cell.x f.cell.y =
-          subst (λ (z : Box2). IsAround z f.cell.x f.cell.y) (sym same_area) (fault_around b f g) in
-          absurd (false≢true (sym none ∙ around (subst (λ (c : Cell). IsAround a c.x c.y) (sym back) at)))
-    ]
+    AreFar a corner es i next → Faults b f → IsNamedBelow next other.edges.events f →
+    IsNamedBelow i other.edges.events f
+far_step b other a corner es i next f same_area same_corner are far g h = elim (below_or_from h.named.place i) [
+  | inl lower ↦ record { named = h.named; below = lower }
+  | inr from ↦
+      let dx = shift_to_origin other.area.x in let dy = shift_to_origin other.area.y in
+      let there : slice_get es h.named.place ≡ Some (moved_event dx dy h.named.event) =
+      ap (λ l. slice_get l h.named.place) are ∙ slice_get-map (moved_event dx dy) other.edges.events h.named.place
+      ∙ ap (option_map (moved_event dx dy)) h.named.got in
+      let ex = ap (λ (z : Box2). z.x) same_corner in
+      let ey = ap (λ (z : Box2). z.y) same_corner in
+      let back : moved_cell (pos corner.x) (pos corner.y) (moved_event dx dy h.named.event).at.cell ≡ f.cell =
+      cell_back dx dy (pos corner.x) (pos corner.y) h.named.event.at.cell (omega (arith, ints, ex))
+      (omega (arith, ints, ey)) ∙ h.named.cell in
+      let at : IsAround a f.cell.x f.cell.y =
+      subst (λ (z : Box2). IsAround z f.cell.x f.cell.y) (sym same_area) (fault_around b f g) in
+      absurd (far h.named.place _ from h.below there (subst (λ (c : Cell). IsAround a c.x c.y) (sym back) at))
+]
 
 -- ---- modules
 

@@ -1,17 +1,18 @@
 //! The borders of one module.
-ghost use Rattle.std.specs.Prelude.{pos, ◌+◌, ◌%◌, ◌≤◌, ◌+ℤ◌, ◌≤ℤ◌, ◌≡◌, ◌≢◌, ◌<◌, ◌↔◌, ◌&&◌, false, List, [], length, map, slice_get, slice_set, true, IsTrue, Some, IfNone, IfSome, IfOk, OnOk};
+ghost use Rattle.std.specs.Prelude.{pos, ◌+◌, ◌%◌, ◌≤◌, ◌≡◌, ◌≢◌, ◌<◌, ◌↔◌, ◌&&◌, false, List, [], length, map, slice_get, slice_set, true, IsTrue, Some, IfSome, IfOk, OnOk};
 ghost use Rattle.std.specs.Arc.{arc_value};
 ghost use Rattle.circuit.specs.Meaning.{wires};
 ghost use Rattle.module_box.specs.Boxes.{in_box, in_halo};
 ghost use Rattle.module_box.specs.Locals.{circuit_wire};
-ghost use Rattle.module_box.specs.Moves.{IsNear, moved_all_times, moved_cell};
+ghost use Rattle.module_box.specs.Moves.{IsNear, moved_all_times};
 ghost use Rattle.module_box.specs.Tiling.{owner_of};
 ghost use Rattle.module_job.specs.Signals.{IsBelow, renumber_signal};
-ghost use Rattle.border_match.specs.Boards.{AddsMark, AreMarked, AreNumbers, AreOwnersNoted, Differ, Faults, IsEdgeNamed, IsEdgeNamedAt, DiffersAlways, DiffersAlwaysAt, IsBoxBetween, IsAround, IsAtEvent, IsAtEventOf, IsListed, IsNamedOf, IsPlaceOf, IsUnmarked, IsNoted, IsOwnerNoted, IsReady, IsRowNoted, IsStarred, KeepsNumbers, MayBeFault, job_edge, job_halo, jobs_of};
+ghost use Rattle.border_match.specs.Boards.{AddsMark, AreMarked, AreNumbers, AreOwnersNoted, Differ, Faults, IsEdgeNamed, IsEdgeNamedAt, DiffersAlways, DiffersAlwaysAt, IsBoxBetween, IsAtEvent, IsAtEventOf, IsListed, IsNamedOf, IsPlaceOf, IsUnmarked, IsNoted, IsOwnerNoted, IsReady, IsRowNoted, IsStarred, KeepsNumbers, MayBeFault, job_edge, job_halo, jobs_of};
 ghost use Rattle.border_match.specs.Candidates.{IsBetter, IsLeast};
 ghost use Rattle.border_match.specs.declared.fault.BorderFault.{BorderFault};
 
 use crate::fault::{BorderFault, is_less, lesser};
+use crate::surroundings::{Leaps, after_far, cell_around, is_around, place_from};
 use bbm_rule::Cell;
 use certificate::Job;
 use module_box::{AllTimes, Box2, Event, Moment, Owners, Signal, moved_cell};
@@ -106,86 +107,6 @@ fn edge_event_signal(job: &Job, event: Event) -> Signal
     let own: &Shape = job.shape();
     let _events = own.edges().events();
     circuit_signal(job, event.signal)
-}
-
-// Returns whether `z`, counted from a corner, is one of the `n` numbers from `from` on or next to one of them.
-fn is_beside(from: u32, n: u32, corner: u32, z: i32) -> bool
-    ensures beside { let at = z +ℤ pos corner in
-        pos from ≤ℤ (at +ℤ pos 1) → at ≤ℤ pos (from + n) → IsTrue result }
-    ensures bounds { let at = z +ℤ pos corner in
-        IsTrue result → (pos from ≤ℤ (at +ℤ pos 1)) × (at ≤ℤ pos (from + n)) }
-{
-    let at = z as i64 + corner as i64;
-    if at + 1 < from as i64 {
-        return false;
-    }
-    if at > from as i64 + n as i64 {
-        return false;
-    }
-    true
-}
-
-// Returns whether a cell, counted from the corner of another box, is in the columns and rows of the area or next to
-// them.
-fn is_around(area: Box2, corner: Box2, cell: Cell) -> bool
-    ensures around { let at = moved_cell (pos corner.x) (pos corner.y) cell in
-        IsAround area at.x at.y → IsTrue result }
-    ensures bounds { let at = moved_cell (pos corner.x) (pos corner.y) cell in
-        IsTrue result → IsAround area at.x at.y }
-{
-    if !is_beside(area.x, area.w, corner.x, cell.x) {
-        return false;
-    }
-    is_beside(area.y, area.h, corner.y, cell.y)
-}
-
-// Returns a cell that is counted from the corner of another box, counted from that of the plane. It returns `None` if
-// the cell is not in the columns and rows of the area or next to them.
-fn cell_around(area: Box2, corner: Box2, cell: Cell) -> Option<Cell>
-    requires area { (area.x + area.w ≤ 512) × (area.y + area.h ≤ 512) }
-    requires corner { (corner.x ≤ 512) × (corner.y ≤ 512) }
-    ensures around { IfSome result (λ c. c
-        ≡ moved_cell (pos corner.x) (pos corner.y) cell) }
-    ensures far { let at = moved_cell (pos corner.x) (pos corner.y) cell in
-        IfNone result (¬ IsAround area at.x at.y) }
-{
-    if !is_around(area, corner, cell) {
-        return None;
-    }
-    Some(Cell {
-        x: cell.x + corner.x as i32,
-        y: cell.y + corner.y as i32,
-    })
-}
-
-// Returns the place of the first event from `from` on that is not before a moment.
-//
-// It looks at places ever further from `from`, and then between the last two, since the next event is mostly near.
-// `halo_place` compares the event at the place, so a wrong place would cost only time.
-fn place_from(events: &[Event], from: usize, at: Moment) -> usize
-    requires { from ≤ length events.now }
-    ensures { result ≤ length events.now }
-{
-    let mut low = from;
-    let mut high = from;
-    'jumps: while high < events.len() {
-        match events[high].at.compare(at) {
-            Ordering::Less => {
-                let jump = (high - low).saturating_mul(2).saturating_add(1);
-                low = high + 1;
-                high = low + jump.min(events.len() - low);
-            }
-            _ => break,
-        }
-    }
-    'halves: while low < high {
-        let middle = low + (high - low) / 2;
-        match events[middle].at.compare(at) {
-            Ordering::Less => low = middle + 1,
-            _ => high = middle,
-        }
-    }
-    low
 }
 
 // Sets a mark.
@@ -313,7 +234,8 @@ impl<'a> Borders<'a> {
             time: at.time,
             cell: moved_cell(at.cell, shift_to_origin(area.x), shift_to_origin(area.y)),
         };
-        let place = place_from(events, from.min(events.len()), local);
+        let start = from.min(events.len());
+        let place = place_from(events, start, start, local);
         if place >= self.job.halo_events() {
             return None;
         }
@@ -411,12 +333,16 @@ impl<'a> Borders<'a> {
         let shape: &Shape = other.shape();
         let events = shape.edges().events();
         let mut from = 0;
+        let mut leaps = Leaps::new();
         let mut least = best;
-        'events: for place in 0..events.len() {
+        let mut place = 0;
+        'events: while place < events.len() {
             // Most events of a long side are far from this module, so this test comes before all others.
             if !is_around(area, corner, events[place].at.cell) {
+                place = after_far(area, corner, events, place, &mut leaps);
                 continue;
             }
+            leaps = leaps.after_near(place);
             least = self.with_edge_event(
                 least,
                 number,
@@ -425,6 +351,7 @@ impl<'a> Borders<'a> {
                 seen,
                 &mut from,
             );
+            place += 1;
         }
         least
     }

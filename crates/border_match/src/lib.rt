@@ -13,6 +13,7 @@ mod borders;
 mod fault;
 pub mod laws;
 mod matching;
+mod surroundings;
 
 pub use fault::BorderFault;
 pub use matching::match_borders;

@@ -1,4 +1,4 @@
-use Rattle.std.proofs.Common.{rules, arith, ap, ◌≡◌, ◌+◌, ◌%◌}
+use Rattle.std.proofs.Common.{rules, arith, ap}
 use Rattle.module_box.specs.declared.boxes.Box2.{Box2}
 use Rattle.border_match.proofs.Cells.{box_skipped}
 use Rattle.border_match.proofs.borders.Borders.next_column.Goals as goal

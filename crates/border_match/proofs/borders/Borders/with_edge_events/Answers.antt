@@ -1,8 +1,13 @@
 use Rattle.std.proofs.Common.{ap, ◌∙◌}
 use Rattle.module_job.specs.Shapes.{ShapeView}
+use Rattle.border_match.proofs.FarEvents.{far_one}
 use Rattle.border_match.proofs.Least.{better_then, better_for}
-use Rattle.border_match.proofs.Steps.{around_step, cornered, cornered_all, named_step_of, named_all}
+use Rattle.border_match.proofs.Steps.{cornered, cornered_all, far_step, named_step_of, named_all}
 use Rattle.border_match.proofs.borders.Borders.with_edge_events.Goals as goal
+
+pub after_far-place-requires-clause-far : goal.after_far-place-requires-clause-far
+after_far-place-requires-clause-far c = far_one c.area-area.result c.area-corner.result c.events-events.result.now
+    c.events.place _ c.is_around.result c.events-test.true c.is_around.ensures.around c.if-not-is_around.true
 
 pub events-preserved-then-not-is_around : goal.events-preserved-then-not-is_around
 events-preserved-then-not-is_around c =
@@ -11,10 +16,9 @@ events-preserved-then-not-is_around c =
     (c.edges.ensures ∙ ap (λ (s : ShapeView). s.edges) (c.deref-shape.ensures ∙ c.shape.ensures)) in
     let better = better_for _ _ _ _ _ c.events.invariant.better
     (λ h f r. (
-      around_step c.args.self.now other c.area-area.result c.area-corner.result c.events-events.result.now
-          c.events.place _ c.is_around.result h c.area-area.ensures.area c.area-corner.ensures.area are
-          c.events-test.true
-          c.is_around.ensures.around c.if-not-is_around.true f r.0,
+      far_step c.args.self.now other c.area-area.result c.area-corner.result c.events-events.result.now
+          c.events.place c.after_far-place.result h c.area-area.ensures.area c.area-corner.ensures.area are
+          c.after_far-place.ensures.far f r.0,
       r.1,
     )) in
     record { better = better; marked = c.events.invariant.marked }

@@ -1,4 +1,4 @@
-use Rattle.std.proofs.Common.{◌≡◌}
+use Rattle.std.proofs.Common.{◌≡◌, ◌-◌, length}
 use Rattle.module_box.specs.Tiling.{owner_of}
 use Rattle.border_match.specs.Boards.{AreMarked, Faults, IsNamedBelow}
 use Rattle.border_match.specs.Candidates.{IsBetter}
@@ -11,3 +11,6 @@ invariant-events l = record {
       l.fn.best l.least;
   marked : AreMarked l.self l.seen;
 }
+
+abbrev pub decreases-events : goal.decreases-events
+decreases-events l = length l.events - l.place

@@ -1,8 +1,4 @@
-use Rattle.std.proofs.Common.{◌∙◌, ap, subst}
-use Rattle.std.specs.Prelude.{map, pos}
-use Rattle.module_box.specs.Moves.{moved_all_times}
-use Rattle.module_box.specs.declared.boxes.Box2.{Box2}
-use Rattle.module_box.specs.declared.schedules.AllTimes.{AllTimes}
+use Rattle.std.proofs.Common.{◌∙◌, ap}
 use Rattle.module_job.specs.Shapes.{ShapeView}
 use Rattle.border_match.proofs.Least.{better_for}
 use Rattle.border_match.proofs.Stars.{stars_of, starred_back}

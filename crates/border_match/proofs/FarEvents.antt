@@ -1,0 +1,225 @@
+-- Moments and events that a search for the cells around a box passes over
+use Rattle.std.proofs.Common.{◌≡◌, ℕ, ◌+◌, ◌<◌, ◌≤◌, List, length, refl, sym, ap, subst, ◌∙◌, inl, inr, ◌⊎◌, arith}
+use Rattle.std.proofs.Common.{Ordering, Less, Equal, Greater, Some, get_or, Bool, true, false}
+use Rattle.std.proofs.lemmas.Bool.{false≢true}
+use Rattle.std.proofs.lemmas.Option.{slice_get_within, slice_get-get_or}
+use Rattle.std.specs.Prelude.{ℤ, pos, ◌+ℤ◌, ◌≤ℤ◌, ◌<ℤ◌, ◌≢◌, slice_get}
+use Rattle.std.specs.Ordering.{nat_cmp, int_cmp, ordering_then}
+use Rattle.std.proofs.lemmas.Int.{ints}
+use Rattle.bbm_rule.specs.declared.block.Cell.{Cell}
+use Rattle.module_box.specs.Moments.{cell_cmp, moment_cmp}
+use Rattle.module_box.specs.Schedules.{IsRising, moment_of}
+use Rattle.module_box.specs.declared.boxes.Box2.{Box2}
+use Rattle.module_box.specs.declared.schedules.Event.{Event}
+use Rattle.module_box.specs.declared.schedules.Moment.{Moment}
+use Rattle.module_box.proofs.BoxCells.{same_some}
+use Rattle.module_box.proofs.Rising.{moment_total}
+use Rattle.border_match.specs.Surroundings.{AreFar, AreFarBetween, IsAroundFrom}
+
+-- ---- the order of moments by their parts
+
+nat_less : (a b : ℕ) → nat_cmp a b ≡ Less → a < b
+nat_less a b h = grind arith
+
+nat_equal : (a b : ℕ) → nat_cmp a b ≡ Equal → a ≡ b
+nat_equal a b h = grind arith
+
+int_less : (a b : ℤ) → int_cmp a b ≡ Less → a <ℤ b
+int_less a b h = grind arith
+
+int_equal : (a b : ℤ) → int_cmp a b ≡ Equal → a ≡ b
+int_equal a b h = grind arith
+
+then_less : (o p : Ordering) → ordering_then o p ≡ Less → (o ≡ Less) ⊎ ((o ≡ Equal) × (p ≡ Less))
+then_less Less p h = inl refl
+then_less Equal p h = inr (refl, h)
+then_less Greater p h = absurd cc
+
+-- an earlier time, or at the same time an upper row, or in the same row a column further left
+abbrev IsBefore : Moment → Moment → Type 0
+IsBefore a b = (a.time < b.time) ⊎ ((a.time ≡ b.time)
+    × ((a.cell.y <ℤ b.cell.y) ⊎ ((a.cell.y ≡ b.cell.y) × (a.cell.x <ℤ b.cell.x))))
+
+before : (a b : Moment) → moment_cmp a b ≡ Less → IsBefore a b
+unfolding moment_cmp cell_cmp
+before a b h = elim (then_less (nat_cmp a.time b.time) _ h) [
+  | inl e ↦ inl (nat_less _ _ e)
+  | inr p ↦ inr (
+    nat_equal _ _ p.0,
+    elim (then_less (int_cmp a.cell.y b.cell.y) (int_cmp a.cell.x b.cell.x) p.1) [
+      | inl e ↦ inl (int_less _ _ e)
+      | inr q ↦ inr (int_equal _ _ q.0, int_less _ _ q.1)
+    ],
+  )
+]
+
+-- ---- the next moment at a cell around a box
+
+-- the first column and the first row of the cells around a box, counted from the corner of another one
+abbrev IsFirst : Box2 → Box2 → Cell → Type 0
+IsFirst area corner first = (((first.x +ℤ pos corner.x) +ℤ pos 1) ≡ pos area.x)
+    × (((first.y +ℤ pos corner.y) +ℤ pos 1) ≡ pos area.y)
+
+-- the last column and the last row
+abbrev last_column : Box2 → Cell → ℤ
+last_column area first = first.x +ℤ pos (area.w + 1)
+
+abbrev last_row : Box2 → Cell → ℤ
+last_row area first = first.y +ℤ pos (area.h + 1)
+
+-- the cell is in those columns and rows
+abbrev IsAmid : Box2 → Cell → Cell → Type 0
+IsAmid area first c = (first.x ≤ℤ c.x) × (c.x ≤ℤ last_column area first) × (first.y ≤ℤ c.y)
+    × (c.y ≤ℤ last_row area first)
+
+amid : (area corner : Box2) (first c : Cell) → IsFirst area corner first → IsAroundFrom area corner c →
+    IsAmid area first c
+amid area corner first c is g =
+    let e = is.0 in let f = is.1 in
+    let left = g.left in let right = g.right in let top = g.top in let bottom = g.bottom in
+    (omega (arith, ints), omega (arith, ints), omega (arith, ints), omega (arith, ints))
+
+pub around : (area corner : Box2) (first c : Cell) → IsFirst area corner first → first.x ≤ℤ c.x →
+    c.x ≤ℤ last_column area first → first.y ≤ℤ c.y → c.y ≤ℤ last_row area first → IsAroundFrom area corner c
+around area corner first c is left right top bottom =
+    let e = is.0 in let f = is.1 in record {
+      left = omega (arith, ints);
+      right = omega (arith, ints);
+      top = omega (arith, ints);
+      bottom = omega (arith, ints);
+    }
+
+up_to_or_after : (a b : ℤ) → (a ≤ℤ b) ⊎ (b <ℤ a)
+up_to_or_after a b = grind (arith, ints)
+
+-- a far cell in those rows that is not before the first column is behind the last one
+behind : (area corner : Box2) (first c : Cell) → IsFirst area corner first → ¬ IsAroundFrom area corner c →
+    first.x ≤ℤ c.x → first.y ≤ℤ c.y → c.y ≤ℤ last_row area first → last_column area first <ℤ c.x
+behind area corner first c is far left top bottom = elim (up_to_or_after c.x (last_column area first)) [
+  | inl right ↦ absurd (far (around area corner first c is left right top bottom))
+  | inr gt ↦ gt
+]
+
+-- what is to be shown of a moment between two others
+abbrev NoneAmid : Box2 → Cell → Moment → Moment → Type 0
+NoneAmid area first at next = (m : Moment) → IsBefore at m → IsBefore m next → IsAmid area first m.cell → ⊥
+
+far_between : (area corner : Box2) (first : Cell) (at next : Moment) → IsFirst area corner first →
+    NoneAmid area first at next → AreFarBetween area corner at next
+far_between area corner first at next is none m after less g =
+    none m (before at m after) (before m next less) (amid area corner first m.cell is g)
+
+-- above the first row the next one is the first cell at the same time
+pub above_rows : (area corner : Box2) (first : Cell) (at next : Moment) → IsFirst area corner first →
+    at.cell.y <ℤ first.y → next.time ≡ at.time → next.cell.x ≡ first.x → next.cell.y ≡ first.y →
+    AreFarBetween area corner at next
+above_rows area corner first at next is up et ex ey =
+    far_between area corner first at next is (λ m k h g. grind (arith, ints))
+
+-- in a row before the first column it is the row's first cell
+pub before_columns : (area corner : Box2) (first : Cell) (at next : Moment) → IsFirst area corner first →
+    at.cell.x <ℤ first.x → next.time ≡ at.time → next.cell.x ≡ first.x → next.cell.y ≡ at.cell.y →
+    AreFarBetween area corner at next
+before_columns area corner first at next is left et ex ey =
+    far_between area corner first at next is (λ m k h g. grind (arith, ints))
+
+-- behind the last column it is the first cell of the next row
+pub behind_columns : (area corner : Box2) (first : Cell) (at next : Moment) → IsFirst area corner first →
+    ¬ IsAroundFrom area corner at.cell → first.x ≤ℤ at.cell.x → first.y ≤ℤ at.cell.y →
+    at.cell.y ≤ℤ last_row area first → next.time ≡ at.time → next.cell.x ≡ first.x →
+    next.cell.y ≡ at.cell.y +ℤ pos 1 → AreFarBetween area corner at next
+behind_columns area corner first at next is far left top bottom et ex ey =
+    let right = behind area corner first at.cell is far left top bottom in
+    far_between area corner first at next is (λ m k h g. grind (arith, ints))
+
+-- below the last row it is the first cell at the next time
+pub below_rows : (area corner : Box2) (first : Cell) (at next : Moment) → IsFirst area corner first →
+    last_row area first <ℤ at.cell.y → next.time ≤ at.time + 1 → next.cell.x ≡ first.x → next.cell.y ≡ first.y →
+    AreFarBetween area corner at next
+below_rows area corner first at next is down et ex ey =
+    far_between area corner first at next is (λ m k h g. grind (arith, ints))
+
+-- and behind the last column of the last row too
+pub behind_rows : (area corner : Box2) (first : Cell) (at next : Moment) → IsFirst area corner first →
+    ¬ IsAroundFrom area corner at.cell → first.x ≤ℤ at.cell.x → first.y ≤ℤ at.cell.y →
+    at.cell.y ≡ last_row area first → next.time ≤ at.time + 1 → next.cell.x ≡ first.x → next.cell.y ≡ first.y →
+    AreFarBetween area corner at next
+behind_rows area corner first at next is far left top last et ex ey =
+    let right = behind area corner first at.cell is far left top (omega (arith, ints, last)) in
+    far_between area corner first at next is (λ m k h g. grind (arith, ints))
+
+-- ---- places of events
+
+-- the events from a place on and before another one are before the moment
+abbrev pub ArePassed : List Event → ℕ → ℕ → Moment → Type 0
+ArePassed events start place at = (i : ℕ) (e : Event) → start ≤ i → i < place → slice_get events i ≡ Some e →
+    moment_cmp e.at at ≡ Less
+
+-- those from a place on are not
+abbrev pub AreFrom : List Event → ℕ → Moment → Type 0
+AreFrom events place at = (i : ℕ) (e : Event) → place ≤ i → slice_get events i ≡ Some e → moment_cmp e.at at ≢ Less
+
+lower_or_same : (i m : ℕ) → i < m + 1 → (i < m) ⊎ (i ≡ m)
+lower_or_same i m h = grind arith
+
+same_or_higher : (i m : ℕ) → m ≤ i → (m < i) ⊎ (m ≡ i)
+same_or_higher i m h = grind arith
+
+-- up to an event that is before the moment all are
+pub passed_to : (events : List Event) (start m : ℕ) (at : Moment) (d : Event) → IsRising moment_cmp moment_of events →
+    m < length events → moment_cmp (get_or events m d).at at ≡ Less → ArePassed events start (m + 1) at
+passed_to events start m at d rising within less i e from lt got =
+    let there = slice_get-get_or events m d within in
+    elim (lower_or_same i m lt) [
+      | inl l ↦ moment_total.trans e.at (get_or events m d).at at (rising.rises i m e _ l got there) less
+      | inr same ↦ ap (λ (z : Event). moment_cmp z.at at)
+          (same_some (slice_get events m) e _ (ap (slice_get events) (sym same) ∙ got) there) ∙ less
+    ]
+
+-- from an event on that is not before the moment none is
+pub rest_from : (events : List Event) (m : ℕ) (at : Moment) (d : Event) → IsRising moment_cmp moment_of events →
+    m < length events → moment_cmp (get_or events m d).at at ≢ Less → AreFrom events m at
+rest_from events m at d rising within not_less i e from got less =
+    let there = slice_get-get_or events m d within in
+    not_less (elim (same_or_higher i m from) [
+      | inl l ↦ moment_total.trans (get_or events m d).at e.at at (rising.rises m i _ e l there got) less
+      | inr same ↦ ap (λ (z : Event). moment_cmp z.at at)
+          (same_some (slice_get events m) _ e there (ap (slice_get events) same ∙ got)) ∙ less
+    ])
+
+-- there is none behind the end
+pub rest_none : (events : List Event) (m : ℕ) (at : Moment) → length events ≤ m → AreFrom events m at
+rest_none events m at end i e from got =
+    let within = slice_get_within events i e got in absurd (omega (arith, within, end, from))
+
+pub not_less : (o p : Ordering) → o ≡ p → o ≢ Less → p ≢ Less
+not_less o p same not e = not (same ∙ e)
+
+-- no event is passed at the start
+pub passed_none : (events : List Event) (start : ℕ) (at : Moment) → ArePassed events start start at
+passed_none events start at i e from lt got = absurd (omega (arith, from, lt))
+
+-- ---- events at far cells
+
+-- The events behind one at a far cell are at far cells as long as they are before the next moment that may be at a
+-- cell around the box.
+pub far_to : (area corner : Box2) (events : List Event) (place next : ℕ) (d : Event) (moment : Moment) →
+    IsRising moment_cmp moment_of events → place < length events → AreFar area corner events place (place + 1) →
+    AreFarBetween area corner (get_or events place d).at moment → ArePassed events (place + 1) next moment →
+    AreFar area corner events place next
+far_to area corner events place next d moment rising within far between passed i e from lt got =
+    elim (same_or_higher i place from) [
+      | inr same ↦ far i e from (omega (arith, same)) got
+      | inl l ↦ between e.at (rising.rises place i _ e l (slice_get-get_or events place d within) got)
+          (passed i e (omega (arith, l)) lt got)
+    ]
+
+-- an event at a far cell by itself
+pub far_one : (area corner : Box2) (events : List Event) (place : ℕ) (d : Event) (r : Bool) → place < length events →
+    (IsAroundFrom area corner (get_or events place d).at.cell → r ≡ true) → r ≡ false →
+    AreFar area corner events place (place + 1)
+far_one area corner events place d r within around none i e from lt got g =
+    let same : i ≡ place = omega (arith, from, lt) in
+    let is = same_some (slice_get events place) e (get_or events place d) (ap (slice_get events) (sym same) ∙ got)
+    (slice_get-get_or events place d within) in
+    false≢true (sym none ∙ around (subst (λ (z : Event). IsAroundFrom area corner z.at.cell) is g))

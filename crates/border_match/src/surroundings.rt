@@ -1,0 +1,253 @@
+//! Cells around the box of a module, and the events of another module's ring at such cells.
+//!
+//! The cells of that ring are counted from the corner of its own box.
+ghost use Rattle.std.specs.Prelude.{pos, ◌+◌, ◌≤◌, ◌+ℤ◌, ◌≤ℤ◌, ◌-◌, ◌≡◌, ◌<◌, length, IsTrue, IfNone, IfSome};
+ghost use Rattle.module_box.specs.Moments.{moment_cmp};
+ghost use Rattle.module_box.specs.Moves.{moved_cell};
+ghost use Rattle.module_box.specs.Schedules.{IsRising, moment_of};
+ghost use Rattle.border_match.specs.Surroundings.{AreFar, AreFarBetween, IsAroundFrom, IsFirstFrom};
+
+use bbm_rule::Cell;
+use module_box::{Box2, Event, Moment};
+use std::cmp::Ordering;
+
+// How many far events in a row the search looks at before it leaps, if leaps are long, and at most. A leap takes as
+// long as a look at six events, so after each short leap the search waits twice as long.
+const SHORT_WAIT: usize = 4;
+
+const LONG_WAIT: usize = 64;
+
+const LONG_LEAP: usize = 8;
+
+/// A search's plan of leaps over events at far cells. It decides the time of the search and not its result.
+#[derive(Clone, Copy)]
+pub(crate) struct Leaps {
+    // The first place from which the search leaps.
+    place: usize,
+    // How many far events in a row it looks at before.
+    wait: usize,
+    // How many places the last leap went. Most times have the same lines, so the next leap probably goes as many.
+    length: usize,
+}
+
+impl Leaps {
+    /// Returns the state of a search at the first event.
+    pub(crate) fn new() -> Leaps
+        ensures place { result.place ≡ SHORT_WAIT }
+        ensures wait { result.wait ≡ SHORT_WAIT }
+        ensures length { result.length ≡ 0 }
+    {
+        Leaps {
+            place: SHORT_WAIT,
+            wait: SHORT_WAIT,
+            length: 0,
+        }
+    }
+
+    // Returns the last place that a leap from a place passes if it is as long as the last one.
+    fn last_passed(self, place: usize) -> usize
+        ensures { place + self.length < usize.MAX → result ≡ place + self.length - 1 }
+    {
+        place.saturating_add(self.length).saturating_sub(1)
+    }
+
+    /// Returns the state behind an event at a near cell.
+    pub(crate) fn after_near(self, place: usize) -> Leaps
+        ensures wait { result.wait ≡ self.wait }
+        ensures length { result.length ≡ self.length }
+        ensures place { place + self.wait < usize.MAX → result.place ≡ place + self.wait + 1 }
+    {
+        Leaps {
+            place: place.saturating_add(self.wait).saturating_add(1),
+            ..self
+        }
+    }
+
+    // Returns how long to wait after a leap of this length.
+    fn wait_after(self, length: usize) -> usize
+        ensures most { result ≤ LONG_WAIT }
+        ensures long { LONG_LEAP ≤ length → result ≡ SHORT_WAIT }
+    {
+        if length < LONG_LEAP {
+            self.wait.saturating_mul(2).min(LONG_WAIT)
+        } else {
+            SHORT_WAIT
+        }
+    }
+
+    // Returns the state behind a leap.
+    fn after_leap(self, place: usize, next: usize) -> Leaps
+        requires { place ≤ next }
+        ensures length { result.length ≡ next - place }
+        ensures wait { result.wait ≤ LONG_WAIT }
+        ensures place { next + result.wait < usize.MAX → result.place ≡ next + result.wait }
+    {
+        let length = next - place;
+        let wait = self.wait_after(length);
+        Leaps {
+            place: next.saturating_add(wait),
+            wait,
+            length,
+        }
+    }
+}
+
+// Returns whether `z`, counted from a corner, is one of the `n` numbers from `from` on or next to one of them.
+fn is_beside(from: u32, n: u32, corner: u32, z: i32) -> bool
+    ensures beside { let at = z +ℤ pos corner in
+        pos from ≤ℤ (at +ℤ pos 1) → at ≤ℤ pos (from + n) → IsTrue result }
+    ensures bounds { let at = z +ℤ pos corner in
+        IsTrue result → (pos from ≤ℤ (at +ℤ pos 1)) × (at ≤ℤ pos (from + n)) }
+{
+    let at = z as i64 + corner as i64;
+    if at + 1 < from as i64 {
+        return false;
+    }
+    if at > from as i64 + n as i64 {
+        return false;
+    }
+    true
+}
+
+// Returns whether a cell, counted from the corner of another box, is in the columns and rows of the area or next to
+// them.
+pub(crate) fn is_around(area: Box2, corner: Box2, cell: Cell) -> bool
+    ensures around { IsAroundFrom area corner cell → IsTrue result }
+    ensures bounds { IsTrue result → IsAroundFrom area corner cell }
+{
+    if !is_beside(area.x, area.w, corner.x, cell.x) {
+        return false;
+    }
+    is_beside(area.y, area.h, corner.y, cell.y)
+}
+
+// Returns a cell that is counted from the corner of another box, counted from that of the plane. It returns `None` if
+// the cell is not in the columns and rows of the area or next to them.
+pub(crate) fn cell_around(area: Box2, corner: Box2, cell: Cell) -> Option<Cell>
+    requires area { (area.x + area.w ≤ 512) × (area.y + area.h ≤ 512) }
+    requires corner { (corner.x ≤ 512) × (corner.y ≤ 512) }
+    ensures around { IfSome result (λ c. c
+        ≡ moved_cell (pos corner.x) (pos corner.y) cell) }
+    ensures far { IfNone result (¬ IsAroundFrom area corner cell) }
+{
+    if !is_around(area, corner, cell) {
+        return None;
+    }
+    Some(Cell {
+        x: cell.x + corner.x as i32,
+        y: cell.y + corner.y as i32,
+    })
+}
+
+// Returns the first cell, by rows, that is around the area, counted from the corner of another box.
+fn first_around(area: Box2, corner: Box2) -> Cell
+    requires area { (area.x ≤ 512) × (area.y ≤ 512) }
+    requires corner { (corner.x ≤ 512) × (corner.y ≤ 512) }
+    ensures left { ((result.x +ℤ pos corner.x) +ℤ pos 1) ≡ pos area.x }
+    ensures top { ((result.y +ℤ pos corner.y) +ℤ pos 1) ≡ pos area.y }
+{
+    Cell {
+        x: area.x as i32 - corner.x as i32 - 1,
+        y: area.y as i32 - corner.y as i32 - 1,
+    }
+}
+
+// Returns the first moment after one at a far cell, at which a cell is around the area.
+fn next_around(area: Box2, corner: Box2, at: Moment) -> Moment
+    requires area { (area.x + area.w ≤ 512) × (area.y + area.h ≤ 512) }
+    requires corner { (corner.x ≤ 512) × (corner.y ≤ 512) }
+    requires far { ¬ IsAroundFrom area corner at.cell }
+    ensures around { IsAroundFrom area corner result.cell }
+    ensures passed { AreFarBetween area corner at result }
+{
+    let first = first_around(area, corner);
+    let last_row = first.y + area.h as i32 + 1;
+    let Moment { time, cell } = at;
+    let later = Moment {
+        time: time.saturating_add(1),
+        cell: first,
+    };
+    if cell.y < first.y {
+        return Moment { time, cell: first };
+    }
+    if cell.y > last_row {
+        return later;
+    }
+    if cell.x < first.x {
+        return Moment {
+            time,
+            cell: Cell {
+                x: first.x,
+                y: cell.y,
+            },
+        };
+    }
+    if cell.y < last_row {
+        return Moment {
+            time,
+            cell: Cell {
+                x: first.x,
+                y: cell.y + 1,
+            },
+        };
+    }
+    later
+}
+
+/// Returns the place of the first event from `from` on that is not before a moment.
+///
+/// It looks first at the place `guess`, then at places ever further behind, and then between the last two.
+pub(crate) fn place_from(events: &[Event], from: usize, guess: usize, at: Moment) -> usize
+    requires within { from ≤ length events.now }
+    requires rising { IsRising moment_cmp moment_of events.now }
+    ensures { IsFirstFrom events.now from at result }
+{
+    let mut low = from;
+    let mut high = guess.max(from).min(events.len());
+    let mut jump: usize = 0;
+    'jumps: while high < events.len() {
+        match events[high].at.compare(at) {
+            Ordering::Less => {
+                low = high + 1;
+                high = low + jump.min(events.len() - low);
+                jump = jump.saturating_mul(2).saturating_add(1);
+            }
+            _ => break,
+        }
+    }
+    'halves: while low < high {
+        let middle = low + (high - low) / 2;
+        match events[middle].at.compare(at) {
+            Ordering::Less => low = middle + 1,
+            _ => high = middle,
+        }
+    }
+    low
+}
+
+/// Returns a place after that of an event at a far cell. The events between the two are at far cells.
+// Most runs of far events are short, and then a call would take longer than the step to the next event.
+#[inline(always)]
+pub(crate) fn after_far(
+    area: Box2,
+    corner: Box2,
+    events: &[Event],
+    place: usize,
+    leaps: &mut Leaps,
+) -> usize
+    requires area { (area.x + area.w ≤ 512) × (area.y + area.h ≤ 512) }
+    requires corner { (corner.x ≤ 512) × (corner.y ≤ 512) }
+    requires within { place < length events.now }
+    requires rising { IsRising moment_cmp moment_of events.now }
+    requires far { AreFar area corner events.now place (place + 1) }
+    ensures after { place < result }
+    ensures far { AreFar area corner events.now place result }
+{
+    if place < leaps.place {
+        return place + 1;
+    }
+    let target = next_around(area, corner, events[place].at);
+    let next = place_from(events, place + 1, leaps.last_passed(place), target);
+    *leaps = leaps.after_leap(place, next);
+    next
+}
