@@ -88,6 +88,12 @@ module _ (cs : List CircuitLine) (p : Pattern) where
           let m = holder x y inside in
           let j = job_of (owner_of o x y) m.lines m.numbered in
           (j.0, j.1, ap (λ (b : Box2). in_box b x y) (made.each _ m.lines j.0 m.numbered j.1).area ∙ m.has);
+      only = λ x y k j inside got has.
+          let n = holder x y inside in
+          let m = lines_of k j got in
+          let is = made.each k m.0 j m.1 got in
+          owners.tile.once x y (owner_of o x y) k n.lines.area m.0.area (area_at ms _ n.lines n.numbered)
+          (area_at ms k m.0 m.1) n.has (ap (λ (b : Box2). in_box b x y) (sym is.area) ∙ has);
       quiet = quiet_job;
     }
 

@@ -1,5 +1,5 @@
 -- Cells of a halo, and the modules that have them
-use Rattle.std.proofs.Common.{◌≡◌, ℕ, ◌+◌, ◌-◌, ◌*◌, ◌/◌, ◌<◌, ◌≤◌, ◌%◌, List, map, length, Bool, true, false, ◌||◌}
+use Rattle.std.proofs.Common.{◌≡◌, ℕ, ◌+◌, ◌-◌, ◌<◌, ◌≤◌, ◌%◌, List, map, length, Bool, true, false, ◌||◌}
 use Rattle.std.proofs.Common.{◌&&◌, Some}
 use Rattle.std.proofs.Common.{sym}
 use Rattle.std.proofs.Common.{ap, ap₂, subst, ◌∙◌, inl, inr, ◌⊎◌, arith, get_or}
@@ -11,16 +11,16 @@ use Rattle.std.proofs.lemmas.Bool.{and_parts, and_from, cases_Bool, false≢true
 use Rattle.std.proofs.lemmas.Int.{ints}
 use Rattle.bbm_rule.specs.Spans.{in_span}
 use Rattle.bbm_rule.proofs.Spans.{span_from, span_parts}
-use Rattle.module_box.specs.Boxes.{IsEven, in_box, in_halo}
+use Rattle.module_box.specs.Boxes.{in_box, in_halo}
 use Rattle.bbm_rule.specs.declared.block.Cell.{Cell}
 use Rattle.module_box.specs.Moves.{IsNear, IsSmall}
-use Rattle.module_box.specs.Tiling.{Owning, owner_of, rectangle_of}
+use Rattle.module_box.specs.Tiling.{owner_of}
 use Rattle.module_box.specs.declared.boxes.Box2.{Box2}
 use Rattle.module_box.specs.declared.schedules.Signal.{Signal}
 use Rattle.module_box.proofs.BoxCells.{in_span_nat, in_box_nats, same_some}
 use Rattle.module_box.proofs.NearBoxes.{near_one, near_parts}
 use Rattle.module_job.specs.Jobs.{JobView, IsJob}
-use Rattle.border_match.specs.Boards.{job_halo, job_edge, jobs_of, IsBoxBetween, IsAround, IsReady, Faults}
+use Rattle.border_match.specs.Boards.{job_halo, job_edge, jobs_of, IsAround, IsReady, Faults}
 use Rattle.border_match.specs.Boards.{Differ}
 use Rattle.border_match.specs.declared.borders.Borders.{Borders}
 use Rattle.border_match.specs.declared.fault.BorderFault.{BorderFault}
@@ -131,67 +131,47 @@ halo_out a x y halo = elim (cases_Bool (in_box a x y)) [
   | inl inside ↦ absurd (false≢true (sym (box_no_halo a x y inside) ∙ halo))
 ]
 
--- the cells of a row from one in the box up to the box's last are in it
-row_inside : (a : Box2) (x c : ℕ) (y : ℤ) → in_box a (pos x) y ≡ true → x ≤ c → c < a.x + a.w →
-    in_box a (pos c) y ≡ true
+-- a cell of the columns and rows of the rectangle is in it
+pub in_whole : (b : Borders) (x y : ℕ) (cx cy : ℤ) → cx ≡ pos x → cy ≡ pos y → IsReady b → x < b.whole.w →
+    y < b.whole.h → in_box b.whole cx cy ≡ true
 unfolding in_box
-row_inside a x c y h le lt =
-    let both = and_parts (in_span a.x a.w (pos x)) (in_span a.y a.h y) h in
-    let from = span_parts a.x a.w x both.0 in
-    and_from _ _ (span_from a.x a.w c (omega (arith, from.0)) lt) both.1
+in_whole b x y cx cy px py ready left top =
+    let ex = ap (λ (w : Box2). w.x) ready.0.same in
+    let ey = ap (λ (w : Box2). w.y) ready.0.same in
+    ap₂ (in_box b.whole) px py
+    ∙ and_from _ _ (span_from b.whole.x b.whole.w x (omega (arith, ex)) (omega (arith, ex, left)))
+    (span_from b.whole.y b.whole.h y (omega (arith, ey)) (omega (arith, ey, top)))
 
-box_ends_after : (a : Box2) (x : ℕ) (y : ℤ) → in_box a (pos (x + 2)) y ≡ true → x < a.x + a.w
+-- and no other cell is
+pub whole_parts : (b : Borders) (x y : ℕ) → IsReady b → in_box b.whole (pos x) (pos y) ≡ true →
+    (x < b.whole.w) × (y < b.whole.h)
 unfolding in_box
-box_ends_after a x y h =
-    let both = and_parts (in_span a.x a.w (pos (x + 2))) (in_span a.y a.h y) h in
-    let at = span_parts a.x a.w (x + 2) both.0 in
-    omega (arith, at.1)
+whole_parts b x y ready inside =
+    let w = b.whole in
+    let ex = ap (λ (w : Box2). w.x) ready.0.same in
+    let ey = ap (λ (w : Box2). w.y) ready.0.same in
+    let both = and_parts (in_span w.x w.w (pos x)) (in_span w.y w.h (pos y)) inside in
+    let px = span_parts w.x w.w x both.0 in
+    let py = span_parts w.y w.h y both.1 in
+    (omega (arith, ex, px.1), omega (arith, ey, py.1))
 
--- after an even column whose next even one has a cell in the box, the cells up to the end of the box's row are in it
-pub box_skipped : (b : Borders) (a : Box2) (x y : ℕ) (cx cy : ℤ) (r : Bool) → a ≡ b.job.now.area → cx ≡ pos (x + 2) →
-    cy ≡ pos y → r ≡ in_box a cx cy → r ≡ true → x % 2 ≡ 0 → (x < a.x + a.w) × IsBoxBetween b y x (a.x + a.w)
-box_skipped b a x y cx cy r same ex ey is holds even =
-    let inside : in_box a (pos (x + 2)) (pos y) ≡ true = sym (ap₂ (in_box a) ex ey) ∙ sym is ∙ holds in (
-      box_ends_after a x (pos y) inside,
-      λ c after before corner. ap (λ (z : Box2). in_box z (pos c) (pos y)) (sym same)
-          ∙ row_inside a (x + 2) c (pos y) inside (omega (arith, after, corner, even)) before,
-    )
-
--- a cell is in an even box if the corner of its block is
-pub corner_out : (a : Box2) (x y : ℕ) → IsEven a → in_box a (pos x) (pos y) ≡ false →
-    in_box a (pos (2 * (x / 2))) (pos (2 * (y / 2))) ≡ false
+-- what is known of a cell of an area
+area_parts : (a : Box2) (x y : ℕ) → in_box a (pos x) (pos y) ≡ true →
+    ((a.x ≤ x) × (x < a.x + a.w)) × ((a.y ≤ y) × (y < a.y + a.h))
 unfolding in_box
-corner_out a x y even out = elim (cases_Bool (in_box a (pos (2 * (x / 2))) (pos (2 * (y / 2))))) [
-  | inr e ↦ e
-  | inl inside ↦
-      let both = and_parts (in_span a.x a.w (pos (2 * (x / 2)))) (in_span a.y a.h (pos (2 * (y / 2)))) inside in
-      let px = span_parts a.x a.w (2 * (x / 2)) both.0 in
-      let py = span_parts a.y a.h (2 * (y / 2)) both.1 in
-      let ex = even.x in let ew = even.w in let ey = even.y in let eh = even.h in
-      absurd (false≢true (sym out ∙ and_from _ _
-      (span_from a.x a.w x (omega (arith, px.0)) (omega (arith, px.1, ex, ew)))
-      (span_from a.y a.h y (omega (arith, py.0)) (omega (arith, py.1, ey, eh)))))
-]
+area_parts a x y inside =
+    let both = and_parts (in_span a.x a.w (pos x)) (in_span a.y a.h (pos y)) inside in
+    (span_parts a.x a.w x both.0, span_parts a.y a.h y both.1)
 
--- the corner of a cell's block is in a rectangle at (0, 0) that has the cell
-pub corner_in : (w h x y : ℕ) → in_box (rectangle_of w h) (pos x) (pos y) ≡ true →
-    in_box (rectangle_of w h) (pos (2 * (x / 2))) (pos (2 * (y / 2))) ≡ true
+pub area_at : (a : Box2) (x y : ℕ) (cx cy : ℤ) → cx ≡ pos x → cy ≡ pos y → in_box a cx cy ≡ true →
+    ((a.x ≤ x) × (x < a.x + a.w)) × ((a.y ≤ y) × (y < a.y + a.h))
+area_at a x y cx cy ex ey inside = area_parts a x y (sym (ap₂ (in_box a) ex ey) ∙ inside)
+
+pub area_from : (a : Box2) (x y : ℕ) → a.x ≤ x → x < a.x + a.w → a.y ≤ y → y < a.y + a.h →
+    in_box a (pos x) (pos y) ≡ true
 unfolding in_box
-corner_in w h x y inside =
-    let both = and_parts (in_span 0 w (pos x)) (in_span 0 h (pos y)) inside in
-    let px = span_parts 0 w x both.0 in
-    let py = span_parts 0 h y both.1 in
-    and_from _ _ (span_from 0 w (2 * (x / 2)) (omega arith) (omega (arith, px.1)))
-    (span_from 0 h (2 * (y / 2)) (omega arith) (omega (arith, py.1)))
-
--- and has the same owner
-pub corner_owner : (o : Owning) (x y : ℕ) →
-    owner_of o (pos (2 * (x / 2))) (pos (2 * (y / 2))) ≡ owner_of o (pos x) (pos y)
-unfolding owner_of
-corner_owner o x y =
-    let ex : 2 * (x / 2) / 2 ≡ x / 2 = omega arith in
-    let ey : 2 * (y / 2) / 2 ≡ y / 2 = omega arith in
-    ap₂ (λ r k. get_or o.numbers (r * (o.width / 2) + k) 0) ey ex
+area_from a x y left right top bottom =
+    and_from _ _ (span_from a.x a.w x left right) (span_from a.y a.h y top bottom)
 
 -- where a fault is
 pub placed : (b : Borders) (f : BorderFault) → Faults b f → IsPlaced b f.cell.x f.cell.y

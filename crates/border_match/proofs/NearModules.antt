@@ -1,17 +1,20 @@
--- The numbers of the modules that have cells of a module's halo, noted one by one.
-use Rattle.std.proofs.Common.{◌≡◌, ℕ, ◌+◌, ◌-◌, ◌*◌, ◌/◌, ◌%◌, ◌<◌, ◌≤◌, List, [], ◌∷◌, ◌++◌, Bool, true, false, ◌||◌}
+-- The numbers of the modules that have cells of a module's halo, noted box by box.
+use Rattle.std.proofs.Common.{◌≡◌, ℕ, ◌+◌, ◌-◌, ◌<◌, ◌≤◌, List, [], ◌∷◌, ◌++◌, length, Bool, true, false, ◌||◌, Some}
 use Rattle.std.proofs.Common.{refl, sym, ap, ap₂, subst, ◌∙◌, inl, inr, ◌⊎◌, arith}
-use Rattle.std.specs.Prelude.{ℤ, pos, ◌==◌}
-use Rattle.std.proofs.lemmas.Bool.{and_parts, false≢true}
+use Rattle.std.specs.Prelude.{ℤ, pos, ◌==◌, slice_get}
+use Rattle.std.proofs.lemmas.Bool.{and_parts, cases_Bool, cond-true, cond-false, false≢true}
 use Rattle.std.proofs.lemmas.Bool.Decides.{nat_tests}
+use Rattle.std.proofs.lemmas.List.Elements.{All-push}
 use Rattle.std.proofs.lemmas.List.Folds.{list_any-append}
-use Rattle.module_box.specs.Boxes.{IsEven, in_box, in_halo}
-use Rattle.module_box.specs.Tiling.{owner_of, rectangle_of}
-use Rattle.module_box.specs.declared.boxes.Box2.{Box2}
+use Rattle.module_box.specs.Boxes.{in_box, in_halo}
 use Rattle.module_box.specs.Locals.{is_among}
-use Rattle.border_match.proofs.Cells.{cell_placed, corner_in, corner_out, corner_owner, halo_out}
-use Rattle.border_match.specs.Boards.{AreOwnersNoted, AreRowsNotedAbove, IsOwnerNoted, IsRowNoted, IsRowNotedBefore}
-use Rattle.border_match.specs.Boards.{IsBoxBetween, IsReady, KeepsNumbers}
+use Rattle.module_box.specs.Tiling.{owner_of}
+use Rattle.module_box.specs.declared.boxes.Box2.{Box2}
+use Rattle.module_box.proofs.BoxCells.{same_some}
+use Rattle.module_job.specs.Jobs.{JobView}
+use Rattle.border_match.proofs.Cells.{area_at, area_from, cell_placed, halo_out, whole_parts}
+use Rattle.border_match.specs.Boards.{AreColumnsNoted, AreNumbers, AreOwnersNoted, AreRowsNoted, IsAreaNoted}
+use Rattle.border_match.specs.Boards.{IsOwnerNoted, IsReady, KeepsNumbers, jobs_of, with_number}
 use Rattle.border_match.specs.declared.borders.Borders.{Borders}
 
 -- ---- one number more
@@ -41,75 +44,120 @@ or_right : (a b : Bool) → b ≡ true → (a || b) ≡ true
 or_right true b e = refl
 or_right false b e = e
 
-pub keeps_more : (ks : List ℕ) (k : ℕ) → KeepsNumbers ks (ks ++ k ∷ [])
+keeps_more : (ks : List ℕ) (k : ℕ) → KeepsNumbers ks (ks ++ k ∷ [])
 keeps_more ks k w h = list_any-append (is_it w) ks (k ∷ []) ∙ or_left (is_among ks w) (is_among (k ∷ []) w) h
 
-pub last_among : (ks : List ℕ) (k : ℕ) → is_among (ks ++ k ∷ []) k ≡ true
+last_among : (ks : List ℕ) (k : ℕ) → is_among (ks ++ k ∷ []) k ≡ true
 last_among ks k = list_any-append (is_it k) ks (k ∷ [])
     ∙ or_right (is_among ks k) (is_among (k ∷ []) k) (or_left (is_it k k) false (grind (arith, nat_tests)))
 
--- ---- columns of a row, and rows
+-- what holds of the old numbers and of those with one more holds of the two by the test
+with_either : (P : List ℕ → Type 0) (ks : List ℕ) (k : ℕ) → (is_among ks k ≡ true → P ks) → P (ks ++ k ∷ []) →
+    P (with_number ks k)
+with_either P ks k old more = elim (cases_Bool (is_among ks k)) [
+  | inl there ↦ subst P (sym (cond-true _ _ _ there)) (old there)
+  | inr none ↦ subst P (sym (cond-false _ _ _ none)) more
+]
 
-pub noted_still : (b : Borders) (old new : List ℕ) (x y : ℤ) → KeepsNumbers old new → IsOwnerNoted b old x y →
+pub with_keeps : (ks new : List ℕ) (k : ℕ) → new ≡ with_number ks k → KeepsNumbers ks new
+with_keeps ks new k is =
+    subst (KeepsNumbers ks) (sym is) (with_either (KeepsNumbers ks) ks k (λ _ w h. h) (keeps_more ks k))
+
+pub with_among : (ks new : List ℕ) (k : ℕ) → new ≡ with_number ks k → is_among new k ≡ true
+with_among ks new k is =
+    let P : List ℕ → Type 0 = λ l. is_among l k ≡ true in
+    subst P (sym is) (with_either P ks k (λ there. there) (last_among ks k))
+
+pub with_below : (b : Borders) (ks new : List ℕ) (k : ℕ) → new ≡ with_number ks k → AreNumbers b ks →
+    k < length b.jobs.now → AreNumbers b new
+with_below b ks new k is below lt =
+    subst (AreNumbers b) (sym is) (with_either (AreNumbers b) ks k (λ _. below)
+    (All-push (λ (k : ℕ). k < length b.jobs.now) ks k below lt))
+
+-- ---- columns and rows
+
+noted_still : (b : Borders) (old new : List ℕ) (x y : ℤ) → KeepsNumbers old new → IsOwnerNoted b old x y →
     IsOwnerNoted b new x y
 noted_still b old new x y keeps noted inside out = keeps _ (noted inside out)
 
 pub lower_or_same : (i m : ℕ) → i < m + 1 → (i < m) ⊎ (i ≡ m)
 lower_or_same i m h = grind arith
 
-before_at_after : (i m : ℕ) → (i < m) ⊎ ((i ≡ m) ⊎ (m < i))
-before_at_after i m = grind arith
+below_or_from : (i m : ℕ) → (i < m) ⊎ (m ≤ i)
+below_or_from i m = grind arith
 
-pub no_column : (b : Borders) (ks : List ℕ) (y x : ℕ) → x ≡ b.job.now.area.x - 2 → IsRowNotedBefore b ks y x
-no_column b ks y x from c lt even around = absurd (omega (arith, lt, around, from))
+-- the cells of the module's box have no owner to be noted
+pub own_noted : (b : Borders) (ks : List ℕ) (a : Box2) → a ≡ b.job.now.area → IsAreaNoted b ks a
+own_noted b ks a same x y inside there out =
+    absurd (false≢true (sym out ∙ ap (λ (z : Box2). in_box z x y) (sym same) ∙ inside))
 
-pub column_more : (b : Borders) (old new : List ℕ) (y x z : ℕ) (cx cy : ℤ) → cx ≡ pos x → cy ≡ pos y →
-    IsBoxBetween b y x z → IsRowNotedBefore b old y x → KeepsNumbers old new → IsOwnerNoted b new cx cy →
-    IsRowNotedBefore b new y z
-column_more b old new y x z cx cy ex ey box before keeps here c lt even around = elim (before_at_after c x) [
-  | inl l ↦ noted_still b old new (pos c) (pos y) keeps (before c l even around)
-  | inr from ↦ elim from [
-    | inl same ↦ subst (λ (n : ℕ). IsOwnerNoted b new (pos n) (pos y)) (sym same)
-        (subst (λ (z : ℤ). IsOwnerNoted b new (pos x) z) ey (subst (λ (z : ℤ). IsOwnerNoted b new z cy) ex here))
-    | inr gt ↦ λ inside out. absurd (false≢true (sym out ∙ box c gt lt even))
-  ]
+-- the cells of a module's box have that module as their owner
+pub owner_noted : (b : Borders) (ks : List ℕ) (k : ℕ) (j : JobView) (a : Box2) → IsReady b → a ≡ j.area →
+    slice_get (jobs_of b) k ≡ Some j → is_among ks k ≡ true → IsAreaNoted b ks a
+owner_noted b ks k j a ready same got among x y inside there out =
+    let P : ℕ → Type 0 = λ n. is_among ks n ≡ true in
+    subst P (sym (ready.0.only x y k j there got (ap (λ (z : Box2). in_box z x y) (sym same) ∙ inside))) among
+
+-- the owner of a cell has the cell in its box
+pub owner_holds : (b : Borders) (x y : ℤ) (j : JobView) (a : Box2) → IsReady b → in_box b.whole x y ≡ true →
+    a ≡ j.area → slice_get (jobs_of b) (owner_of b.owners.now x y) ≡ Some j → in_box a x y ≡ true
+owner_holds b x y j a ready inside same got =
+    let m = ready.0.holder x y inside in
+    ap (λ (z : Box2). in_box z x y) same
+    ∙ ap (λ (z : JobView). in_box z.area x y) (same_some (slice_get (jobs_of b) _) j m.0 got m.1) ∙ m.2
+
+pub no_column : (b : Borders) (ks : List ℕ) (y z x : ℕ) → x ≡ b.job.now.area.x - 1 → AreColumnsNoted b ks y z x
+no_column b ks y z x from c r left lt top under = absurd (omega (arith, lt, left, from))
+
+-- the columns up to the last one of an area that has the cell (x, y), as far down as the area
+pub columns_more : (b : Borders) (old new : List ℕ) (y z z' x : ℕ) (a : Box2) (cx cy : ℤ) → cx ≡ pos x → cy ≡ pos y →
+    in_box a cx cy ≡ true → z' ≤ z → z' ≤ a.y + a.h → AreColumnsNoted b old y z x → KeepsNumbers old new →
+    IsAreaNoted b new a → AreColumnsNoted b new y z' (a.x + a.w)
+columns_more b old new y z z' x a cx cy ex ey has le within before keeps here c r left lt top under =
+    let at = area_at a x y cx cy ex ey has in
+    elim (below_or_from c x) [
+      | inl l ↦ noted_still b old new (pos c) (pos r) keeps (before c r left l top (omega (arith, under, le)))
+      | inr from ↦ here (pos c) (pos r) (area_from a c r (omega (arith, at.0.0, from)) lt
+          (omega (arith, at.1.0, top)) (omega (arith, under, within)))
+    ]
+
+-- the columns behind x are outside of the rectangle or of the halo
+pub all_columns : (b : Borders) (ks : List ℕ) (y z x : ℕ) → IsReady b →
+    ((c : ℕ) → x ≤ c → c < b.job.now.area.x + b.job.now.area.w + 1 → b.whole.w ≤ c) → AreColumnsNoted b ks y z x →
+    AreRowsNoted b ks y z
+all_columns b ks y z x ready end before c r left lt top under = elim (below_or_from c x) [
+  | inl l ↦ before c r left l top under
+  | inr from ↦ λ there out.
+      let outside = end c from lt in
+      let inside = (whole_parts b c r ready there).0 in absurd (omega (arith, outside, inside))
 ]
 
-pub all_columns : (b : Borders) (ks : List ℕ) (y x : ℕ) → b.job.now.area.x + b.job.now.area.w + 1 ≤ x →
-    IsRowNotedBefore b ks y x → IsRowNoted b ks y
-all_columns b ks y x end before c lt even around = before c (omega (arith, lt, end)) even around
+pub no_row : (b : Borders) (ks : List ℕ) (y z : ℕ) → z ≡ y → AreRowsNoted b ks y z
+no_row b ks y z same c r left lt top under = absurd (omega (arith, top, under, same))
 
-pub no_row : (b : Borders) (ks : List ℕ) (y : ℕ) → y ≡ b.job.now.area.y - 2 → AreRowsNotedAbove b ks y
-no_row b ks y from r lt even around = absurd (omega (arith, lt, around, from))
-
-pub row_more : (b : Borders) (old new : List ℕ) (y : ℕ) → y % 2 ≡ 0 → AreRowsNotedAbove b old y →
-    KeepsNumbers old new → IsRowNoted b new y → AreRowsNotedAbove b new (y + 2)
-row_more b old new y corner above keeps here r lt even around = elim (before_at_after r y) [
-  | inl l ↦ λ c lc ec ac. noted_still b old new (pos c) (pos r) keeps (above r l even around c lc ec ac)
-  | inr from ↦ elim from [
-    | inl same ↦ subst (IsRowNoted b new) (sym same) here
-    | inr gt ↦ absurd (omega (arith, gt, lt, even, corner))
-  ]
+pub rows_more : (b : Borders) (old new : List ℕ) (x y z : ℕ) → AreRowsNoted b old x y → KeepsNumbers old new →
+    AreRowsNoted b new y z → AreRowsNoted b new x z
+rows_more b old new x y z above keeps here c r left lt top under = elim (below_or_from r y) [
+  | inl l ↦ noted_still b old new (pos c) (pos r) keeps (above c r left lt top l)
+  | inr from ↦ here c r left lt from under
 ]
 
--- a cell of the halo has the owner of the corner of its block
-pub all_rows : (b : Borders) (ks : List ℕ) (y : ℕ) → IsReady b → IsEven b.job.now.area →
-    b.job.now.area.y + b.job.now.area.h + 1 ≤ y → AreRowsNotedAbove b ks y → AreOwnersNoted b ks
-all_rows b ks y ready even end above x z there =
+-- the rows behind y are outside of the rectangle or of the halo
+pub all_rows : (b : Borders) (ks : List ℕ) (y : ℕ) → IsReady b →
+    ((r : ℕ) → y ≤ r → r < b.job.now.area.y + b.job.now.area.h + 1 → b.whole.h ≤ r) →
+    AreRowsNoted b ks (b.job.now.area.y - 1) y → AreOwnersNoted b ks
+all_rows b ks y ready end above x z there =
     let area = b.job.now.area in
-    let o = b.owners.now in
     let both = and_parts (in_box b.whole x z) (in_halo area x z) there in
     let p = cell_placed b x z both.0 both.1 in
-    let left = p.left in let right = p.right in let top = p.top in let bottom = p.bottom in
-    let inside : in_box (rectangle_of o.width o.height) (pos p.column) (pos p.row) ≡ true =
-    sym (ap₂ (in_box (rectangle_of o.width o.height)) p.x p.y)
-    ∙ ap (λ (w : Box2). in_box w x z) (sym ready.0.same) ∙ both.0 in
+    let inside : in_box b.whole (pos p.column) (pos p.row) ≡ true = sym (ap₂ (in_box b.whole) p.x p.y) ∙ both.0 in
     let out : in_box area (pos p.column) (pos p.row) ≡ false =
     sym (ap₂ (in_box area) p.x p.y) ∙ halo_out area x z both.1 in
-    let noted = above (2 * (p.row / 2)) (omega (arith, bottom, end)) (omega arith) (omega (arith, top))
-    (2 * (p.column / 2)) (omega (arith, right)) (omega arith) (omega (arith, left))
-    (ap (λ (w : Box2). in_box w (pos (2 * (p.column / 2))) (pos (2 * (p.row / 2)))) ready.0.same
-    ∙ corner_in o.width o.height p.column p.row inside)
-    (corner_out area p.column p.row even out) in
-    subst (λ (n : ℕ). is_among ks n ≡ true)
-    (corner_owner o p.column p.row ∙ sym (ap₂ (owner_of o) p.x p.y)) noted
+    let noted : is_among ks (owner_of b.owners.now (pos p.column) (pos p.row)) ≡ true = elim (below_or_from p.row y) [
+      | inl l ↦ above p.column p.row p.left p.right p.top l inside out
+      | inr from ↦
+          let outside = end p.row from p.bottom in
+          let within = (whole_parts b p.column p.row ready inside).1 in absurd (omega (arith, outside, within))
+    ] in
+    let P : ℕ → Type 0 = λ n. is_among ks n ≡ true in
+    subst P (sym (ap₂ (owner_of b.owners.now) p.x p.y)) noted

@@ -1,6 +1,7 @@
 -- Border faults by the jobs of the modules, and the parts of a search for them
-use Rattle.std.specs.Prelude.{◌≡◌, ◌≢◌, ℕ, ℤ, pos, ◌+◌, ◌+ℤ◌, ◌≤ℤ◌, ◌<◌, ◌%◌, ◌&&◌, true, false, List, length, map}
-use Rattle.std.specs.Prelude.{Bool, ◌≤◌, ◌⊎◌, Some, None, slice_get, IsTrue}
+use Rattle.std.specs.Prelude.{◌≡◌, ◌≢◌, ℕ, ℤ, pos, ◌+◌, ◌+ℤ◌, ◌≤ℤ◌, ◌<◌, ◌-◌, ◌%◌, ◌&&◌, ◌++◌, ◌∷◌, if◌then◌else◌, true}
+use Rattle.std.specs.Prelude.{false, List, length, map}
+use Rattle.std.specs.Prelude.{[], Bool, ◌≤◌, ◌⊎◌, Some, None, slice_get, IsTrue}
 use Rattle.std.specs.List.{All}
 use Rattle.std.specs.Arc.{arc_value}
 use Rattle.bbm_rule.specs.declared.block.Cell.{Cell}
@@ -47,11 +48,13 @@ pub record IsQuiet (j : JobView) : Type 0 where
   pub halos : (x y : ℤ) → event_at j.halos.events 0 x y ≡ None
   pub edges : (x y : ℤ) → event_at j.edges.events 0 x y ≡ None
 
--- the owner of each cell of the rectangle is the number of a job whose box has the cell
+-- the owner of each cell of the rectangle is the number of the one job whose box has the cell
 pub record IsBoard (w : Box2) (o : Owning) (jobs : List JobView) : Type 0 where
   pub same : w ≡ rectangle o
   pub holder : (x y : ℤ) → IsTrue (in_box w x y) →
       (j : JobView) × (slice_get jobs (owner_of o x y) ≡ Some j) × IsTrue (in_box j.area x y)
+  pub only : (x y : ℤ) (k : ℕ) (j : JobView) → IsTrue (in_box w x y) → slice_get jobs k ≡ Some j →
+      IsTrue (in_box j.area x y) → owner_of o x y ≡ k
   pub quiet : (k : ℕ) (j : JobView) → slice_get jobs k ≡ Some j → IsQuiet j
 
 -- ---- the same of a module among its neighbours
@@ -78,10 +81,6 @@ pub record MayBeFault (b : Borders) (f : BorderFault) : Type 0 where
 -- the job that is searched and the module that has the cell say different things of it at the time
 abbrev pub Differ : Borders → ℕ → ℤ → ℤ → Type 0
 Differ b t x y = AreDifferent b.owners.now (jobs_of b) b.job.now t x y
-
--- the cells of row y in the even columns between the columns x and z are in the module's box
-abbrev pub IsBoxBetween : Borders → ℕ → ℕ → ℕ → Type 0
-IsBoxBetween b y x z = (c : ℕ) → x < c → c < z → c % 2 ≡ 0 → in_box b.job.now.area (pos c) (pos y) ≡ true
 
 -- the cell (x, y) is in the columns and rows of the box or next to them, as the cells of its halo are
 pub record IsAround (a : Box2) (x y : ℤ) : Type 0 where
@@ -216,21 +215,24 @@ IsNoted b ks x y = (in_box b.whole x y && in_halo b.job.now.area x y) ≡ true �
 abbrev pub AreOwnersNoted : Borders → List ℕ → Type 0
 AreOwnersNoted b ks = (x y : ℤ) → IsNoted b ks x y
 
--- If the cell (x, y) is in the rectangle and not in the box, the number of the module that has it is one of these. A
--- block of two by two cells whose corner is even has one owner, so only the corners of such blocks are noted
+-- if the cell (x, y) is in the rectangle and not in the box, the number of the module that has it is one of these
 abbrev pub IsOwnerNoted : Borders → List ℕ → ℤ → ℤ → Type 0
 IsOwnerNoted b ks x y = in_box b.whole x y ≡ true → in_box b.job.now.area x y ≡ false →
     IsTrue (is_among ks (owner_of b.owners.now x y))
 
--- the same of the corners in row y that are before column x, from the first block with cells of the halo on
-abbrev pub IsRowNotedBefore : Borders → List ℕ → ℕ → ℕ → Type 0
-IsRowNotedBefore b ks y x =
-    (c : ℕ) → c < x → c % 2 ≡ 0 → b.job.now.area.x ≤ c + 2 → IsOwnerNoted b ks (pos c) (pos y)
+-- the same of the cells of an area
+abbrev pub IsAreaNoted : Borders → List ℕ → Box2 → Type 0
+IsAreaNoted b ks a = (x y : ℤ) → IsTrue (in_box a x y) → IsOwnerNoted b ks x y
 
--- the same of all corners in row y up to the last block with cells of the halo
-abbrev pub IsRowNoted : Borders → List ℕ → ℕ → Type 0
-IsRowNoted b ks y = IsRowNotedBefore b ks y (b.job.now.area.x + b.job.now.area.w + 1)
+-- the same of the cells in the rows from y on and before z, and in the columns of the halo before x
+abbrev pub AreColumnsNoted : Borders → List ℕ → ℕ → ℕ → ℕ → Type 0
+AreColumnsNoted b ks y z x =
+    (c r : ℕ) → b.job.now.area.x - 1 ≤ c → c < x → y ≤ r → r < z → IsOwnerNoted b ks (pos c) (pos r)
 
--- the same of the rows above row y
-abbrev pub AreRowsNotedAbove : Borders → List ℕ → ℕ → Type 0
-AreRowsNotedAbove b ks y = (r : ℕ) → r < y → r % 2 ≡ 0 → b.job.now.area.y ≤ r + 2 → IsRowNoted b ks r
+-- the same of the cells in those rows and in all columns of the halo
+abbrev pub AreRowsNoted : Borders → List ℕ → ℕ → ℕ → Type 0
+AreRowsNoted b ks y z = AreColumnsNoted b ks y z (b.job.now.area.x + b.job.now.area.w + 1)
+
+-- the numbers with one more behind them, unless it is among them
+abbrev pub with_number : List ℕ → ℕ → List ℕ
+with_number ks k = if is_among ks k then ks else ks ++ k ∷ []

@@ -1,5 +1,5 @@
 //! The borders of one module.
-ghost use Rattle.std.specs.Prelude.{pos, ◌+◌, ◌%◌, ◌≤◌, ◌≡◌, ◌≢◌, ◌<◌, ◌↔◌, ◌&&◌, false, List, [], length, map, slice_get, slice_set, true, IsTrue, Some, IfSome, IfOk, OnOk};
+ghost use Rattle.std.specs.Prelude.{pos, ◌+◌, ◌≤◌, ◌≡◌, ◌≢◌, ◌<◌, ◌↔◌, ◌&&◌, false, List, [], length, map, slice_get, slice_set, true, IsTrue, Some, IfSome, IfOk, OnOk};
 ghost use Rattle.std.specs.Arc.{arc_value};
 ghost use Rattle.circuit.specs.Meaning.{wires};
 ghost use Rattle.module_box.specs.Boxes.{in_box, in_halo};
@@ -7,7 +7,7 @@ ghost use Rattle.module_box.specs.Locals.{circuit_wire};
 ghost use Rattle.module_box.specs.Moves.{IsNear, moved_all_times};
 ghost use Rattle.module_box.specs.Tiling.{owner_of};
 ghost use Rattle.module_job.specs.Signals.{IsBelow, renumber_signal};
-ghost use Rattle.border_match.specs.Boards.{AddsMark, AreMarked, AreNumbers, AreOwnersNoted, Differ, Faults, IsEdgeNamed, IsEdgeNamedAt, DiffersAlways, DiffersAlwaysAt, IsBoxBetween, IsAtEvent, IsAtEventOf, IsListed, IsNamedOf, IsPlaceOf, IsUnmarked, IsNoted, IsOwnerNoted, IsReady, IsRowNoted, IsStarred, KeepsNumbers, MayBeFault, job_edge, job_halo, jobs_of};
+ghost use Rattle.border_match.specs.Boards.{AddsMark, AreMarked, AreNumbers, AreOwnersNoted, AreRowsNoted, Differ, Faults, IsEdgeNamed, IsEdgeNamedAt, DiffersAlways, DiffersAlwaysAt, IsAreaNoted, IsAtEvent, IsAtEventOf, IsListed, IsNamedOf, IsPlaceOf, IsUnmarked, IsNoted, IsReady, IsStarred, KeepsNumbers, MayBeFault, job_edge, job_halo, jobs_of, with_number};
 ghost use Rattle.border_match.specs.Candidates.{IsBetter, IsLeast};
 ghost use Rattle.border_match.specs.declared.fault.BorderFault.{BorderFault};
 
@@ -126,6 +126,17 @@ fn fault_at(event: Event) -> BorderFault
         time: event.at.time,
         cell: event.at.cell,
     }
+}
+
+// Adds a number, unless it is there already.
+fn add_number(near: &mut Vec<usize>, number: usize) -> Result<(), AllocError>
+    ensures { OnOk result (near.new.items ≡ with_number near.old.items number) }
+{
+    if near.contains(&number) {
+        return Ok(());
+    }
+    near.push(number)?;
+    Ok(())
 }
 
 impl<'a> Borders<'a> {
@@ -372,85 +383,68 @@ impl<'a> Borders<'a> {
         self.with_edge_events(best, number, &self.jobs[number], seen)
     }
 
-    // Adds the number of the module that has the cell, unless the cell is outside the rectangle or in the module's box.
-    // A number is added once.
-    fn note_owner(&self, near: &mut Vec<usize>, cell: Cell) -> Result<(), AllocError>
+    // Adds the number of the module that has the cell, unless it is this one. Returns the box of that module, whose
+    // cells all have this owner.
+    fn note_owner(&self, near: &mut Vec<usize>, cell: Cell) -> Result<Box2, AllocError>
         requires ready { IsReady self.now }
+        requires inside { IsTrue (in_box self.now.whole cell.x cell.y) }
         requires below { AreNumbers self.now near.old.items }
-        ensures noted { OnOk result (IsOwnerNoted self.now near.new.items cell.x cell.y) }
+        ensures noted { IfOk result (IsAreaNoted self.now near.new.items) }
+        ensures holds { IfOk result (λ area. IsTrue (in_box area cell.x cell.y)) }
+        ensures within { IfOk result (λ area. (area.x + area.w ≤ 512) × (area.y + area.h ≤ 512)) }
         ensures kept { OnOk result (KeepsNumbers near.old.items near.new.items) }
         ensures below { OnOk result (AreNumbers self.now near.new.items) }
     {
-        // No cell of the halo fails these two tests, and they take less than `reaches`.
-        if !self.whole.holds(cell) {
-            return Ok(());
-        }
-        if self.job.area().holds(cell) {
-            return Ok(());
+        let area = self.job.area();
+        if area.holds(cell) {
+            return Ok(area);
         }
         let number = self.owners.owner(cell);
-        if near.contains(&number) {
-            return Ok(());
-        }
-        near.push(number)?;
-        Ok(())
+        add_number(near, number)?;
+        Ok(self.jobs[number].area())
     }
 
-    // Returns the next even column after `x` in which the cell of row `y` may be outside the box.
-    fn next_column(&self, x: u32, y: u32) -> u32
-        requires column { (x < 1024) × (x % 2 ≡ 0) }
-        requires row { y < 1024 }
-        ensures after { (x < result) × (result % 2 ≡ 0) }
-        ensures box_between { IsBoxBetween self.now y x result }
-    {
-        let area = self.job.area();
-        let next = Cell {
-            x: (x + 2) as i32,
-            y: y as i32,
-        };
-        if area.holds(next) {
-            return area.x + area.w;
-        }
-        x + 2
-    }
-
-    // Adds the numbers of the modules that have the blocks of the module's halo whose corners are in row `y`.
-    fn note_row(&self, near: &mut Vec<usize>, y: u32) -> Result<(), AllocError>
+    // Adds the numbers of the modules that have cells of row `y` in the columns of the halo. Returns the first row
+    // below it in which another module may have such a cell.
+    fn note_row(&self, near: &mut Vec<usize>, y: u32) -> Result<u32, AllocError>
         requires ready { IsReady self.now }
         requires below { AreNumbers self.now near.old.items }
-        requires row { y < 1024 }
-        ensures noted { OnOk result (IsRowNoted self.now near.new.items y) }
+        requires inside { y < self.now.whole.h }
+        requires row { y < self.now.job.now.area.y + self.now.job.now.area.h + 1 }
+        ensures noted { IfOk result (AreRowsNoted self.now near.new.items y) }
+        ensures after { IfOk result (λ next. y < next) }
         ensures kept { OnOk result (KeepsNumbers near.old.items near.new.items) }
         ensures below { OnOk result (AreNumbers self.now near.new.items) }
     {
         let area = self.job.area();
-        let end = area.x + area.w + 1;
-        let mut x = area.x.saturating_sub(2);
+        let end = self.whole.w.min(area.x + area.w + 1);
+        let mut x = area.x.saturating_sub(1);
+        let mut next = area.y + area.h + 1;
         'columns: while x < end {
             let cell = Cell {
                 x: x as i32,
                 y: y as i32,
             };
-            self.note_owner(near, cell)?;
-            x = self.next_column(x, y);
+            let owner = self.note_owner(near, cell)?;
+            x = owner.x + owner.w;
+            next = next.min(owner.y + owner.h);
         }
-        Ok(())
+        Ok(next)
     }
 
-    // The numbers of the modules that have cells of the module's halo. Boxes have even corners and sides, so each block
-    // of two by two cells with an even corner has one owner.
+    // The numbers of the modules that have cells of the module's halo. It leaps from box to box and not from cell to
+    // cell, so a module among others of its size takes a dozen looks.
     fn near_modules(&self, alloc: Global) -> Result<Vec<usize>, AllocError>
         requires { IsReady self.now }
         ensures noted { IfOk result (λ near. AreOwnersNoted self.now near.items) }
         ensures below { IfOk result (λ near. AreNumbers self.now near.items) }
     {
         let area = self.job.area();
-        let end = area.y + area.h + 1;
+        let end = self.whole.h.min(area.y + area.h + 1);
         let mut near = Vec::new(alloc);
-        let mut y = area.y.saturating_sub(2);
+        let mut y = area.y.saturating_sub(1);
         'rows: while y < end {
-            self.note_row(&mut near, y)?;
-            y += 2;
+            y = self.note_row(&mut near, y)?;
         }
         Ok(near)
     }

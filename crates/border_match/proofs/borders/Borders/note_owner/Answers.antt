@@ -1,38 +1,49 @@
--- A number that is there already stays, and a new one is the last.
-use Rattle.std.proofs.Common.{◌≡◌, ◌∙◌, ℕ, ◌<◌, List, [], ◌∷◌, ◌++◌, length, true, ap, subst, sym}
-use Rattle.std.proofs.lemmas.Bool.{false≢true}
-use Rattle.std.proofs.lemmas.List.Elements.{All-push}
-use Rattle.module_box.specs.Boxes.{in_box}
+-- The cells of the box have one owner, whose number is there.
+use Rattle.std.proofs.Common.{◌≡◌, ◌∙◌, ◌+◌, ◌≤◌, ◌<◌, ℕ, Some, length, subst, sym}
+use Rattle.std.specs.Prelude.{slice_get}
+use Rattle.std.specs.Arc.{arc_value}
 use Rattle.module_box.specs.declared.boxes.Box2.{Box2}
-use Rattle.module_box.specs.Locals.{is_among}
-use Rattle.module_box.specs.Tiling.{owner_of}
-use Rattle.border_match.specs.Boards.{AreNumbers}
-use Rattle.border_match.proofs.Cells.{owner_within}
-use Rattle.border_match.proofs.NearModules.{keeps_more, last_among}
+use Rattle.module_job.specs.Jobs.{IsJob, JobView}
+use Rattle.border_match.specs.Boards.{jobs_of}
+use Rattle.border_match.proofs.Cells.{job_at, owner_within}
+use Rattle.border_match.proofs.NearModules.{own_noted, owner_holds, owner_noted, with_among, with_below, with_keeps}
 use Rattle.border_match.proofs.borders.Borders.note_owner.Goals as goal
 
-pub returns-then-holds-clause-noted : goal.returns-then-holds-clause-noted
-returns-then-holds-clause-noted c =
-    let area = c.args.self.now.job.now.area in
-    let x = c.args.cell.x in let y = c.args.cell.y in
-    let inside : in_box area x y ≡ true =
-    ap (λ (a : Box2). in_box a x y) (sym c.area.ensures.area) ∙ sym c.holds-2.ensures ∙ c.if-holds.true in
-    λ there out. absurd (false≢true (sym out ∙ inside))
+-- the box of a job is within the limits
+within_limits : (j : JobView) (a : Box2) → a ≡ j.area → IsJob j → (a.x + a.w ≤ 512) × (a.y + a.h ≤ 512)
+within_limits j a same good =
+    let P : Box2 → Type 0 = λ a. (a.x + a.w ≤ 512) × (a.y + a.h ≤ 512) in
+    subst P (sym same) (good.width.2, good.height.2)
+
+pub returns-then-holds : goal.returns-then-holds
+returns-then-holds c = record {
+  noted = own_noted c.args.self.now c.args.near.now.items c.area-area.result c.area-area.ensures.area;
+  holds = sym c.holds.ensures ∙ c.if-holds.true;
+  within = within_limits c.args.self.now.job.now c.area-area.result c.area-area.ensures.area c.area-area.ensures.good;
+  kept = λ k h. h;
+  below = c.requires.below;
+}
 
 pub returns : goal.returns
 returns c =
     let b = c.args.self.now in
-    let near = c.args.near.now.items in
+    let x = c.args.cell.x in let y = c.args.cell.y in
     let number = c.owner-number.result in
-    let items = c.in_ok-push.ensures.items in
-    let inside = sym c.holds.ensures ∙ c.if-not-holds.false in
+    let owner = c.deref.result.now in
+    let near = c.args.near.now.items in
+    let new = c.add_number.new.near.items in
+    let is = c.in_ok-add_number.ensures in
+    let lt : number < length b.jobs.now =
+    subst (λ (n : ℕ). n < length b.jobs.now) (sym c.owner-number.ensures)
+    (owner_within b x y c.requires.ready c.requires.inside) in
+    let got : slice_get (jobs_of b) number ≡ Some owner =
+    job_at arc_value b.jobs.now number _ owner lt c.deref.ensures in
+    let same = c.area.ensures.area in
     record {
-      noted = λ there out. subst (λ (l : List ℕ). is_among l (owner_of b.owners.now c.args.cell.x c.args.cell.y) ≡ true)
-          (sym items) (subst (λ (k : ℕ). is_among (near ++ number ∷ []) k ≡ true) c.owner-number.ensures
-          (last_among near number));
-      kept = λ k h. subst (λ (l : List ℕ). is_among l k ≡ true) (sym items) (keeps_more near number k h);
-      below = subst (AreNumbers b) (sym items)
-          (All-push (λ (k : ℕ). k < length b.jobs.now) near number c.requires.below
-          (subst (λ (k : ℕ). k < length b.jobs.now) (sym c.owner-number.ensures)
-          (owner_within b c.args.cell.x c.args.cell.y c.requires.ready inside)));
+      noted = owner_noted b new number owner c.area.result c.requires.ready same got (with_among near new number is);
+      holds = owner_holds b x y owner c.area.result c.requires.ready c.requires.inside same
+          (subst (λ (n : ℕ). slice_get (jobs_of b) n ≡ Some owner) c.owner-number.ensures got);
+      within = within_limits owner c.area.result same c.area.ensures.good;
+      kept = with_keeps near new number is;
+      below = with_below b near new number is c.requires.below lt;
     }
