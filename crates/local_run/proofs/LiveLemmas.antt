@@ -7,7 +7,7 @@ use Rattle.bbm_rule.specs.Marks.{IsUnmarked}
 use Rattle.bbm_rule.specs.Plane.{turned}
 use Rattle.bbm_rule.specs.Words.{AreTurned}
 use Rattle.bbm_rule.proofs.BitLemmas.{by_eq_or_not, bit-zero}
-use Rattle.local_run.specs.Calm.{ChangesCells, EvenCalm, IsDeadAt, OddCalm}
+use Rattle.local_run.specs.Calm.{AreDead, ChangesCells, EvenCalm, IsDeadAt, OddCalm}
 use Rattle.local_run.specs.Lanes.{HasSize}
 use Rattle.local_run.specs.Live.{AllDead, AreMarked, AreUnmarked, DeadBut, DropsDead, IsDeadCell, MarksCell, TakesMark}
 use Rattle.local_run.specs.Turns.{DiagonalStays, IsCalmBlock, SameBeside, SwapsPart, TurnsPart}
@@ -252,6 +252,15 @@ marked_dead n l p room all = (
   λ u h free. absurd ((all u (omega (arith, room, h))).3 free),
 )
 
+-- and whichever have marks, where all cells are dead
+pub dead_all : (l : LiveMarks) (p : Planes) → AreDead p → AllDead l p
+dead_all l p dead = (
+  (λ u h free k i. (dead u k i).0),
+  (λ u h free k i. (dead u k i).1),
+  (λ u h free k i. (dead u k i).2),
+  (λ u h free k i. (dead u k i).3),
+)
+
 -- the four cells with a number, where none has a mark
 pub dead_at : (u : ℕ) (l : LiveMarks) (p : Planes) → u < p.stride * p.rows → AllDead l p → AreUnmarked l u u u u →
     IsDeadAt u p
@@ -266,6 +275,16 @@ marked_odd marks p room all u l free = absurd (all u (omega (arith, room, l)) fr
 pub marked_even : (marks : List ℕ) (p : Planes) → p.stride * p.rows ≤ 64 * length marks →
     ((u : ℕ) → u < 64 * length marks → IsUnmarked marks u → ⊥) → EvenCalm marks p
 marked_even marks p room all u l inside free = absurd (all u (omega (arith, room, l)) free)
+
+-- each stays, where all cells are dead
+pub dead_odd : (marks : List ℕ) (p : Planes) → AreDead p → OddCalm marks p
+dead_odd marks p dead u l free = dead_calm p.words u u u u p.odd.items p.right.items p.down.items p.even.items
+    (λ k h. (dead u k h).0) (λ k h. (dead u k h).1) (λ k h. (dead u k h).2) (λ k h. (dead u k h).3)
+
+pub dead_even : (marks : List ℕ) (p : Planes) → AreDead p → EvenCalm marks p
+dead_even marks p dead u l inside free = dead_calm p.words u (u + 1) (u + p.stride) (u + p.stride + 1) p.even.items
+    p.down.items p.right.items p.odd.items (λ k h. (dead u k h).3) (λ k h. (dead (u + 1) k h).2)
+    (λ k h. (dead (u + p.stride) k h).1) (λ k h. (dead (u + p.stride + 1) k h).0)
 
 -- ---- blocks of one word
 pub one_turned : (a b c d a' b' c' d' : ℕ) (ul ur ll lr : List ℕ) → a < length ul → b < length ur → c < length ll →

@@ -21,6 +21,10 @@ IsDeadAt u p = (k : ℕ) → k < p.words →
     (slice_index p.odd.items (p.words * u + k) ≡ 0) × (slice_index p.right.items (p.words * u + k) ≡ 0)
     × (slice_index p.down.items (p.words * u + k) ≡ 0) × (slice_index p.even.items (p.words * u + k) ≡ 0)
 
+-- the cells with each number are
+abbrev pub AreDead : Planes → Type 0
+AreDead p = (u : ℕ) → IsDeadAt u p
+
 -- any two proofs of these are equal
 pub OddCalm-prop : (marks : List ℕ) (p : Planes) → IsProp (OddCalm marks p)
 OddCalm-prop marks p = Prim.hlevel props

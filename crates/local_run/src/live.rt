@@ -28,20 +28,17 @@ pub struct LiveMarks {
 }
 
 impl LiveMarks {
-    /// Marks on all cells, in `long` words for each plane.
+    /// Marks on no cell, in `long` words for each plane.
     pub fn new(alloc: Global, long: usize) -> Result<LiveMarks, AllocError>
         requires { long ≤ 64 }
         ensures size { IfOk result (λ l. HasMarks (64 * long) l) }
-        ensures all { IfOk result (λ l. AreMarked (64 * long) l) }
     {
-        let mut marks = LiveMarks {
+        Ok(LiveMarks {
             odd: vec![in alloc; 0u64; long]?,
             right: vec![in alloc; 0u64; long]?,
             down: vec![in alloc; 0u64; long]?,
             even: vec![in alloc; 0u64; long]?,
-        };
-        marks.mark_all();
-        Ok(marks)
+        })
     }
 
     /// Marks all cells.

@@ -88,40 +88,38 @@ fn are_many(changed: usize, cells: usize, words: usize, stride: usize) -> bool
 
 impl MarkedPlanes {
     ghost use Rattle.bbm_rule.specs.Marks.{IsUnmarked};
+    ghost use Rattle.local_run.specs.Calm.{AreDead};
     ghost use Rattle.local_run.specs.Live.{IsLoneAnti, IsLoneMain};
     ghost use Rattle.local_run.specs.Turns.{TurnsPart};
     ghost use Rattle.local_run.specs.Quiet.{AreLines};
     ghost use Rattle.local_run.specs.Scans.{IsReady};
     ghost use Rattle.local_run.specs.Lanes.{HasSize, SameInside, lane};
 
-    /// Creates a field of planes. Each block has a mark, since nothing is known of it.
+    /// Creates a field of planes whose cells are dead. No block has a mark, since each stays.
     pub fn new(alloc: Global, planes: Planes) -> Result<MarkedPlanes, AllocError>
+        requires { AreDead planes }
         ensures { IfOk result (λ f. f.planes ≡ planes) }
     {
         let long = planes.cells().div_ceil(64);
-        let mut odd_marks = vec![in alloc; 0u64; long]?;
-        let mut even_marks = vec![in alloc; 0u64; long]?;
+        let odd_marks = vec![in alloc; 0u64; long]?;
+        let even_marks = vec![in alloc; 0u64; long]?;
         let live_marks = LiveMarks::new(alloc, long)?;
         let mut border_marks = vec![in alloc; 0u64; long]?;
         let line_marks = vec![in alloc; 0u64; long + CELL_WORDS]?;
-        mark_all(&mut odd_marks);
-        mark_all(&mut even_marks);
         mark_border(&mut border_marks, planes.stride(), planes.rows());
-        let mut marked_planes = MarkedPlanes {
+        Ok(MarkedPlanes {
             planes,
             odd_marks,
             even_marks,
             live_marks,
-            is_exact: false,
+            is_exact: true,
             busy: 0,
             crowd: 0,
             border_marks,
             line_marks,
             line_places: LinePlaces::first(),
             whole_plane_steps: 0,
-        };
-        marked_planes.drop_all();
-        Ok(marked_planes)
+        })
     }
 
     /// Returns the planes.

@@ -40,6 +40,7 @@ pub struct Planes {
 }
 
 impl Planes {
+    ghost use Rattle.local_run.specs.Calm.{AreDead};
     ghost use Rattle.local_run.specs.Lanes.{HasSize, lane};
 
     /// Creates planes of dead cells, for a box of `width` by `height` cells.
@@ -53,6 +54,7 @@ impl Planes {
         requires height { (2 ≤ height) × (height ≤ 64) }
         requires words { (0 < words) × (words ≤ 64) }
         ensures size { IfOk result (λ p. HasSize words (width / 2 + 1) (height / 2 + 1) p) }
+        ensures dead { IfOk result (λ p. AreDead p) }
     {
         let stride = width / 2 + 1;
         let rows = height / 2 + 1;

@@ -91,9 +91,9 @@ fn least_fault(alloc: Global, values: &Values, job: &Job) -> Result<Option<Fault
     ensures { IfOk result (λ o. IsLeastFault job.now o) }
 {
     let area = job.area();
-    let mut planes = Planes::new(alloc, area.w as usize, area.h as usize, values.words())?;
-    put_start(&mut planes, values, job);
+    let planes = Planes::new(alloc, area.w as usize, area.h as usize, values.words())?;
     let mut marked_planes = MarkedPlanes::new(alloc, planes)?;
+    put_start(&mut marked_planes, values, job);
     let steps = job.steps();
     let mut next = 0;
     let mut time = 0;

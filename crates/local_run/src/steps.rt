@@ -1,26 +1,50 @@
 //! The start of a run over planes, and its steps.
-ghost use Rattle.std.specs.Prelude.{◌≡◌, ◌+◌, ◌*◌, ◌/◌, ◌%◌, ◌<◌, ◌≤◌, true, false};
-ghost use Rattle.local_run.specs.Lanes.{HasSize};
-ghost use Rattle.local_run.specs.Scans.{HasHalo, IsReady, Shows};
+ghost use Rattle.std.specs.Prelude.{ℕ, ◌≡◌, ◌+◌, ◌*◌, ◌/◌, ◌%◌, ◌<◌, ◌≤◌, true, false};
+ghost use Rattle.module_job.specs.Jobs.{job_start};
+ghost use Rattle.local_run.specs.Calm.{AreDead};
+ghost use Rattle.local_run.specs.Lanes.{HasSize, lane};
+ghost use Rattle.local_run.specs.Places.{inner};
+ghost use Rattle.local_run.specs.Scans.{HasHalo, IsReady, PutsCell, Shows};
 
 use crate::marked_planes::MarkedPlanes;
 use crate::places::start_at;
-use crate::planes::Planes;
 use crate::values::Values;
+use module_box::Signal;
 use module_job::Job;
 
-/// Sets the cells of the box to those of time 0.
+// Sets a cell of the box, that is dead, to what it is at time 0.
 #[tactic(auto, using(crate::proofs::Scans::row_from))]
-pub fn put_start(planes: &mut Planes, values: &Values, job: &Job)
+fn put_start_cell(marked_planes: &mut MarkedPlanes, values: &Values, job: &Job, x: usize, y: usize)
     requires ready { IsReady job.now values.now }
     requires size { HasSize values.now.words (job.now.area.w / 2 + 1) (job.now.area.h / 2 + 1)
-        planes.old }
-    ensures { Shows job.now values.now 0 planes.new }
+        marked_planes.old.planes }
+    requires place { (x < job.now.area.w) × (y < job.now.area.h) }
+    requires dead { (a : ℕ) → a < 64 * values.now.words →
+        lane marked_planes.old.planes a (1 + x) (1 + y) ≡ false }
+    ensures { PutsCell values.now (1 + x) (1 + y)
+        (job_start job.now (inner job.now.area.x x) (inner job.now.area.y y))
+        marked_planes.old.planes marked_planes.new.planes }
+{
+    let signal = start_at(job, x, y);
+    // Most cells stay dead.
+    if let Signal::Zero = signal {
+        return;
+    }
+    marked_planes.put(values, 1 + x, 1 + y, signal);
+}
+
+/// Sets the cells of the box to those of time 0. All cells are dead before.
+pub fn put_start(marked_planes: &mut MarkedPlanes, values: &Values, job: &Job)
+    requires ready { IsReady job.now values.now }
+    requires size { HasSize values.now.words (job.now.area.w / 2 + 1) (job.now.area.h / 2 + 1)
+        marked_planes.old.planes }
+    requires dead { AreDead marked_planes.old.planes }
+    ensures { Shows job.now values.now 0 marked_planes.new.planes }
 {
     let area = job.area();
     'rows: for y in 0..area.h as usize {
         'cells: for x in 0..area.w as usize {
-            values.put(planes, 1 + x, 1 + y, start_at(job, x, y));
+            put_start_cell(marked_planes, values, job, x, y);
         }
     }
 }

@@ -1,9 +1,13 @@
-use Rattle.std.proofs.Common.{◌≡◌, arith, subst, ℕ}
+use Rattle.std.proofs.Common.{◌≡◌, arith, subst, sym, ℕ}
+use Rattle.local_run.specs.Calm.{AreDead}
 use Rattle.local_run.specs.Scans.{IsFirst, IsFree}
 use Rattle.local_run.specs.declared.fault.Kind.TheVariants.{Stop}
 use Rattle.local_run.proofs.Leasts.{AreFreeBefore, early_least, end_least_fault, last_stop_least}
 use Rattle.local_run.proofs.LeapRuns.{next_run}
 use Rattle.local_run.proofs.run.least_fault.Goals as goal
+
+pub put_start-requires-clause-dead : goal.put_start-requires-clause-dead
+put_start-requires-clause-dead c = subst AreDead (sym c.in_ok-marked_planes.ensures) c.in_ok-planes.ensures.dead
 
 pub times-preserved : goal.times-preserved
 times-preserved c =

@@ -1,18 +1,33 @@
 use Rattle.std.proofs.Common.{arith, ◌≡◌, ◌+◌, ℕ, ap, ◌∙◌, subst}
 use Rattle.bbm_rule.proofs.BitLemmas.{by_lt_or_le}
 use Rattle.module_box.specs.declared.boxes.Box2.{Box2}
-use Rattle.module_job.specs.Signals.{is_live}
 use Rattle.local_run.specs.Runs.{local_run}
 use Rattle.local_run.specs.Places.{inner}
 use Rattle.local_run.specs.Lanes.{lane}
 use Rattle.local_run.specs.Scans.{valuation}
+use Rattle.local_run.proofs.Silence.{dead_lane}
 use Rattle.local_run.proofs.Stepping.{run_start}
 use Rattle.local_run.proofs.steps.put_start.Goals as goal
+
+pub rows-init : goal.rows-init
+rows-init c =
+    let size = c.requires.size in
+    record {
+      size = size;
+      above = λ a x y la lx ly. absurd (omega arith);
+      below = λ a x y la lx ly. dead_lane c.args.marked_planes.now.planes (1 + x) (1 + y) a (c.requires.dead _)
+          (let e = size.0 in rw e la);
+    }
+
+pub put_start_cell-requires-clause-dead : goal.put_start_cell-requires-clause-dead
+put_start_cell-requires-clause-dead c a la =
+    let ew : c.area-area.result.w ≡ c.args.job.now.area.w = ap (λ (b : Box2). b.w) c.area-area.ensures.area in
+    c.cells.invariant.beside a c.cells.x la (omega arith) (omega arith)
 
 pub cells-preserved : goal.cells-preserved
 cells-preserved c =
     let j = c.args.job.now in
-    let h = c.put.ensures.put in
+    let h = c.put_start_cell.ensures in
     let m = c.cells.invariant in
     let room = c.requires.ready.room in
     let count = c.requires.ready.count in
@@ -27,8 +42,11 @@ cells-preserved c =
           (λ l. h.rest a (1 + x) (1 + c.rows.y) (omega arith) (omega arith) (λ e. let e0 = e.0 in omega arith)
           ∙ m.here a x la l)
           (λ g. let e : c.cells.x ≡ x = omega arith in
-          subst (λ (n : ℕ). lane c.put.new.planes a (1 + n) (1 + c.rows.y)
+          subst (λ (n : ℕ). lane c.put_start_cell.new.marked_planes.planes a (1 + n) (1 + c.rows.y)
           ≡ local_run j (valuation c.args.values.now a) 0 (inner j.area.x n) (inner j.area.y c.rows.y)) e
-          (h.there a (omega arith) ∙ ap (is_live (valuation c.args.values.now a)) c.start_at.ensures.start_is_exact
-          ∙ run_start j (valuation c.args.values.now a) _ _));
+          (h.there a (omega arith) ∙ run_start j (valuation c.args.values.now a) _ _));
+      beside = λ a x la lx gx. h.rest a (1 + x) (1 + c.rows.y) la (omega arith) (λ e. let e0 = e.0 in omega arith)
+          ∙ m.beside a x la lx (omega arith);
+      below = λ a x y la lx gy. h.rest a (1 + x) (1 + y) la (omega arith) (λ e. let e1 = e.1 in omega arith)
+          ∙ m.below a x y la lx gy;
     }

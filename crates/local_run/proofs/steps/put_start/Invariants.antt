@@ -1,4 +1,4 @@
-use Rattle.std.proofs.Common.{◌≡◌, ℕ, ◌<◌, ◌+◌, ◌/◌}
+use Rattle.std.proofs.Common.{◌≡◌, ℕ, ◌<◌, ◌≤◌, ◌+◌, ◌*◌, ◌/◌, false}
 use Rattle.local_run.specs.Runs.{local_run}
 use Rattle.local_run.specs.Places.{inner}
 use Rattle.local_run.specs.Lanes.{lane, HasSize}
@@ -6,21 +6,29 @@ use Rattle.local_run.specs.Faults.{assignments}
 use Rattle.local_run.specs.Scans.{valuation}
 use Rattle.local_run.proofs.steps.put_start.Given as goal
 
+-- the cells of the rows so far are as the run begins, and all others are dead
 abbrev pub invariant-rows : goal.invariant-rows
 invariant-rows l = record {
-  size : HasSize l.values.words (l.job.area.w / 2 + 1) (l.job.area.h / 2 + 1) l.planes;
+  size : HasSize l.values.words (l.job.area.w / 2 + 1) (l.job.area.h / 2 + 1) l.marked_planes.planes;
   above : (a x y : ℕ) → a < assignments l.job → x < l.job.area.w → y < l.y →
-      lane l.planes a (1 + x) (1 + y)
+      lane l.marked_planes.planes a (1 + x) (1 + y)
       ≡ local_run l.job (valuation l.values a) 0 (inner l.job.area.x x) (inner l.job.area.y y);
+  below : (a x y : ℕ) → a < 64 * l.values.words → x < l.job.area.w → l.y ≤ y →
+      lane l.marked_planes.planes a (1 + x) (1 + y) ≡ false;
 }
 
+-- so are those of the row up to a column
 abbrev pub invariant-cells : goal.invariant-cells
 invariant-cells l = record {
-  size : HasSize l.values.words (l.job.area.w / 2 + 1) (l.job.area.h / 2 + 1) l.planes;
+  size : HasSize l.values.words (l.job.area.w / 2 + 1) (l.job.area.h / 2 + 1) l.marked_planes.planes;
   above : (a x y : ℕ) → a < assignments l.job → x < l.job.area.w → y < l.y →
-      lane l.planes a (1 + x) (1 + y)
+      lane l.marked_planes.planes a (1 + x) (1 + y)
       ≡ local_run l.job (valuation l.values a) 0 (inner l.job.area.x x) (inner l.job.area.y y);
   here : (a x : ℕ) → a < assignments l.job → x < l.x →
-      lane l.planes a (1 + x) (1 + l.y)
+      lane l.marked_planes.planes a (1 + x) (1 + l.y)
       ≡ local_run l.job (valuation l.values a) 0 (inner l.job.area.x x) (inner l.job.area.y l.y);
+  beside : (a x : ℕ) → a < 64 * l.values.words → x < l.job.area.w → l.x ≤ x →
+      lane l.marked_planes.planes a (1 + x) (1 + l.y) ≡ false;
+  below : (a x y : ℕ) → a < 64 * l.values.words → x < l.job.area.w → l.y + 1 ≤ y →
+      lane l.marked_planes.planes a (1 + x) (1 + y) ≡ false;
 }
