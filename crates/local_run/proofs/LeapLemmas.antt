@@ -4,20 +4,24 @@ use Rattle.std.proofs.Common.{Some}
 use Rattle.std.proofs.Common.{None, Less, Greater, refl, arith, sym, ◌∙◌, ap, ap₂, inl, inr, subst}
 use Rattle.std.specs.Prelude.{ℤ, ◌+ℤ◌, slice_get, unwrap_or}
 use Rattle.std.proofs.lemmas.Option.{slice_get_within}
-use Rattle.std.specs.Ordering.{nat_cmp, ordering_then}
-use Rattle.bbm_rule.specs.Plane.{State, partner, turned, step}
+use Rattle.std.specs.Ordering.{int_eq, nat_cmp, ordering_then}
+use Rattle.std.proofs.Common.{rules, true}
+use Rattle.std.proofs.lemmas.Bool.{and_parts}
+use Rattle.bbm_rule.specs.Plane.{State, is_at, partner, turned, step}
+use Rattle.bbm_rule.specs.declared.block.Cell.{Cell}
+use Rattle.module_box.specs.declared.schedules.AllTimes.{AllTimes}
 use Rattle.bbm_rule.proofs.BitLemmas.{by_lt_or_le}
 use Rattle.circuit.specs.Meaning.{Valuation}
 use Rattle.module_box.specs.Boxes.{in_box, in_halo}
 use Rattle.module_box.specs.Moments.{cell_cmp, moment_cmp}
-use Rattle.module_box.specs.Schedules.{IsRising, Signals, event_at, all_times_at, moment_of, signal_at}
+use Rattle.module_box.specs.Schedules.{IsRising, Signals, cell_of, event_at, all_times_at, moment_of, signal_at}
 use Rattle.module_box.specs.declared.schedules.Event.{Event}
 use Rattle.module_box.specs.declared.schedules.Moment.{Moment}
 use Rattle.module_box.specs.declared.schedules.Signal.TheVariants.{Zero}
 use Rattle.module_box.specs.Moves.{moved_signals}
 use Rattle.module_box.proofs.MovedBoxes.{signals_moved}
 use Rattle.module_box.specs.declared.schedules.Signal.{Signal}
-use Rattle.module_box.proofs.Rising.{event_found, event_none, is_first, moment_total}
+use Rattle.module_box.proofs.Rising.{all_times_found, cell_total, event_found, event_none, is_first, moment_total}
 use Rattle.module_job.specs.Jobs.{JobView}
 use Rattle.module_job.specs.Signals.{is_live}
 use Rattle.local_run.specs.Laws.{QuietRunsStay, NoNewEdgeFaults}
@@ -30,6 +34,25 @@ pub event_there : (es : List Event) (k : ℕ) (m : Moment) (e : Event) → IsRis
     slice_get es k ≡ Some e → e.at ≡ m → event_at es m.time m.cell.x m.cell.y ≡ Some e.signal
 event_there es k m e rising at same =
     event_found es k e m same at (is_first moment_cmp moment_of es k e moment_total rising at)
+
+pub all_times_there : (hs : List AllTimes) (k : ℕ) (c : Cell) (h : AllTimes) → IsRising cell_cmp cell_of hs →
+    slice_get hs k ≡ Some h → is_at h.cell c.x c.y ≡ true → all_times_at hs c.x c.y ≡ Some h.signal
+all_times_there hs k c h rising at same =
+    all_times_found hs k h c (at_cell h.cell c same) at (is_first cell_cmp cell_of hs k h cell_total rising at)
+  where
+    int_same : (a b : ℤ) → int_eq a b ≡ true → a ≡ b
+    int_same a b e = search rules
+
+    at_cell : (c d : Cell) → is_at c d.x d.y ≡ true → c ≡ d
+    at_cell c d e =
+        let p = and_parts (int_eq c.x d.x) (int_eq c.y d.y) e in
+        let cell : ℤ → ℤ → Cell = λ x y. record { x = x; y = y } in
+        ap₂ cell (int_same c.x d.x p.0) (int_same c.y d.y p.1)
+
+pub steady_there : (s : Signals) (t : ℕ) (x y : ℤ) (v : Signal) → all_times_at s.all_times x y ≡ Some v →
+    v ≡ signal_at s t x y
+unfolding signal_at
+steady_there s t x y v e = sym (ap (λ h. unwrap_or h (unwrap_or (event_at s.events t x y) Zero)) e)
 
 pub signal_there : (s : Signals) (t : ℕ) (x y : ℤ) (v : Signal) → s.all_times ≡ [] → event_at s.events t x y ≡ Some v →
     v ≡ signal_at s t x y

@@ -1,10 +1,12 @@
 -- Cells that are known to be dead and have no line
-use Rattle.std.proofs.Common.{◌≡◌, ℕ, true, false, ◌<◌, ◌≤◌, ◌+◌, ◌-◌, ◌*◌, ◌/◌, ◌%◌, arith, sym, ◌∙◌, ap, ap₂, subst}
+use Rattle.std.proofs.Common.{◌≡◌, ◌≢◌, ℕ, true, false, ◌<◌, ◌≤◌, ◌+◌, ◌-◌, ◌*◌, ◌/◌, ◌%◌, arith, sym, ◌∙◌, ap, ap₂, subst}
 use Rattle.std.proofs.Common.{refl, inl, inr, List, None}
 use Rattle.std.specs.Prelude.{ℤ}
 use Rattle.std.proofs.lemmas.Bool.{and_parts, false≢true}
 use Rattle.bbm_rule.specs.Spans.{in_span}
 use Rattle.module_box.specs.Boxes.{in_box, in_ring}
+use Rattle.module_box.specs.Schedules.{signal_at}
+use Rattle.module_box.specs.declared.schedules.Signal.{Signal}
 use Rattle.module_box.specs.declared.boxes.Box2.{Box2}
 use Rattle.std.proofs.Math.Nat.{mul-le-mul_left}
 use Rattle.bbm_rule.proofs.BitLemmas.{by_eq_or_not, by_lt_or_le, bit-zero}
@@ -19,7 +21,7 @@ use Rattle.local_run.specs.Places.{inner, outer}
 use Rattle.bbm_rule.specs.Marks.{IsUnmarked}
 use Rattle.local_run.specs.Quiet.{AreLines, number_at}
 use Rattle.local_run.specs.Scans.{HasEdgeAt, HasEdgesIn, HasHaloAt, HasHaloIn, IsFound, IsLeastBelow, IsOuter, IsReady}
-use Rattle.local_run.specs.Scans.{IsSilent, Shows, valuation}
+use Rattle.local_run.specs.Scans.{IsSilent, Shows, is_defined, valuation}
 use Rattle.local_run.specs.declared.fault.Kind.TheVariants.{Edge}
 use Rattle.local_run.specs.Live.{AllDead}
 use Rattle.local_run.specs.declared.live.LiveMarks.{LiveMarks}
@@ -114,6 +116,26 @@ inner_edge j vs t x y lx ly none a l f =
     ap (outer j.area.y) (next y ly) ∙ outer_inner j.area.y (y - 1) in
     none a l (subst (λ (z : ℤ). IsFound j vs a t Edge z (inner j.area.y (y - 1))) ex
     (subst (λ (z : ℤ). IsFound j vs a t Edge (outer j.area.x x) z) ey f))
+  where
+    next : (k : ℕ) → 1 ≤ k → k ≡ 1 + (k - 1)
+    next k l = omega arith
+
+-- nor does a cell that is as its signal says
+pub right_edge : (j : JobView) (vs : Values) (p : Planes) (t x y : ℕ) (s : Signal) → Shows j vs t p →
+    s ≡ signal_at j.edges t (outer j.area.x x) (outer j.area.y y) →
+    IsLeastBelow (assignments j) (λ a. (is_defined vs a ≡ true) × (lane p a x y ≢ is_live (valuation vs a) s)) None →
+    HasEdgeAt j vs t x y
+right_edge j vs p t x y s shows es none a l f =
+    let inside = ring_in_box j.area _ _ f.1.ring in
+    none a l (
+      f.0,
+      (λ e. f.1.differs (sym (shown_at j vs p t x y a shows l inside) ∙ e
+          ∙ ap (is_live (valuation vs a)) es)),
+    )
+
+-- a place in the box, counted from the halo
+pub inner_is_outer : (c k : ℕ) → 1 ≤ k → inner c (k - 1) ≡ outer c k
+inner_is_outer c k l = sym (ap (outer c) (next k l) ∙ outer_inner c (k - 1))
   where
     next : (k : ℕ) → 1 ≤ k → k ≡ 1 + (k - 1)
     next k l = omega arith

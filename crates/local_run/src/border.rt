@@ -1,5 +1,5 @@
 //! The cells of ring and halo at an odd time.
-ghost use Rattle.std.specs.Prelude.{◌≡◌, ◌+◌, ◌/◌, ◌<◌, true};
+ghost use Rattle.std.specs.Prelude.{◌≡◌, ◌+◌, ◌/◌, ◌<◌, ◌≤◌, true};
 ghost use Rattle.circuit.specs.Meaning.{wires};
 ghost use Rattle.module_box.specs.Schedules.{signal_at};
 ghost use Rattle.module_job.specs.Jobs.{IsJob};
@@ -10,8 +10,7 @@ ghost use Rattle.local_run.specs.Scans.{HasEdgeAt, HasEdgesIn, HasHalo, HasHaloA
 
 use crate::fault::Kind;
 use crate::marked_planes::MarkedPlanes;
-use crate::places::halo_at;
-use crate::scan::cell_fault;
+use crate::places::{edge_at, halo_at};
 use crate::values::Values;
 use module_box::Signal;
 use module_job::Job;
@@ -33,6 +32,54 @@ fn halo_signal(marked_planes: &MarkedPlanes, job: &Job, time: u32, x: usize, y: 
     } else {
         Signal::Zero
     }
+}
+
+// What a cell of the box, counted from the halo, carries at an odd time, if it is in the ring. Where no line says
+// something it is not sought.
+fn edge_signal(marked_planes: &MarkedPlanes, job: &Job, time: u32, x: usize, y: usize) -> Signal
+    requires job { IsJob job.now }
+    requires stride { marked_planes.now.planes.stride ≡ job.now.area.w / 2 + 1 }
+    requires rows { marked_planes.now.planes.rows ≡ job.now.area.h / 2 + 1 }
+    requires lines { AreLines job.now time marked_planes.now.line_marks.items }
+    requires column { (1 ≤ x) × (x ≤ job.now.area.w) }
+    requires row { (1 ≤ y) × (y ≤ job.now.area.h) }
+    ensures signal_is_exact { result
+        ≡ signal_at job.now.edges time (outer job.now.area.x x) (outer job.now.area.y y) }
+    ensures below { IsBelow (wires job.now.locals.netlist) result }
+{
+    if marked_planes.has_line(x, y) {
+        edge_at(job, time, x - 1, y - 1, marked_planes.line_places().edges)
+    } else {
+        Signal::Zero
+    }
+}
+
+// Whether a cell of the box, counted from the halo, carries what its edge signal says, if it is in the ring; only
+// `true` is proved to be right.
+#[tactic(auto, using(crate::proofs::Scans::row_from))]
+fn is_edge_right(
+    marked_planes: &MarkedPlanes,
+    values: &Values,
+    job: &Job,
+    time: u32,
+    x: usize,
+    y: usize,
+) -> bool
+    requires ready { IsReady job.now values.now }
+    requires shows { Shows job.now values.now time marked_planes.now.planes }
+    requires lines { AreLines job.now time marked_planes.now.line_marks.items }
+    requires column { (1 ≤ x) × (x ≤ job.now.area.w) }
+    requires row { (1 ≤ y) × (y ≤ job.now.area.h) }
+    ensures { result ≡ true → HasEdgeAt job.now values.now time x y }
+{
+    let area = job.area();
+    if 2 <= x && x < area.w as usize && 2 <= y && y < area.h as usize {
+        return true;
+    }
+    let signal = edge_signal(marked_planes, job, time, x, y);
+    values
+        .first_difference(marked_planes.planes(), x, y, signal)
+        .is_none()
 }
 
 // Sets a cell of the halo to what its signal says.
@@ -89,7 +136,7 @@ fn set_border_cell(
         return true;
     }
     if 1 <= x && x <= area.w as usize && 1 <= y && y <= area.h as usize {
-        return cell_fault(marked_planes, values, job, time, Kind::Edge, x - 1, y - 1).is_none();
+        return is_edge_right(marked_planes, values, job, time, x, y);
     }
     set_halo_cell(marked_planes, values, job, time, x, y);
     true

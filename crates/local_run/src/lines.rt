@@ -2,8 +2,8 @@
 
 ghost use Rattle.module_job.specs.Jobs.{IsJob};
 ghost use Rattle.module_job.specs.Shapes.{shape_of};
-ghost use Rattle.module_box.specs.Moments.{moment_cmp};
-ghost use Rattle.module_box.specs.Schedules.{IsRising, event_at, moment_of, signal_at};
+ghost use Rattle.module_box.specs.Moments.{cell_cmp, moment_cmp};
+ghost use Rattle.module_box.specs.Schedules.{IsRising, all_times_at, cell_of, event_at, moment_of, signal_at};
 ghost use Rattle.local_run.specs.Quiet.{AreAllTimesMarks, AreAllTimesMarked, AreLines, at_corner, HasRoom, IsCellMarked, IsQuietIn, KeepsMarks};
 ghost use Rattle.local_run.specs.Places.{outer};
 ghost use Rattle.std.specs.Prelude.{ℕ, [], true, ◌≢◌, MatchOption, ◌≡◌, ◌<◌, ◌+◌, ◌*◌, ◌/◌, ◌%◌, ◌^◌, ◌≤◌, length, slice_index, slice_get, Some, IfOk, IfSome};
@@ -163,8 +163,8 @@ impl LinePlaces {
     }
 }
 
-// The most events of a time among which a cell's event is sought one by one.
-const MOST_NEAR_EVENTS: usize = 8;
+// The most lines among which a cell's is sought one by one.
+const MOST_NEAR_LINES: usize = 8;
 
 // The signal of the event of a moment, if it is among the events at a few places.
 fn event_near(events: &[Event], moment: Moment, near: EventPlaces) -> Option<Signal>
@@ -172,13 +172,30 @@ fn event_near(events: &[Event], moment: Moment, near: EventPlaces) -> Option<Sig
     ensures { IfSome result
         (λ s. event_at events.now moment.time moment.cell.x moment.cell.y ≡ Some s) }
 {
-    if near.end > near.first.saturating_add(MOST_NEAR_EVENTS) {
+    if near.end > near.first.saturating_add(MOST_NEAR_LINES) {
         return None;
     }
     for k in near.first..near.end.min(events.len()) {
         let event = events[k];
         if event.at == moment {
             return Some(event.signal);
+        }
+    }
+    None
+}
+
+// The signal that a cell has at all times, if it is among a few.
+fn all_times_near(all_times: &[AllTimes], cell: Cell) -> Option<Signal>
+    requires { IsRising cell_cmp cell_of all_times.now }
+    ensures { IfSome result (λ s. all_times_at all_times.now cell.x cell.y ≡ Some s) }
+{
+    if all_times.len() > MOST_NEAR_LINES {
+        return None;
+    }
+    for k in 0..all_times.len() {
+        let found = all_times[k];
+        if found.cell == cell {
+            return Some(found.signal);
         }
     }
     None
@@ -191,10 +208,14 @@ fn has_events_alone(schedule: &Schedule) -> bool
     schedule.all_times().is_empty()
 }
 
-/// Returns the signal of a cell at a time, as [`Schedule::at`] does. It looks first at the events at a few places.
+/// Returns the signal of a cell at a time, as [`Schedule::at`] does. It looks first at a few signals at all times, and
+/// at the events at a few places.
 pub fn signal_near(schedule: &Schedule, moment: Moment, near: EventPlaces) -> Signal
     ensures { result ≡ signal_at schedule.now moment.time moment.cell.x moment.cell.y }
 {
+    if let Some(signal) = all_times_near(schedule.all_times(), moment.cell) {
+        return signal;
+    }
     if has_events_alone(schedule) {
         if let Some(signal) = event_near(schedule.events(), moment, near) {
             return signal;

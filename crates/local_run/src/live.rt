@@ -32,6 +32,7 @@ impl LiveMarks {
     pub fn new(alloc: Global, long: usize) -> Result<LiveMarks, AllocError>
         requires { long ≤ 64 }
         ensures size { IfOk result (λ l. HasMarks (64 * long) l) }
+        ensures none { IfOk result (λ l. (u : ℕ) → AreUnmarked l u u u u) }
     {
         Ok(LiveMarks {
             odd: vec![in alloc; 0u64; long]?,

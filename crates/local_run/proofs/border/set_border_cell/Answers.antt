@@ -1,11 +1,7 @@
-use Rattle.std.proofs.Common.{◌≡◌, ◌-◌, ℕ, Option, Some, None, arith, ap, ◌∙◌, true, not}
-use Rattle.std.specs.Option.{is_some}
-use Rattle.local_run.specs.Faults.{assignments}
-use Rattle.local_run.specs.Places.{inner}
+use Rattle.std.proofs.Common.{◌≡◌, arith, ap}
 use Rattle.module_box.specs.declared.boxes.Box2.{Box2}
-use Rattle.local_run.specs.Scans.{IsFound, IsLeastBelow, IsOuter}
-use Rattle.local_run.specs.declared.fault.Kind.TheVariants.{Edge}
-use Rattle.local_run.proofs.Silence.{inner_edge, outer_edge, unsaid_edge, unsaid_halo}
+use Rattle.local_run.specs.Scans.{IsOuter}
+use Rattle.local_run.proofs.Silence.{outer_edge, unsaid_edge, unsaid_halo}
 use Rattle.local_run.proofs.border.set_border_cell.Goals as goal
 use Rattle.local_run.proofs.border.set_border_cell.Goals.{else-x-ge1-via-then-x-ge1+then-x-area+then-y-ge1+else-y-area}
 use Rattle.local_run.proofs.border.set_border_cell.Goals.{else-x-ge1-via-then-x-ge1+then-x-area+else-y-ge1}
@@ -25,18 +21,6 @@ returns-then-not-may_be_live-clause-halo c =
     c.args.marked_planes.now.line_marks.items c.requires.ready c.requires.shows c.requires.lines c.requires.place.0
     c.requires.place.1
     (c.has_line.ensures c.if-not-has_line.true) (c.may_be_live.ensures c.if-not-may_be_live.true)
-
-none_from : (n : ℕ) (P : ℕ → Type 0) (o : Option ℕ) → is_some o ≡ not true → IsLeastBelow n P o → IsLeastBelow n P None
-none_from n P None e h = h
-none_from n P (Some a) e h = cc
-
-pub returns-then-y-area-clause-edge : goal.returns-then-y-area-clause-edge
-returns-then-y-area-clause-edge c = λ h.
-    let j = c.args.job.now in
-    inner_edge j c.args.values.now c.args.time c.args.x c.args.y c.if-x-ge1.true c.if-y-ge1.true
-    (none_from (assignments j) (λ a.
-    IsFound j c.args.values.now a c.args.time Edge (inner j.area.x (c.args.x - 1)) (inner j.area.y (c.args.y - 1)))
-    c.cell_fault.result (c.is_none.ensures ∙ ap not h) c.cell_fault.ensures)
 
 pub returns-clause-edge : goal.returns-clause-edge
 returns-clause-edge c = λ h. outer_edge c.args.job.now c.args.values.now c.args.time c.args.x c.args.y outer
