@@ -1,13 +1,17 @@
 -- Steps that pass over the blocks that stay
-use Rattle.std.proofs.Common.{◌≡◌, ◌≢◌, ℕ, ◌<◌, ◌≤◌, ◌+◌, ◌-◌, ◌*◌, ◌%◌, refl, arith, sym, ◌∙◌, ap, List, get_or}
+use Rattle.std.proofs.Common.{◌≡◌, ◌≢◌, ℕ, ◌<◌, ◌≤◌, ◌+◌, ◌-◌, ◌*◌, ◌%◌, ◌⊎◌, inl, inr, refl, arith, sym, ◌∙◌, ap, List}
+use Rattle.std.proofs.Common.{get_or}
 use Rattle.std.proofs.Math.Nat.{mul-le-mul_left}
 use Rattle.bbm_rule.specs.Words.{AreTurned}
 use Rattle.bbm_rule.proofs.BitLemmas.{by_eq_or_not, by_lt_or_le}
 use Rattle.bbm_rule.specs.Plane.{turned}
 use Rattle.bbm_rule.specs.Rows.{mate}
 use Rattle.bbm_rule.specs.Marks.{IsUnmarked}
-use Rattle.local_run.specs.Turns.{TurnsPart}
+use Rattle.local_run.specs.Turns.{IsCalmBlock, TurnsPart}
 use Rattle.local_run.specs.Calm.{OddCalm, EvenCalm}
+use Rattle.local_run.specs.Live.{AllDead, AreUnmarked}
+use Rattle.local_run.specs.declared.live.LiveMarks.{LiveMarks}
+use Rattle.local_run.proofs.LiveLemmas.{dead_at, dead_calm}
 use Rattle.local_run.specs.Lanes.{HasSize, lane}
 use Rattle.local_run.specs.declared.planes.Planes.{Planes}
 use Rattle.local_run.proofs.TurnLemmas.{calm_part, calm_turned, part_after}
@@ -38,26 +42,37 @@ TurnsEven a b c d long p q = TurnsPart a b c d long p.even.items p.down.items p.
     q.down.items q.right.items q.odd.items
 
 -- ---- the odd partition
-pub odd_skip : (p : Planes) (marks : List ℕ) (u v at long : ℕ) → at ≡ p.words * u → long ≡ p.words * (v - u) →
-    0 < p.words → OddCalm marks p → u ≤ v → v ≤ p.stride * p.rows →
-    ((n : ℕ) → u ≤ n → n < v → IsUnmarked marks n) → TurnsOdd at long p p
-odd_skip p marks u v at long ea el some calm le room free =
+-- block n of it stays
+abbrev pub OddStays : Planes → ℕ → Type 0
+OddStays p n = IsCalmBlock p.words n n n n p.odd.items p.right.items p.down.items p.even.items
+
+-- so does one without a mark, and one of which no cell has a mark
+pub odd_stays : (p : Planes) (marks : List ℕ) (l : LiveMarks) (n : ℕ) → OddCalm marks p → AllDead l p →
+    IsUnmarked marks n ⊎ AreUnmarked l n n n n → n < p.stride * p.rows → OddStays p n
+odd_stays p marks l n calm dead (inl free) h = calm n h free
+odd_stays p marks l n calm dead (inr free) h =
+    let d = dead_at n l p h dead free in
+    dead_calm p.words n n n n p.odd.items p.right.items p.down.items p.even.items (λ k i. (d k i).0)
+    (λ k i. (d k i).1) (λ k i. (d k i).2) (λ k i. (d k i).3)
+
+odd_skip : (p : Planes) (u v at long : ℕ) → at ≡ p.words * u → long ≡ p.words * (v - u) → 0 < p.words → u ≤ v →
+    v ≤ p.stride * p.rows → ((n : ℕ) → u ≤ n → n < v → n < p.stride * p.rows → OddStays p n) → TurnsOdd at long p p
+odd_skip p u v at long ea el some le room stay =
     let h = calm_part p.words 0 0 0 0 u v long p.odd.items p.right.items p.down.items p.even.items some el le
-    (λ n l h. rw (none_more n) (calm n (omega arith) (free n l h))) in
+    (λ n l h. rw (none_more n) (stay n l h (omega arith))) in
     let h = rw (none_more u) at h in rw ea h
 
-pub odd_first : (p : Planes) (marks : List ℕ) (v : ℕ) → 0 < p.words → OddCalm marks p → v ≤ p.stride * p.rows →
-    ((n : ℕ) → 0 ≤ n → n < v → IsUnmarked marks n) → TurnsOdd 0 (p.words * v) p p
-odd_first p marks v some calm room free =
-    odd_skip p marks 0 v 0 (p.words * v) (omega arith) (let e : v - 0 ≡ v = omega arith in rw e refl) some calm
-    (omega arith) room free
+pub odd_first : (p : Planes) (v : ℕ) → 0 < p.words → v ≤ p.stride * p.rows →
+    ((n : ℕ) → 0 ≤ n → n < v → n < p.stride * p.rows → OddStays p n) → TurnsOdd 0 (p.words * v) p p
+odd_first p v some room stay =
+    odd_skip p 0 v 0 (p.words * v) (omega arith) (let e : v - 0 ≡ v = omega arith in rw e refl) some (omega arith) room
+    stay
 
-pub odd_next : (p q r : Planes) (marks : List ℕ) (u v : ℕ) → HasSize p.words p.stride p.rows q →
+pub odd_next : (p q r : Planes) (u v : ℕ) → HasSize p.words p.stride p.rows q →
     HasSize q.words q.stride q.rows r → 0 < p.words →
-    TurnsOdd 0 (p.words * u) p q → TurnsOdd (q.words * u) q.words q r → OddCalm marks r → u + 1 ≤ v →
-    v ≤ p.stride * p.rows →
-    ((n : ℕ) → u + 1 ≤ n → n < v → IsUnmarked marks n) → TurnsOdd 0 (p.words * v) p r
-odd_next p q r marks u v sq sr some first second calm le room free =
+    TurnsOdd 0 (p.words * u) p q → TurnsOdd (q.words * u) q.words q r → u + 1 ≤ v → v ≤ p.stride * p.rows →
+    ((n : ℕ) → u + 1 ≤ n → n < v → n < r.stride * r.rows → OddStays r n) → TurnsOdd 0 (p.words * v) p r
+odd_next p q r u v sq sr some first second le room stay =
     let ew = sq.0 in
     let es = sq.1 in
     let er = sq.2 in
@@ -68,9 +83,9 @@ odd_next p q r marks u v sq sr some first second calm le room free =
     (q.words * u) _ _ _ _ _ _ _ _ _ _ _ _
     place place place place (omega arith) first second in
     let rest : TurnsOdd (p.words * (u + 1)) (p.words * (v - (u + 1))) r r =
-    odd_skip r marks (u + 1) v (p.words * (u + 1)) (p.words * (v - (u + 1)))
-    (ap (λ w. w * (u + 1)) (sym' rw0)) (ap (λ w. w * (v - (u + 1))) (sym' rw0)) (omega arith) calm le
-    (room_of (sr.1 ∙ sq.1) (sr.2 ∙ sq.2)) free in
+    odd_skip r (u + 1) v (p.words * (u + 1)) (p.words * (v - (u + 1)))
+    (ap (λ w. w * (u + 1)) (sym' rw0)) (ap (λ w. w * (v - (u + 1))) (sym' rw0)) (omega arith) le
+    (room_of (sr.1 ∙ sq.1) (sr.2 ∙ sq.2)) stay in
     part_after 0 0 0 0 (p.words * (u + 1)) (p.words * (v - (u + 1))) (p.words * v) (p.words * (u + 1))
     (p.words * (u + 1)) (p.words * (u + 1)) (p.words * (u + 1)) _ _ _ _ _ _ _ _ _ _ _ _
     (omega arith) (omega arith) (omega arith) (omega arith) (long_of v (u + 1) p.words le) both rest

@@ -15,10 +15,12 @@ ghost use Rattle.std.specs.Prelude.{ℕ, ◌≡◌, ◌≢◌, ◌+◌, ◌*◌,
 
 use crate::lines::{CELL_WORDS, LinePlaces, line_number, mark_lines};
 use crate::live::LiveMarks;
-use crate::marks::{is_marked, mark_around, mark_border, mark_corners, next_marked_in};
+use crate::marks::{
+    is_marked, mark_around, mark_border, mark_corners, next_live_marked, next_mark, next_marked_in,
+};
 use crate::planes::{Changes, Planes};
 use crate::values::Values;
-use bbm_rule::marks::{mark, mark_all, next_marked, unmark};
+use bbm_rule::marks::{mark, mark_all, unmark};
 use module_box::Signal;
 use module_job::Job;
 use std::alloc::{AllocError, Global};
@@ -251,6 +253,17 @@ impl MarkedPlanes {
         }
     }
 
+    // Counts a block of the odd partition with one live cell, and the dead one that this cell left in the step before.
+    // Odd steps pass over dead blocks.
+    fn count_lone(&mut self)
+        ensures planes { self.new.planes ≡ self.old.planes }
+        ensures odd { self.new.odd_marks ≡ self.old.odd_marks }
+        ensures even { self.new.even_marks ≡ self.old.even_marks }
+        ensures live { self.new.live_marks ≡ self.old.live_marks }
+    {
+        self.crowd = self.crowd.saturating_sub(2);
+    }
+
     // Takes the marks off all cells that are dead.
     fn drop_all(&mut self)
         ensures planes { self.new.planes ≡ self.old.planes }
@@ -333,19 +346,14 @@ impl MarkedPlanes {
             self.new.planes }
         ensures stays { result ≡ false → self.new.planes ≡ self.old.planes }
     {
-        if self.live_marks.are_dead(u, u, u, u) {
-            unmark(&mut self.odd_marks, u);
-            self.count_block(false);
-            return false;
-        }
         if self.is_exact && self.live_marks.is_lone_main(u, u, u, u) {
             self.move_odd_main(u);
-            self.count_block(false);
+            self.count_lone();
             return true;
         }
         if self.is_exact && self.live_marks.is_lone_anti(u, u, u, u) {
             self.move_odd_anti(u);
-            self.count_block(false);
+            self.count_lone();
             return true;
         }
         let is_turned = self.turn_odd_words(u);
@@ -539,12 +547,12 @@ impl MarkedPlanes {
         }
         let cells = self.planes.cells();
         let mut changed = 0;
-        let mut u = next_marked(&self.odd_marks, 0, cells);
+        let mut u = next_live_marked(&self.odd_marks, &self.live_marks, 0, cells);
         'marked: while u < cells {
             if self.turn_odd(u) {
                 changed += 1;
             }
-            u = next_marked(&self.odd_marks, u + 1, cells);
+            u = next_live_marked(&self.odd_marks, &self.live_marks, u + 1, cells);
         }
         // Where nothing was known all blocks had marks, and these fill box and halo.
         self.is_exact = true;
@@ -581,12 +589,12 @@ impl MarkedPlanes {
         }
         let cells = self.planes.cells() - self.planes.stride() - 1;
         let mut changed = 0;
-        let mut u = next_marked(&self.even_marks, 0, cells);
+        let mut u = next_mark(&self.even_marks, 0, cells);
         'marked: while u < cells {
             if self.turn_even(u) {
                 changed += 1;
             }
-            u = next_marked(&self.even_marks, u + 1, cells);
+            u = next_mark(&self.even_marks, u + 1, cells);
         }
         if are_many(changed, cells, self.planes.words(), self.planes.stride()) {
             self.whole_plane_steps = WHOLE_PLANE_STEPS;

@@ -149,15 +149,69 @@ pub fn next_marked_in(
     ensures passed { (u : ℕ) → from ≤ u → u < result →
         IsUnmarked first.now u ⊎ (AreUnmarked live.now u u u u × IsUnmarked others.now u) }
 {
-    let mut at = from;
-    'search: while at < end {
-        let word = first[at / 64] & (live.word(at / 64) | others[at / 64]);
-        let rest = word >> (at % 64);
-        if rest != 0 {
-            let found = at + rest.trailing_zeros() as usize;
-            return if found < end { found } else { end };
+    if from == end {
+        return end;
+    }
+    let word = first[from / 64] & (live.word(from / 64) | others[from / 64]);
+    let rest = word >> (from % 64);
+    if rest != 0 {
+        return (from + rest.trailing_zeros() as usize).min(end);
+    }
+    // A whole word is read without a shift.
+    'words: for k in from / 64 + 1..end.div_ceil(64) {
+        let whole = first[k] & (live.word(k) | others[k]);
+        if whole != 0 {
+            return (64 * k + whole.trailing_zeros() as usize).min(end);
         }
-        at = 64 * (at / 64 + 1);
+    }
+    end
+}
+
+/// Returns the next number from `from` on that may have a mark in the list, and one among those of live cells.
+///
+/// If there is none below `end`, it returns `end`.
+pub fn next_live_marked(marks: &[u64], live: &LiveMarks, from: usize, end: usize) -> usize
+    requires within { (from ≤ end) × (end < 2 ^ 32) }
+    requires marks_reach_end { (end ≤ 64 * length marks.now) × HasMarks end live.now }
+    ensures range { (from ≤ result) × (result ≤ end) }
+    ensures passed { (u : ℕ) → from ≤ u → u < result →
+        IsUnmarked marks.now u ⊎ AreUnmarked live.now u u u u }
+{
+    if from == end {
+        return end;
+    }
+    let word = marks[from / 64] & live.word(from / 64);
+    let rest = word >> (from % 64);
+    if rest != 0 {
+        return (from + rest.trailing_zeros() as usize).min(end);
+    }
+    'words: for k in from / 64 + 1..end.div_ceil(64) {
+        let whole = marks[k] & live.word(k);
+        if whole != 0 {
+            return (64 * k + whole.trailing_zeros() as usize).min(end);
+        }
+    }
+    end
+}
+
+/// Returns the same as [`bbm_rule::marks::next_marked`]. A whole word is read without a shift.
+pub fn next_mark(marks: &[u64], from: usize, end: usize) -> usize
+    requires within { (from ≤ end) × (end ≤ 64 * length marks.now) × (end < 2 ^ 32) }
+    ensures range { (from ≤ result) × (result ≤ end) }
+    ensures passed { (u : ℕ) → from ≤ u → u < result → IsUnmarked marks.now u }
+{
+    if from == end {
+        return end;
+    }
+    let rest = marks[from / 64] >> (from % 64);
+    if rest != 0 {
+        return (from + rest.trailing_zeros() as usize).min(end);
+    }
+    'words: for k in from / 64 + 1..end.div_ceil(64) {
+        let whole = marks[k];
+        if whole != 0 {
+            return (64 * k + whole.trailing_zeros() as usize).min(end);
+        }
     }
     end
 }

@@ -1,5 +1,5 @@
 use Rattle.std.proofs.Common.{◌≡◌, ◌*◌, List, ℕ, length, ap, subst, false, ltb, refl, arith, sym, ◌∙◌}
-use Rattle.local_run.proofs.FieldLemmas.{odd_first, odd_next, odd_all}
+use Rattle.local_run.proofs.FieldLemmas.{odd_first, odd_next, odd_all, odd_stays}
 use Rattle.std.proofs.lemmas.List.{with_items_is}
 use Rattle.local_run.specs.Calm.{EvenCalm, OddCalm}
 use Rattle.local_run.proofs.LiveLemmas.{marked_dead, marked_even, marked_odd}
@@ -9,21 +9,21 @@ use Rattle.local_run.proofs.marked_planes.MarkedPlanes.odd_step.Goals.{then-turn
 pub marked-init : goal.marked-init
 marked-init c =
     let f = c.args.self.now in
-    let n = c.next_marked-u.ensures in
+    let n = c.next_live_marked-u.ensures in
     let passed = rw c.deref.ensures.value at n.passed in
     record {
       size = (refl, refl, refl);
       stays = λ e. refl;
       within = (omega arith, n.range.1);
-      turned = odd_first f.planes f.odd_marks.items c.next_marked-u.result f.planes.some.0 f.odd_calm
-          (omega arith) passed;
+      turned = odd_first f.planes c.next_live_marked-u.result f.planes.some.0 (omega arith)
+          (λ k l h. odd_stays f.planes f.odd_marks.items f.live_marks k f.odd_calm f.all_dead (passed k l h));
     }
 
 pub marked-preserved : goal.marked-preserved
 marked-preserved c =
     let p = c.args.self.now.planes in
     let m = c.marked.invariant in
-    let n = c.next_marked-u-in-marked.ensures in
+    let n = c.next_live_marked-u-in-marked.ensures in
     let t = c.turn_odd.ensures in
     let r = c.turn_odd.new.self in
     let passed = rw c.deref-in-marked.ensures.value at n.passed in
@@ -34,8 +34,9 @@ marked-preserved c =
         | else-turn_odd w ↦ λ e. t.stays w.if-turn_odd.false ∙ m.stays (sym w.changed-is ∙ e)
       ];
       within = (omega arith, n.range.1);
-      turned = odd_next p c.marked.self.planes r.planes r.odd_marks.items c.marked.u c.next_marked-u-in-marked.result
-          m.size t.size p.some.0 m.turned t.part r.odd_calm n.range.0 (omega arith) passed;
+      turned = odd_next p c.marked.self.planes r.planes c.marked.u c.next_live_marked-u-in-marked.result m.size t.size
+          p.some.0 m.turned t.part n.range.0 (omega arith)
+          (λ k l h. odd_stays r.planes r.odd_marks.items r.live_marks k r.odd_calm r.all_dead (passed k l h));
     }
 
 pub returns-then-are_many-clause-turned : goal.returns-then-are_many-clause-turned
