@@ -267,6 +267,16 @@ pub dead_at : (u : ℕ) (l : LiveMarks) (p : Planes) → u < p.stride * p.rows �
 dead_at u l p h dead free k i =
     (dead.0 u h free.0 k i, dead.1 u h free.1 k i, dead.2 u h free.2 k i, dead.3 u h free.3 k i)
 
+-- a block of the even partition of which no cell has a mark
+pub dead_block : (u : ℕ) (l : LiveMarks) (p : Planes) → u + p.stride + 1 < p.stride * p.rows → AllDead l p →
+    AreUnmarked l (u + p.stride + 1) (u + p.stride) (u + 1) u →
+    IsCalmBlock p.words u (u + 1) (u + p.stride)
+    (u + p.stride + 1) p.even.items p.down.items p.right.items p.odd.items
+dead_block u l p room dead free =
+    dead_calm p.words u (u + 1) (u + p.stride) (u + p.stride + 1) p.even.items p.down.items p.right.items p.odd.items
+    (dead.3 u (omega arith) free.3) (dead.2 (u + 1) (omega arith) free.2) (dead.1 (u + p.stride) (omega arith) free.1)
+    (dead.0 (u + p.stride + 1) (omega arith) free.0)
+
 -- no block is known to stay, where all have marks
 pub marked_odd : (marks : List ℕ) (p : Planes) → p.stride * p.rows ≤ 64 * length marks →
     ((u : ℕ) → u < 64 * length marks → IsUnmarked marks u → ⊥) → OddCalm marks p

@@ -91,7 +91,7 @@ fn are_many(changed: usize, cells: usize, words: usize, stride: usize) -> bool
 impl MarkedPlanes {
     ghost use Rattle.bbm_rule.specs.Marks.{IsUnmarked};
     ghost use Rattle.local_run.specs.Calm.{AreDead};
-    ghost use Rattle.local_run.specs.Live.{IsLoneAnti, IsLoneMain};
+    ghost use Rattle.local_run.specs.Live.{AreUnmarked, IsLoneAnti, IsLoneMain};
     ghost use Rattle.local_run.specs.Turns.{TurnsPart};
     ghost use Rattle.local_run.specs.Quiet.{AreLines};
     ghost use Rattle.local_run.specs.Scans.{IsReady};
@@ -466,11 +466,6 @@ impl MarkedPlanes {
     {
         let stride = self.planes.stride();
         let (odd, right, down) = (u + stride + 1, u + stride, u + 1);
-        if self.live_marks.are_dead(odd, right, down, u) {
-            unmark(&mut self.even_marks, u);
-            self.count_block(false);
-            return false;
-        }
         if self.is_exact && self.live_marks.is_lone_main(odd, right, down, u) {
             self.move_even_main(u);
             self.count_block(false);
@@ -498,9 +493,23 @@ impl MarkedPlanes {
         is_marked(&self.border_marks, u) && (u + 1) % self.planes.stride() == 0
     }
 
+    // Whether each cell of block u of the even partition is known to be dead, where blocks go by their marks.
+    #[inline(always)]
+    fn is_dead_even(&self, u: usize) -> bool
+        requires { u + self.now.planes.stride + 1 < self.now.planes.stride * self.now.planes.rows }
+        ensures { result ≡ true → let s = self.now.planes.stride in
+            AreUnmarked self.now.live_marks (u + s + 1) (u + s) (u + 1) u }
+    {
+        let stride = self.planes.stride();
+        self.busy == 0
+            && self
+                .live_marks
+                .are_dead(u + stride + 1, u + stride, u + 1, u)
+    }
+
     // Turns block u of the even partition, unless it stays, and tells whether it turned it. The last block of a row is
     // not in the box and stays: its cells stand in the halo, at the right end of two rows and at the left end of the
-    // next two.
+    // next two. About half of the blocks are dead: a cell has just left them.
     fn turn_even(&mut self, u: usize) -> bool
         requires { u + self.old.planes.stride + 1 < self.old.planes.stride * self.old.planes.rows }
         ensures part { (u + 1) % self.old.planes.stride ≢ 0 →
@@ -514,6 +523,11 @@ impl MarkedPlanes {
         ensures last { (u + 1) % self.old.planes.stride ≡ 0 → self.new.planes ≡ self.old.planes }
         ensures stays { result ≡ false → self.new.planes ≡ self.old.planes }
     {
+        if self.is_dead_even(u) {
+            unmark(&mut self.even_marks, u);
+            self.count_block(false);
+            return false;
+        }
         if self.is_last(u) {
             unmark(&mut self.even_marks, u);
             return false;
