@@ -1,12 +1,12 @@
 -- Runs that stay as they are, and times that can be leapt over
-use Rattle.std.proofs.Common.{◌≡◌, ◌≢◌, ℕ, zero, suc, ◌<◌, ◌≤◌, ◌+◌, ◌-◌, ◌%◌, ◌&&◌, ◌||◌, List, [], length, Option}
+use Rattle.std.proofs.Common.{◌≡◌, ◌≢◌, ℕ, zero, suc, ◌<◌, ◌≤◌, ◌+◌, ◌-◌, ◌%◌, ◌&&◌, ◌||◌, List, length, Option}
 use Rattle.std.proofs.Common.{Some}
 use Rattle.std.proofs.Common.{None, Less, Greater, refl, arith, sym, ◌∙◌, ap, ap₂, inl, inr, subst}
 use Rattle.std.specs.Prelude.{ℤ, ◌+ℤ◌, slice_get, unwrap_or}
 use Rattle.std.proofs.lemmas.Option.{slice_get_within}
 use Rattle.std.specs.Ordering.{int_eq, nat_cmp, ordering_then}
-use Rattle.std.proofs.Common.{rules, true}
-use Rattle.std.proofs.lemmas.Bool.{and_parts}
+use Rattle.std.proofs.Common.{rules, true, false}
+use Rattle.std.proofs.lemmas.Bool.{and_parts, false≢true}
 use Rattle.bbm_rule.specs.Plane.{State, is_at, partner, turned, step}
 use Rattle.bbm_rule.specs.declared.block.Cell.{Cell}
 use Rattle.module_box.specs.declared.schedules.AllTimes.{AllTimes}
@@ -14,14 +14,14 @@ use Rattle.bbm_rule.proofs.BitLemmas.{by_lt_or_le}
 use Rattle.circuit.specs.Meaning.{Valuation}
 use Rattle.module_box.specs.Boxes.{in_box, in_halo}
 use Rattle.module_box.specs.Moments.{cell_cmp, moment_cmp}
-use Rattle.module_box.specs.Schedules.{IsRising, Signals, cell_of, event_at, all_times_at, moment_of, signal_at}
+use Rattle.module_box.specs.Schedules.{IsRising, Signals, event_at, all_times_at, moment_of, signal_at}
 use Rattle.module_box.specs.declared.schedules.Event.{Event}
 use Rattle.module_box.specs.declared.schedules.Moment.{Moment}
 use Rattle.module_box.specs.declared.schedules.Signal.TheVariants.{Zero}
 use Rattle.module_box.specs.Moves.{moved_signals}
 use Rattle.module_box.proofs.MovedBoxes.{signals_moved}
 use Rattle.module_box.specs.declared.schedules.Signal.{Signal}
-use Rattle.module_box.proofs.Rising.{all_times_found, cell_total, event_found, event_none, is_first, moment_total}
+use Rattle.module_box.proofs.Rising.{all_times_found, all_times_none, event_found, event_none, is_first, moment_total}
 use Rattle.module_job.specs.Jobs.{JobView}
 use Rattle.module_job.specs.Signals.{is_live}
 use Rattle.local_run.specs.Laws.{QuietRunsStay, NoNewEdgeFaults}
@@ -35,30 +35,56 @@ pub event_there : (es : List Event) (k : ℕ) (m : Moment) (e : Event) → IsRis
 event_there es k m e rising at same =
     event_found es k e m same at (is_first moment_cmp moment_of es k e moment_total rising at)
 
-pub all_times_there : (hs : List AllTimes) (k : ℕ) (c : Cell) (h : AllTimes) → IsRising cell_cmp cell_of hs →
-    slice_get hs k ≡ Some h → is_at h.cell c.x c.y ≡ true → all_times_at hs c.x c.y ≡ Some h.signal
-all_times_there hs k c h rising at same =
-    all_times_found hs k h c (at_cell h.cell c same) at (is_first cell_cmp cell_of hs k h cell_total rising at)
-  where
-    int_same : (a b : ℤ) → int_eq a b ≡ true → a ≡ b
-    int_same a b e = search rules
+int_same : (a b : ℤ) → int_eq a b ≡ true → a ≡ b
+int_same a b e = search rules
 
-    at_cell : (c d : Cell) → is_at c d.x d.y ≡ true → c ≡ d
-    at_cell c d e =
-        let p = and_parts (int_eq c.x d.x) (int_eq c.y d.y) e in
-        let cell : ℤ → ℤ → Cell = λ x y. record { x = x; y = y } in
-        ap₂ cell (int_same c.x d.x p.0) (int_same c.y d.y p.1)
+int_itself : (a : ℤ) → int_eq a a ≡ true
+int_itself a = search rules
+
+at_cell : (c d : Cell) → is_at c d.x d.y ≡ true → c ≡ d
+at_cell c d e =
+    let p = and_parts (int_eq c.x d.x) (int_eq c.y d.y) e in
+    let cell : ℤ → ℤ → Cell = λ x y. record { x = x; y = y } in
+    ap₂ cell (int_same c.x d.x p.0) (int_same c.y d.y p.1)
+
+at_itself : (c : Cell) → is_at c c.x c.y ≡ true
+at_itself c = rw (int_itself c.x, int_itself c.y) refl
+
+-- no signal at a place before k is at the cell
+abbrev pub AreOther : List AllTimes → Cell → ℕ → Type 0
+AreOther hs c k = (i : ℕ) (h : AllTimes) → i < k → slice_get hs i ≡ Some h → h.cell ≢ c
+
+pub one_more_other : (hs : List AllTimes) (c : Cell) (k : ℕ) (h : AllTimes) → slice_get hs k ≡ Some h →
+    is_at h.cell c.x c.y ≡ false → AreOther hs c k → AreOther hs c (k + 1)
+one_more_other hs c k h at differs other i g l e same = by_lt_or_le i k
+    (λ before. other i g before e same)
+    (λ from. let here : i ≡ k = omega arith in
+    let e' : slice_get hs k ≡ Some g = subst (λ (n : ℕ). slice_get hs n ≡ Some g) here e in
+    let eg : h ≡ g = some_same h g (sym at ∙ e') in
+    false≢true (sym (subst (λ (z : AllTimes). is_at z.cell c.x c.y ≡ false) eg differs)
+    ∙ subst (λ (z : Cell). is_at z c.x c.y ≡ true) (sym same) (at_itself c)))
+  where
+    some_same : (a b : AllTimes) → Some a ≡ Some b → a ≡ b
+    some_same a b e = cc
+
+pub all_times_there : (hs : List AllTimes) (k : ℕ) (c : Cell) (h : AllTimes) → AreOther hs c k →
+    slice_get hs k ≡ Some h → is_at h.cell c.x c.y ≡ true → all_times_at hs c.x c.y ≡ Some h.signal
+all_times_there hs k c h other at same =
+    let e = at_cell h.cell c same in
+    all_times_found hs k h c e at (λ j g l got is. other j g l got (is ∙ e))
+
+pub all_times_nowhere : (hs : List AllTimes) (c : Cell) → AreOther hs c (length hs) → all_times_at hs c.x c.y ≡ None
+all_times_nowhere hs c other = all_times_none hs c (λ i h e. other i h (slice_get_within hs i h e) e)
 
 pub steady_there : (s : Signals) (t : ℕ) (x y : ℤ) (v : Signal) → all_times_at s.all_times x y ≡ Some v →
     v ≡ signal_at s t x y
 unfolding signal_at
 steady_there s t x y v e = sym (ap (λ h. unwrap_or h (unwrap_or (event_at s.events t x y) Zero)) e)
 
-pub signal_there : (s : Signals) (t : ℕ) (x y : ℤ) (v : Signal) → s.all_times ≡ [] → event_at s.events t x y ≡ Some v →
-    v ≡ signal_at s t x y
-unfolding signal_at all_times_at
-signal_there s t x y v none e =
-    sym (ap₂ (λ h z. unwrap_or (all_times_at h x y) (unwrap_or z Zero)) none e)
+pub signal_there : (s : Signals) (t : ℕ) (x y : ℤ) (v : Signal) → all_times_at s.all_times x y ≡ None →
+    event_at s.events t x y ≡ Some v → v ≡ signal_at s t x y
+unfolding signal_at
+signal_there s t x y v none e = sym (ap₂ (λ h z. unwrap_or h (unwrap_or z Zero)) none e)
 
 -- ---- steps at times of one parity are the same
 partner_alike : (k m : ℕ) (x : ℤ) → k % 2 ≡ m % 2 → partner k x ≡ partner m x

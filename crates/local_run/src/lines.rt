@@ -2,11 +2,11 @@
 
 ghost use Rattle.module_job.specs.Jobs.{IsJob};
 ghost use Rattle.module_job.specs.Shapes.{shape_of};
-ghost use Rattle.module_box.specs.Moments.{cell_cmp, moment_cmp};
-ghost use Rattle.module_box.specs.Schedules.{IsRising, all_times_at, cell_of, event_at, moment_of, signal_at};
+ghost use Rattle.module_box.specs.Moments.{moment_cmp};
+ghost use Rattle.module_box.specs.Schedules.{IsRising, all_times_at, event_at, moment_of, signal_at};
 ghost use Rattle.local_run.specs.Quiet.{AreAllTimesMarks, AreAllTimesMarked, AreLines, at_corner, HasRoom, IsCellMarked, IsQuietIn, KeepsMarks};
 ghost use Rattle.local_run.specs.Places.{outer};
-ghost use Rattle.std.specs.Prelude.{ℕ, [], true, ◌≢◌, MatchOption, ◌≡◌, ◌<◌, ◌+◌, ◌*◌, ◌/◌, ◌%◌, ◌^◌, ◌≤◌, length, slice_index, slice_get, Some, IfOk, IfSome};
+ghost use Rattle.std.specs.Prelude.{ℕ, ◌≢◌, MatchOption, ◌≡◌, ◌<◌, ◌+◌, ◌*◌, ◌/◌, ◌%◌, ◌^◌, ◌≤◌, length, slice_index, slice_get, Some, IfOk, IfSome};
 
 use crate::leaps::first_event_from;
 use bbm_rule::Cell;
@@ -184,14 +184,10 @@ fn event_near(events: &[Event], moment: Moment, near: EventPlaces) -> Option<Sig
     None
 }
 
-// The signal that a cell has at all times, if it is among a few.
-fn all_times_near(all_times: &[AllTimes], cell: Cell) -> Option<Signal>
-    requires { IsRising cell_cmp cell_of all_times.now }
-    ensures { IfSome result (λ s. all_times_at all_times.now cell.x cell.y ≡ Some s) }
+// The signal that a cell has at all times, which is sought one by one.
+fn first_all_times(all_times: &[AllTimes], cell: Cell) -> Option<Signal>
+    ensures { result ≡ all_times_at all_times.now cell.x cell.y }
 {
-    if all_times.len() > MOST_NEAR_LINES {
-        return None;
-    }
     for k in 0..all_times.len() {
         let found = all_times[k];
         if found.cell == cell {
@@ -201,22 +197,16 @@ fn all_times_near(all_times: &[AllTimes], cell: Cell) -> Option<Signal>
     None
 }
 
-// Whether no signal at all times is in the schedule.
-fn has_events_alone(schedule: &Schedule) -> bool
-    ensures { result ≡ true → schedule.now.all_times ≡ [] }
-{
-    schedule.all_times().is_empty()
-}
-
-/// Returns the signal of a cell at a time, as [`Schedule::at`] does. It looks first at a few signals at all times, and
-/// at the events at a few places.
+/// Returns the signal of a cell at a time, as [`Schedule::at`] does. It looks first at the signals at all times, if
+/// they are few, and then at the events at a few places.
 pub fn signal_near(schedule: &Schedule, moment: Moment, near: EventPlaces) -> Signal
     ensures { result ≡ signal_at schedule.now moment.time moment.cell.x moment.cell.y }
 {
-    if let Some(signal) = all_times_near(schedule.all_times(), moment.cell) {
-        return signal;
-    }
-    if has_events_alone(schedule) {
+    let all_times = schedule.all_times();
+    if all_times.len() <= MOST_NEAR_LINES {
+        if let Some(signal) = first_all_times(all_times, moment.cell) {
+            return signal;
+        }
         if let Some(signal) = event_near(schedule.events(), moment, near) {
             return signal;
         }
