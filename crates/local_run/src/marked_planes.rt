@@ -77,15 +77,15 @@ const BUSY: u32 = 31;
 
 const CROWD: u32 = 64;
 
-// Whether it costs less to turn all blocks, with that many words a cell and cells a row, than to go by marks where so
-// many change. A block that changes has up to four others looked at, two for each of its diagonals that changes. Where
-// all are turned no cell of ring and halo is known to be dead, and at odd times each is looked up.
-fn are_many(changed: usize, cells: usize, words: usize, stride: usize) -> bool
-    requires { (changed ≤ 4096) × (cells ≤ 4096) × (words ≤ 64) × (0 < stride) × (stride ≤ 4096) }
+// Whether it costs less to turn all blocks, with that many words a cell, and that many cells a row and rows together,
+// than to go by marks where so many change. A block that changes has up to four others looked at, two for each of its
+// diagonals that changes. Where all are turned no cell of ring and halo is known to be dead, and at odd times each is
+// looked up.
+fn are_many(changed: usize, cells: usize, words: usize, columns_and_rows: usize) -> bool
+    requires { (changed ≤ 4096) × (cells ≤ 4096) × (words ≤ 64) × (columns_and_rows ≤ 128) }
 {
-    let around = stride + cells / stride;
     changed * (MARKED_BLOCK_COST + MARKED_WORD_COST * words)
-        > cells * words + WHOLE_ROW_COST * around
+        > cells * words + WHOLE_ROW_COST * columns_and_rows
 }
 
 impl MarkedPlanes {
@@ -570,7 +570,12 @@ impl MarkedPlanes {
         }
         // Where nothing was known all blocks had marks, and these fill box and halo.
         self.is_exact = true;
-        if are_many(changed, cells, self.planes.words(), self.planes.stride()) {
+        if are_many(
+            changed,
+            cells,
+            self.planes.words(),
+            self.planes.columns_and_rows(),
+        ) {
             self.whole_plane_steps = WHOLE_PLANE_STEPS;
             return true;
         }
@@ -610,7 +615,12 @@ impl MarkedPlanes {
             }
             u = next_mark(&self.even_marks, u + 1, cells);
         }
-        if are_many(changed, cells, self.planes.words(), self.planes.stride()) {
+        if are_many(
+            changed,
+            cells,
+            self.planes.words(),
+            self.planes.columns_and_rows(),
+        ) {
             self.whole_plane_steps = WHOLE_PLANE_STEPS;
             return true;
         }

@@ -402,6 +402,13 @@ impl Planes {
         self.rows
     }
 
+    /// Returns how many cells a row has and how many rows there are, together.
+    pub fn columns_and_rows(&self) -> usize
+        ensures { (result ≡ self.now.stride + self.now.rows) × (result ≤ 128) }
+    {
+        self.stride + self.rows
+    }
+
     /// Returns the column and row of the cells with number u.
     pub fn place(&self, u: usize) -> (usize, usize)
         requires { u < self.now.stride * self.now.rows }

@@ -118,6 +118,7 @@ impl Values {
     /// Returns the least assignment at which each used gate has a row and a cell is not as the signal says.
     ///
     /// The cell is counted from the halo.
+    #[inline(always)]
     pub fn first_difference(
         &self,
         planes: &Planes,
@@ -138,6 +139,20 @@ impl Values {
         if !self.is_different(planes, x, y, signal) {
             return None;
         }
+        self.seek_difference(planes, x, y, signal)
+    }
+
+    // The same, word by word.
+    fn seek_difference(&self, planes: &Planes, x: usize, y: usize, signal: Signal) -> Option<u32>
+        requires place { (x / 2 < planes.now.stride) × (y / 2 < planes.now.rows) }
+        requires words { (self.now.words ≡ planes.now.words) × (self.now.words ≤ 64) }
+        requires room_for_assignments { self.now.count ≤ 64 * self.now.words }
+        requires row { HasRow self.now signal }
+        requires defined { self.now.words ≤ length self.now.rows.defined.items }
+        ensures { IsLeastBelow self.now.count
+            (λ a. (is_defined self.now a ≡ true)
+            × (lane planes.now a x y ≢ is_live (valuation self.now a) signal)) result }
+    {
         for k in 0..self.words {
             let cells = planes.word(x, y, k);
             let wanted = self.word(signal, k);

@@ -1,52 +1,5 @@
-use Rattle.std.proofs.Common.{◌≡◌, ◌<◌, ◌+◌, ◌*◌, arith, ℕ, Bool, bit_and}
-use Rattle.std.specs.Prelude.{bit_xor}
-use Rattle.bbm_rule.specs.Bits.{bit}
-use Rattle.local_run.proofs.Scans.{block_clear, block_first, difference_small, differs, differs_bits, differs_is}
-use Rattle.local_run.proofs.Scans.{differs_not}
+use Rattle.std.proofs.Common.{arith}
 use Rattle.local_run.proofs.values.Values.first_difference.Goals as goal
-
-pub returns-then-difference-ne0 : goal.returns-then-difference-ne0
-returns-then-difference-ne0 c = λ a l.
-    let f : ℕ → Bool = differs c.args.self.now c.args.planes.now c.args.x c.args.y c.args.signal in
-    let bits : (b : ℕ) → b < 64 →
-    bit (bit_and (bit_xor c.word-cells.result c.word-wanted.result) c.index.result.now) b ≡ f (64 * c.loop-k.k + b) =
-    differs_bits c.args.self.now c.args.planes.now c.args.x c.args.y c.loop-k.k c.args.signal c.word-cells.result
-    c.word-wanted.result c.index.result.now _ c.word-cells.ensures c.word-wanted.ensures
-    (omega arith) c.index.ensures in
-    let d = block_first f c.loop-k.k _
-    (difference_small c.word-cells.result c.word-wanted.result c.index.result.now (omega arith) (omega arith)
-    (omega arith)) bits c.loop-k.invariant c.if-difference-ne0.true in
-    differs_not c.args.self.now c.args.planes.now c.args.x c.args.y c.args.signal a (d.1 a (omega arith))
-
-pub loop-k-preserved : goal.loop-k-preserved
-loop-k-preserved c =
-    let f : ℕ → Bool = differs c.args.self.now c.args.planes.now c.args.x c.args.y c.args.signal in
-    let bits : (b : ℕ) → b < 64 →
-    bit (bit_and (bit_xor c.word-cells.result c.word-wanted.result) c.index.result.now) b ≡ f (64 * c.loop-k.k + b) =
-    differs_bits c.args.self.now c.args.planes.now c.args.x c.args.y c.loop-k.k c.args.signal c.word-cells.result
-    c.word-wanted.result c.index.result.now _ c.word-cells.ensures c.word-wanted.ensures
-    (omega arith) c.index.ensures in
-    block_clear f c.loop-k.k _ bits c.loop-k.invariant c.if-difference-ne0.false
-
-pub returns-then-a-self : goal.returns-then-a-self
-returns-then-a-self c =
-    let f : ℕ → Bool = differs c.args.self.now c.args.planes.now c.args.x c.args.y c.args.signal in
-    let bits : (b : ℕ) → b < 64 →
-    bit (bit_and (bit_xor c.word-cells.result c.word-wanted.result) c.index.result.now) b ≡ f (64 * c.loop-k.k + b) =
-    differs_bits c.args.self.now c.args.planes.now c.args.x c.args.y c.loop-k.k c.args.signal c.word-cells.result
-    c.word-wanted.result c.index.result.now _ c.word-cells.ensures c.word-wanted.ensures
-    (omega arith) c.index.ensures in
-    let d = block_first f c.loop-k.k _
-    (difference_small c.word-cells.result c.word-wanted.result c.index.result.now (omega arith) (omega arith)
-    (omega arith)) bits c.loop-k.invariant c.if-difference-ne0.true in (
-      c.if-a-self.true,
-      differs_is c.args.self.now c.args.planes.now c.args.x c.args.y c.args.signal _ d.0,
-      λ b l. differs_not c.args.self.now c.args.planes.now c.args.x c.args.y c.args.signal b (d.1 b l),
-    )
-
-pub returns : goal.returns
-returns c = λ a l. differs_not c.args.self.now c.args.planes.now c.args.x c.args.y c.args.signal a
-    (c.loop-k.invariant a (omega arith))
 
 pub returns-then-not-is_different : goal.returns-then-not-is_different
 returns-then-not-is_different c = λ a l f. f.1 (c.is_different.ensures c.if-not-is_different.true a (omega arith))

@@ -1,6 +1,6 @@
 use Rattle.std.proofs.Common.{◌≡◌, ℕ, ◌<◌, ◌*◌, false}
 use Rattle.local_run.proofs.Scans.{differs}
-use Rattle.local_run.proofs.values.Values.first_difference.Given as goal
+use Rattle.local_run.proofs.values.Values.seek_difference.Given as goal
 
 -- as the signal says under the assignments so far, where each used gate has a row
 abbrev pub invariant-loop-k : goal.invariant-loop-k
