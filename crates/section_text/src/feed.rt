@@ -290,15 +290,6 @@ fn take_names(left: Option<&[u8]>, count: usize) -> Option<(Names, Option<&[u8]>
     Some((names, rest))
 }
 
-// The `count` names that are the words of a line from one on.
-fn names_in(line: &[u8], from: usize, count: usize) -> Option<Names>
-    requires { count ≤ 4 }
-    ensures { result ≡ names_at (words_of line.now) from count }
-{
-    let (names, _) = take_names(words_from(line, from), count)?;
-    Some(names)
-}
-
 // The names on both sides of an arrow, from a word on to the end of the line.
 fn names_beside_arrow_in(
     line: &[u8],
@@ -604,15 +595,6 @@ impl Feed {
         read_number(self.word(line, index)?)
     }
 
-    /// Returns a word of a line as a name, or `None` for a word that is no name and past the last one.
-    #[tactic(auto, unfolding(crate::specs::Words::name_at))]
-    pub fn name(&self, line: &Line, index: usize) -> Option<Name>
-        requires { IsLine self.now line.now }
-        ensures { result ≡ name_at (words_of (line_bytes self.now line.now)) index }
-    {
-        Name::of(self.word(line, index)?)
-    }
-
     /// Returns `said` if a line has one word, and `None` for any other line.
     #[tactic(auto, unfolding(crate::specs::Words::lone))]
     pub fn lone<A: Drop>(&self, line: &Line, said: A) -> Option<A>
@@ -667,18 +649,6 @@ impl Feed {
         ensures { result ≡ lone_name (words_of (line_bytes self.now line.now)) }
     {
         Name::of(second_of_two(self.line(line))?)
-    }
-
-    /// Returns the `count` names that are the words of a line from index `from` on.
-    ///
-    /// It returns `None` if one of these words is no name, or is not there.
-    pub fn names(&self, line: &Line, from: usize, count: usize) -> Option<Names>
-        requires line { IsLine self.now line.now }
-        requires at_most_4 { count ≤ 4 }
-        requires near { from ≤ 8 }
-        ensures { result ≡ names_at (words_of (line_bytes self.now line.now)) from count }
-    {
-        names_in(self.line(line), from, count)
     }
 
     /// Returns the names on both sides of an arrow: `before` from index `from` on, and `after` to the line's end.
