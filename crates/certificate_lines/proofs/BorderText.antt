@@ -9,7 +9,8 @@ use Rattle.std.proofs.lemmas.Bool.Decides.{nat_tests}
 use Rattle.std.proofs.lemmas.List.{take-append-drop, take_rest}
 use Rattle.std.proofs.lemmas.List.Splits.{join_with_byte-slice_split, slice_split-cons_no}
 use Rattle.std.proofs.lemmas.Slice.Eq.{bytes_eq-Decides}
-use Rattle.section_text.specs.Words.{is_lower, is_name, is_name_byte, is_space, is_word_at, leading_number, name_at}
+use Rattle.section_text.specs.Leading.{leading_number}
+use Rattle.section_text.specs.Words.{is_lower, is_name, is_name_byte, is_space, is_word_at, name_at}
 use Rattle.section_text.specs.Words.{name_of}
 use Rattle.section_text.specs.Words.{number_at, number_of, words_of, ◌>>=◌}
 use Rattle.section_text.proofs.Splitting.{some_words}

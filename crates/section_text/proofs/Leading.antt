@@ -9,7 +9,8 @@ use Rattle.std.proofs.lemmas.List.{append_assoc, append-nil, at_drop_more, lengt
 use Rattle.std.proofs.lemmas.List.Folds.{list_all-append}
 use Rattle.std.proofs.lemmas.List.Splits.{slice_split-cons_no, slice_split-cons_yes}
 use Rattle.std.proofs.Math.ListN.{drop_of_length-le}
-use Rattle.section_text.specs.Words.{is_digit, is_number, is_space, leading_number, number_of, read_on, words_of, ◌>>=◌}
+use Rattle.section_text.specs.Leading.{leading_number}
+use Rattle.section_text.specs.Words.{is_digit, is_number, is_space, number_of, read_on, words_of, ◌>>=◌}
 use Rattle.section_text.proofs.Numbers.{is_one}
 use Rattle.section_text.proofs.Splitting.{some_words}
 

@@ -13,3 +13,4 @@ pub mod Ports
 pub mod Listed
 pub mod SaidSection
 pub mod Seeding
+pub mod Leading

@@ -2,9 +2,10 @@
 ghost use Rattle.std.specs.Prelude.{drop, take, ◌≡◌, ◌==◌, ℕ, ◌+◌, ◌-◌, ◌^◌, ◌<◌, ◌≤◌, ◌↔◌, true, false, List, [], ◌∷◌, ◌++◌, length, Option, Some, None, Ok, Err, IsTrue, IsOk, IfOk, IfErr, ◌≢◌, OnOk, OnErr, IfNone, IfSome, MatchOption, unwrap_or, slice_get, slice_range, option_and_then, map};
 ghost use Rattle.std.specs.Option.{option_copied, option_map, ForSome};
 ghost use Rattle.std.specs.List.{flat_map, position, list_all};
-ghost use Rattle.section_text.specs.Words.{lines_of, is_digit, is_number, read_on, leading_number, is_word_at, is_line_feed, is_space, rest_of, words_of, number_of, number_at, name_at, names_at, names_beside_arrow, lone, lone_number, lone_name, second_of_two, three, four, five, words_left};
+ghost use Rattle.section_text.specs.Words.{lines_of, is_digit, is_number, read_on, is_word_at, is_line_feed, is_space, rest_of, words_of, number_of, number_at, name_at, names_at, names_beside_arrow, lone, lone_number, lone_name, second_of_two, three, four, five, words_left};
 ghost use Rattle.section_text.specs.declared.code.RefusalCode.TheVariants.{TextCut};
 ghost use Rattle.section_text.specs.declared.fault.ReadFault.TheVariants.{Memory};
+ghost use Rattle.section_text.specs.Leading.{leading_number};
 ghost use Rattle.section_text.specs.Listed.{three_listed, four_listed, listed};
 ghost use Rattle.section_text.specs.Faults.{refusal};
 ghost use Rattle.section_text.specs.Section.{ended_line};
