@@ -1,5 +1,5 @@
 -- Moments and events that a search for the cells around a box passes over
-use Rattle.std.proofs.Common.{◌≡◌, ℕ, ◌+◌, ◌<◌, ◌≤◌, List, length, refl, sym, ap, subst, ◌∙◌, inl, inr, ◌⊎◌, arith}
+use Rattle.std.proofs.Common.{◌≡◌, ℕ, ◌+◌, ◌<◌, ◌≤◌, ◌%◌, List, length, refl, sym, ap, subst, ◌∙◌, inl, inr, ◌⊎◌, arith}
 use Rattle.std.proofs.Common.{Ordering, Less, Equal, Greater, Some, get_or, Bool, true, false}
 use Rattle.std.proofs.lemmas.Bool.{false≢true}
 use Rattle.std.proofs.lemmas.Option.{slice_get_within, slice_get-get_or}
@@ -14,7 +14,8 @@ use Rattle.module_box.specs.declared.schedules.Event.{Event}
 use Rattle.module_box.specs.declared.schedules.Moment.{Moment}
 use Rattle.module_box.proofs.BoxCells.{same_some}
 use Rattle.module_box.proofs.Rising.{moment_total}
-use Rattle.border_match.specs.Surroundings.{AreFar, AreFarBetween, IsAroundFrom}
+use Rattle.border_match.specs.Surroundings.{AreFar, AreFarBetween, IsAroundFrom, IsFarAt, IsSeen, IsWindow}
+use Rattle.border_match.specs.declared.surroundings.Window.{Window}
 
 -- ---- the order of moments by their parts
 
@@ -53,100 +54,56 @@ before a b h = elim (then_less (nat_cmp a.time b.time) _ h) [
   )
 ]
 
--- ---- the next moment at a cell around a box
-
--- the first column and the first row of the cells around a box, counted from the corner of another one
-abbrev IsFirst : Box2 → Box2 → Cell → Type 0
-IsFirst area corner first = (((first.x +ℤ pos corner.x) +ℤ pos 1) ≡ pos area.x)
-    × (((first.y +ℤ pos corner.y) +ℤ pos 1) ≡ pos area.y)
-
--- the last column and the last row
-abbrev last_column : Box2 → Cell → ℤ
-last_column area first = first.x +ℤ pos (area.w + 1)
-
-abbrev last_row : Box2 → Cell → ℤ
-last_row area first = first.y +ℤ pos (area.h + 1)
-
--- the cell is in those columns and rows
-abbrev IsAmid : Box2 → Cell → Cell → Type 0
-IsAmid area first c = (first.x ≤ℤ c.x) × (c.x ≤ℤ last_column area first) × (first.y ≤ℤ c.y)
-    × (c.y ≤ℤ last_row area first)
-
-amid : (area corner : Box2) (first c : Cell) → IsFirst area corner first → IsAroundFrom area corner c →
-    IsAmid area first c
-amid area corner first c is g =
-    let e = is.0 in let f = is.1 in
-    let left = g.left in let right = g.right in let top = g.top in let bottom = g.bottom in
-    (omega (arith, ints), omega (arith, ints), omega (arith, ints), omega (arith, ints))
-
-pub around : (area corner : Box2) (first c : Cell) → IsFirst area corner first → first.x ≤ℤ c.x →
-    c.x ≤ℤ last_column area first → first.y ≤ℤ c.y → c.y ≤ℤ last_row area first → IsAroundFrom area corner c
-around area corner first c is left right top bottom =
-    let e = is.0 in let f = is.1 in record {
-      left = omega (arith, ints);
-      right = omega (arith, ints);
-      top = omega (arith, ints);
-      bottom = omega (arith, ints);
-    }
+-- ---- the next moment at a cell of a window
 
 up_to_or_after : (a b : ℤ) → (a ≤ℤ b) ⊎ (b <ℤ a)
 up_to_or_after a b = grind (arith, ints)
 
--- a far cell in those rows that is not before the first column is behind the last one
-behind : (area corner : Box2) (first c : Cell) → IsFirst area corner first → ¬ IsAroundFrom area corner c →
-    first.x ≤ℤ c.x → first.y ≤ℤ c.y → c.y ≤ℤ last_row area first → last_column area first <ℤ c.x
-behind area corner first c is far left top bottom = elim (up_to_or_after c.x (last_column area first)) [
-  | inl right ↦ absurd (far (around area corner first c is left right top bottom))
+-- a far cell in the window's rows that is not before the first column is behind the last one
+behind : (w : Window) (c : Cell) → ¬ IsSeen w c → w.first.x ≤ℤ c.x → w.first.y ≤ℤ c.y → c.y ≤ℤ w.last.y →
+    w.last.x <ℤ c.x
+behind w c far left top bottom = elim (up_to_or_after c.x w.last.x) [
+  | inl right ↦ absurd (far (record { left = left; right = right; top = top; bottom = bottom }))
   | inr gt ↦ gt
 ]
 
 -- what is to be shown of a moment between two others
-abbrev NoneAmid : Box2 → Cell → Moment → Moment → Type 0
-NoneAmid area first at next = (m : Moment) → IsBefore at m → IsBefore m next → IsAmid area first m.cell → ⊥
+abbrev NoneSeen : Window → Moment → Moment → Type 0
+NoneSeen w at next = (m : Moment) → m.time % 2 ≡ 1 → IsBefore at m → IsBefore m next → IsSeen w m.cell → ⊥
 
-far_between : (area corner : Box2) (first : Cell) (at next : Moment) → IsFirst area corner first →
-    NoneAmid area first at next → AreFarBetween area corner at next
-far_between area corner first at next is none m after less g =
-    none m (before at m after) (before m next less) (amid area corner first m.cell is g)
+far_between : (w : Window) (at next : Moment) → NoneSeen w at next → AreFarBetween w at next
+far_between w at next none m after less odd g = none m odd (before at m after) (before m next less) g
 
 -- above the first row the next one is the first cell at the same time
-pub above_rows : (area corner : Box2) (first : Cell) (at next : Moment) → IsFirst area corner first →
-    at.cell.y <ℤ first.y → next.time ≡ at.time → next.cell.x ≡ first.x → next.cell.y ≡ first.y →
-    AreFarBetween area corner at next
-above_rows area corner first at next is up et ex ey =
-    far_between area corner first at next is (λ m k h g. grind (arith, ints))
+pub above_rows : (w : Window) (at next : Moment) → at.cell.y <ℤ w.first.y → next.time ≡ at.time →
+    next.cell.x ≡ w.first.x → next.cell.y ≡ w.first.y → AreFarBetween w at next
+above_rows w at next up et ex ey = far_between w at next (λ m odd k h g. grind (arith, ints))
 
 -- in a row before the first column it is the row's first cell
-pub before_columns : (area corner : Box2) (first : Cell) (at next : Moment) → IsFirst area corner first →
-    at.cell.x <ℤ first.x → next.time ≡ at.time → next.cell.x ≡ first.x → next.cell.y ≡ at.cell.y →
-    AreFarBetween area corner at next
-before_columns area corner first at next is left et ex ey =
-    far_between area corner first at next is (λ m k h g. grind (arith, ints))
+pub before_columns : (w : Window) (at next : Moment) → at.cell.x <ℤ w.first.x → next.time ≡ at.time →
+    next.cell.x ≡ w.first.x → next.cell.y ≡ at.cell.y → AreFarBetween w at next
+before_columns w at next left et ex ey = far_between w at next (λ m odd k h g. grind (arith, ints))
 
 -- behind the last column it is the first cell of the next row
-pub behind_columns : (area corner : Box2) (first : Cell) (at next : Moment) → IsFirst area corner first →
-    ¬ IsAroundFrom area corner at.cell → first.x ≤ℤ at.cell.x → first.y ≤ℤ at.cell.y →
-    at.cell.y ≤ℤ last_row area first → next.time ≡ at.time → next.cell.x ≡ first.x →
-    next.cell.y ≡ at.cell.y +ℤ pos 1 → AreFarBetween area corner at next
-behind_columns area corner first at next is far left top bottom et ex ey =
-    let right = behind area corner first at.cell is far left top bottom in
-    far_between area corner first at next is (λ m k h g. grind (arith, ints))
+pub behind_columns : (w : Window) (at next : Moment) → ¬ IsSeen w at.cell → w.first.x ≤ℤ at.cell.x →
+    w.first.y ≤ℤ at.cell.y → at.cell.y ≤ℤ w.last.y → next.time ≡ at.time → next.cell.x ≡ w.first.x →
+    next.cell.y ≡ at.cell.y +ℤ pos 1 → AreFarBetween w at next
+behind_columns w at next far left top bottom et ex ey =
+    let right = behind w at.cell far left top bottom in
+    far_between w at next (λ m odd k h g. grind (arith, ints))
 
--- below the last row it is the first cell at the next time
-pub below_rows : (area corner : Box2) (first : Cell) (at next : Moment) → IsFirst area corner first →
-    last_row area first <ℤ at.cell.y → next.time ≤ at.time + 1 → next.cell.x ≡ first.x → next.cell.y ≡ first.y →
-    AreFarBetween area corner at next
-below_rows area corner first at next is down et ex ey =
-    far_between area corner first at next is (λ m k h g. grind (arith, ints))
+-- below the last row it is the first cell at the next odd time
+pub below_rows : (w : Window) (at next : Moment) → w.last.y <ℤ at.cell.y → next.time ≤ at.time + (1 + at.time % 2) →
+    next.cell.x ≡ w.first.x → next.cell.y ≡ w.first.y → AreFarBetween w at next
+below_rows w at next down et ex ey = far_between w at next (λ m odd k h g. grind (arith, ints))
 
 -- and behind the last column of the last row too
-pub behind_rows : (area corner : Box2) (first : Cell) (at next : Moment) → IsFirst area corner first →
-    ¬ IsAroundFrom area corner at.cell → first.x ≤ℤ at.cell.x → first.y ≤ℤ at.cell.y →
-    at.cell.y ≡ last_row area first → next.time ≤ at.time + 1 → next.cell.x ≡ first.x → next.cell.y ≡ first.y →
-    AreFarBetween area corner at next
-behind_rows area corner first at next is far left top last et ex ey =
-    let right = behind area corner first at.cell is far left top (omega (arith, ints, last)) in
-    far_between area corner first at next is (λ m k h g. grind (arith, ints))
+pub behind_rows : (w : Window) (at next : Moment) → ¬ IsSeen w at.cell → w.first.x ≤ℤ at.cell.x →
+    w.first.y ≤ℤ at.cell.y → at.cell.y ≡ w.last.y → next.time ≤ at.time + (1 + at.time % 2) →
+    next.cell.x ≡ w.first.x → next.cell.y ≡ w.first.y → AreFarBetween w at next
+behind_rows w at next far left top last et ex ey =
+    let right = behind w at.cell far left top (omega (arith, ints, last)) in
+    far_between w at next (λ m odd k h g. grind (arith, ints))
 
 -- ---- places of events
 
@@ -201,25 +158,40 @@ passed_none events start at i e from lt got = absurd (omega (arith, from, lt))
 
 -- ---- events at far cells
 
+-- a cell around a box is seen in its window
+pub seen : (area corner : Box2) (w : Window) (c : Cell) → IsWindow area corner w → IsAroundFrom area corner c →
+    IsSeen w c
+seen area corner w c is g =
+    let e = is.left in let f = is.right in let p = is.top in let q = is.bottom in
+    let left = g.left in let right = g.right in let top = g.top in let bottom = g.bottom in record {
+      left = omega (arith, ints);
+      right = omega (arith, ints);
+      top = omega (arith, ints);
+      bottom = omega (arith, ints);
+    }
+
 -- The events behind one at a far cell are at far cells as long as they are before the next moment that may be at a
--- cell around the box.
-pub far_to : (area corner : Box2) (events : List Event) (place next : ℕ) (d : Event) (moment : Moment) →
-    IsRising moment_cmp moment_of events → place < length events → AreFar area corner events place (place + 1) →
-    AreFarBetween area corner (get_or events place d).at moment → ArePassed events (place + 1) next moment →
-    AreFar area corner events place next
-far_to area corner events place next d moment rising within far between passed i e from lt got =
+-- cell of the window.
+pub far_to : (w : Window) (events : List Event) (place next : ℕ) (d : Event) (moment : Moment) →
+    IsRising moment_cmp moment_of events → place < length events → IsFarAt w events place →
+    AreFarBetween w (get_or events place d).at moment → ArePassed events (place + 1) next moment →
+    AreFar w events place next
+far_to w events place next d moment rising within far between passed i e from lt got odd =
     elim (same_or_higher i place from) [
-      | inr same ↦ far i e from (omega (arith, same)) got
+      | inr same ↦ far e (ap (slice_get events) same ∙ got)
       | inl l ↦ between e.at (rising.rises place i _ e l (slice_get-get_or events place d within) got)
-          (passed i e (omega (arith, l)) lt got)
+          (passed i e (omega (arith, l)) lt got) odd
     ]
 
--- an event at a far cell by itself
-pub far_one : (area corner : Box2) (events : List Event) (place : ℕ) (d : Event) (r : Bool) → place < length events →
-    (IsAroundFrom area corner (get_or events place d).at.cell → r ≡ true) → r ≡ false →
-    AreFar area corner events place (place + 1)
-far_one area corner events place d r within around none i e from lt got g =
-    let same : i ≡ place = omega (arith, from, lt) in
-    let is = same_some (slice_get events place) e (get_or events place d) (ap (slice_get events) (sym same) ∙ got)
+-- up to the next place there is only that event
+pub far_next : (w : Window) (events : List Event) (place : ℕ) → IsFarAt w events place →
+    AreFar w events place (place + 1)
+far_next w events place far i e from lt got odd =
+    let same : place ≡ i = omega (arith, from, lt) in far e (ap (slice_get events) same ∙ got)
+
+pub far_at : (w : Window) (events : List Event) (place : ℕ) (d : Event) (r : Bool) → place < length events →
+    (IsSeen w (get_or events place d).at.cell → r ≡ true) → r ≡ false → IsFarAt w events place
+far_at w events place d r within sees none e got g =
+    let is = same_some (slice_get events place) e (get_or events place d) got
     (slice_get-get_or events place d within) in
-    false≢true (sym none ∙ around (subst (λ (z : Event). IsAroundFrom area corner z.at.cell) is g))
+    false≢true (sym none ∙ sees (subst (λ (z : Event). IsSeen w z.at.cell) is g))

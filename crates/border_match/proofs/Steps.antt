@@ -1,5 +1,5 @@
 -- One more event, module or time
-use Rattle.std.proofs.Common.{◌≡◌, ℕ, suc, ◌+◌, ◌<◌, ◌≤◌, List, [], ◌∷◌, ◌++◌, length, map, take, get_or, Bool}
+use Rattle.std.proofs.Common.{◌≡◌, ℕ, suc, ◌+◌, ◌<◌, ◌≤◌, ◌%◌, List, [], ◌∷◌, ◌++◌, length, map, take, get_or, Bool}
 use Rattle.std.proofs.Common.{true}
 use Rattle.std.proofs.Common.{false, Some, None, Less, Equal, Greater, refl, sym, ap, ap₂, subst, ◌∙◌, inl, inr, ◌⊎◌}
 use Rattle.std.proofs.Common.{arith}
@@ -31,7 +31,9 @@ use Rattle.border_match.specs.Boards.{AreOwnersNoted, jobs_of, IsReady, Faults, 
 use Rattle.border_match.specs.Boards.{IsEdgeNamedAmong, IsEdgeNamedAt, DiffersAlways}
 use Rattle.border_match.specs.Boards.{IsAround}
 use Rattle.border_match.specs.Boards.{IsAtEventOf}
-use Rattle.border_match.specs.Surroundings.{AreFar}
+use Rattle.border_match.specs.Surroundings.{AreFar, IsWindow}
+use Rattle.border_match.specs.declared.surroundings.Window.{Window}
+use Rattle.border_match.proofs.FarEvents.{seen}
 use Rattle.border_match.specs.declared.borders.Borders.{Borders}
 use Rattle.border_match.specs.declared.fault.BorderFault.{BorderFault}
 use Rattle.border_match.proofs.FaultOrder.{border_total}
@@ -86,28 +88,31 @@ pub cornered_all : (dx dy : ℤ) (es events : List Event) (k : ℕ) → es ≡ m
 cornered_all dx dy es events k are le =
     subst (λ n. n ≤ k) (ap length are ∙ length-map events (moved_event dx dy)) le
 
--- the events from a place on and before another are at no cell around the module's box, so they are no faults
-pub far_step : (b : Borders) (other : JobView) (a corner : Box2) (es : List Event) (i next : ℕ) (f : BorderFault) →
-    a ≡ b.job.now.area → corner ≡ other.area →
+-- the events from a place on and before another are at no odd time and cell around the module's box, so they are no
+-- faults
+pub far_step : (b : Borders) (other : JobView) (a corner : Box2) (w : Window) (es : List Event) (i next : ℕ)
+    (f : BorderFault) → a ≡ b.job.now.area → corner ≡ other.area → IsWindow a corner w →
     es ≡ map (moved_event (shift_to_origin other.area.x) (shift_to_origin other.area.y)) other.edges.events →
-    AreFar a corner es i next → Faults b f → IsNamedBelow next other.edges.events f →
-    IsNamedBelow i other.edges.events f
-far_step b other a corner es i next f same_area same_corner are far g h = elim (below_or_from h.named.place i) [
-  | inl lower ↦ record { named = h.named; below = lower }
-  | inr from ↦
-      let dx = shift_to_origin other.area.x in let dy = shift_to_origin other.area.y in
-      let there : slice_get es h.named.place ≡ Some (moved_event dx dy h.named.event) =
-      ap (λ l. slice_get l h.named.place) are ∙ slice_get-map (moved_event dx dy) other.edges.events h.named.place
-      ∙ ap (option_map (moved_event dx dy)) h.named.got in
-      let ex = ap (λ (z : Box2). z.x) same_corner in
-      let ey = ap (λ (z : Box2). z.y) same_corner in
-      let back : moved_cell (pos corner.x) (pos corner.y) (moved_event dx dy h.named.event).at.cell ≡ f.cell =
-      cell_back dx dy (pos corner.x) (pos corner.y) h.named.event.at.cell (omega (arith, ints, ex))
-      (omega (arith, ints, ey)) ∙ h.named.cell in
-      let at : IsAround a f.cell.x f.cell.y =
-      subst (λ (z : Box2). IsAround z f.cell.x f.cell.y) (sym same_area) (fault_around b f g) in
-      absurd (far h.named.place _ from h.below there (subst (λ (c : Cell). IsAround a c.x c.y) (sym back) at))
-]
+    AreFar w es i next → Faults b f → IsNamedBelow next other.edges.events f → IsNamedBelow i other.edges.events f
+far_step b other a corner w es i next f same_area same_corner is are far g h =
+    elim (below_or_from h.named.place i) [
+      | inl lower ↦ record { named = h.named; below = lower }
+      | inr from ↦
+          let dx = shift_to_origin other.area.x in let dy = shift_to_origin other.area.y in
+          let there : slice_get es h.named.place ≡ Some (moved_event dx dy h.named.event) =
+          ap (λ l. slice_get l h.named.place) are ∙ slice_get-map (moved_event dx dy) other.edges.events h.named.place
+          ∙ ap (option_map (moved_event dx dy)) h.named.got in
+          let ex = ap (λ (z : Box2). z.x) same_corner in
+          let ey = ap (λ (z : Box2). z.y) same_corner in
+          let back : moved_cell (pos corner.x) (pos corner.y) (moved_event dx dy h.named.event).at.cell ≡ f.cell =
+          cell_back dx dy (pos corner.x) (pos corner.y) h.named.event.at.cell (omega (arith, ints, ex))
+          (omega (arith, ints, ey)) ∙ h.named.cell in
+          let at : IsAround a f.cell.x f.cell.y =
+          subst (λ (z : Box2). IsAround z f.cell.x f.cell.y) (sym same_area) (fault_around b f g) in
+          let odd : h.named.event.at.time % 2 ≡ 1 = ap (λ (t : ℕ). t % 2) h.named.time ∙ g.odd in
+          absurd (far h.named.place _ from h.below there odd (seen a corner w _ is
+          (subst (λ (c : Cell). IsAround a c.x c.y) (sym back) at)))
+    ]
 
 -- ---- modules
 

@@ -1,5 +1,6 @@
--- Cells around a box that are counted from the corner of another one, and events that a search for them passes over
-use Rattle.std.specs.Prelude.{◌≡◌, ◌≢◌, ℕ, pos, ◌+ℤ◌, ◌<◌, ◌≤◌, List, length, Some, slice_get}
+-- The cells around a box, and events that a search for such cells passes over. All are counted from the corner of
+-- another box
+use Rattle.std.specs.Prelude.{◌≡◌, ◌≢◌, ℕ, pos, ◌+◌, ◌+ℤ◌, ◌≤ℤ◌, ◌<◌, ◌≤◌, ◌%◌, List, length, Some, slice_get}
 use Rattle.std.specs.declared.cmp.Ordering.TheVariants.{Less}
 use Rattle.bbm_rule.specs.declared.block.Cell.{Cell}
 use Rattle.module_box.specs.Moments.{moment_cmp}
@@ -7,20 +8,39 @@ use Rattle.module_box.specs.declared.boxes.Box2.{Box2}
 use Rattle.module_box.specs.declared.schedules.Event.{Event}
 use Rattle.module_box.specs.declared.schedules.Moment.{Moment}
 use Rattle.border_match.specs.Boards.{IsAround}
+use Rattle.border_match.specs.declared.surroundings.Window.{Window}
 
 -- the cell, which is counted from the corner of the second box, is around the first box
 abbrev pub IsAroundFrom : Box2 → Box2 → Cell → Type 0
 IsAroundFrom area corner c = IsAround area (c.x +ℤ pos corner.x) (c.y +ℤ pos corner.y)
 
--- no moment after the first and before the second is at a cell around the box
-abbrev pub AreFarBetween : Box2 → Box2 → Moment → Moment → Type 0
-AreFarBetween area corner at next =
-    (m : Moment) → moment_cmp at m ≡ Less → moment_cmp m next ≡ Less → ¬ IsAroundFrom area corner m.cell
+-- the window's columns and rows are those around the first box, counted from the corner of the second
+pub record IsWindow (area corner : Box2) (w : Window) : Type 0 where
+  pub left : ((w.first.x +ℤ pos corner.x) +ℤ pos 1) ≡ pos area.x
+  pub right : (w.last.x +ℤ pos corner.x) ≡ pos (area.x + area.w)
+  pub top : ((w.first.y +ℤ pos corner.y) +ℤ pos 1) ≡ pos area.y
+  pub bottom : (w.last.y +ℤ pos corner.y) ≡ pos (area.y + area.h)
 
--- no event of the list from the first place on and before the second is at a cell around the box
-abbrev pub AreFar : Box2 → Box2 → List Event → ℕ → ℕ → Type 0
-AreFar area corner events place next = (i : ℕ) (e : Event) → place ≤ i → i < next → slice_get events i ≡ Some e →
-    ¬ IsAroundFrom area corner e.at.cell
+-- the cell is in the window's columns and rows
+pub record IsSeen (w : Window) (c : Cell) : Type 0 where
+  pub left : w.first.x ≤ℤ c.x
+  pub right : c.x ≤ℤ w.last.x
+  pub top : w.first.y ≤ℤ c.y
+  pub bottom : c.y ≤ℤ w.last.y
+
+-- no moment after the first and before the second is at an odd time and at a cell of the window
+abbrev pub AreFarBetween : Window → Moment → Moment → Type 0
+AreFarBetween w at next =
+    (m : Moment) → moment_cmp at m ≡ Less → moment_cmp m next ≡ Less → m.time % 2 ≡ 1 → ¬ IsSeen w m.cell
+
+-- the event at the place is at no cell of the window
+abbrev pub IsFarAt : Window → List Event → ℕ → Type 0
+IsFarAt w events place = (e : Event) → slice_get events place ≡ Some e → ¬ IsSeen w e.at.cell
+
+-- no event of the list from the first place on and before the second is at an odd time and at a cell of the window
+abbrev pub AreFar : Window → List Event → ℕ → ℕ → Type 0
+AreFar w events place next = (i : ℕ) (e : Event) → place ≤ i → i < next → slice_get events i ≡ Some e →
+    e.at.time % 2 ≡ 1 → ¬ IsSeen w e.at.cell
 
 -- the place of the first event from a place on that is not before the moment, or the end of the list
 pub record IsFirstFrom (events : List Event) (start : ℕ) (at : Moment) (place : ℕ) : Type 0 where

@@ -12,7 +12,7 @@ ghost use Rattle.border_match.specs.Candidates.{IsBetter, IsLeast};
 ghost use Rattle.border_match.specs.declared.fault.BorderFault.{BorderFault};
 
 use crate::fault::{BorderFault, is_less, lesser};
-use crate::surroundings::{Leaps, after_far, cell_around, is_around, place_from};
+use crate::surroundings::{Leaps, Window, after_far, cell_around, place_from};
 use bbm_rule::Cell;
 use certificate::Job;
 use module_box::{AllTimes, Box2, Event, Moment, Owners, Signal, moved_cell};
@@ -339,8 +339,7 @@ impl<'a> Borders<'a> {
             (IsNamedOf self.now number other.now.edges.events) best result }
         ensures marked { AreMarked self.now seen.new }
     {
-        let area = self.job.area();
-        let corner = other.area();
+        let window = Window::around(self.job.area(), other.area());
         let shape: &Shape = other.shape();
         let events = shape.edges().events();
         let mut from = 0;
@@ -349,8 +348,8 @@ impl<'a> Borders<'a> {
         let mut place = 0;
         'events: while place < events.len() {
             // Most events of a long side are far from this module, so this test comes before all others.
-            if !is_around(area, corner, events[place].at.cell) {
-                place = after_far(area, corner, events, place, &mut leaps);
+            if !window.holds(events[place].at.cell) {
+                place = after_far(window, events, place, &mut leaps);
                 continue;
             }
             leaps = leaps.after_near(place);

@@ -1,30 +1,31 @@
 //! Cells around the box of a module, and the events of another module's ring at such cells.
 //!
 //! The cells of that ring are counted from the corner of its own box.
-ghost use Rattle.std.specs.Prelude.{pos, ◌+◌, ◌≤◌, ◌+ℤ◌, ◌≤ℤ◌, ◌-◌, ◌≡◌, ◌<◌, length, IsTrue, IfNone, IfSome};
+ghost use Rattle.std.specs.Prelude.{pos, ◌+◌, ◌≤◌, ◌+ℤ◌, ◌≤ℤ◌, ◌-◌, ◌≡◌, ◌<◌, ◌↔◌, length, IsTrue, IfNone, IfSome};
 ghost use Rattle.module_box.specs.Moments.{moment_cmp};
 ghost use Rattle.module_box.specs.Moves.{moved_cell};
 ghost use Rattle.module_box.specs.Schedules.{IsRising, moment_of};
-ghost use Rattle.border_match.specs.Surroundings.{AreFar, AreFarBetween, IsAroundFrom, IsFirstFrom};
+ghost use Rattle.border_match.specs.Surroundings.{AreFar, AreFarBetween, IsAroundFrom, IsFarAt, IsFirstFrom, IsSeen, IsWindow};
 
 use bbm_rule::Cell;
 use module_box::{Box2, Event, Moment};
 use std::cmp::Ordering;
 
-// How many far events in a row the search looks at before it leaps, if leaps are long, and at most. A leap takes as
-// long as a look at six events, so after each short leap the search waits twice as long.
+// How many far events in a row the search looks at before it leaps, as long as its leaps are long.
 const SHORT_WAIT: usize = 4;
 
+// The most of them. After each short leap the search waits twice as long.
 const LONG_WAIT: usize = 64;
 
+// How many places a long leap goes at least. A leap takes as long as a look at six events.
 const LONG_LEAP: usize = 8;
 
 /// A search's plan of leaps over events at far cells. It decides the time of the search and not its result.
 #[derive(Clone, Copy)]
 pub(crate) struct Leaps {
-    // The first place from which the search leaps.
-    place: usize,
-    // How many far events in a row it looks at before.
+    // The place of the last event at a near cell, or of the one behind the last leap.
+    last: usize,
+    // How many far events in a row the search looks at before a leap.
     wait: usize,
     // How many places the last leap went. Most times have the same lines, so the next leap probably goes as many.
     length: usize,
@@ -33,12 +34,12 @@ pub(crate) struct Leaps {
 impl Leaps {
     /// Returns the state of a search at the first event.
     pub(crate) fn new() -> Leaps
-        ensures place { result.place ≡ SHORT_WAIT }
+        ensures last { result.last ≡ 0 }
         ensures wait { result.wait ≡ SHORT_WAIT }
         ensures length { result.length ≡ 0 }
     {
         Leaps {
-            place: SHORT_WAIT,
+            last: 0,
             wait: SHORT_WAIT,
             length: 0,
         }
@@ -51,14 +52,21 @@ impl Leaps {
         place.saturating_add(self.length).saturating_sub(1)
     }
 
+    // Returns whether to look at the event behind one at a far cell, and not to leap.
+    fn waits(self, place: usize) -> bool
+        ensures { IsTrue result ↔ place - self.last ≤ self.wait }
+    {
+        place.saturating_sub(self.last) <= self.wait
+    }
+
     /// Returns the state behind an event at a near cell.
     pub(crate) fn after_near(self, place: usize) -> Leaps
+        ensures last { result.last ≡ place }
         ensures wait { result.wait ≡ self.wait }
         ensures length { result.length ≡ self.length }
-        ensures place { place + self.wait < usize.MAX → result.place ≡ place + self.wait + 1 }
     {
         Leaps {
-            place: place.saturating_add(self.wait).saturating_add(1),
+            last: place,
             ..self
         }
     }
@@ -78,17 +86,104 @@ impl Leaps {
     // Returns the state behind a leap.
     fn after_leap(self, place: usize, next: usize) -> Leaps
         requires { place ≤ next }
-        ensures length { result.length ≡ next - place }
+        ensures last { result.last ≡ next }
         ensures wait { result.wait ≤ LONG_WAIT }
-        ensures place { next + result.wait < usize.MAX → result.place ≡ next + result.wait }
+        ensures length { result.length ≡ next - place }
     {
         let length = next - place;
-        let wait = self.wait_after(length);
         Leaps {
-            place: next.saturating_add(wait),
-            wait,
+            last: next,
+            wait: self.wait_after(length),
             length,
         }
+    }
+}
+
+/// The columns and rows around the box of a module, counted from the corner of another box.
+#[derive(Clone, Copy)]
+pub(crate) struct Window {
+    // The first column and the first row.
+    first: Cell,
+    // The last column and the last row.
+    last: Cell,
+}
+
+impl Window {
+    /// Returns the columns and rows around an area, counted from the corner of another box.
+    pub(crate) fn around(area: Box2, corner: Box2) -> Window
+        requires area { (area.x + area.w ≤ 512) × (area.y + area.h ≤ 512) }
+        requires corner { (corner.x ≤ 512) × (corner.y ≤ 512) }
+        ensures { IsWindow area corner result }
+    {
+        Window {
+            first: Cell {
+                x: area.x as i32 - corner.x as i32 - 1,
+                y: area.y as i32 - corner.y as i32 - 1,
+            },
+            last: Cell {
+                x: (area.x + area.w) as i32 - corner.x as i32,
+                y: (area.y + area.h) as i32 - corner.y as i32,
+            },
+        }
+    }
+
+    /// Returns whether the cell is in these columns and rows.
+    pub(crate) fn holds(self, cell: Cell) -> bool
+        ensures seen { IsSeen self cell → IsTrue result }
+        ensures bounds { IsTrue result → IsSeen self cell }
+    {
+        if cell.x < self.first.x {
+            return false;
+        }
+        if cell.x > self.last.x {
+            return false;
+        }
+        if cell.y < self.first.y {
+            return false;
+        }
+        cell.y <= self.last.y
+    }
+
+    // Returns a moment at the first column after one at a far cell. Between the two, no moment at an odd time is at a
+    // cell of the window. Border faults are at odd times.
+    fn next_after(self, at: Moment) -> Moment
+        requires far { ¬ IsSeen self at.cell }
+        ensures column { result.cell.x ≡ self.first.x }
+        ensures passed { AreFarBetween self at result }
+    {
+        let Moment { time, cell } = at;
+        let later = Moment {
+            time: time.saturating_add(1 + time % 2),
+            cell: self.first,
+        };
+        if cell.y < self.first.y {
+            return Moment {
+                time,
+                cell: self.first,
+            };
+        }
+        if cell.y > self.last.y {
+            return later;
+        }
+        if cell.x < self.first.x {
+            return Moment {
+                time,
+                cell: Cell {
+                    x: self.first.x,
+                    y: cell.y,
+                },
+            };
+        }
+        if cell.y < self.last.y {
+            return Moment {
+                time,
+                cell: Cell {
+                    x: self.first.x,
+                    y: cell.y + 1,
+                },
+            };
+        }
+        later
     }
 }
 
@@ -111,7 +206,7 @@ fn is_beside(from: u32, n: u32, corner: u32, z: i32) -> bool
 
 // Returns whether a cell, counted from the corner of another box, is in the columns and rows of the area or next to
 // them.
-pub(crate) fn is_around(area: Box2, corner: Box2, cell: Cell) -> bool
+fn is_around(area: Box2, corner: Box2, cell: Cell) -> bool
     ensures around { IsAroundFrom area corner cell → IsTrue result }
     ensures bounds { IsTrue result → IsAroundFrom area corner cell }
 {
@@ -137,61 +232,6 @@ pub(crate) fn cell_around(area: Box2, corner: Box2, cell: Cell) -> Option<Cell>
         x: cell.x + corner.x as i32,
         y: cell.y + corner.y as i32,
     })
-}
-
-// Returns the first cell, by rows, that is around the area, counted from the corner of another box.
-fn first_around(area: Box2, corner: Box2) -> Cell
-    requires area { (area.x ≤ 512) × (area.y ≤ 512) }
-    requires corner { (corner.x ≤ 512) × (corner.y ≤ 512) }
-    ensures left { ((result.x +ℤ pos corner.x) +ℤ pos 1) ≡ pos area.x }
-    ensures top { ((result.y +ℤ pos corner.y) +ℤ pos 1) ≡ pos area.y }
-{
-    Cell {
-        x: area.x as i32 - corner.x as i32 - 1,
-        y: area.y as i32 - corner.y as i32 - 1,
-    }
-}
-
-// Returns the first moment after one at a far cell, at which a cell is around the area.
-fn next_around(area: Box2, corner: Box2, at: Moment) -> Moment
-    requires area { (area.x + area.w ≤ 512) × (area.y + area.h ≤ 512) }
-    requires corner { (corner.x ≤ 512) × (corner.y ≤ 512) }
-    requires far { ¬ IsAroundFrom area corner at.cell }
-    ensures around { IsAroundFrom area corner result.cell }
-    ensures passed { AreFarBetween area corner at result }
-{
-    let first = first_around(area, corner);
-    let last_row = first.y + area.h as i32 + 1;
-    let Moment { time, cell } = at;
-    let later = Moment {
-        time: time.saturating_add(1),
-        cell: first,
-    };
-    if cell.y < first.y {
-        return Moment { time, cell: first };
-    }
-    if cell.y > last_row {
-        return later;
-    }
-    if cell.x < first.x {
-        return Moment {
-            time,
-            cell: Cell {
-                x: first.x,
-                y: cell.y,
-            },
-        };
-    }
-    if cell.y < last_row {
-        return Moment {
-            time,
-            cell: Cell {
-                x: first.x,
-                y: cell.y + 1,
-            },
-        };
-    }
-    later
 }
 
 /// Returns the place of the first event from `from` on that is not before a moment.
@@ -225,28 +265,32 @@ pub(crate) fn place_from(events: &[Event], from: usize, guess: usize, at: Moment
     low
 }
 
-/// Returns a place after that of an event at a far cell. The events between the two are at far cells.
+/// Returns a place after that of an event at a far cell. The events between the two are at far cells or even times.
 // Most runs of far events are short, and then a call would take longer than the step to the next event.
 #[inline(always)]
-pub(crate) fn after_far(
-    area: Box2,
-    corner: Box2,
-    events: &[Event],
-    place: usize,
-    leaps: &mut Leaps,
-) -> usize
-    requires area { (area.x + area.w ≤ 512) × (area.y + area.h ≤ 512) }
-    requires corner { (corner.x ≤ 512) × (corner.y ≤ 512) }
+pub(crate) fn after_far(window: Window, events: &[Event], place: usize, leaps: &mut Leaps) -> usize
     requires within { place < length events.now }
     requires rising { IsRising moment_cmp moment_of events.now }
-    requires far { AreFar area corner events.now place (place + 1) }
+    requires far { IsFarAt window events.now place }
     ensures after { place < result }
-    ensures far { AreFar area corner events.now place result }
+    ensures far { AreFar window events.now place result }
 {
-    if place < leaps.place {
+    if leaps.waits(place) {
         return place + 1;
     }
-    let target = next_around(area, corner, events[place].at);
+    leap(window, events, place, leaps)
+}
+
+// Returns the place behind a leap over the events that cannot be at a cell of the window.
+#[inline(never)]
+fn leap(window: Window, events: &[Event], place: usize, leaps: &mut Leaps) -> usize
+    requires within { place < length events.now }
+    requires rising { IsRising moment_cmp moment_of events.now }
+    requires far { IsFarAt window events.now place }
+    ensures after { place < result }
+    ensures far { AreFar window events.now place result }
+{
+    let target = window.next_after(events[place].at);
     let next = place_from(events, place + 1, leaps.last_passed(place), target);
     *leaps = leaps.after_leap(place, next);
     next

@@ -1,23 +1,23 @@
 use Rattle.std.proofs.Common.{ap, ◌∙◌}
 use Rattle.module_job.specs.Shapes.{ShapeView}
-use Rattle.border_match.proofs.FarEvents.{far_one}
+use Rattle.border_match.proofs.FarEvents.{far_at}
 use Rattle.border_match.proofs.Least.{better_then, better_for}
 use Rattle.border_match.proofs.Steps.{cornered, cornered_all, far_step, named_step_of, named_all}
 use Rattle.border_match.proofs.borders.Borders.with_edge_events.Goals as goal
 
 pub after_far-place-requires-clause-far : goal.after_far-place-requires-clause-far
-after_far-place-requires-clause-far c = far_one c.area-area.result c.area-corner.result c.events-events.result.now
-    c.events.place _ c.is_around.result c.events-test.true c.is_around.ensures.around c.if-not-is_around.true
+after_far-place-requires-clause-far c = far_at c.around-window.result c.events-events.result.now c.events.place _
+    c.holds.result c.events-test.true c.holds.ensures.seen c.if-not-holds.true
 
-pub events-preserved-then-not-is_around : goal.events-preserved-then-not-is_around
-events-preserved-then-not-is_around c =
+pub events-preserved-then-not-holds : goal.events-preserved-then-not-holds
+events-preserved-then-not-holds c =
     let other = c.args.other.now in
     let are = cornered other c.events-events.result.now c.edges.result.now c.events-events.ensures.same_list
     (c.edges.ensures ∙ ap (λ (s : ShapeView). s.edges) (c.deref-shape.ensures ∙ c.shape.ensures)) in
     let better = better_for _ _ _ _ _ c.events.invariant.better
     (λ h f r. (
-      far_step c.args.self.now other c.area-area.result c.area-corner.result c.events-events.result.now
-          c.events.place c.after_far-place.result h c.area-area.ensures.area c.area-corner.ensures.area are
+      far_step c.args.self.now other _ _ c.around-window.result c.events-events.result.now c.events.place
+          c.after_far-place.result h c.area.ensures.area c.area-2.ensures.area c.around-window.ensures are
           c.after_far-place.ensures.far f r.0,
       r.1,
     )) in
