@@ -1,6 +1,8 @@
 -- Parts of lists whose blocks are turned, and blocks that stay
 use Rattle.std.proofs.Common.{◌≡◌, ℕ, Bool, true, false, ◌<◌, ◌≤◌, ◌+◌, ◌-◌, ◌*◌, ◌/◌, ◌%◌, refl, arith, sym, ◌∙◌, ap}
-use Rattle.std.proofs.Common.{List, length, get_or, inl, inr, nat_eq}
+use Rattle.std.proofs.Common.{List, length, get_or, inl, inr, nat_eq, bit_and, bit_or}
+use Rattle.std.proofs.lemmas.Nat.{and_or_self, or_comm}
+use Rattle.std.specs.Int.Bits.{and_zero_l, xor_assoc, xor_self, xor_zero_l, xor_zero_r}
 use Rattle.std.specs.Int.{bit_at}
 use Rattle.std.specs.Prelude.{bit_xor}
 use Rattle.std.proofs.lemmas.Bool.{false≢true}
@@ -15,6 +17,17 @@ use Rattle.bbm_rule.proofs.BitLemmas.{by_lt_or_le, xor, zero_or_one, bit-is, bit
 use Rattle.bbm_rule.proofs.Turning.{words_turned, flip_main_of, flip_anti_of}
 use Rattle.local_run.specs.Turns.{DiagonalStays, IsCalmBlock, SameBeside, TurnsPart}
 use Rattle.local_run.proofs.LaneLemmas.{part_read, part_written}
+
+-- ---- words without a difference
+pub none_last : (a m : ℕ) → bit_or a m ≡ 0 → m ≡ 0
+none_last a m h = sym (and_or_self m a) ∙ ap (λ (n : ℕ). bit_and n m) h ∙ and_zero_l m
+
+pub none_first : (a m : ℕ) → bit_or a m ≡ 0 → a ≡ 0
+none_first a m h = none_last m a (or_comm m a ∙ h)
+
+pub same_word : (a b : ℕ) → bit_xor a b ≡ 0 → a ≡ b
+same_word a b e = sym (xor_zero_r a) ∙ ap (λ (n : ℕ). bit_xor a n) (sym (xor_self b)) ∙ sym (xor_assoc a b b)
+    ∙ ap (λ (n : ℕ). bit_xor n b) e ∙ xor_zero_l b
 
 -- ---- what is turned in parts of slices
 beside : (a k long : ℕ) (xs ys : List ℕ) → k ≡ long → a + long ≤ length xs → length ys ≡ long →

@@ -194,12 +194,12 @@ fn are_different(first: &[u64], a: usize, second: &[u64], b: usize, long: usize)
     ensures { result ≡ false → (k : ℕ) → k < long →
         slice_index first.now (a + k) ≡ slice_index second.now (b + k) }
 {
-    let mut differs = false;
+    let mut difference = 0;
     // Over all words, so that some are compared at once.
     for k in 0..long {
-        differs |= first[a + k] != second[b + k];
+        difference |= first[a + k] ^ second[b + k];
     }
-    differs
+    difference != 0
 }
 
 // Whether some word from a place on is not the given one.
@@ -208,11 +208,11 @@ fn is_some_other(words: &[u64], a: usize, word: u64, long: usize) -> bool
     requires { a + long ≤ length words.now }
     ensures { result ≡ false → (k : ℕ) → k < long → slice_index words.now (a + k) ≡ word }
 {
-    let mut differs = false;
+    let mut difference = 0;
     for k in 0..long {
-        differs |= words[a + k] != word;
+        difference |= words[a + k] ^ word;
     }
-    differs
+    difference != 0
 }
 
 /// The diagonals of a block that a turn changes: that of its upper left and lower right cells, and the other one.

@@ -1,6 +1,6 @@
-use Rattle.std.proofs.Common.{ℕ, ◌≡◌, ◌+◌, ◌<◌, slice_index, false}
+use Rattle.std.proofs.Common.{ℕ, ◌≡◌, ◌+◌, ◌<◌, slice_index}
 use Rattle.local_run.proofs.planes.is_some_other.Given as goal
 
 -- if no difference is seen, the words so far are the same
 abbrev pub invariant-loop-k : goal.invariant-loop-k
-invariant-loop-k l = l.differs ≡ false → (k : ℕ) → k < l.k → slice_index l.words (l.a + k) ≡ l.word
+invariant-loop-k l = l.difference ≡ 0 → (k : ℕ) → k < l.k → slice_index l.words (l.a + k) ≡ l.word

@@ -1,15 +1,8 @@
-use Rattle.std.proofs.Common.{◌≡◌, ◌+◌, ℕ, arith, sym, ap, ◌∙◌, subst, inl, inr, slice_index, bit_and, bit_or}
+use Rattle.std.proofs.Common.{◌≡◌, ◌+◌, ℕ, arith, subst, inl, inr, slice_index}
 use Rattle.std.proofs.lemmas.Bool.{cases_lt}
-use Rattle.std.proofs.lemmas.Nat.{and_or_self, or_comm}
-use Rattle.std.specs.Int.Bits.{and_zero_l}
 use Rattle.local_run.specs.Turns.{DiagonalStays}
+use Rattle.local_run.proofs.TurnLemmas.{none_first, none_last}
 use Rattle.local_run.proofs.planes.part_changes.Goals as goal
-
-none_last : (a m : ℕ) → bit_or a m ≡ 0 → m ≡ 0
-none_last a m h = sym (and_or_self m a) ∙ ap (λ (n : ℕ). bit_and n m) h ∙ and_zero_l m
-
-none_first : (a m : ℕ) → bit_or a m ≡ 0 → a ≡ 0
-none_first a m h = none_last m a (or_comm m a ∙ h)
 
 pub loop-k-preserved : goal.loop-k-preserved
 loop-k-preserved c = record {
