@@ -5,6 +5,7 @@ pub mod LocalRuns
 pub mod Decided
 pub mod Least
 pub mod LaneLemmas
+pub mod MarkFlips
 pub mod MarkSearch
 pub mod Scans
 pub mod TurnLemmas

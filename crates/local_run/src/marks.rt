@@ -5,7 +5,7 @@ ghost use Rattle.bbm_rule.specs.Rows.{cell_at};
 ghost use Rattle.local_run.specs.Borders.{AllInner};
 ghost use Rattle.local_run.specs.Live.{AreUnmarked, DropsDead, HasMarks, IsDeadCell, MarksCell, TakesMark};
 ghost use Rattle.local_run.specs.Turns.{MarksAround, MarksCorners};
-ghost use Rattle.std.specs.Prelude.{ℕ, ◌≡◌, ◌≢◌, ◌+◌, ◌*◌, ◌/◌, ◌^◌, ◌<◌, ◌≤◌, ◌⊎◌, length, true, false};
+ghost use Rattle.std.specs.Prelude.{ℕ, ◌≡◌, ◌≢◌, ◌+◌, ◌*◌, ◌/◌, ◌^◌, ◌<◌, ◌≤◌, ◌⊎◌, length, not, true, false};
 
 use crate::live::LiveMarks;
 use crate::planes::Changes;
@@ -31,18 +31,14 @@ pub fn mark_if(marks: &mut [u64], at: usize, changes: bool)
     }
 }
 
-// Gives a number a mark, or takes it off.
+// Gives a number a mark if it has none, and takes its mark off if it has one.
 #[inline(always)]
-fn set_mark(marks: &mut [u64], at: usize, is_marked: bool)
+fn flip_mark(marks: &mut [u64], at: usize)
     requires { at / 64 < length marks.old }
-    ensures { (u : ℕ) → IsUnmarked marks.new u →
-        ((u ≢ at) × IsUnmarked marks.old u) ⊎ ((u ≡ at) × (is_marked ≡ false)) }
+    ensures there { cell_at marks.new at ≡ not (cell_at marks.old at) }
+    ensures elsewhere { (u : ℕ) → u ≢ at → cell_at marks.new u ≡ cell_at marks.old u }
 {
-    if is_marked {
-        mark(marks, at);
-    } else {
-        unmark(marks, at);
-    }
+    marks[at / 64] ^= 1u64 << (at % 64);
 }
 
 /// Exchanges the marks of a number in one list and of one in another.
@@ -54,8 +50,11 @@ pub fn swap_marks(first: &mut [u64], second: &mut [u64], a: usize, b: usize)
 {
     let is_first = is_marked(first, a);
     let is_second = is_marked(second, b);
-    set_mark(first, a, is_second);
-    set_mark(second, b, is_first);
+    if is_first == is_second {
+        return;
+    }
+    flip_mark(first, a);
+    flip_mark(second, b);
 }
 
 // Whether the words of a cell are zero.
