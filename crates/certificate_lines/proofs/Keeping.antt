@@ -9,6 +9,7 @@ use Rattle.bbm_rule.specs.Board.{Board, live, HasSameSize}
 use Rattle.bbm_rule.specs.declared.block.Cell.{Cell}
 use Rattle.section_text.specs.Codes.{code_where, or_else}
 use Rattle.bbm_rule.specs.Spans.{in_area}
+use Rattle.circuit.specs.Meaning.{Circuit}
 use Rattle.module_box.specs.Boxes.{in_box}
 use Rattle.module_box.specs.Locals.{is_among}
 use Rattle.module_box.specs.declared.boxes.Box2.{Box2}
@@ -20,7 +21,8 @@ use Rattle.certificate_lines.specs.Orders.{AreInOrder, may_follow}
 use Rattle.certificate_lines.specs.Rules.{same_cell, is_starred, are_new, is_incomplete, is_local}
 use Rattle.certificate_lines.specs.Rules.{lacks_port, words_fault, line_fault, inner_fault, module_fault}
 use Rattle.certificate_lines.specs.Modules.{IsModule}
-use Rattle.certificate_lines.specs.BuilderView.{AreBuilt, AreWires, IsInner, IsLastModule, IsTracked, IsTrackedWith}
+use Rattle.certificate_lines.specs.BuilderView.{AreBuilt, AreWires, IsBorderLine, IsInner, IsLastModule, IsTracked}
+use Rattle.certificate_lines.specs.BuilderView.{IsTrackedWith}
 use Rattle.certificate_lines.specs.BuilderView.{IsWritten}
 use Rattle.certificate_lines.specs.BuilderView.{counted, IsSmall, last_inner, outs_at, wires_in}
 use Rattle.certificate_lines.specs.declared.certificate_line.Border.{Border}
@@ -439,6 +441,26 @@ module _ (g : Setting) (es : List CertificateLine) (covered new_covered : Board)
             (begun_present ports);
       }
 
+-- ---- edge and halo lines
+
+pub border_is_inner : (i : CertificateLine) → IsBorderLine i → IsInner i
+border_is_inner (Module b) border = border
+border_is_inner (Cut n) border = absurd border
+border_is_inner (Use k) border = absurd border
+border_is_inner (Keep k) border = absurd border
+border_is_inner (Edge e) border = border
+border_is_inner (Halo e) border = border
+border_is_inner (Stop s) border = absurd border
+
+border_wires : (c : Circuit) (i : CertificateLine) → IsBorderLine i → wires_in c i ≡ []
+border_wires c (Module b) border = absurd border
+border_wires c (Cut n) border = absurd border
+border_wires c (Use k) border = absurd border
+border_wires c (Keep k) border = absurd border
+border_wires c (Edge e) border = refl
+border_wires c (Halo e) border = refl
+border_wires c (Stop s) border = absurd border
+
 -- ---- with the wires of all modules
 
 pub with_none : (g : Setting) (covered : Board) → covered.width ≡ g.size.w → covered.height ≡ g.size.h →
@@ -469,6 +491,16 @@ module _ (g : Setting) (es : List CertificateLine) (covered : Board) (counts : L
             (wires_more g.circuit (with_line i) (modules_of es) good.module_lines earlier local
             (wires_in g.circuit i) good.last line.wires was.wires);
       })
+
+  pub with_border : (i : CertificateLine) → IsBorderLine i → (good : IsGoodLine g es i) → (after : List Counts) →
+      after ≡ change_last (counted i) counts → (e' h' : List Cell)
+      → ((c : Cell) → list_any (same_cell c) e' ≡ (list_any (same_cell c) e || list_any (is_starred c) (edge_in i)))
+      → ((c : Cell) → list_any (same_cell c) h' ≡ (list_any (same_cell c) h || list_any (is_starred c) (halo_in i)))
+      → IsTrackedWith g (es ++ i ∷ []) covered after (last_inner (es ++ i ∷ [])) names earlier local e' h'
+  with_border i border good after now e' h' stars halo_stars =
+      subst (λ l. IsTrackedWith g (es ++ i ∷ []) covered after (last_inner (es ++ i ∷ [])) names earlier l e' h')
+      (ap (λ w. local ++ w) (border_wires g.circuit i border) ∙ append-nil local)
+      (with_inner i (border_is_inner i border) good after now e' h' stars halo_stars)
 
   pub with_module : (new_covered : Board) (new_names : List (List ℕ)) (b : Box2) →
       module_fault g (modules_of es) (last_module es) b ≡ None →

@@ -167,6 +167,16 @@ IsInner (Edge e) = Unit {0}
 IsInner (Halo e) = Unit {0}
 IsInner (Stop s) = Unit {0}
 
+-- the line is an edge or halo line
+abbrev pub IsBorderLine : CertificateLine → Type 0
+IsBorderLine (Module b) = ⊥
+IsBorderLine (Cut n) = ⊥
+IsBorderLine (Use k) = ⊥
+IsBorderLine (Keep k) = ⊥
+IsBorderLine (Edge e) = Unit {0}
+IsBorderLine (Halo e) = Unit {0}
+IsBorderLine (Stop s) = ⊥
+
 -- ---- what a line of a module makes local
 
 -- the wires that a gate defines, if there is a gate

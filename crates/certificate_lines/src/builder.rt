@@ -5,7 +5,7 @@ ghost use Rattle.std.specs.List.{list_any};
 ghost use Rattle.certificate_lines.specs.Entries.{ModuleLines, counts_of, known, modules_of, last_module};
 ghost use Rattle.certificate_lines.specs.Rules.{entry_fault, end_fault, box_fault, module_fault, inner_fault, words_fault, is_incomplete, is_local};
 ghost use Rattle.module_box.specs.Boxes.{in_box};
-ghost use Rattle.certificate_lines.specs.BuilderView.{BuilderView, IsInner, IsSmall};
+ghost use Rattle.certificate_lines.specs.BuilderView.{BuilderView, IsBorderLine, IsInner, IsSmall};
 ghost use Rattle.certificate_lines.specs.declared.certificate_line.CertificateLine.TheVariants.{Module};
 
 use crate::certificate_line::{CertificateLine, Counts};
@@ -98,6 +98,7 @@ impl<'a> Builder<'a> {
     }
 
     // The code of the tests that come after that of the order, where these are the counts of the last module.
+    #[inline(always)]
     fn words_code(&self, counts: Counts, entry: &CertificateLine) -> Option<RefusalCode>
         requires { IsSmall counts }
         ensures { (m : ModuleLines) → last_module self.now.entries ≡ Some m → counts ≡ counts_of m →
@@ -137,6 +138,7 @@ impl<'a> Builder<'a> {
     }
 
     // The code of a line of a module.
+    #[inline(always)]
     fn inner_code(&self, entry: &CertificateLine) -> Option<RefusalCode>
         requires { IsInner entry.now }
         ensures { result ≡ inner_fault self.now.setting (last_module self.now.entries) entry.now }
@@ -152,7 +154,31 @@ impl<'a> Builder<'a> {
 }
 
 impl<'a> Builder<'a> {
+    // Adds an edge or halo line, or answers the code of the first test that it fails.
+    //
+    // It is inlined where the kind of line is known, so that no test asks for the kind.
+    #[inline(always)]
+    fn add_border(&mut self, entry: CertificateLine) -> Result<(), LineFault>
+        requires { IsBorderLine entry }
+        ensures ok { OnOk result ((inner_fault self.old.setting (last_module self.old.entries) entry
+            ≡ None) × (self.new ≡ record self.old { entries = self.old.entries ++ entry ∷ [] })) }
+        ensures fault { IfErr result (λ e. FaultIs e
+            (inner_fault self.old.setting (last_module self.old.entries) entry)) }
+    {
+        if let Some(code) = self.inner_code(&entry) {
+            return Err(LineFault::Code(code));
+        }
+        if make_room_for_stars(&mut self.edges, &mut self.halos, &entry).is_err() {
+            return Err(LineFault::Memory);
+        }
+        push_entry(&mut self.entries, entry)?;
+        note_stars(&mut self.edges, &mut self.halos, &entry);
+        count_in_last(&mut self.modules, &entry);
+        Ok(())
+    }
+
     // Adds a line of a module, or answers the code of the first test that it fails.
+    #[inline(never)]
     fn add_inner(&mut self, entry: CertificateLine) -> Result<(), LineFault>
         requires { IsInner entry }
         ensures ok { OnOk result ((inner_fault self.old.setting (last_module self.old.entries) entry
@@ -271,6 +297,8 @@ impl<'a> Builder<'a> {
 
     /// Adds a line.
     ///
+    /// Most lines are edge and halo lines. Each of the two has a call of its own, in which the compiler knows the kind.
+    ///
     /// # Errors
     ///
     /// Out of memory, or the code of the first test that the line fails.
@@ -283,6 +311,8 @@ impl<'a> Builder<'a> {
     {
         match entry {
             CertificateLine::Module(area) => self.add_module(alloc, area),
+            CertificateLine::Edge(_) => self.add_border(entry),
+            CertificateLine::Halo(_) => self.add_border(entry),
             _ => self.add_inner(entry),
         }
     }

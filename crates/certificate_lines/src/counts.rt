@@ -11,6 +11,7 @@ use module_box::Box2;
 use section_text::{LineFault, Name};
 
 // Counts one more line of a module.
+#[inline(always)]
 #[tactic(auto, unfolding(crate::specs::BuilderView::counted))]
 fn count_line(counts: &mut Counts, entry: &CertificateLine)
     requires { IsSmall counts.old }
@@ -35,6 +36,7 @@ pub(crate) fn last_counts(modules: &[Counts]) -> Option<Counts>
 }
 
 /// Counts one more line of the last module.
+#[inline(always)]
 pub(crate) fn count_in_last(modules: &mut Vec<Counts>, entry: &CertificateLine)
     requires { (k : Counts) → last_of modules.old.items ≡ Some k → IsSmall k }
     ensures { modules.new.items ≡ change_last (counted entry.now) modules.old.items }
@@ -67,6 +69,7 @@ fn signal_of(border: Option<Border>) -> Option<Name> {
 }
 
 /// Adds a line at the end.
+#[inline(always)]
 pub fn push_entry(
     entries: &mut Vec<CertificateLine>,
     entry: CertificateLine,

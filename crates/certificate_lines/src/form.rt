@@ -123,7 +123,6 @@ fn is_halo_line(line: &[u8]) -> bool
 }
 
 // The form of a line of five words that is no edge or halo line.
-#[inline(never)]
 #[tactic(auto, unfolding(crate::specs::Forms::form_of, section_text::specs::Words::is_word_at))]
 fn other_form(words: FiveWords) -> Option<Form<u32, CertificateLine>>
     requires no_edge { bytes_eq words.first.now (codes "edge") ≡ false }
@@ -140,24 +139,38 @@ fn other_form(words: FiveWords) -> Option<Form<u32, CertificateLine>>
 }
 
 // The form of a line that has not five words.
-#[inline(never)]
-#[tactic(auto, unfolding(crate::specs::Forms::short_form_of))]
+#[tactic(auto, unfolding(crate::specs::Forms::short_form_of, section_text::specs::Words::is_word_at))]
 fn short_form(feed: &Feed, line: &Line) -> Option<Form<u32, CertificateLine>>
     requires { IsLine feed.now line.now }
     ensures { result ≡ short_form_of (words_of (line_bytes feed.now line.now)) }
 {
-    if feed.is(line, 0, b"cut") {
+    let keyword = feed.first_word(line);
+    if is_keyword(keyword, b"cut") {
         Some(Form::Item(CertificateLine::Cut(feed.lone_name(line)?)))
-    } else if feed.is(line, 0, b"use") {
+    } else if is_keyword(keyword, b"use") {
         Some(Form::Item(CertificateLine::Use(feed.lone_number(line)?)))
-    } else if feed.is(line, 0, b"keep") {
+    } else if is_keyword(keyword, b"keep") {
         Some(Form::Item(CertificateLine::Keep(feed.lone_number(line)?)))
-    } else if feed.is(line, 0, b"certificate") {
+    } else if is_keyword(keyword, b"certificate") {
         Some(Form::Header(feed.lone_number(line)?))
-    } else if feed.is(line, 0, b"end") {
+    } else if is_keyword(keyword, b"end") {
         end_in(feed, line)
     } else {
         None
+    }
+}
+
+// The form of a line that begins with no `edge ` and no `halo `.
+#[inline(never)]
+fn form_of_other(feed: &Feed, line: &Line) -> Option<Form<u32, CertificateLine>>
+    requires line { IsLine feed.now line.now }
+    requires no_edge { bytes_eq (take 5 (line_bytes feed.now line.now)) (codes "edge ") ≡ false }
+    requires no_halo { bytes_eq (take 5 (line_bytes feed.now line.now)) (codes "halo ") ≡ false }
+    ensures { result ≡ form_of (words_of (line_bytes feed.now line.now)) }
+{
+    match feed.five_words(line) {
+        Some(words) => other_form(words),
+        None => short_form(feed, line),
     }
 }
 
@@ -172,10 +185,7 @@ pub fn line_form(feed: &Feed, line: &Line) -> Option<Form<u32, CertificateLine>>
     let bytes = feed.line(line);
     let is_edge = is_edge_line(bytes);
     if !is_edge && !is_halo_line(bytes) {
-        let Some(words) = feed.five_words(line) else {
-            return short_form(feed, line);
-        };
-        return other_form(words);
+        return form_of_other(feed, line);
     }
     let border = border_behind(&bytes[5..])?;
     if is_edge {

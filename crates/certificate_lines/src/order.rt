@@ -99,6 +99,7 @@ fn does_any_precede(first: &CertificateLine, second: &CertificateLine) -> bool
 }
 
 // Whether the first of two edge lines, or of two halo lines, may stand before the second.
+#[inline(always)]
 #[tactic(auto, unfolding(crate::specs::Versions::line_order))]
 fn does_border_precede(first: &Border, second: &Border) -> bool
     ensures { result ≡ is_lt (line_order first.now second.now) }
@@ -113,6 +114,7 @@ fn does_border_precede(first: &Border, second: &Border) -> bool
 }
 
 // Whether the first line may stand before the second. Most lines follow a line of their kind.
+#[inline(always)]
 fn does_precede(first: &CertificateLine, second: &CertificateLine) -> bool
     ensures { result ≡ may_precede first.now second.now }
 {
@@ -130,6 +132,7 @@ fn does_precede(first: &CertificateLine, second: &CertificateLine) -> bool
 /// Returns whether a line of a module may follow the lines of the last module of a certificate.
 ///
 /// A `module` line comes before all lines of its module.
+#[inline(always)]
 pub(crate) fn does_follow(entries: &[CertificateLine], entry: &CertificateLine) -> bool
     requires { IsInner entry.now }
     ensures { (lines : List CertificateLine) → AreInOrder lines →

@@ -153,7 +153,11 @@ fn signal_code(
 {
     match signal {
         None => None,
-        Some(name) => name_code(tables, known, name),
+        Some(name) => {
+            // a copy, so that the compiler knows that the call does not change the line
+            let name = *name;
+            name_code(tables, known, &name)
+        }
     }
 }
 

@@ -65,6 +65,7 @@ fn make_room_for_star(stars: &mut IndexSet<Cell>, border: &Border) -> Result<(),
 }
 
 /// Makes room for the cell of an edge or halo line that has a `*`.
+#[inline(always)]
 pub(crate) fn make_room_for_stars(
     edges: &mut IndexSet<Cell>,
     halos: &mut IndexSet<Cell>,
@@ -83,6 +84,7 @@ pub(crate) fn make_room_for_stars(
 }
 
 /// Notes the cell of an edge or halo line that has a `*`, if there is room.
+#[inline(always)]
 pub(crate) fn note_stars(
     edges: &mut IndexSet<Cell>,
     halos: &mut IndexSet<Cell>,

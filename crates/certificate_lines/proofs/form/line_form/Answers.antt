@@ -14,33 +14,6 @@ use Rattle.certificate_lines.specs.Forms.{form_of}
 both : (b : Bool) → b ≡ true → b ≡ false → ⊥
 both b h k = cc
 
-pub other_form-requires-clause-no_edge : goal.other_form-requires-clause-no_edge
-other_form-requires-clause-no_edge c =
-    let w = c.in-Some.words in
-    other_first (codes "edge") (codes "edge ") c.line-bytes.result.now 5 (λ rest. refl)
-    (sym c.is_edge_line-is_edge.ensures ∙ c.if-not-is_edge.true)
-    w.first.now w.second.now (w.third.now ∷ w.fourth.now ∷ w.fifth.now ∷ [])
-    (ap words_of c.line-bytes.ensures ∙ five_words_are (words_of (line_bytes c.args.feed.now c.args.line.now)) w
-    (ap (option_map listed) (sym c.in-Some.is) ∙ c.five_words.ensures))
-
-pub other_form-requires-clause-no_halo : goal.other_form-requires-clause-no_halo
-other_form-requires-clause-no_halo c =
-    let w = c.in-Some.words in
-    other_first (codes "halo") (codes "halo ") c.line-bytes.result.now 5 (λ rest. refl)
-    (sym c.is_halo_line.ensures ∙ c.if-not-is_halo_line.true)
-    w.first.now w.second.now (w.third.now ∷ w.fourth.now ∷ w.fifth.now ∷ [])
-    (ap words_of c.line-bytes.ensures ∙ five_words_are (words_of (line_bytes c.args.feed.now c.args.line.now)) w
-    (ap (option_map listed) (sym c.in-Some.is) ∙ c.five_words.ensures))
-
-pub returns-in_default : goal.returns-in_default
-returns-in_default c = c.short_form.ensures ∙ short_form_is (words_of (line_bytes c.args.feed.now c.args.line.now))
-    (ap (option_map listed) (sym c.in_default.is) ∙ c.five_words.ensures)
-
-pub returns-then-not-is_halo_line : goal.returns-then-not-is_halo_line
-returns-then-not-is_halo_line c = c.other_form.ensures
-    ∙ long_form_is (words_of (line_bytes c.args.feed.now c.args.line.now)) c.in-Some.words
-    (ap (option_map listed) (sym c.in-Some.is) ∙ c.five_words.ensures)
-
 pub returns-in_err-border : goal.returns-in_err-border
 returns-in_err-border c =
     let l = c.line-bytes.result.now in
