@@ -1,11 +1,8 @@
-use Rattle.std.proofs.Common.{◌≡◌, ◌∙◌, ◌∷◌, [], Bool, true, false, Some, None, refl, ap, sym, take, option_map}
+use Rattle.std.proofs.Common.{◌≡◌, ◌∙◌, Bool, true, false, Some, None, ap, sym, take}
 use Rattle.std.specs.Prelude.{codes}
 use Rattle.std.specs.Str.{bytes_eq}
-use Rattle.section_text.specs.Feeds.{line_bytes}
-use Rattle.section_text.specs.Listed.{listed}
 use Rattle.section_text.specs.Words.{words_of}
-use Rattle.certificate_lines.proofs.BorderLines.{five_words_are, long_form_is, short_form_is}
-use Rattle.certificate_lines.proofs.BorderText.{edge_line, halo_line, other_first}
+use Rattle.certificate_lines.proofs.BorderText.{edge_line, halo_line}
 use Rattle.certificate_lines.proofs.form.line_form.Goals as goal
 use Rattle.certificate_lines.proofs.form.line_form.Goals.{else-not-is_edge-via-else-not-is_edge}
 use Rattle.certificate_lines.proofs.form.line_form.Goals.{else-not-is_edge-via-then-not-is_edge+else-not-is_halo_line}
