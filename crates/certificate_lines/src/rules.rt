@@ -224,10 +224,13 @@ fn is_good_time(steps: u32, starred: bool, time: Option<u32>) -> bool
 pub(crate) fn may_be_edge(size: LayoutHeader, area: Box2, starred: bool, border: &Border) -> bool
     ensures { result ≡ is_edge_place size area starred border.now }
 {
-    let in_ring = area.in_ring(border.cell);
-    let on_rim = whole_of(size).in_ring(border.cell);
-    let timed = is_good_time(size.steps, starred, border.time);
-    in_ring & !on_rim & timed
+    if !area.in_ring(border.cell) {
+        return false;
+    }
+    if whole_of(size).in_ring(border.cell) {
+        return false;
+    }
+    is_good_time(size.steps, starred, border.time)
 }
 
 /// Returns whether a halo line may have its cell and time.
@@ -235,10 +238,13 @@ pub(crate) fn may_be_edge(size: LayoutHeader, area: Box2, starred: bool, border:
 pub(crate) fn may_be_halo(size: LayoutHeader, area: Box2, starred: bool, border: &Border) -> bool
     ensures { result ≡ is_halo_place size area starred border.now }
 {
-    let in_halo = area.in_halo(border.cell);
-    let inside = whole_of(size).holds(border.cell);
-    let timed = is_good_time(size.steps, starred, border.time);
-    in_halo & inside & timed
+    if !area.in_halo(border.cell) {
+        return false;
+    }
+    if !whole_of(size).holds(border.cell) {
+        return false;
+    }
+    is_good_time(size.steps, starred, border.time)
 }
 
 /// Returns whether a stop may have its cell and time.
