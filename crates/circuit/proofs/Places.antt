@@ -1,7 +1,7 @@
 -- The places of names.
 use Rattle.std.proofs.Common.{◌≡◌, ℕ, zero, suc, ◌+◌, ◌<◌, ◌≤◌, Bool, true, false, cond, List, [], ◌∷◌, ◌++◌, map}
 use Rattle.std.proofs.Common.{length, Option, Some, None, refl, sym, ap, ap₂, ◌∙◌, arith, inl, inr}
-use Rattle.std.specs.List.{All, position, position_or_len}
+use Rattle.std.specs.List.{All, find, position, position_or_len}
 use Rattle.std.specs.Str.{bytes_eq}
 use Rattle.std.proofs.lemmas.Bool.{cond-true, cases_Bool, true≢false, lt-ltb, ltb-false}
 use Rattle.std.proofs.lemmas.List.Recursion.{is_position_or_len}
@@ -144,3 +144,13 @@ absent_number d n e =
     absent : (b : Bool) (k : ℕ) → None ≡ cond b (Some k) None → b ≡ false
     absent true k e = absurd cc
     absent false k e = refl
+
+-- a name that is found is the one that was looked up
+pub found_same : (d : List (List ℕ)) (n m : List ℕ) → find (bytes_eq n) d ≡ Some m → m ≡ n
+found_same [] n m e = absurd cc
+found_same (x ∷ xs) n m e = at (bytes_eq n x) x m (bytes_eq-Decides n x) (found_same xs n m) e
+  where
+    at : (b : Bool) (x m : List ℕ) → Decides b (n ≡ x) → (find (bytes_eq n) xs ≡ Some m → m ≡ n) →
+        cond b (Some x) (find (bytes_eq n) xs) ≡ Some m → m ≡ n
+    at true x m d rest e = let same : x ≡ m = cc in sym (d.0 refl ∙ same)
+    at false x m d rest e = rest e
