@@ -1,6 +1,7 @@
 -- The tables of the lines after one more line.
 use Rattle.std.proofs.Common.{◌≡◌, ℕ, ◌+◌, ◌≤◌, ℤ, Bool, true, false, not, ◌&&◌, ◌||◌, List, [], ◌∷◌, ◌++◌, length}
 use Rattle.std.proofs.Common.{Option, Some, None, option_map, refl, sym, ap, subst, ◌∙◌, arith, append-nil}
+use Rattle.std.specs.Prelude.{replicate}
 use Rattle.std.specs.List.{list_any, flat_map}
 use Rattle.std.specs.Option.{option_to_list}
 use Rattle.std.proofs.lemmas.List.Folds.{list_any-append}
@@ -10,6 +11,7 @@ use Rattle.bbm_rule.specs.declared.block.Cell.{Cell}
 use Rattle.section_text.specs.Codes.{code_where, or_else}
 use Rattle.bbm_rule.specs.Spans.{in_area}
 use Rattle.circuit.specs.Meaning.{Circuit}
+use Rattle.certificate_lines.specs.declared.local_names.LocalName.{LocalName}
 use Rattle.module_box.specs.Boxes.{in_box}
 use Rattle.module_box.specs.Locals.{is_among}
 use Rattle.module_box.specs.declared.boxes.Box2.{Box2}
@@ -37,6 +39,7 @@ use Rattle.certificate_lines.proofs.Growing.{last_mapped}
 use Rattle.certificate_lines.proofs.Lists.{some_is}
 use Rattle.certificate_lines.proofs.OrderLemmas.{inner_pushed, module_pushed}
 use Rattle.certificate_lines.proofs.KnownLemmas.{none_new}
+use Rattle.certificate_lines.proofs.LocalNames.{no_names, still_local}
 use Rattle.certificate_lines.proofs.LackedWires.{wires_begun, wires_more}
 use Rattle.certificate_lines.proofs.ModulePushes.{no_code, both_none, not_false, new_wire, good_use, cuts_cut}
 use Rattle.certificate_lines.proofs.ModulePushes.{gates_use, edges_edge, halos_halo, stops_stop, known_cut, known_use}
@@ -464,25 +467,31 @@ border_wires c (Stop s) border = absurd border
 -- ---- with the wires of all modules
 
 pub with_none : (g : Setting) (covered : Board) → covered.width ≡ g.size.w → covered.height ≡ g.size.h →
-    ((x y : ℤ) → live covered x y ≡ false) → (e h : List Cell) →
-    IsTrackedWith g [] covered [] (last_inner []) [] [] [] e h
+    ((x y : ℤ) → live covered x y ≡ false) → (e h : List Cell) → (slots : List (Option LocalName)) →
+    slots ≡ replicate 64 None → IsTrackedWith g [] covered [] (last_inner []) [] [] [] e h slots
 unfolding modules_of last_of
-with_none g covered w high dead e h = record { kept = kept_none g covered w high dead [] e h; wires = refl }
+with_none g covered w high dead e h slots none = record {
+  kept = kept_none g covered w high dead [] e h;
+  wires = refl;
+  local_names = no_names g.circuit [] slots none;
+}
 
 module _ (g : Setting) (es : List CertificateLine) (covered : Board) (counts : List Counts)
     (last : Option CertificateLine)
     (names : List (List ℕ)) (earlier : List (List ℕ)) (local : List ℕ) (e h : List Cell)
-    (was : IsTrackedWith g es covered counts last names earlier local e h) where
+    (slots : List (Option LocalName))
+    (was : IsTrackedWith g es covered counts last names earlier local e h slots) where
   pub with_inner : (i : CertificateLine) → IsInner i → (good : IsGoodLine g es i) → (after : List Counts) →
       after ≡ change_last (counted i) counts → (e' h' : List Cell)
       → ((c : Cell) → list_any (same_cell c) e' ≡ (list_any (same_cell c) e || list_any (is_starred c) (edge_in i)))
       → ((c : Cell) → list_any (same_cell c) h' ≡ (list_any (same_cell c) h || list_any (is_starred c) (halo_in i)))
       → IsTrackedWith g (es ++ i ∷ []) covered after (last_inner (es ++ i ∷ [])) names earlier
-      (local ++ wires_in g.circuit i) e' h'
+      (local ++ wires_in g.circuit i) e' h' slots
   with_inner i inner good after now e' h' stars halo_stars =
       let line = does_line g es i inner good
       (last_good g es covered counts last names local e h was.kept good.module_lines good.last) in
-      subst (λ l. IsTrackedWith g (es ++ i ∷ []) covered after l names earlier (local ++ wires_in g.circuit i) e' h')
+      subst (λ l.
+      IsTrackedWith g (es ++ i ∷ []) covered after l names earlier (local ++ wires_in g.circuit i) e' h' slots)
       (sym (inner_pushed es i inner)) (record {
         kept = kept_inner g es covered counts last names local e h was.kept i inner good after now e' h' stars
             halo_stars;
@@ -490,15 +499,16 @@ module _ (g : Setting) (es : List CertificateLine) (covered : Board) (counts : L
             (sym (modules_push es i ∙ line.line))
             (wires_more g.circuit (with_line i) (modules_of es) good.module_lines earlier local
             (wires_in g.circuit i) good.last line.wires was.wires);
+        local_names = still_local g.circuit local (wires_in g.circuit i) slots was.local_names;
       })
 
   pub with_border : (i : CertificateLine) → IsBorderLine i → (good : IsGoodLine g es i) → (after : List Counts) →
       after ≡ change_last (counted i) counts → (e' h' : List Cell)
       → ((c : Cell) → list_any (same_cell c) e' ≡ (list_any (same_cell c) e || list_any (is_starred c) (edge_in i)))
       → ((c : Cell) → list_any (same_cell c) h' ≡ (list_any (same_cell c) h || list_any (is_starred c) (halo_in i)))
-      → IsTrackedWith g (es ++ i ∷ []) covered after (last_inner (es ++ i ∷ [])) names earlier local e' h'
+      → IsTrackedWith g (es ++ i ∷ []) covered after (last_inner (es ++ i ∷ [])) names earlier local e' h' slots
   with_border i border good after now e' h' stars halo_stars =
-      subst (λ l. IsTrackedWith g (es ++ i ∷ []) covered after (last_inner (es ++ i ∷ [])) names earlier l e' h')
+      subst (λ l. IsTrackedWith g (es ++ i ∷ []) covered after (last_inner (es ++ i ∷ [])) names earlier l e' h' slots)
       (ap (λ w. local ++ w) (border_wires g.circuit i border) ∙ append-nil local)
       (with_inner i (border_is_inner i border) good after now e' h' stars halo_stars)
 
@@ -507,16 +517,18 @@ module _ (g : Setting) (es : List CertificateLine) (covered : Board) (counts : L
       ((x y : ℤ) → live new_covered x y ≡ (live covered x y || in_area b.x b.y b.w b.h x y)) →
       HasSameSize covered new_covered
       → ((f : List ℕ → Bool) → list_any f new_names ≡ list_any (λ p. in_box b p.cell.x p.cell.y && f p.name) g.ports)
+      → (slots' : List (Option LocalName)) → slots' ≡ replicate 64 None
       → IsTrackedWith g (es ++ Module b ∷ []) new_covered
       (counts ++ record { area = b; cuts = 0; gates = 0; edges = 0; halos = 0; stops = 0 } ∷ [])
-      (last_inner (es ++ Module b ∷ [])) new_names (earlier ++ local ∷ []) [] [] []
+      (last_inner (es ++ Module b ∷ [])) new_names (earlier ++ local ∷ []) [] [] [] slots'
   unfolding add_line
-  with_module new_covered new_names b good after size ports =
+  with_module new_covered new_names b good after size ports slots' none =
       subst (λ l. IsTrackedWith g (es ++ Module b ∷ []) new_covered
       (counts ++ record { area = b; cuts = 0; gates = 0; edges = 0; halos = 0; stops = 0 } ∷ []) l new_names
-      (earlier ++ local ∷ []) [] [] []) (sym (module_pushed es b)) (record {
+      (earlier ++ local ∷ []) [] [] [] slots') (sym (module_pushed es b)) (record {
         kept = kept_module g es covered new_covered counts last names new_names local e h was.kept b good after
             size ports;
         wires = subst (λ ms. AreWires g.circuit ms (earlier ++ local ∷ []) []) (sym (modules_push es (Module b)))
             (wires_begun g.circuit (modules_of es) (record { area = b; lines = [] }) earlier local refl was.wires);
+        local_names = no_names g.circuit [] slots' none;
       })

@@ -17,6 +17,7 @@ pub mod LineOrder
 pub mod LinesLeft
 pub mod Lists
 pub mod LocalLemmas
+pub mod LocalNames
 pub mod ModuleBoxes
 pub mod ModuleLemmas
 pub mod ModulePushes

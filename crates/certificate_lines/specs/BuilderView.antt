@@ -1,18 +1,19 @@
 -- The fields of a certificate that is being read, and its view
 use Rattle.std.specs.Prelude.{◌≡◌, ℕ, ◌+◌, ◌<◌, ◌≤◌, ℤ, ◌&&◌, Bool, not, false, List, [], ◌∷◌, ◌++◌, map, length}
-use Rattle.std.specs.Prelude.{Option}
+use Rattle.std.specs.Prelude.{IfSome, Option, true}
 use Rattle.std.specs.Prelude.{Some, None, slice_get, IsTrue}
 use Rattle.std.specs.Option.{option_to_list}
 use Rattle.circuit.specs.Meaning.{Circuit, Gate, wire_of}
-use Rattle.std.specs.List.{filter, list_any}
+use Rattle.std.specs.List.{All, filter, list_any}
 use Rattle.bbm_rule.specs.Board.{Board, live}
 use Rattle.bbm_rule.specs.declared.block.Cell.{Cell}
 use Rattle.module_box.specs.Boxes.{in_box, in_halo, IsEven}
+use Rattle.certificate_lines.specs.declared.local_names.LocalName.{LocalName}
 use Rattle.module_box.specs.Tiling.{AreOwners, Owning}
 use Rattle.module_box.specs.declared.boxes.Box2.{Box2}
 use Rattle.certificate_lines.specs.Entries.{Setting, ModuleLines, modules_of, last_of, areas, counts_of, known, edges}
 use Rattle.certificate_lines.specs.Entries.{halos}
-use Rattle.certificate_lines.specs.Rules.{in_boxes, is_local_wire, is_star, is_starred, same_cell, lacks_port}
+use Rattle.certificate_lines.specs.Rules.{in_boxes, is_local, is_local_wire, is_star, is_starred, same_cell, lacks_port}
 use Rattle.certificate_lines.specs.Modules.{HasFewLines, IsModule}
 use Rattle.certificate_lines.specs.Versions.{is_strange}
 use Rattle.certificate_lines.specs.declared.certificate_line.Border.{Border}
@@ -107,12 +108,18 @@ pub record AreModuleOwners (b : BuilderView) (o : Owning) : Type 0 where
 abbrev pub AreWires : Circuit → List ModuleLines → List (List ℕ) → List ℕ → Type 0
 AreWires c ms earlier local = earlier ++ local ∷ [] ≡ [] ∷ map (known c) ms
 
--- what is kept of the lines, and of the wires of all modules
+-- the names in slots are those of wires that are local, if these wires are
+abbrev pub AreLocalNames : Circuit → List ℕ → List (Option LocalName) → Type 0
+AreLocalNames c local slots = All (λ slot. IfSome slot (λ n. is_local c local n.name.now ≡ true)) slots
+
+-- what is kept of the lines, of the wires of all modules, and of the names of local wires
 pub record IsTrackedWith (g : Setting) (es : List CertificateLine) (covered : Board) (counts : List Counts)
     (last : Option CertificateLine)
-    (names : List (List ℕ)) (earlier : List (List ℕ)) (local : List ℕ) (e h : List Cell) : Type 0 where
+    (names : List (List ℕ)) (earlier : List (List ℕ)) (local : List ℕ) (e h : List Cell)
+    (slots : List (Option LocalName)) : Type 0 where
   pub kept : IsTracked g es covered counts last names local e h
   pub wires : AreWires g.circuit (modules_of es) earlier local
+  pub local_names : AreLocalNames g.circuit local slots
 
 -- the line, if it is no `module` line
 abbrev pub inner_of : Option CertificateLine → Option CertificateLine
@@ -133,7 +140,7 @@ last_inner entries = inner_of (last_of entries)
 abbrev pub IsBuilder : Inside → Type 0
 IsBuilder a = IsTrackedWith a.tables a.entries.items a.covered a.modules.items (last_inner a.entries.items)
     a.names.items
-    (map (λ s. s.keys) a.earlier.items) a.known.keys a.edges.keys a.halos.keys
+    (map (λ s. s.keys) a.earlier.items) a.known.keys a.edges.keys a.halos.keys a.local_names.slots
 
 -- ---- the counts of a module with one more line
 

@@ -3,7 +3,7 @@ ghost use Rattle.std.specs.Prelude.{◌≡◌, ◌+◌, ◌≤◌, ◌<◌, ◌+
 ghost use Rattle.section_text.specs.Adding.{FaultIs};
 ghost use Rattle.std.specs.List.{list_any};
 ghost use Rattle.certificate_lines.specs.Entries.{ModuleLines, counts_of, known, modules_of, last_module};
-ghost use Rattle.certificate_lines.specs.Rules.{entry_fault, end_fault, box_fault, module_fault, inner_fault, words_fault, is_incomplete, is_local};
+ghost use Rattle.certificate_lines.specs.Rules.{border_fault, entry_fault, end_fault, box_fault, module_fault, inner_fault, words_fault, is_incomplete, is_local};
 ghost use Rattle.module_box.specs.Boxes.{in_box};
 ghost use Rattle.certificate_lines.specs.BuilderView.{BuilderView, IsBorderLine, IsInner, IsSmall};
 ghost use Rattle.certificate_lines.specs.declared.certificate_line.CertificateLine.TheVariants.{Module};
@@ -12,6 +12,7 @@ use crate::certificate_line::{CertificateLine, Counts};
 use crate::counts::{count_in_last, last_counts, pop_module, push_entry, push_module};
 use crate::known::{learn_line, make_room_for_wires, put_away};
 use crate::line_tables::LineTables;
+use crate::local_names::LocalNames;
 use crate::order::does_follow;
 use crate::rules::{
     border_code, cut_code, is_bad_place, is_bad_side, is_local_name, keep_code, may_be_edge,
@@ -48,6 +49,8 @@ pub struct Builder<'a> {
     pub(crate) known: IndexSet<u16>,
     edges: IndexSet<Cell>,
     halos: IndexSet<Cell>,
+    // names of wires that are local in the last module
+    local_names: LocalNames<'a>,
 }
 
 impl<'a> Model for Builder<'a> {
@@ -87,6 +90,7 @@ impl<'a> Builder<'a> {
             known: IndexSet::new(alloc),
             edges: IndexSet::new(alloc),
             halos: IndexSet::new(alloc),
+            local_names: LocalNames::new(),
         })
     }
 
@@ -97,12 +101,42 @@ impl<'a> Builder<'a> {
         lacks_some(&self.tables, &self.known, &self.names)
     }
 
+    // The code of an edge or halo line, by `border_code` with the names of the last module's wires.
+    #[inline(always)]
+    fn border_code(
+        &mut self,
+        count: usize,
+        placed: bool,
+        signal: &Option<Name>,
+    ) -> Option<RefusalCode>
+        ensures code { (m : ModuleLines) → last_module self.old.entries ≡ Some m →
+            result ≡ border_fault self.old.setting.circuit count
+            (known self.old.setting.circuit m) placed signal.now }
+        ensures same_lines { self.new ≡ self.old }
+    {
+        let names = &mut self.local_names;
+        border_code(&self.tables, count, &self.known, names, placed, signal)
+    }
+
+    // The code of a stop line, by `stop_code` with the names of the last module's wires.
+    #[inline(always)]
+    fn stop_code(&mut self, count: usize, placed: bool, wire: &Name) -> Option<RefusalCode>
+        ensures code { (m : ModuleLines) → last_module self.old.entries ≡ Some m →
+            result ≡ border_fault self.old.setting.circuit count
+            (known self.old.setting.circuit m) placed (Some wire.now) }
+        ensures same_lines { self.new ≡ self.old }
+    {
+        let names = &mut self.local_names;
+        stop_code(&self.tables, count, &self.known, names, placed, wire)
+    }
+
     // The code of the tests that come after that of the order, where these are the counts of the last module.
     #[inline(always)]
-    fn words_code(&self, counts: Counts, entry: &CertificateLine) -> Option<RefusalCode>
+    fn words_code(&mut self, counts: Counts, entry: &CertificateLine) -> Option<RefusalCode>
         requires { IsSmall counts }
-        ensures { (m : ModuleLines) → last_module self.now.entries ≡ Some m → counts ≡ counts_of m →
-            result ≡ words_fault self.now.setting m entry.now }
+        ensures code { (m : ModuleLines) → last_module self.old.entries ≡ Some m →
+            counts ≡ counts_of m → result ≡ words_fault self.old.setting m entry.now }
+        ensures same_lines { self.new ≡ self.old }
     {
         let size = self.tables.size();
         let borders = counts.edges + counts.halos + counts.stops;
@@ -123,25 +157,27 @@ impl<'a> Builder<'a> {
             CertificateLine::Edge(border) => {
                 let starred = has_star(&self.edges, border.cell);
                 let placed = may_be_edge(size, counts.area, starred, border);
-                border_code(&self.tables, borders, &self.known, placed, &border.signal)
+                self.border_code(borders, placed, &border.signal)
             }
             CertificateLine::Halo(border) => {
                 let starred = has_star(&self.halos, border.cell);
                 let placed = may_be_halo(size, counts.area, starred, border);
-                border_code(&self.tables, borders, &self.known, placed, &border.signal)
+                self.border_code(borders, placed, &border.signal)
             }
             CertificateLine::Stop(stop) => {
                 let placed = may_be_stop(size, counts.area, stop);
-                stop_code(&self.tables, borders, &self.known, placed, &stop.wire)
+                self.stop_code(borders, placed, &stop.wire)
             }
         }
     }
 
     // The code of a line of a module.
     #[inline(always)]
-    fn inner_code(&self, entry: &CertificateLine) -> Option<RefusalCode>
+    fn inner_code(&mut self, entry: &CertificateLine) -> Option<RefusalCode>
         requires { IsInner entry.now }
-        ensures { result ≡ inner_fault self.now.setting (last_module self.now.entries) entry.now }
+        ensures code { result
+            ≡ inner_fault self.old.setting (last_module self.old.entries) entry.now }
+        ensures same_lines { self.new ≡ self.old }
     {
         let Some(counts) = last_counts(&self.modules) else {
             return Some(RefusalCode::OutOfOrder);
@@ -292,6 +328,7 @@ impl<'a> Builder<'a> {
         self.names = names;
         self.edges.truncate(0);
         self.halos.truncate(0);
+        self.local_names = LocalNames::new();
         Ok(())
     }
 
@@ -346,6 +383,7 @@ impl<'a> Builder<'a> {
             known: _,
             edges: _,
             halos: _,
+            local_names: _,
         } = self;
         (entries, modules)
     }

@@ -13,6 +13,7 @@ mod known;
 mod lacks;
 mod line_tables;
 mod lines;
+mod local_names;
 mod order;
 mod ports;
 mod rules;

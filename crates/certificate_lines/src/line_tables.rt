@@ -1,5 +1,5 @@
 //! The circuit and the layout that a certificate is for, with tables of the layout's ports by their cells.
-ghost use Rattle.std.specs.Prelude.{◌≡◌, ◌+◌, ◌<◌, ◌≤◌, ◌||◌, ◌&&◌, Bool, ℕ, List, false, None, slice_get, OnOk, IfOk};
+ghost use Rattle.std.specs.Prelude.{◌≡◌, ◌+◌, ◌<◌, ◌≤◌, ◌||◌, ◌&&◌, Bool, ℕ, List, false, None, slice_get, OnOk, IfOk, IfSome};
 ghost use Rattle.std.specs.List.{list_any};
 ghost use Rattle.std.specs.Option.{option_map, option_map_or};
 ghost use Rattle.circuit.specs.Meaning.{wire_of};
@@ -125,6 +125,17 @@ impl<'a> LineTables<'a> {
     {
         let wire = self.circuit.wire(name)?;
         Some(wire.number())
+    }
+
+    /// Returns the number of the circuit's wire of this name, and the name as the circuit holds it.
+    pub(crate) fn named_wire(&self, name: &Name) -> Option<(u16, &'a Name)>
+        ensures wire { option_map (λ p. p.0) result ≡ wire_of self.now.circuit name.now }
+        ensures same_name { IfSome result (λ p. p.1.now ≡ name.now) }
+    {
+        match self.circuit.named_wire(name) {
+            None => None,
+            Some((wire, own_name)) => Some((wire.number(), own_name)),
+        }
     }
 
     /// Returns the circuit's gate of this number.

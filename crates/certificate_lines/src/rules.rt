@@ -4,6 +4,7 @@ ghost use Rattle.std.specs.List.{list_all};
 ghost use Rattle.circuit.specs.Meaning.{wire_of};
 ghost use Rattle.circuit.specs.Wiring.{gate_of};
 ghost use Rattle.module_box.specs.Locals.{is_among};
+ghost use Rattle.certificate_lines.specs.BuilderView.{AreLocalNames};
 ghost use Rattle.certificate_lines.specs.Entries.{ModuleLines, gates, last_module};
 ghost use Rattle.certificate_lines.specs.Rules.{is_wrong_side, is_misplaced, is_odd, whole, is_local, is_local_wire, are_new, cut_fault, cut_wire_fault, gate_fault, use_fault, keep_fault, is_time, is_edge_place, is_halo_place, is_stop_place, signal_fault, wire_fault, border_fault};
 
@@ -11,6 +12,7 @@ use crate::certificate_line::{Border, CertificateLine, StopLine};
 use crate::known::{are_all_new, knows, knows_all};
 use crate::line_tables::LineTables;
 use crate::lines::is_used;
+use crate::local_names::LocalNames;
 use crate::tiles::whole_of;
 use indexmap::IndexSet;
 use module_box::Box2;
@@ -130,9 +132,9 @@ pub(crate) fn keep_code(
     None
 }
 
-// The code of a wire's name: it must be that of a local wire.
+// The code of a wire's name, which is looked up: it must be that of a local wire.
 #[inline(never)]
-fn name_code(tables: &LineTables, known: &IndexSet<u16>, name: &Name) -> Option<RefusalCode>
+fn looked_up_code(tables: &LineTables, known: &IndexSet<u16>, name: &Name) -> Option<RefusalCode>
     ensures { result ≡ wire_fault known.now.keys (wire_of tables.now.circuit name.now) }
 {
     match tables.wire(name) {
@@ -142,22 +144,40 @@ fn name_code(tables: &LineTables, known: &IndexSet<u16>, name: &Name) -> Option<
     }
 }
 
+// The code of a wire's name. Only a name that is refused is looked up for it.
+#[inline(always)]
+fn name_code<'a>(
+    tables: &LineTables<'a>,
+    known: &IndexSet<u16>,
+    names: &mut LocalNames<'a>,
+    name: &Name,
+) -> Option<RefusalCode>
+    requires { AreLocalNames tables.now.circuit known.now.keys names.old.slots }
+    ensures code { result ≡ wire_fault known.now.keys (wire_of tables.now.circuit name.now) }
+    ensures names { AreLocalNames tables.now.circuit known.now.keys names.new.slots }
+{
+    if names.find(tables, known, name).is_some() {
+        return None;
+    }
+    let name = *name;
+    looked_up_code(tables, known, &name)
+}
+
 #[inline(always)]
 #[tactic(auto, unfolding(crate::specs::Rules::signal_fault))]
-fn signal_code(
-    tables: &LineTables,
+fn signal_code<'a>(
+    tables: &LineTables<'a>,
     known: &IndexSet<u16>,
+    names: &mut LocalNames<'a>,
     signal: &Option<Name>,
 ) -> Option<RefusalCode>
-    ensures { result ≡ signal_fault tables.now.circuit known.now.keys signal.now }
+    requires { AreLocalNames tables.now.circuit known.now.keys names.old.slots }
+    ensures code { result ≡ signal_fault tables.now.circuit known.now.keys signal.now }
+    ensures names { AreLocalNames tables.now.circuit known.now.keys names.new.slots }
 {
     match signal {
         None => None,
-        Some(name) => {
-            // a copy, so that the compiler knows that the call does not change the line
-            let name = *name;
-            name_code(tables, known, &name)
-        }
+        Some(name) => name_code(tables, known, names, name),
     }
 }
 
@@ -167,14 +187,18 @@ fn signal_code(
 /// bytes costs more than the tests.
 #[inline(always)]
 #[tactic(auto, unfolding(crate::specs::Rules::border_fault))]
-pub(crate) fn border_code(
-    tables: &LineTables,
+pub(crate) fn border_code<'a>(
+    tables: &LineTables<'a>,
     count: usize,
     known: &IndexSet<u16>,
+    names: &mut LocalNames<'a>,
     placed: bool,
     signal: &Option<Name>,
 ) -> Option<RefusalCode>
-    ensures { result ≡ border_fault tables.now.circuit count known.now.keys placed signal.now }
+    requires { AreLocalNames tables.now.circuit known.now.keys names.old.slots }
+    ensures code { result
+        ≡ border_fault tables.now.circuit count known.now.keys placed signal.now }
+    ensures names { AreLocalNames tables.now.circuit known.now.keys names.new.slots }
 {
     if count >= MAX_TIMED_LINES {
         return Some(RefusalCode::PastLimit);
@@ -182,22 +206,26 @@ pub(crate) fn border_code(
     if !placed {
         return Some(RefusalCode::NoPlace);
     }
-    signal_code(tables, known, signal)
+    signal_code(tables, known, names, signal)
 }
 
 /// Returns the code of a stop line, if `count` edge, halo and stop lines are before it.
 ///
 /// `placed` says whether the line may have its cell and time.
+#[inline(always)]
 #[tactic(auto, unfolding(crate::specs::Rules::border_fault, crate::specs::Rules::signal_fault))]
-pub(crate) fn stop_code(
-    tables: &LineTables,
+pub(crate) fn stop_code<'a>(
+    tables: &LineTables<'a>,
     count: usize,
     known: &IndexSet<u16>,
+    names: &mut LocalNames<'a>,
     placed: bool,
     wire: &Name,
 ) -> Option<RefusalCode>
-    ensures { result
+    requires { AreLocalNames tables.now.circuit known.now.keys names.old.slots }
+    ensures code { result
         ≡ border_fault tables.now.circuit count known.now.keys placed (Some wire.now) }
+    ensures names { AreLocalNames tables.now.circuit known.now.keys names.new.slots }
 {
     if count >= MAX_TIMED_LINES {
         return Some(RefusalCode::PastLimit);
@@ -205,7 +233,7 @@ pub(crate) fn stop_code(
     if !placed {
         return Some(RefusalCode::NoPlace);
     }
-    name_code(tables, known, wire)
+    name_code(tables, known, names, wire)
 }
 
 // Whether a line may have its time, where its cell has a `*` or has none.

@@ -10,8 +10,8 @@ use Rattle.certificate_lines.proofs.builder.Builder.add_inner.Goals as goal
 pub learn_line-requires-clause-new : goal.learn_line-requires-clause-new
 learn_line-requires-clause-new c =
     let good = good_line c.self.inside.tables c.self.inside.entries.items c.args.entry
-    (subst (λ (s : BuilderView). inner_fault s.setting (last_module s.entries) c.args.entry ≡ None) (sym c.self.view_is)
-    (sym c.inner_code.ensures ∙ c.in_default.is)) in
+    (subst (λ (s : BuilderView). inner_fault s.setting (last_module s.entries) c.args.entry ≡ None)
+    (sym (c.self.view_is ∙ c.inner_code.ensures.same_lines)) (sym c.inner_code.ensures.code ∙ c.in_default.is)) in
     ap (λ (l : List ℕ). are_new l (wires_in c.self.inside.tables.circuit c.args.entry))
     c.make_room_for_wires.ensures.keys
     ∙ inner_new _ _ _ _ _ _ _ _ _ c.self.invariant.kept c.args.entry c.requires good
@@ -22,10 +22,10 @@ count_in_last-requires c = small _ _ _ _ _ _ _ _ _ c.self.invariant.kept
 pub invariant_of-self-2 : goal.invariant_of-self-2
 invariant_of-self-2 c =
     let good = good_line c.self.inside.tables c.self.inside.entries.items c.args.entry
-    (subst (λ (s : BuilderView). inner_fault s.setting (last_module s.entries) c.args.entry ≡ None) (sym c.self.view_is)
-    (sym c.inner_code.ensures ∙ c.in_default.is)) in
+    (subst (λ (s : BuilderView). inner_fault s.setting (last_module s.entries) c.args.entry ≡ None)
+    (sym (c.self.view_is ∙ c.inner_code.ensures.same_lines)) (sym c.inner_code.ensures.code ∙ c.in_default.is)) in
     rw (c.in_ok-push_entry.ensures.ok, c.learn_line.ensures, c.make_room_for_wires.ensures.keys)
-    (with_inner _ _ _ _ _ _ _ _ _ _ c.self.invariant c.args.entry c.requires good c.count_in_last.new.modules.items
+    (with_inner _ _ _ _ _ _ _ _ _ _ _ c.self.invariant c.args.entry c.requires good c.count_in_last.new.modules.items
     c.count_in_last.ensures c.note_stars.new.edges.keys c.note_stars.new.halos.keys
     (λ d. c.note_stars.ensures.edges d
     ∙ ap (λ (l : List Cell). list_any (same_cell d) l || list_any (is_starred d) (edge_in c.args.entry))

@@ -6,16 +6,16 @@ use Rattle.certificate_lines.proofs.Keeping.{no_module, small, too_late, in_plac
 use Rattle.certificate_lines.proofs.builder.Builder.inner_code.Goals as goal
 use Rattle.section_text.specs.declared.code.RefusalCode.TheVariants.{OutOfOrder}
 
-pub returns-in_default : goal.returns-in_default
-returns-in_default c =
+pub returns-in_default-clause-code : goal.returns-in_default-clause-code
+returns-in_default-clause-code c =
     subst (λ (s : BuilderView). Some OutOfOrder ≡ inner_fault s.setting (last_module s.entries) c.args.entry.now)
     c.self.view_is
     (ap (λ o. inner_fault c.self.inside.tables o c.args.entry.now)
     (sym (no_module _ _ _ _ _ _ _ _ _ c.self.invariant.kept
     (ap last_of (sym c.deref.ensures.value) ∙ sym c.last_counts.ensures ∙ c.in_default.is))))
 
-pub returns-then-not-does_follow : goal.returns-then-not-does_follow
-returns-then-not-does_follow c =
+pub returns-then-not-does_follow-clause-code : goal.returns-then-not-does_follow-clause-code
+returns-then-not-does_follow-clause-code c =
     subst (λ (s : BuilderView). Some OutOfOrder ≡ inner_fault s.setting (last_module s.entries) c.args.entry.now)
     c.self.view_is
     (too_late _ _ _ _ _ _ _ _ _ c.self.invariant.kept c.in-Some.counts c.args.entry.now c.does_follow.result
@@ -27,8 +27,8 @@ pub words_code-requires : goal.words_code-requires
 words_code-requires c = small _ _ _ _ _ _ _ _ _ c.self.invariant.kept c.in-Some.counts
     (ap last_of (sym c.deref.ensures.value) ∙ sym c.last_counts.ensures ∙ c.in-Some.is)
 
-pub returns : goal.returns
-returns c =
+pub returns-clause-code : goal.returns-clause-code
+returns-clause-code c =
     subst (λ (s : BuilderView). c.words_code.result ≡ inner_fault s.setting (last_module s.entries) c.args.entry.now)
     c.self.view_is
     (in_place _ _ _ _ _ _ _ _ _ c.self.invariant.kept c.in-Some.counts c.args.entry.now c.does_follow.result
@@ -36,4 +36,4 @@ returns c =
     (λ lines order last. c.does_follow.ensures lines order (last ∙ ap last_inner (sym c.as_slice.ensures.value)))
     c.if-not-does_follow.false
     (subst (λ (s : BuilderView). (m : ModuleLines) → last_module s.entries ≡ Some m → c.in-Some.counts ≡ counts_of m →
-    c.words_code.result ≡ words_fault s.setting m c.args.entry.now) (sym c.self.view_is) c.words_code.ensures))
+    c.words_code.result ≡ words_fault s.setting m c.args.entry.now) (sym c.self.view_is) c.words_code.ensures.code))

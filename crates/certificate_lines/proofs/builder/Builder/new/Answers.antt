@@ -24,4 +24,4 @@ invariant_of-result c =
     (c.in_ok-covered.ensures.size.0 ∙ ap (λ (s : LayoutHeader). s.w) c.size-size.ensures.size)
     (c.in_ok-covered.ensures.size.1 ∙ ap (λ (s : LayoutHeader). s.h) c.size-size.ensures.size)
     c.in_ok-covered.ensures.dead _
-    _)
+    _ _ c.new-9.ensures)

@@ -1,0 +1,113 @@
+//! The names of wires that are local in the last module, which are remembered as the circuit has them.
+ghost use Rattle.std.specs.Prelude.{◌≡◌, ◌<◌, None, replicate, IfSome};
+ghost use Rattle.std.specs.Option.{is_some};
+ghost use Rattle.certificate_lines.specs.BuilderView.{AreLocalNames};
+ghost use Rattle.certificate_lines.specs.Rules.{is_local};
+
+use crate::known::knows;
+use crate::line_tables::LineTables;
+use indexmap::IndexSet;
+use section_text::Name;
+
+// The count of slots.
+const SLOT_COUNT: usize = 64;
+
+/// The name of a wire that is local, as the circuit has it.
+#[derive(Clone, Copy)]
+pub(crate) struct LocalName<'a> {
+    name: &'a Name,
+}
+
+/// Names of wires that are local in a module, in slots by their last bytes.
+#[derive(Drop)]
+pub(crate) struct LocalNames<'a> {
+    slots: [Option<LocalName<'a>>; SLOT_COUNT],
+}
+
+// The slot of a name, by its last two bytes, in which the names of a module's wires mostly differ.
+fn slot_of(name: &Name) -> usize
+    ensures { result < 64 }
+{
+    match name.bytes() {
+        [.., ten, one] => (10 * *ten as usize + *one as usize) % SLOT_COUNT,
+        [one] => *one as usize % SLOT_COUNT,
+        [] => 0,
+    }
+}
+
+// Returns the circuit's name of the wire of this name, if it is local. The name gets the slot.
+#[inline(never)]
+fn look_up<'a>(
+    tables: &LineTables<'a>,
+    known: &IndexSet<u16>,
+    slots: &mut [Option<LocalName<'a>>; SLOT_COUNT],
+    slot: usize,
+    name: &Name,
+) -> Option<&'a Name>
+    requires slot { slot < 64 }
+    requires names { AreLocalNames tables.now.circuit known.now.keys slots.old }
+    ensures local { is_some result ≡ is_local tables.now.circuit known.now.keys name.now }
+    ensures same_name { IfSome result (λ own. own.now ≡ name.now) }
+    ensures names { AreLocalNames tables.now.circuit known.now.keys slots.new }
+{
+    let (wire, own_name) = tables.named_wire(name)?;
+    if !knows(known, wire) {
+        return None;
+    }
+    slots[slot] = Some(LocalName { name: own_name });
+    Some(own_name)
+}
+
+// The same. The name is looked up only if another name has its slot.
+#[inline(always)]
+fn find_in<'a>(
+    tables: &LineTables<'a>,
+    known: &IndexSet<u16>,
+    slots: &mut [Option<LocalName<'a>>; SLOT_COUNT],
+    name: &Name,
+) -> Option<&'a Name>
+    requires names { AreLocalNames tables.now.circuit known.now.keys slots.old }
+    ensures local { is_some result ≡ is_local tables.now.circuit known.now.keys name.now }
+    ensures same_name { IfSome result (λ own. own.now ≡ name.now) }
+    ensures names { AreLocalNames tables.now.circuit known.now.keys slots.new }
+{
+    let slot = slot_of(name);
+    if let Some(local) = slots[slot] {
+        if *local.name == *name {
+            return Some(local.name);
+        }
+    }
+    // a copy, so that the compiler knows that the call does not change the line
+    let name = *name;
+    look_up(tables, known, slots, slot, &name)
+}
+
+impl<'a> LocalNames<'a> {
+    /// Creates slots that hold no names.
+    pub(crate) fn new() -> LocalNames<'a>
+        ensures { result.slots ≡ replicate 64 None }
+    {
+        LocalNames {
+            slots: [None; SLOT_COUNT],
+        }
+    }
+
+    /// Returns the circuit's name of the wire of this name, if it is local.
+    ///
+    /// The lines of a module name few wires, and to compare two names costs less than to look one up by its hash.
+    // Inlined, since it runs for each line that names a wire.
+    #[inline(always)]
+    pub(crate) fn find(
+        &mut self,
+        tables: &LineTables<'a>,
+        known: &IndexSet<u16>,
+        name: &Name,
+    ) -> Option<&'a Name>
+        requires names { AreLocalNames tables.now.circuit known.now.keys self.old.slots }
+        ensures local { is_some result ≡ is_local tables.now.circuit known.now.keys name.now }
+        ensures same_name { IfSome result (λ own. own.now ≡ name.now) }
+        ensures names { AreLocalNames tables.now.circuit known.now.keys self.new.slots }
+    {
+        find_in(tables, known, &mut self.slots, name)
+    }
+}
