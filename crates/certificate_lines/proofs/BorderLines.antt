@@ -14,6 +14,7 @@ use Rattle.certificate_lines.specs.Forms.{Line, area_of, border_of, form_of, sho
 use Rattle.certificate_lines.specs.declared.certificate_line.CertificateLine.TheVariants.{Module, Cut, Use, Keep, Edge}
 use Rattle.certificate_lines.specs.declared.certificate_line.CertificateLine.TheVariants.{Halo, Stop}
 use Rattle.certificate_lines.specs.declared.certificate_line.Border.{Border}
+use Rattle.certificate_lines.specs.declared.certificate_line.StopLine.{StopLine}
 
 same_none : (b : Bool) (x : Option Line) → x ≡ None → (if b then None else x) ≡ None
 same_none true x e = refl
@@ -48,6 +49,14 @@ no_long_form w e h s m = sym (
     is : List ℕ → Bool
     is k = bytes_eq w.first.now k
 
+-- a line that begins with `stop`
+pub stop_form : (ws : List (List ℕ)) (o : Option StopLine) → is_word_at ws 0 (codes "edge") ≡ false →
+    is_word_at ws 0 (codes "halo") ≡ false → is_word_at ws 0 (codes "stop") ≡ true → o ≡ stop_of ws →
+    (o >>= λ s. Some (Item (Stop s))) ≡ form_of ws
+unfolding form_of
+stop_form ws o edge halo stop is = ap (λ z. z >>= λ s. Some (Item (Stop s))) is
+    ∙ sym (cond-false _ _ _ edge ∙ cond-false _ _ _ halo ∙ cond-true _ _ _ stop)
+
 five_is : {A : Type 0} (b : Bool) (x y : A) → (if b then Some x else None) ≡ Some y → x ≡ y
 five_is true x y e = same_Some x y e
 five_is false x y e = absurd cc
@@ -65,6 +74,10 @@ long_form_is ws w e = ap form_of (sym (five_words_are ws w e))
 no_five : {A : Type 0} (b : Bool) (x : A) → (if b then Some x else None) ≡ None → b ≡ false
 no_five true x e = absurd cc
 no_five false x e = refl
+
+pub no_stop : (ws : List (List ℕ)) → None ≡ five ws → None ≡ stop_of ws
+unfolding five stop_of
+no_stop ws e = sym (cond-false _ _ _ (no_five (length ws == 5) ws (sym e)))
 
 -- a word that is one keyword is no other
 other_word : (o : Option (List ℕ)) (k m : List ℕ) → bytes_eq k m ≡ false → is_word o k ≡ true → is_word o m ≡ false

@@ -18,10 +18,11 @@ use Rattle.pattern.specs.Forms.{cell_from}
 use Rattle.pattern.specs.Layout.{cell}
 use Rattle.certificate_lines.specs.BorderWords.{leading_time, lone_signal, signal_by, time_by}
 use Rattle.section_text.specs.declared.section.Form.TheVariants.{Item}
-use Rattle.certificate_lines.proofs.BorderLines.{edge_form, halo_form}
-use Rattle.certificate_lines.specs.Forms.{border_of, form_of, signal_at, time_at, timed_cell}
+use Rattle.certificate_lines.proofs.BorderLines.{edge_form, halo_form, stop_form}
+use Rattle.certificate_lines.specs.Forms.{border_of, form_of, signal_at, stop_of, time_at, timed_cell}
 use Rattle.certificate_lines.specs.declared.certificate_line.Border.{Border}
-use Rattle.certificate_lines.specs.declared.certificate_line.CertificateLine.TheVariants.{Edge, Halo}
+use Rattle.certificate_lines.specs.declared.certificate_line.CertificateLine.TheVariants.{Edge, Halo, Stop}
+use Rattle.certificate_lines.specs.declared.certificate_line.StopLine.{StopLine}
 
 -- ---- the first word of a line
 
@@ -35,6 +36,10 @@ edge_words l e = ap words_of (begins_with (codes "edge ") l 5 e)
 halo_words : (l : List ℕ) → bytes_eq (take 5 l) (codes "halo ") ≡ true →
     words_of l ≡ codes "halo" ∷ words_of (drop 5 l)
 halo_words l e = ap words_of (begins_with (codes "halo ") l 5 e)
+
+stop_words : (l : List ℕ) → bytes_eq (take 5 l) (codes "stop ") ≡ true →
+    words_of l ≡ codes "stop" ∷ words_of (drop 5 l)
+stop_words l e = ap words_of (begins_with (codes "stop ") l 5 e)
 
 joined : (l w v : List ℕ) (vs : List (List ℕ)) → words_of l ≡ w ∷ v ∷ vs → l ≡ w ++ 32 ∷ join_with_byte 32 (v ∷ vs)
 joined l w v vs e = sym (join_with_byte-slice_split 32 l) ∙ ap (join_with_byte 32) e
@@ -230,3 +235,10 @@ halo_line l o halo is =
     halo_form (codes "halo" ∷ words_of (drop 5 l)) o refl refl
     (is (codes "halo") ∙ ap (λ t. border_of (codes "halo" ∷ words_of t)) (take_rest l 5))
     ∙ ap form_of (sym (halo_words l halo))
+
+pub stop_line : (l : List ℕ) (o : Option StopLine) → bytes_eq (take 5 l) (codes "stop ") ≡ true →
+    o ≡ stop_of (words_of l) → (o >>= λ s. Some (Item (Stop s))) ≡ form_of (words_of l)
+unfolding is_word_at
+stop_line l o stop is =
+    stop_form (codes "stop" ∷ words_of (drop 5 l)) o refl refl refl (is ∙ ap stop_of (stop_words l stop))
+    ∙ ap form_of (sym (stop_words l stop))

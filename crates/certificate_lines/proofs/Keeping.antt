@@ -444,7 +444,7 @@ module _ (g : Setting) (es : List CertificateLine) (covered new_covered : Board)
             (begun_present ports);
       }
 
--- ---- edge and halo lines
+-- ---- edge, halo and stop lines
 
 pub border_is_inner : (i : CertificateLine) → IsBorderLine i → IsInner i
 border_is_inner (Module b) border = border
@@ -453,7 +453,7 @@ border_is_inner (Use k) border = absurd border
 border_is_inner (Keep k) border = absurd border
 border_is_inner (Edge e) border = border
 border_is_inner (Halo e) border = border
-border_is_inner (Stop s) border = absurd border
+border_is_inner (Stop s) border = border
 
 border_wires : (c : Circuit) (i : CertificateLine) → IsBorderLine i → wires_in c i ≡ []
 border_wires c (Module b) border = absurd border
@@ -462,7 +462,7 @@ border_wires c (Use k) border = absurd border
 border_wires c (Keep k) border = absurd border
 border_wires c (Edge e) border = refl
 border_wires c (Halo e) border = refl
-border_wires c (Stop s) border = absurd border
+border_wires c (Stop s) border = refl
 
 -- ---- with the wires of all modules
 

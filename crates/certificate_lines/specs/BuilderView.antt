@@ -174,7 +174,7 @@ IsInner (Edge e) = Unit {0}
 IsInner (Halo e) = Unit {0}
 IsInner (Stop s) = Unit {0}
 
--- the line is an edge or halo line
+-- the line is an edge, halo or stop line
 abbrev pub IsBorderLine : CertificateLine → Type 0
 IsBorderLine (Module b) = ⊥
 IsBorderLine (Cut n) = ⊥
@@ -182,7 +182,7 @@ IsBorderLine (Use k) = ⊥
 IsBorderLine (Keep k) = ⊥
 IsBorderLine (Edge e) = Unit {0}
 IsBorderLine (Halo e) = Unit {0}
-IsBorderLine (Stop s) = ⊥
+IsBorderLine (Stop s) = Unit {0}
 
 -- ---- what a line of a module makes local
 

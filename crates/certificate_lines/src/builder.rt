@@ -190,7 +190,7 @@ impl<'a> Builder<'a> {
 }
 
 impl<'a> Builder<'a> {
-    // Adds an edge or halo line, or answers the code of the first test that it fails.
+    // Adds an edge, halo or stop line, or answers the code of the first test that it fails.
     //
     // It is inlined where the kind of line is known, so that no test asks for the kind.
     #[inline(always)]
@@ -334,7 +334,8 @@ impl<'a> Builder<'a> {
 
     /// Adds a line.
     ///
-    /// Most lines are edge and halo lines. Each of the two has a call of its own, in which the compiler knows the kind.
+    /// Most lines are edge, halo and stop lines. Each of the three has a call of its own, in which the compiler knows
+    /// the kind.
     ///
     /// # Errors
     ///
@@ -350,6 +351,7 @@ impl<'a> Builder<'a> {
             CertificateLine::Module(area) => self.add_module(alloc, area),
             CertificateLine::Edge(_) => self.add_border(entry),
             CertificateLine::Halo(_) => self.add_border(entry),
+            CertificateLine::Stop(_) => self.add_border(entry),
             _ => self.add_inner(entry),
         }
     }

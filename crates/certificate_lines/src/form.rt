@@ -122,16 +122,25 @@ fn is_halo_line(line: &[u8]) -> bool
     }
 }
 
-// The form of a line of five words that is no edge or halo line.
+// Whether a line begins with `stop` and a space.
+fn is_stop_line(line: &[u8]) -> bool
+    ensures { result ≡ bytes_eq (take 5 line.now) (codes "stop ") }
+{
+    match line {
+        [b's', b't', b'o', b'p', b' ', ..] => true,
+        _ => false,
+    }
+}
+
+// The form of a line of five words that is no edge, halo or stop line.
 #[tactic(auto, unfolding(crate::specs::Forms::form_of, section_text::specs::Words::is_word_at))]
 fn other_form(words: FiveWords) -> Option<Form<u32, CertificateLine>>
     requires no_edge { bytes_eq words.first.now (codes "edge") ≡ false }
     requires no_halo { bytes_eq words.first.now (codes "halo") ≡ false }
+    requires no_stop { bytes_eq words.first.now (codes "stop") ≡ false }
     ensures { result ≡ form_of (listed words.entry) }
 {
-    if is_keyword(words.first, b"stop") {
-        Some(Form::Item(CertificateLine::Stop(stop_of_words(&words)?)))
-    } else if is_keyword(words.first, b"module") {
+    if is_keyword(words.first, b"module") {
         Some(Form::Item(CertificateLine::Module(area_of_words(&words)?)))
     } else {
         None
@@ -160,12 +169,13 @@ fn short_form(feed: &Feed, line: &Line) -> Option<Form<u32, CertificateLine>>
     }
 }
 
-// The form of a line that begins with no `edge ` and no `halo `.
+// The form of a line that begins with no `edge `, no `halo ` and no `stop `.
 #[inline(never)]
 fn form_of_other(feed: &Feed, line: &Line) -> Option<Form<u32, CertificateLine>>
     requires line { IsLine feed.now line.now }
     requires no_edge { bytes_eq (take 5 (line_bytes feed.now line.now)) (codes "edge ") ≡ false }
     requires no_halo { bytes_eq (take 5 (line_bytes feed.now line.now)) (codes "halo ") ≡ false }
+    requires no_stop { bytes_eq (take 5 (line_bytes feed.now line.now)) (codes "stop ") ≡ false }
     ensures { result ≡ form_of (words_of (line_bytes feed.now line.now)) }
 {
     match feed.five_words(line) {
@@ -174,10 +184,35 @@ fn form_of_other(feed: &Feed, line: &Line) -> Option<Form<u32, CertificateLine>>
     }
 }
 
+// The content of a stop line.
+#[inline(always)]
+fn stop_in(feed: &Feed, line: &Line) -> Option<StopLine>
+    requires { IsLine feed.now line.now }
+    ensures { result ≡ stop_of (words_of (line_bytes feed.now line.now)) }
+{
+    let words = feed.five_words(line)?;
+    stop_of_words(&words)
+}
+
+// The form of a line that begins with no `edge ` and no `halo `.
+#[inline(always)]
+fn stop_or_other(feed: &Feed, line: &Line) -> Option<Form<u32, CertificateLine>>
+    requires line { IsLine feed.now line.now }
+    requires no_edge { bytes_eq (take 5 (line_bytes feed.now line.now)) (codes "edge ") ≡ false }
+    requires no_halo { bytes_eq (take 5 (line_bytes feed.now line.now)) (codes "halo ") ≡ false }
+    ensures { result ≡ form_of (words_of (line_bytes feed.now line.now)) }
+{
+    if !is_stop_line(feed.line(line)) {
+        return form_of_other(feed, line);
+    }
+    let stop = stop_in(feed, line)?;
+    Some(Form::Item(CertificateLine::Stop(stop)))
+}
+
 /// Returns the form of a line, if it has one. It passes over an edge or halo line once.
 ///
-/// Most lines of a certificate are edge and halo lines. So these are formed here, and the others in functions of their
-/// own, since each call that returns a form copies its 64 bytes.
+/// Most lines of a certificate are edge, halo and stop lines. So these are formed here, and the others in functions of
+/// their own, since each call that returns a form copies its 64 bytes.
 pub fn line_form(feed: &Feed, line: &Line) -> Option<Form<u32, CertificateLine>>
     requires { IsLine feed.now line.now }
     ensures { result ≡ form_of (words_of (line_bytes feed.now line.now)) }
@@ -185,7 +220,7 @@ pub fn line_form(feed: &Feed, line: &Line) -> Option<Form<u32, CertificateLine>>
     let bytes = feed.line(line);
     let is_edge = is_edge_line(bytes);
     if !is_edge && !is_halo_line(bytes) {
-        return form_of_other(feed, line);
+        return stop_or_other(feed, line);
     }
     let border = border_behind(&bytes[5..])?;
     if is_edge {

@@ -25,6 +25,15 @@ other_form-requires-clause-no_halo c =
     (five_words_are (words_of (line_bytes c.args.feed.now c.args.line.now)) w
     (ap (option_map listed) (sym c.in-Some.is) ∙ c.five_words.ensures))
 
+pub other_form-requires-clause-no_stop : goal.other_form-requires-clause-no_stop
+other_form-requires-clause-no_stop c =
+    let w = c.in-Some.words in
+    other_first (codes "stop") (codes "stop ") (line_bytes c.args.feed.now c.args.line.now) 5 (λ rest. refl)
+    c.requires.no_stop
+    w.first.now w.second.now (w.third.now ∷ w.fourth.now ∷ w.fifth.now ∷ [])
+    (five_words_are (words_of (line_bytes c.args.feed.now c.args.line.now)) w
+    (ap (option_map listed) (sym c.in-Some.is) ∙ c.five_words.ensures))
+
 pub returns-in-None : goal.returns-in-None
 returns-in-None c = c.short_form.ensures ∙ short_form_is (words_of (line_bytes c.args.feed.now c.args.line.now))
     (ap (option_map listed) (sym c.in-None.is) ∙ c.five_words.ensures)
