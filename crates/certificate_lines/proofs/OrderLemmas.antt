@@ -17,6 +17,7 @@ use Rattle.certificate_lines.specs.Orders.{AreInOrder, rank_of, number_of, cell_
 use Rattle.certificate_lines.specs.Orders.{may_follow}
 use Rattle.certificate_lines.specs.Versions.{line_order}
 use Rattle.certificate_lines.specs.declared.certificate_line.Border.{Border}
+use Rattle.certificate_lines.specs.declared.certificate_line.StopLine.{StopLine}
 use Rattle.certificate_lines.specs.BuilderView.{IsInner, inner_of, last_inner}
 use Rattle.certificate_lines.proofs.Growing.{last_pushed}
 use Rattle.certificate_lines.proofs.Lists.{or_parts, or_right}
@@ -74,6 +75,11 @@ edges_precede d e = sym (or_none _)
 pub halos_precede : (d e : Border) → is_lt (line_order d e) ≡ may_precede (Halo d) (Halo e)
 unfolding may_precede line_cmp line_order rank_of number_of cell_of is_cut
 halos_precede d e = sym (or_none _)
+
+-- and two stops
+pub stops_precede : (s t : StopLine) → is_lt (line_cmp (Stop s) (Stop t)) ≡ may_precede (Stop s) (Stop t)
+unfolding may_precede is_cut
+stops_precede s t = sym (or_none _)
 
 -- how two lines may stand one before the other
 precede_parts : (i j : CertificateLine) → may_precede i j ≡ true →

@@ -6,8 +6,9 @@ ghost use Rattle.certificate_lines.specs.Orders.{AreInOrder, rank_of, time_rank,
 ghost use Rattle.certificate_lines.specs.Versions.{line_order};
 ghost use Rattle.certificate_lines.specs.BuilderView.{IsInner, last_inner};
 ghost use Rattle.certificate_lines.specs.declared.certificate_line.CertificateLine.{CertificateLine};
+ghost use Rattle.certificate_lines.specs.declared.certificate_line.CertificateLine.TheVariants.{Stop};
 
-use crate::certificate_line::{Border, CertificateLine};
+use crate::certificate_line::{Border, CertificateLine, StopLine};
 use bbm_rule::Cell;
 use module_box::compare_cells;
 use std::cmp::Ordering;
@@ -113,6 +114,19 @@ fn does_border_precede(first: &Border, second: &Border) -> bool
     }
 }
 
+// Whether the first of two stops may stand before the second.
+#[inline(always)]
+#[tactic(auto, unfolding(crate::specs::Orders::line_cmp, crate::specs::Orders::rank_of, crate::specs::Orders::number_of, crate::specs::Orders::cell_of))]
+fn does_stop_precede(first: &StopLine, second: &StopLine) -> bool
+    ensures { result ≡ is_lt (line_cmp (Stop first.now) (Stop second.now)) }
+{
+    if first.time == second.time {
+        compare_cells(first.cell, second.cell).is_lt()
+    } else {
+        first.time < second.time
+    }
+}
+
 // Whether the first line may stand before the second. Most lines follow a line of their kind.
 #[inline(always)]
 fn does_precede(first: &CertificateLine, second: &CertificateLine) -> bool
@@ -124,6 +138,9 @@ fn does_precede(first: &CertificateLine, second: &CertificateLine) -> bool
         }
         (CertificateLine::Halo(first), CertificateLine::Halo(second)) => {
             does_border_precede(first, second)
+        }
+        (CertificateLine::Stop(first), CertificateLine::Stop(second)) => {
+            does_stop_precede(first, second)
         }
         _ => does_any_precede(first, second),
     }
