@@ -2,6 +2,7 @@ pub mod BorderWords
 pub mod BuilderView
 pub mod Entries
 pub mod Forms
+pub mod KeptLines
 pub mod LineTablesView
 pub mod ModuleParts
 pub mod Modules
