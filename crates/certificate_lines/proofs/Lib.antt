@@ -22,6 +22,7 @@ pub mod ModuleBoxes
 pub mod ModuleLemmas
 pub mod ModulePushes
 pub mod ModuleSplit
+pub mod NamedLines
 pub mod OddBlocks
 pub mod OrderLemmas
 pub mod Pairs

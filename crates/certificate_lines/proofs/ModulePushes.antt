@@ -309,7 +309,8 @@ local_by : (c : Circuit) (local : List ℕ) (name : List ℕ) (o : Option ℕ) �
 local_by c local name None is e = absurd cc
 local_by c local name (Some w) is e = rw is (not_false _ (no_code _ NotLocal e))
 
-signal_good : (c : Circuit) (local : List ℕ) (s : Option (List ℕ)) → signal_fault c local s ≡ None →
+-- a signal that is good is `1` or names a wire that is local
+pub signal_good : (c : Circuit) (local : List ℕ) (s : Option (List ℕ)) → signal_fault c local s ≡ None →
     IfSome s (λ name. IsTrue (is_local c local name))
 unfolding signal_fault
 signal_good c local None e = tt

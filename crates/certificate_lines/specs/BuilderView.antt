@@ -2,7 +2,7 @@
 use Rattle.std.specs.Prelude.{◌≡◌, ℕ, ◌+◌, ◌<◌, ◌≤◌, ℤ, ◌&&◌, Bool, not, false, List, [], ◌∷◌, ◌++◌, map, length}
 use Rattle.std.specs.Prelude.{IfSome, Option, true}
 use Rattle.std.specs.Prelude.{Some, None, slice_get, IsTrue}
-use Rattle.std.specs.Option.{option_to_list}
+use Rattle.std.specs.Option.{is_some, option_to_list}
 use Rattle.circuit.specs.Meaning.{Circuit, Gate, wire_of}
 use Rattle.std.specs.List.{All, filter, list_any}
 use Rattle.bbm_rule.specs.Board.{Board, live}
@@ -163,6 +163,14 @@ pub record IsSmall (k : Counts) : Type 0 where
 -- those of the edge or halo lines that have a `*`
 abbrev pub starred : List Border → List Border
 starred lines = filter (λ e. is_star e.time) lines
+
+-- the wire that a line names is one of the circuit, and local unless the line cuts it
+abbrev pub NamesWire : Circuit → List ℕ → CertificateLine → Type 0
+NamesWire c local (Cut n) = IsTrue (is_some (wire_of c n))
+NamesWire c local (Edge e) = IfSome e.signal (λ n. IsTrue (is_local c local n))
+NamesWire c local (Halo e) = IfSome e.signal (λ n. IsTrue (is_local c local n))
+NamesWire c local (Stop s) = IsTrue (is_local c local s.wire)
+NamesWire c local _ = Unit {0}
 
 -- the line is no `module` line
 abbrev pub IsInner : CertificateLine → Type 0

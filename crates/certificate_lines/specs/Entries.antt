@@ -107,6 +107,14 @@ halo_in (Edge e) = []
 halo_in (Halo e) = e ∷ []
 halo_in (Stop s) = []
 
+-- the name in a line, if it has one
+abbrev pub name_in : CertificateLine → Option (List ℕ)
+name_in (Cut n) = Some n
+name_in (Edge e) = e.signal
+name_in (Halo e) = e.signal
+name_in (Stop s) = Some s.wire
+name_in _ = None
+
 -- a stop line, and no other line
 abbrev pub stop_in : CertificateLine → List StopLine
 stop_in (Module b) = []

@@ -1,15 +1,18 @@
 //! A certificate that is read, line by line.
-ghost use Rattle.std.specs.Prelude.{◌≡◌, ◌+◌, ◌≤◌, ◌<◌, ◌++◌, ◌∷◌, [], not, map, ◌&&◌, Bool, None, Some, List, ℕ, length, OnOk, IfOk, IfErr};
+ghost use Rattle.std.specs.Prelude.{◌≡◌, ◌+◌, ◌≤◌, ◌<◌, ◌++◌, ◌∷◌, [], not, map, ◌&&◌, Bool, None, Some, List, ℕ, length, IsTrue, OnOk, IfOk, IfErr, IfSome};
+ghost use Rattle.std.specs.Option.{is_some, option_map};
+ghost use Rattle.circuit.specs.Meaning.{wire_of};
 ghost use Rattle.section_text.specs.Adding.{FaultIs};
 ghost use Rattle.std.specs.List.{list_any};
-ghost use Rattle.certificate_lines.specs.Entries.{ModuleLines, counts_of, known, modules_of, last_module};
+ghost use Rattle.certificate_lines.specs.Entries.{ModuleLines, counts_of, known, modules_of, last_module, name_in};
 ghost use Rattle.certificate_lines.specs.Rules.{border_fault, entry_fault, end_fault, box_fault, module_fault, inner_fault, words_fault, is_incomplete, is_local};
 ghost use Rattle.module_box.specs.Boxes.{in_box};
-ghost use Rattle.certificate_lines.specs.BuilderView.{BuilderView, IsBorderLine, IsInner, IsSmall};
+ghost use Rattle.certificate_lines.specs.BuilderView.{BuilderView, IsBorderLine, IsInner, IsSmall, NamesWire};
 ghost use Rattle.certificate_lines.specs.declared.certificate_line.CertificateLine.TheVariants.{Module};
 
 use crate::certificate_line::{CertificateLine, Counts};
 use crate::counts::{count_in_last, last_counts, pop_module, push_entry, push_module};
+use crate::kept_line::KeptLine;
 use crate::known::{learn_line, make_room_for_wires, put_away};
 use crate::line_tables::LineTables;
 use crate::local_names::LocalNames;
@@ -38,7 +41,7 @@ const MAX_MODULES: usize = 1024;
 #[derive(Drop)]
 pub struct Builder<'a> {
     pub(crate) tables: LineTables<'a>,
-    pub(crate) entries: Vec<CertificateLine>,
+    pub(crate) entries: Vec<KeptLine<'a>>,
     pub(crate) modules: Vec<Counts>,
     // the cells of all boxes
     covered: Grid,
@@ -71,6 +74,43 @@ fn lacks_some(tables: &LineTables, known: &IndexSet<u16>, names: &[Name]) -> boo
         ≡ list_any (λ n. not (is_local tables.now.circuit known.now.keys n)) names.now }
 {
     names.iter().any(|name| !is_local_name(tables, known, name))
+}
+
+// The name in a line as the circuit has it, if the line has one.
+#[inline(always)]
+fn own_name<'a>(
+    tables: &LineTables<'a>,
+    known: &IndexSet<u16>,
+    names: &LocalNames<'a>,
+    line: &CertificateLine,
+) -> Option<&'a Name>
+    requires { NamesWire tables.now.circuit known.now.keys line.now }
+    ensures { option_map (λ n. n.now) result ≡ name_in line.now }
+{
+    match line {
+        CertificateLine::Cut(name) => Some(names.own_name(tables, name)),
+        CertificateLine::Edge(border) => own_signal(tables, known, names, &border.signal),
+        CertificateLine::Halo(border) => own_signal(tables, known, names, &border.signal),
+        CertificateLine::Stop(stop) => Some(names.own_name(tables, &stop.wire)),
+        _ => None,
+    }
+}
+
+// The name of a signal as the circuit has it, if the signal is a wire.
+#[inline(always)]
+fn own_signal<'a>(
+    tables: &LineTables<'a>,
+    known: &IndexSet<u16>,
+    names: &LocalNames<'a>,
+    signal: &Option<Name>,
+) -> Option<&'a Name>
+    requires { IfSome signal.now (λ n. IsTrue (is_local tables.now.circuit known.now.keys n)) }
+    ensures { option_map (λ n. n.now) result ≡ signal.now }
+{
+    match signal {
+        Some(name) => Some(names.own_name(tables, name)),
+        None => None,
+    }
 }
 
 impl<'a> Builder<'a> {
@@ -207,7 +247,8 @@ impl<'a> Builder<'a> {
         if make_room_for_stars(&mut self.edges, &mut self.halos, &entry).is_err() {
             return Err(LineFault::Memory);
         }
-        push_entry(&mut self.entries, entry)?;
+        let name = own_name(&self.tables, &self.known, &self.local_names, &entry);
+        push_entry(&mut self.entries, KeptLine::of(&entry, name))?;
         note_stars(&mut self.edges, &mut self.halos, &entry);
         count_in_last(&mut self.modules, &entry);
         Ok(())
@@ -231,7 +272,8 @@ impl<'a> Builder<'a> {
         if make_room_for_stars(&mut self.edges, &mut self.halos, &entry).is_err() {
             return Err(LineFault::Memory);
         }
-        push_entry(&mut self.entries, entry)?;
+        let name = own_name(&self.tables, &self.known, &self.local_names, &entry);
+        push_entry(&mut self.entries, KeptLine::of(&entry, name))?;
         learn_line(&mut self.known, &self.tables, &entry);
         note_stars(&mut self.edges, &mut self.halos, &entry);
         count_in_last(&mut self.modules, &entry);
@@ -371,7 +413,7 @@ impl<'a> Builder<'a> {
     }
 
     /// Returns the lines, and the counts of the modules.
-    pub fn into_parts(self) -> (Vec<CertificateLine>, Vec<Counts>)
+    pub fn into_parts(self) -> (Vec<KeptLine<'a>>, Vec<Counts>)
         ensures entries { result.0.items ≡ self.entry.entries }
         ensures counts { result.1.items ≡ map counts_of (modules_of self.entry.entries) }
     {

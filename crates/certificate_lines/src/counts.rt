@@ -6,9 +6,10 @@ ghost use Rattle.certificate_lines.specs.BuilderView.{counted, IsSmall};
 ghost use Rattle.certificate_lines.specs.declared.certificate_line.Counts.{Counts};
 ghost use Rattle.certificate_lines.specs.declared.certificate_line.CertificateLine.TheVariants.{Module};
 
-use crate::certificate_line::{Border, CertificateLine, Counts, StopLine};
+use crate::certificate_line::{CertificateLine, Counts};
+use crate::kept_line::KeptLine;
 use module_box::Box2;
-use section_text::{LineFault, Name};
+use section_text::LineFault;
 
 // Counts one more line of a module.
 #[inline(always)]
@@ -48,40 +49,17 @@ pub(crate) fn count_in_last(modules: &mut Vec<Counts>, entry: &CertificateLine)
     count_line(&mut modules[at], entry);
 }
 
-// These three name the types inside an entry, which the borrow checker wants to see where an entry is moved.
-fn border_of(entry: &CertificateLine) -> Option<Border> {
-    match entry {
-        CertificateLine::Edge(border) => Some(*border),
-        CertificateLine::Halo(border) => Some(*border),
-        _ => None,
-    }
-}
-
-fn stop_of(entry: &CertificateLine) -> Option<StopLine> {
-    match entry {
-        CertificateLine::Stop(stop) => Some(*stop),
-        _ => None,
-    }
-}
-
-fn signal_of(border: Option<Border>) -> Option<Name> {
-    border?.signal
-}
-
 /// Adds a line at the end.
 #[inline(always)]
-pub fn push_entry(
-    entries: &mut Vec<CertificateLine>,
-    entry: CertificateLine,
+pub fn push_entry<'a>(
+    entries: &mut Vec<KeptLine<'a>>,
+    line: KeptLine<'a>,
 ) -> Result<(), LineFault>
-    ensures ok { OnOk result (entries.new.items ≡ entries.old.items ++ entry ∷ []) }
+    ensures ok { OnOk result (entries.new.items ≡ entries.old.items ++ line.entry ∷ []) }
     ensures err { OnErr result (entries.new.items ≡ entries.old.items) }
     ensures memory { IfErr result (λ e. e ≡ Memory) }
 {
-    let border = border_of(&entry);
-    let _signal = signal_of(border);
-    let _stop = stop_of(&entry);
-    match entries.push(entry) {
+    match entries.push(line) {
         Ok(()) => Ok(()),
         Err(_) => Err(LineFault::Memory),
     }
@@ -89,7 +67,7 @@ pub fn push_entry(
 
 /// Adds a `module` line, and its counts, or leaves both as they are.
 pub(crate) fn push_module(
-    entries: &mut Vec<CertificateLine>,
+    entries: &mut Vec<KeptLine>,
     modules: &mut Vec<Counts>,
     area: Box2,
 ) -> Result<(), LineFault>
@@ -105,7 +83,7 @@ pub(crate) fn push_module(
     let Ok(()) = modules.push(Counts::new(area)) else {
         return Err(LineFault::Memory);
     };
-    if let Err(fault) = push_entry(entries, CertificateLine::Module(area)) {
+    if let Err(fault) = push_entry(entries, KeptLine::module(area)) {
         modules.truncate(before);
         return Err(fault);
     }
@@ -113,7 +91,7 @@ pub(crate) fn push_module(
 }
 
 /// Takes the last line, and the last counts, away.
-pub(crate) fn pop_module(entries: &mut Vec<CertificateLine>, modules: &mut Vec<Counts>)
+pub(crate) fn pop_module(entries: &mut Vec<KeptLine>, modules: &mut Vec<Counts>)
     requires lines { 0 < length entries.old.items }
     requires modules { 0 < length modules.old.items }
     ensures entries { entries.new.items ≡ take (length entries.old.items - 1) entries.old.items }

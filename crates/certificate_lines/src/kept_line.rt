@@ -1,7 +1,7 @@
 //! A line of a certificate as a certificate keeps it: with a reference to the name of its wire.
 ghost use Rattle.std.specs.Prelude.{◌≡◌};
 ghost use Rattle.std.specs.Option.{option_map, option_to_list};
-ghost use Rattle.certificate_lines.specs.Entries.{edge_in, halo_in, stop_in};
+ghost use Rattle.certificate_lines.specs.Entries.{edge_in, halo_in, name_in, stop_in};
 ghost use Rattle.certificate_lines.specs.declared.certificate_line.CertificateLine.TheVariants.{Module, Halo};
 
 use crate::certificate_line::{Border, CertificateLine, StopLine};
@@ -94,6 +94,31 @@ impl<'a> KeptLine<'a> {
         KeptLine {
             content: Content::Module(area),
         }
+    }
+
+    /// Returns a line whose name, if it has one, is this one.
+    #[inline(always)]
+    pub(crate) fn of(line: &CertificateLine, name: Option<&'a Name>) -> KeptLine<'a>
+        requires { option_map (λ n. n.now) name ≡ name_in line.now }
+        ensures { result ≡ line.now }
+    {
+        let content = match (line, name) {
+            (CertificateLine::Module(area), _) => Content::Module(*area),
+            (CertificateLine::Cut(_), Some(name)) => Content::Cut(name),
+            (CertificateLine::Use(number), _) => Content::Use(*number),
+            (CertificateLine::Keep(number), _) => Content::Keep(*number),
+            (CertificateLine::Edge(border), Some(name)) => {
+                Content::EdgeOfWire(border.time, border.cell, name)
+            }
+            (CertificateLine::Edge(border), None) => Content::EdgeOfOne(border.time, border.cell),
+            (CertificateLine::Halo(border), Some(name)) => {
+                Content::HaloOfWire(border.time, border.cell, name)
+            }
+            (CertificateLine::Halo(border), None) => Content::HaloOfOne(border.time, border.cell),
+            (CertificateLine::Stop(stop), Some(name)) => Content::Stop(stop.time, stop.cell, name),
+            _ => unreachable!(),
+        };
+        KeptLine { content }
     }
 
     /// Returns a halo line.

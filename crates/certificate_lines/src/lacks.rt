@@ -12,7 +12,8 @@ ghost use Rattle.certificate_lines.specs.Versions.{is_strange, lacks_wire};
 
 use crate::blocks::odd_partner;
 use crate::builder::Builder;
-use crate::certificate_line::{Border, CertificateLine};
+use crate::certificate_line::CertificateLine;
+use crate::kept_line::{KeptBorder, KeptLine};
 use crate::line_tables::LineTables;
 use crate::lines::inner_lines;
 use crate::rules::{is_local_name, is_local_wire};
@@ -24,12 +25,12 @@ use section_text::Name;
 use std::alloc::{AllocError, Global};
 
 // Whether a signal is neither `1` nor one of the local wires.
-fn is_unknown(tables: &LineTables, known: &IndexSet<u16>, signal: Option<Name>) -> bool
-    ensures { result ≡ is_strange tables.now.circuit known.now.keys signal }
+fn is_unknown(tables: &LineTables, known: &IndexSet<u16>, border: &KeptBorder) -> bool
+    ensures { result ≡ is_strange tables.now.circuit known.now.keys border.now.signal }
 {
-    match signal {
+    match border.signal() {
         None => false,
-        Some(name) => !is_local_name(tables, known, &name),
+        Some(name) => !is_local_name(tables, known, name),
     }
 }
 
@@ -38,16 +39,14 @@ fn is_unknown_line(
     tables: &LineTables,
     known: &IndexSet<u16>,
     area: Box2,
-    line: &CertificateLine,
+    line: &KeptLine,
 ) -> bool
     ensures { result
         ≡ list_any (λ e. is_strange tables.now.circuit known.now.keys e.signal)
         (filter (λ e. in_halo area e.cell.x e.cell.y) (edge_in line.now)) }
 {
-    match line {
-        CertificateLine::Edge(border) if area.in_halo(border.cell) => {
-            is_unknown(tables, known, border.signal)
-        }
+    match line.edge() {
+        Some(border) if area.in_halo(border.cell()) => is_unknown(tables, known, &border),
         _ => false,
     }
 }
@@ -57,7 +56,7 @@ fn has_unknown(
     tables: &LineTables,
     known: &IndexSet<u16>,
     area: Box2,
-    lines: &[CertificateLine],
+    lines: &[KeptLine],
 ) -> bool
     ensures { result
         ≡ list_any (λ e. is_strange tables.now.circuit known.now.keys e.signal)
@@ -116,7 +115,7 @@ impl<'a> Builder<'a> {
 
     // Whether one of the edge lines of a module names a wire that is not local in the module of this number, which is
     // beside it.
-    fn lacks_wire_in(&self, number: usize, area: Box2, lines: &[CertificateLine]) -> bool
+    fn lacks_wire_in(&self, number: usize, area: Box2, lines: &[KeptLine]) -> bool
         requires number { number < length (modules_of self.now.entries) }
         requires inside { AreInBox area (flat_map edge_in lines.now) }
         ensures { (m : ModuleLines) → slice_get (modules_of self.now.entries) number ≡ Some m →
@@ -130,7 +129,7 @@ impl<'a> Builder<'a> {
     }
 
     // The same of some module. It asks each module, and takes no memory.
-    fn lacks_some_of_all(&self, area: Box2, lines: &[CertificateLine]) -> bool
+    fn lacks_some_of_all(&self, area: Box2, lines: &[KeptLine]) -> bool
         requires inside { AreInBox area (flat_map edge_in lines.now) }
         ensures { result
             ≡ list_any (lacks_edge self.now.setting.circuit (flat_map edge_in lines.now))
@@ -219,7 +218,7 @@ impl<'a> Builder<'a> {
         &self,
         owners: &Owners,
         last: &mut Option<LastName<'b>>,
-        border: &'b Border,
+        border: &KeptBorder<'b>,
     ) -> bool
         requires owners { AreModuleOwners self.now owners.now }
         requires last { IsLastName self.now.setting.circuit last.old }
@@ -229,12 +228,12 @@ impl<'a> Builder<'a> {
             ≡ is_lacked self.now.setting.circuit (modules_of self.now.entries) border.now }
         ensures last { IsLastName self.now.setting.circuit last.new }
     {
-        match &border.signal {
+        match border.signal() {
             None => false,
             Some(name) => {
                 // The name is looked up once for all modules beside the cell.
                 let wire = wire_by_last(&self.tables, last, name);
-                self.is_unknown_beside(owners, border.cell, wire)
+                self.is_unknown_beside(owners, border.cell(), wire)
             }
         }
     }
@@ -246,7 +245,7 @@ impl<'a> Builder<'a> {
         &self,
         owners: &Owners,
         last: &mut Option<LastName<'b>>,
-        line: &'b CertificateLine,
+        line: &KeptLine<'b>,
     ) -> bool
         requires owners { AreModuleOwners self.now owners.now }
         requires last { IsLastName self.now.setting.circuit last.old }
@@ -256,14 +255,14 @@ impl<'a> Builder<'a> {
             (edge_in line.now) }
         ensures last { IsLastName self.now.setting.circuit last.new }
     {
-        match line {
-            CertificateLine::Edge(border) => self.is_lacked(owners, last, border),
-            _ => false,
+        match line.edge() {
+            Some(border) => self.is_lacked(owners, last, &border),
+            None => false,
         }
     }
 
     // Whether some module lacks the wire of one of the edge lines, by the modules beside each of them.
-    fn lacks_some_beside(&self, owners: &Owners, lines: &[CertificateLine]) -> bool
+    fn lacks_some_beside(&self, owners: &Owners, lines: &[KeptLine]) -> bool
         requires owners { AreModuleOwners self.now owners.now }
         requires inside { AreInBox (whole self.now.setting.size) (flat_map edge_in lines.now) }
         ensures { result
@@ -280,7 +279,7 @@ impl<'a> Builder<'a> {
     }
 
     // The same of the edge lines of a module, by a table of owners if there is one.
-    fn lacks_some_in(&self, owners: &Option<Owners>, area: Box2, lines: &[CertificateLine]) -> bool
+    fn lacks_some_in(&self, owners: &Option<Owners>, area: Box2, lines: &[KeptLine]) -> bool
         requires owners { IfSome owners.now (AreModuleOwners self.now) }
         requires inside { AreInBox area (flat_map edge_in lines.now) }
         requires on_layout { AreInBox (whole self.now.setting.size) (flat_map edge_in lines.now) }
@@ -301,8 +300,8 @@ impl<'a> Builder<'a> {
         ensures { result ≡ lacks_wire self.now.setting (modules_of self.now.entries) }
     {
         'lines: for (place, entry) in self.entries.iter().enumerate() {
-            if let CertificateLine::Module(area) = entry {
-                if self.lacks_some_in(owners, *area, inner_lines(&self.entries[place + 1..])) {
+            if let CertificateLine::Module(area) = entry.line() {
+                if self.lacks_some_in(owners, area, inner_lines(&self.entries[place + 1..])) {
                     return true;
                 }
             }

@@ -9,21 +9,22 @@ ghost use Rattle.certificate_lines.specs.Entries.{ModuleLines, cut_in, use_in, k
 ghost use Rattle.certificate_lines.specs.ModuleParts.{inner, is_module};
 
 use crate::certificate_line::CertificateLine;
+use crate::kept_line::KeptLine;
 use circuit::{Circuit, GateNo, WireNo};
 use std::alloc::{AllocError, Global};
 
 /// Returns whether the line begins a module.
-pub fn is_module(entry: &CertificateLine) -> bool
+pub fn is_module(entry: &KeptLine) -> bool
     ensures { result ≡ is_module entry.now }
 {
-    match entry {
+    match entry.line() {
         CertificateLine::Module(_) => true,
         _ => false,
     }
 }
 
 /// Returns the lines before the next `module` line.
-pub fn inner_lines(entries: &[CertificateLine]) -> &[CertificateLine]
+pub fn inner_lines<'b, 'a>(entries: &'b [KeptLine<'a>]) -> &'b [KeptLine<'a>]
     ensures { result.now ≡ inner entries.now }
 {
     for (place, entry) in entries.iter().enumerate() {
@@ -35,18 +36,18 @@ pub fn inner_lines(entries: &[CertificateLine]) -> &[CertificateLine]
 }
 
 // Whether the line uses the gate of this number.
-fn uses(entry: &CertificateLine, number: u32) -> bool
+fn uses(entry: &KeptLine, number: u32) -> bool
     ensures { result ≡ is_among (use_in entry.now) number }
 {
-    match entry {
-        CertificateLine::Use(gate) => *gate == number,
+    match entry.line() {
+        CertificateLine::Use(gate) => gate == number,
         _ => false,
     }
 }
 
 /// Returns whether the last module of the lines uses the gate of this number. It looks back as far as that module's
 /// `module` line.
-pub(crate) fn is_used(entries: &[CertificateLine], number: u32) -> bool
+pub(crate) fn is_used(entries: &[KeptLine], number: u32) -> bool
     ensures { (m : ModuleLines) → last_module entries.now ≡ Some m →
         result ≡ is_among (gates m) number }
 {
@@ -66,14 +67,14 @@ pub(crate) fn is_used(entries: &[CertificateLine], number: u32) -> bool
 fn push_cut(
     wires: &mut Vec<WireNo>,
     circuit: &Circuit,
-    line: &CertificateLine,
+    line: &KeptLine,
 ) -> Result<(), AllocError>
     ensures { OnOk result (wires.new.items
         ≡ wires.old.items ++ flat_map (λ n. option_to_list (wire_of (circuit_of circuit.now) n))
         (cut_in line.now)) }
 {
-    if let CertificateLine::Cut(name) = line {
-        if let Some(wire) = circuit.wire(name) {
+    if let CertificateLine::Cut(name) = line.line() {
+        if let Some(wire) = circuit.wire(&name) {
             wires.push(wire)?;
         }
     }
@@ -83,7 +84,7 @@ fn push_cut(
 fn push_cuts(
     wires: &mut Vec<WireNo>,
     circuit: &Circuit,
-    lines: &[CertificateLine],
+    lines: &[KeptLine],
 ) -> Result<(), AllocError>
     ensures { OnOk result (wires.new.items
         ≡ wires.old.items ++ flat_map (λ n. option_to_list (wire_of (circuit_of circuit.now) n))
@@ -99,7 +100,7 @@ fn push_cuts(
 pub fn cut_list(
     alloc: Global,
     circuit: &Circuit,
-    lines: &[CertificateLine],
+    lines: &[KeptLine],
 ) -> Result<Vec<WireNo>, AllocError>
     ensures { IfOk result (λ wires. wires.items
         ≡ flat_map (λ n. option_to_list (wire_of (circuit_of circuit.now) n))
@@ -110,18 +111,18 @@ pub fn cut_list(
     Ok(wires)
 }
 
-fn push_use(gates: &mut Vec<GateNo>, line: &CertificateLine) -> Result<(), AllocError>
+fn push_use(gates: &mut Vec<GateNo>, line: &KeptLine) -> Result<(), AllocError>
     requires { All (λ k. k < 2 ^ 16) (use_in line.now) }
     ensures { OnOk result (gates.new.items ≡ gates.old.items ++ use_in line.now) }
 {
-    if let CertificateLine::Use(number) = line {
-        gates.push(GateNo::of(*number as u16))?;
+    if let CertificateLine::Use(number) = line.line() {
+        gates.push(GateNo::of(number as u16))?;
     }
     Ok(())
 }
 
 /// Returns the gates that the lines use.
-pub fn used_gates(alloc: Global, lines: &[CertificateLine]) -> Result<Vec<GateNo>, AllocError>
+pub fn used_gates(alloc: Global, lines: &[KeptLine]) -> Result<Vec<GateNo>, AllocError>
     requires { All (λ k. k < 2 ^ 16) (flat_map use_in lines.now) }
     ensures { IfOk result (λ gates. gates.items ≡ flat_map use_in lines.now) }
 {
@@ -150,7 +151,7 @@ fn place_of(gates: &[GateNo], number: u32) -> u16
 fn push_keep(
     places: &mut Vec<u16>,
     gates: &[GateNo],
-    line: &CertificateLine,
+    line: &KeptLine,
 ) -> Result<(), AllocError>
     requires at_most_64 { length gates.now ≤ 64 }
     requires used { All (λ k. IsTrue (is_among gates.now k)) (keep_in line.now) }
@@ -159,8 +160,8 @@ fn push_keep(
         ≡ map (slice_index gates.now) places.old.items ++ keep_in line.now) }
     ensures within { OnOk result (All (λ place. place < length gates.now) places.new.items) }
 {
-    if let CertificateLine::Keep(number) = line {
-        places.push(place_of(gates, *number))?;
+    if let CertificateLine::Keep(number) = line.line() {
+        places.push(place_of(gates, number))?;
     }
     Ok(())
 }
@@ -169,7 +170,7 @@ fn push_keep(
 pub fn kept_places(
     alloc: Global,
     gates: &[GateNo],
-    lines: &[CertificateLine],
+    lines: &[KeptLine],
 ) -> Result<Vec<u16>, AllocError>
     requires at_most_64 { length gates.now ≤ 64 }
     requires used { All (λ k. IsTrue (is_among gates.now k)) (flat_map keep_in lines.now) }

@@ -1,5 +1,6 @@
 //! The names of wires that are local in the last module, which are remembered as the circuit has them.
-ghost use Rattle.std.specs.Prelude.{◌≡◌, ◌<◌, None, replicate, IfSome};
+ghost use Rattle.std.specs.Prelude.{◌≡◌, ◌<◌, None, replicate, IfSome, IsTrue};
+ghost use Rattle.circuit.specs.Meaning.{wire_of};
 ghost use Rattle.std.specs.Option.{is_some};
 ghost use Rattle.certificate_lines.specs.BuilderView.{AreLocalNames};
 ghost use Rattle.certificate_lines.specs.Rules.{is_local};
@@ -109,5 +110,24 @@ impl<'a> LocalNames<'a> {
         ensures names { AreLocalNames tables.now.circuit known.now.keys self.new.slots }
     {
         find_in(tables, known, &mut self.slots, name)
+    }
+
+    /// Returns the circuit's name of the wire of this name.
+    ///
+    /// The name is looked up only if another name has its slot.
+    #[inline(always)]
+    pub(crate) fn own_name(&self, tables: &LineTables<'a>, name: &Name) -> &'a Name
+        requires { IsTrue (is_some (wire_of tables.now.circuit name.now)) }
+        ensures { result.now ≡ name.now }
+    {
+        if let Some(local) = self.slots[slot_of(name)] {
+            if *local.name == *name {
+                return local.name;
+            }
+        }
+        match tables.named_wire(name) {
+            Some((_, own_name)) => own_name,
+            None => unreachable!(),
+        }
     }
 }

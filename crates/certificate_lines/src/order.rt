@@ -9,6 +9,7 @@ ghost use Rattle.certificate_lines.specs.declared.certificate_line.CertificateLi
 ghost use Rattle.certificate_lines.specs.declared.certificate_line.CertificateLine.TheVariants.{Stop};
 
 use crate::certificate_line::{Border, CertificateLine, StopLine};
+use crate::kept_line::{KeptBorder, KeptLine};
 use bbm_rule::Cell;
 use module_box::compare_cells;
 use std::cmp::Ordering;
@@ -150,7 +151,7 @@ fn does_precede(first: &CertificateLine, second: &CertificateLine) -> bool
 ///
 /// A `module` line comes before all lines of its module.
 #[inline(always)]
-pub(crate) fn does_follow(entries: &[CertificateLine], entry: &CertificateLine) -> bool
+pub(crate) fn does_follow(entries: &[KeptLine], entry: &CertificateLine) -> bool
     requires { IsInner entry.now }
     ensures { (lines : List CertificateLine) → AreInOrder lines →
         last_of lines ≡ last_inner entries.now →
@@ -158,16 +159,16 @@ pub(crate) fn does_follow(entries: &[CertificateLine], entry: &CertificateLine) 
 {
     match entries.last() {
         None => true,
-        Some(last) => does_precede(last, entry),
+        Some(last) => does_precede(&last.line(), entry),
     }
 }
 
 /// Compares two edge lines, or two halo lines.
 #[tactic(auto, unfolding(crate::specs::Versions::line_order))]
-pub fn compare_borders(first: &Border, second: &Border) -> Ordering
+pub fn compare_borders(first: &KeptBorder, second: &KeptBorder) -> Ordering
     ensures { result ≡ line_order first.now second.now }
 {
-    rank_of_time(first.time)
-        .cmp(&rank_of_time(second.time))
-        .then(compare_cells(first.cell, second.cell))
+    rank_of_time(first.time())
+        .cmp(&rank_of_time(second.time()))
+        .then(compare_cells(first.cell(), second.cell()))
 }

@@ -31,7 +31,7 @@ lacks_some_in-requires c =
     let es = c.self.inside.entries.items in
     let here : c.deref-entry-items.result.now ≡ es = c.deref-entry-items.ensures.value in
     let line_is : Module c.in-Module.area ≡ get_or es c.lines.place (Module c.in-Module.area) =
-    subst (λ e. e ≡ get_or es c.lines.place e) c.in-Module.is
+    subst (λ e. e ≡ get_or es c.lines.place e) (sym c.line.ensures ∙ c.in-Module.is)
     (c.entry-item.is ∙ ap (λ l. get_or l c.lines.place c.entry-item.result) here) in
     let inner_is : c.inner_lines.result.now ≡ inner (drop (c.lines.place + 1) es) =
     c.inner_lines.ensures ∙ ap inner (rest_of_lines c.deref.result.now (c.lines.place + 1))
@@ -55,7 +55,7 @@ returns-then-lacks_some_in c =
     let same : c.self.inside.entries.items ≡ es = ap (λ (s : BuilderView). s.entries) c.self.view_is in
     let here : c.deref-entry-items.result.now ≡ es = c.deref-entry-items.ensures.value ∙ same in
     let line_is : Module c.in-Module.area ≡ get_or es c.lines.place (Module c.in-Module.area) =
-    subst (λ e. e ≡ get_or es c.lines.place e) c.in-Module.is
+    subst (λ e. e ≡ get_or es c.lines.place e) (sym c.line.ensures ∙ c.in-Module.is)
     (c.entry-item.is ∙ ap (λ l. get_or l c.lines.place c.entry-item.result) here) in
     let inner_is : c.inner_lines.result.now ≡ inner (drop (c.lines.place + 1) es) =
     c.inner_lines.ensures ∙ ap inner (rest_of_lines c.deref.result.now (c.lines.place + 1))
@@ -75,10 +75,10 @@ lines-preserved c =
     let same : c.self.inside.entries.items ≡ es = ap (λ (s : BuilderView). s.entries) c.self.view_is in
     let here : c.deref-entry-items.result.now ≡ es = c.deref-entry-items.ensures.value ∙ same in
     let lt = subst (λ l. c.lines.place < length l) here c.lines-test.true in
-    c.lines.invariant ∙ (elim c.match-entry.branch [
+    c.lines.invariant ∙ (elim c.match-line.branch [
       | in-Module+else-lacks_some_in w ↦
           let line_is : Module w.in-Module.area ≡ get_or es c.lines.place (Module w.in-Module.area) =
-          subst (λ e. e ≡ get_or es c.lines.place e) w.in-Module.is
+          subst (λ e. e ≡ get_or es c.lines.place e) (sym c.line.ensures ∙ w.in-Module.is)
           (c.entry-item.is ∙ ap (λ l. get_or l c.lines.place c.entry-item.result) here) in
           let inner_is : w.inner_lines.result.now ≡ inner (drop (c.lines.place + 1) es) =
           w.inner_lines.ensures ∙ ap inner (rest_of_lines w.deref.result.now (c.lines.place + 1))
@@ -88,9 +88,10 @@ lines-preserved c =
           ∙ sym w.lacks_some_in.ensures ∙ w.if-lacks_some_in.false in
           any_module (lacks v) es c.lines.place w.in-Module.area lt line_is
           ∙ ap (λ b. b || list_any (lacks v) (modules_of (drop (c.lines.place + 1) es))) none
-      | in_default w ↦ any_other (lacks v) es c.lines.place c.entry-item.result lt
-          (c.entry-item.is ∙ ap (λ l. get_or l c.lines.place c.entry-item.result) here)
-          (no_module c.entry-item.result w.in_default.not-Module)
+      | in_default w ↦ any_other (lacks v) es c.lines.place c.line.result lt
+          (subst (λ e. e ≡ get_or es c.lines.place e) (sym c.line.ensures)
+          (c.entry-item.is ∙ ap (λ l. get_or l c.lines.place c.entry-item.result) here))
+          (no_module c.line.result w.in_default.not-Module)
     ])
 
 pub returns : goal.returns
