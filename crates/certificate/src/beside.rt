@@ -10,29 +10,31 @@ ghost use Rattle.certificate.specs.SliceLines.{slice_lines};
 ghost use Rattle.certificate_lines.specs.Versions.{beside, in_order, is_early, is_halo, with_halos};
 ghost use Rattle.certificate_lines.specs.declared.certificate_line.CertificateLine.TheVariants.{Halo, Stop};
 
-use certificate_lines::{Border, CertificateLine, compare_borders, inner_lines, push_entry};
+use certificate_lines::{
+    CertificateLine, KeptBorder, KeptLine, compare_borders, inner_lines, push_entry,
+};
 use module_box::Box2;
 use std::alloc::{AllocError, Global};
 
 /// A module: its box, and its lines after the `module` line.
 #[derive(Clone, Copy)]
-pub(crate) struct ModuleSlice<'a> {
+pub(crate) struct ModuleSlice<'b, 'a> {
     pub(crate) area: Box2,
-    pub(crate) lines: &'a [CertificateLine],
+    pub(crate) lines: &'b [KeptLine<'a>],
 }
 
 /// Returns the modules of lines.
-pub(crate) fn module_slices(
+pub(crate) fn module_slices<'b, 'a>(
     alloc: Global,
-    entries: &[CertificateLine],
-) -> Result<Vec<ModuleSlice>, AllocError>
+    entries: &'b [KeptLine<'a>],
+) -> Result<Vec<ModuleSlice<'b, 'a>>, AllocError>
     ensures { IfOk result (λ parts. map slice_lines parts.items ≡ modules_of entries.now) }
 {
     let mut parts = Vec::new(alloc);
     'lines: for (place, entry) in entries.iter().enumerate() {
-        if let CertificateLine::Module(area) = entry {
+        if let CertificateLine::Module(area) = entry.line() {
             parts.push(ModuleSlice {
-                area: *area,
+                area,
                 lines: inner_lines(&entries[place + 1..]),
             })?;
         }
@@ -40,28 +42,20 @@ pub(crate) fn module_slices(
     Ok(parts)
 }
 
-fn push_border(halos: &mut Vec<Border>, border: Border) -> Result<(), AllocError>
-    ensures { OnOk result (halos.new.items ≡ halos.old.items ++ border ∷ []) }
+// Adds a line that is an edge line.
+fn push_edge<'a>(halos: &mut Vec<KeptBorder<'a>>, line: &KeptLine<'a>) -> Result<(), AllocError>
+    ensures { OnOk result (halos.new.items ≡ halos.old.items ++ edge_in line.now) }
 {
-    let _signal = border.signal;
-    halos.push(border)?;
+    if let Some(border) = line.edge() {
+        halos.push(border)?;
+    }
     Ok(())
 }
 
-// Adds a line that is an edge line.
-fn push_edge(halos: &mut Vec<Border>, line: &CertificateLine) -> Result<(), AllocError>
-    ensures { OnOk result (halos.new.items ≡ halos.old.items ++ edge_in line.now) }
-{
-    match line {
-        CertificateLine::Edge(border) => push_border(halos, *border),
-        _ => Ok(()),
-    }
-}
-
 // Adds the line at this place, if there is one and it is an edge line.
-fn push_edge_at(
-    halos: &mut Vec<Border>,
-    entries: &[CertificateLine],
+fn push_edge_at<'a>(
+    halos: &mut Vec<KeptBorder<'a>>,
+    entries: &[KeptLine<'a>],
     place: u32,
 ) -> Result<(), AllocError>
     ensures { OnOk result (halos.new.items
@@ -73,11 +67,11 @@ fn push_edge_at(
     }
 }
 
-fn lines_at(
+fn lines_at<'a>(
     alloc: Global,
-    entries: &[CertificateLine],
+    entries: &[KeptLine<'a>],
     places: &[u32],
-) -> Result<Vec<Border>, AllocError>
+) -> Result<Vec<KeptBorder<'a>>, AllocError>
     ensures { IfOk result (λ halos. halos.items ≡ edges_at entries.now places.now) }
 {
     let mut halos = Vec::with_capacity(alloc, places.len())?;
@@ -88,11 +82,11 @@ fn lines_at(
 }
 
 // The edge lines at these places, in order, if they are those beside a box.
-fn halos_at(
+fn halos_at<'a>(
     alloc: Global,
-    entries: &[CertificateLine],
+    entries: &[KeptLine<'a>],
     places: &[u32],
-) -> Result<Vec<Border>, AllocError>
+) -> Result<Vec<KeptBorder<'a>>, AllocError>
     ensures { IfOk result (λ halos. (g : Setting) (area : Box2) →
         AreModules g (modules_of entries.now) →
         edges_at entries.now places.now ≡ beside g (modules_of entries.now) area →
@@ -114,20 +108,27 @@ pub(crate) fn is_halo(line: &CertificateLine) -> bool
     }
 }
 
+/// Returns whether a line that is kept is a halo line.
+pub(crate) fn is_halo_line(line: &KeptLine) -> bool
+    ensures { result ≡ is_halo line.now }
+{
+    is_halo(&line.line())
+}
+
 // Whether a line stands before the halo lines of its module.
 #[tactic(auto, unfolding(certificate_lines::specs::Versions::is_early))]
-fn is_early(line: &CertificateLine) -> bool
+fn is_early(line: &KeptLine) -> bool
     ensures { result ≡ is_early line.now }
 {
-    match line {
+    match line.line() {
         CertificateLine::Halo(_) => false,
         CertificateLine::Stop(_) => false,
         _ => true,
     }
 }
 
-fn push_line_of(full: &mut Vec<CertificateLine>, line: CertificateLine) -> Result<(), AllocError>
-    ensures { OnOk result (full.new.items ≡ full.old.items ++ line ∷ []) }
+fn push_line_of<'a>(full: &mut Vec<KeptLine<'a>>, line: KeptLine<'a>) -> Result<(), AllocError>
+    ensures { OnOk result (full.new.items ≡ full.old.items ++ line.entry ∷ []) }
 {
     match push_entry(full, line) {
         Ok(()) => Ok(()),
@@ -136,38 +137,38 @@ fn push_line_of(full: &mut Vec<CertificateLine>, line: CertificateLine) -> Resul
 }
 
 // Adds the lines that stand before the halo lines.
-fn push_early(full: &mut Vec<CertificateLine>, lines: &[CertificateLine]) -> Result<(), AllocError>
+fn push_early<'a>(full: &mut Vec<KeptLine<'a>>, lines: &[KeptLine<'a>]) -> Result<(), AllocError>
     ensures { OnOk result (full.new.items ≡ full.old.items ++ filter is_early lines.now) }
 {
     'lines: for line in lines {
         if is_early(line) {
-            push_line_of(full, *line)?;
+            push_line_of(full, line.copy())?;
         }
     }
     Ok(())
 }
 
-fn push_halos(full: &mut Vec<CertificateLine>, halos: &[Border]) -> Result<(), AllocError>
+fn push_halos<'a>(full: &mut Vec<KeptLine<'a>>, halos: &[KeptBorder<'a>]) -> Result<(), AllocError>
     ensures { OnOk result (full.new.items ≡ full.old.items ++ map Halo halos.now) }
 {
     'halos: for halo in halos {
-        push_line_of(full, CertificateLine::Halo(*halo))?;
+        push_line_of(full, KeptLine::halo_line(halo))?;
     }
     Ok(())
 }
 
 // Adds a line that is a stop.
-fn push_stop(full: &mut Vec<CertificateLine>, line: &CertificateLine) -> Result<(), AllocError>
+fn push_stop<'a>(full: &mut Vec<KeptLine<'a>>, line: &KeptLine<'a>) -> Result<(), AllocError>
     ensures { OnOk result (full.new.items ≡ full.old.items ++ map Stop (stop_in line.now)) }
 {
-    match line {
-        CertificateLine::Stop(_) => push_line_of(full, *line),
+    match line.line() {
+        CertificateLine::Stop(_) => push_line_of(full, line.copy()),
         _ => Ok(()),
     }
 }
 
 // Adds the stops.
-fn push_stops(full: &mut Vec<CertificateLine>, lines: &[CertificateLine]) -> Result<(), AllocError>
+fn push_stops<'a>(full: &mut Vec<KeptLine<'a>>, lines: &[KeptLine<'a>]) -> Result<(), AllocError>
     ensures { OnOk result (full.new.items
         ≡ full.old.items ++ map Stop (flat_map stop_in lines.now)) }
 {
@@ -181,12 +182,12 @@ fn push_stops(full: &mut Vec<CertificateLine>, lines: &[CertificateLine]) -> Res
 ///
 /// Those edge lines have these places among the lines of the certificate.
 #[tactic(auto, unfolding(certificate_lines::specs::Versions::with_halos))]
-pub(crate) fn full_lines(
+pub(crate) fn full_lines<'a>(
     alloc: Global,
-    entries: &[CertificateLine],
+    entries: &[KeptLine<'a>],
     places: &[u32],
-    part: &ModuleSlice,
-) -> Result<Vec<CertificateLine>, AllocError>
+    part: &ModuleSlice<'_, 'a>,
+) -> Result<Vec<KeptLine<'a>>, AllocError>
     ensures { IfOk result (λ lines. (g : Setting) → AreModules g (modules_of entries.now) →
         edges_at entries.now places.now ≡ beside g (modules_of entries.now) part.now.area →
         record { area = part.now.area; lines = lines.items }

@@ -7,7 +7,7 @@ ghost use Rattle.certificate.specs.Text.{certificate_text, entry_text};
 
 use crate::cert::Cert;
 use crate::printing::{print_entry, print_header};
-use certificate_lines::CertificateLine;
+use certificate_lines::KeptLine;
 use sha2::{Digest, Sha256};
 use std::alloc::{AllocError, Global};
 
@@ -15,7 +15,7 @@ use std::alloc::{AllocError, Global};
 fn hash_line(
     hasher: &mut Sha256,
     line: &mut Vec<u8>,
-    entry: &CertificateLine,
+    entry: &KeptLine,
 ) -> Result<(), AllocError>
     ensures { OnOk result ((m : List ℕ) → Holds256 hasher.old m →
         Holds256 hasher.new (m ++ entry_text entry.now)) }
@@ -30,7 +30,7 @@ fn hash_line(
 fn hash_lines(
     hasher: &mut Sha256,
     line: &mut Vec<u8>,
-    entries: &[CertificateLine],
+    entries: &[KeptLine],
 ) -> Result<(), AllocError>
     ensures { OnOk result ((m : List ℕ) → Holds256 hasher.old m →
         Holds256 hasher.new (m ++ flat_map entry_text entries.now)) }

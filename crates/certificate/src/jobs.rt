@@ -27,7 +27,9 @@ use crate::halo_places::{halo_places, take_list};
 use crate::layout_tables::LayoutTables;
 use crate::stops::stops_of;
 use crate::timetable::{Side, signals_of};
-use certificate_lines::{CertificateLine, cut_list, inner_lines, kept_places, used_gates};
+use certificate_lines::{
+    CertificateLine, KeptLine, cut_list, inner_lines, kept_places, used_gates,
+};
 use circuit::Circuit;
 use module_box::{Box2, Locals, Schedule};
 use module_job::{Job, Shape, Stop, moved_stops, shift_to_origin};
@@ -38,7 +40,7 @@ use std::sync::Arc;
 fn named_locals(
     alloc: Global,
     circuit: &Circuit,
-    lines: &[CertificateLine],
+    lines: &[KeptLine],
 ) -> Result<(Locals, Vec<u16>), AllocError>
     requires lines { AreLocalLines (netlist_of circuit.now)
         (flat_map (λ n. option_to_list (wire_of (circuit_of circuit.now) n))
@@ -77,7 +79,7 @@ fn own_signals(
     locals: &Locals,
     side: Side,
     area: Box2,
-    lines: &[CertificateLine],
+    lines: &[KeptLine],
 ) -> Result<Schedule, AllocError>
     requires order { AreInOrder lines.now }
     requires local { All (IsNamedLocal (circuit_of circuit.now) locals.now)
@@ -103,7 +105,7 @@ fn schedules(
     circuit: &Circuit,
     locals: &Locals,
     area: Box2,
-    lines: &[CertificateLine],
+    lines: &[KeptLine],
 ) -> Result<(Schedule, Schedule), AllocError>
     requires order { AreInOrder lines.now }
     requires edges { All (IsNamedLocal (circuit_of circuit.now) locals.now)
@@ -141,7 +143,7 @@ fn own_stops(
     circuit: &Circuit,
     locals: &Locals,
     area: Box2,
-    lines: &[CertificateLine],
+    lines: &[KeptLine],
 ) -> Result<Vec<Stop>, AllocError>
     requires local { All
         (λ s. IsTrue (is_local (circuit_of circuit.now) locals.now.circuit_wires s.wire))
@@ -166,7 +168,7 @@ fn make_job(
     alloc: Global,
     tables: &LayoutTables,
     area: Box2,
-    lines: &[CertificateLine],
+    lines: &[KeptLine],
 ) -> Result<Job, AllocError>
     requires module { IsModule (setting_of tables.now.circuit tables.now.layout)
         (record { area = area; lines = lines.now }) }
@@ -207,7 +209,7 @@ fn make_job(
 fn jobs_of_lines(
     alloc: Global,
     tables: &LayoutTables,
-    entries: &[CertificateLine],
+    entries: &[KeptLine],
 ) -> Result<Vec<Arc<Job>>, AllocError>
     requires { AreModules (setting_of tables.now.circuit tables.now.layout)
         (modules_of entries.now) }
@@ -216,8 +218,8 @@ fn jobs_of_lines(
 {
     let mut jobs = Vec::new(alloc);
     'lines: for (place, entry) in entries.iter().enumerate() {
-        if let CertificateLine::Module(area) = entry {
-            let job = make_job(alloc, tables, *area, inner_lines(&entries[place + 1..]))?;
+        if let CertificateLine::Module(area) = entry.line() {
+            let job = make_job(alloc, tables, area, inner_lines(&entries[place + 1..]))?;
             jobs.push(Arc::new(alloc, job)?)?;
         }
     }
@@ -225,11 +227,11 @@ fn jobs_of_lines(
 }
 
 // The jobs of modules without halo lines, by the edge lines beside them.
-fn jobs_of_parts(
+fn jobs_of_parts<'a>(
     alloc: Global,
     tables: &LayoutTables,
-    entries: &[CertificateLine],
-    parts: &[ModuleSlice],
+    entries: &[KeptLine<'a>],
+    parts: &[ModuleSlice<'_, 'a>],
 ) -> Result<Vec<Arc<Job>>, AllocError>
     requires parts { map slice_lines parts.now ≡ modules_of entries.now }
     requires modules { AreModules (setting_of tables.now.circuit tables.now.layout)
@@ -260,7 +262,7 @@ fn jobs_of_version(
     alloc: Global,
     tables: &LayoutTables,
     version: u32,
-    entries: &[CertificateLine],
+    entries: &[KeptLine],
 ) -> Result<Vec<Arc<Job>>, AllocError>
     requires modules { AreModules (setting_of tables.now.circuit tables.now.layout)
         (modules_of entries.now) }

@@ -7,9 +7,9 @@ ghost use Rattle.certificate.specs.Grammars.{migrated};
 ghost use Rattle.certificate.specs.Text.{area_words, time_word, signal_word, border_words, entry_text, stop_words, certificate_text};
 ghost use Rattle.certificate_lines.specs.Versions.{without_halos};
 
-use crate::beside::is_halo;
+use crate::beside::is_halo_line;
 use crate::cert::Cert;
-use certificate_lines::{Border, CertificateLine, StopLine};
+use certificate_lines::{Border, CertificateLine, KeptLine, StopLine};
 use module_box::Box2;
 use pattern::print_cell;
 use section_text::{Name, print_number, print_word};
@@ -113,21 +113,21 @@ fn print_stop(out: &mut Vec<u8>, stop: &StopLine) -> Result<(), AllocError>
 }
 
 /// Prints a line between the header and the end.
-pub(crate) fn print_entry(out: &mut Vec<u8>, entry: &CertificateLine) -> Result<(), AllocError>
+pub(crate) fn print_entry(out: &mut Vec<u8>, entry: &KeptLine) -> Result<(), AllocError>
     ensures { OnOk result (out.new.items ≡ out.old.items ++ entry_text entry.now) }
 {
-    match entry {
-        CertificateLine::Module(area) => print_module(out, *area),
-        CertificateLine::Cut(name) => print_cut(out, *name),
-        CertificateLine::Use(number) => print_use(out, *number),
-        CertificateLine::Keep(number) => print_keep(out, *number),
-        CertificateLine::Edge(border) => print_border(out, b"edge", border),
-        CertificateLine::Halo(border) => print_border(out, b"halo", border),
-        CertificateLine::Stop(stop) => print_stop(out, stop),
+    match entry.line() {
+        CertificateLine::Module(area) => print_module(out, area),
+        CertificateLine::Cut(name) => print_cut(out, name),
+        CertificateLine::Use(number) => print_use(out, number),
+        CertificateLine::Keep(number) => print_keep(out, number),
+        CertificateLine::Edge(border) => print_border(out, b"edge", &border),
+        CertificateLine::Halo(border) => print_border(out, b"halo", &border),
+        CertificateLine::Stop(stop) => print_stop(out, &stop),
     }
 }
 
-fn print_entries(out: &mut Vec<u8>, entries: &[CertificateLine]) -> Result<(), AllocError>
+fn print_entries(out: &mut Vec<u8>, entries: &[KeptLine]) -> Result<(), AllocError>
     ensures { OnOk result (out.new.items ≡ out.old.items ++ flat_map entry_text entries.now) }
 {
     for entry in entries {
@@ -138,18 +138,18 @@ fn print_entries(out: &mut Vec<u8>, entries: &[CertificateLine]) -> Result<(), A
 
 // A line, unless it is a halo line.
 #[tactic(auto, unfolding(certificate_lines::specs::Versions::without_halos))]
-fn print_unless_halo(out: &mut Vec<u8>, entry: &CertificateLine) -> Result<(), AllocError>
+fn print_unless_halo(out: &mut Vec<u8>, entry: &KeptLine) -> Result<(), AllocError>
     ensures { OnOk result (out.new.items
         ≡ out.old.items ++ flat_map entry_text (without_halos (entry.now ∷ []))) }
 {
-    if is_halo(entry) {
+    if is_halo_line(entry) {
         return Ok(());
     }
     print_entry(out, entry)
 }
 
 // The lines other than halo lines.
-fn print_without_halos(out: &mut Vec<u8>, entries: &[CertificateLine]) -> Result<(), AllocError>
+fn print_without_halos(out: &mut Vec<u8>, entries: &[KeptLine]) -> Result<(), AllocError>
     ensures { OnOk result (out.new.items
         ≡ out.old.items ++ flat_map entry_text (without_halos entries.now)) }
 {

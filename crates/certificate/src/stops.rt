@@ -13,7 +13,7 @@ ghost use Rattle.certificate.specs.StopLists.{AreStops};
 ghost use Rattle.certificate_lines.specs.declared.certificate_line.StopLine.{StopLine as Line};
 
 use crate::named_wires::{NamedWire, SLOT_COUNT, empty_slots, slot_wire};
-use certificate_lines::{CertificateLine, StopLine};
+use certificate_lines::{KeptLine, KeptStop};
 use circuit::Circuit;
 use module_box::{Locals, Moment};
 use module_job::Stop;
@@ -24,7 +24,7 @@ fn local_stop<'a>(
     circuit: &Circuit,
     locals: &Locals,
     slots: &mut [Option<NamedWire<'a>>; SLOT_COUNT],
-    line: &'a StopLine,
+    line: &KeptStop<'a>,
 ) -> Stop
     requires local { IsTrue
         (is_local (circuit_of circuit.now) locals.now.circuit_wires line.now.wire) }
@@ -35,10 +35,10 @@ fn local_stop<'a>(
     ensures slots { AreNamedWires (circuit_of circuit.now) locals.now slots.new }
 {
     let at = Moment {
-        time: line.time,
-        cell: line.cell,
+        time: line.time(),
+        cell: line.cell(),
     };
-    let wire = slot_wire(circuit, locals, slots, &line.wire);
+    let wire = slot_wire(circuit, locals, slots, line.wire());
     Stop { at, wire }
 }
 
@@ -48,7 +48,7 @@ fn push_stop<'a>(
     circuit: &Circuit,
     locals: &Locals,
     slots: &mut [Option<NamedWire<'a>>; SLOT_COUNT],
-    line: &'a CertificateLine,
+    line: &KeptLine<'a>,
 ) -> Result<(), AllocError>
     requires local { All
         (λ s. IsTrue (is_local (circuit_of circuit.now) locals.now.circuit_wires s.wire))
@@ -59,8 +59,8 @@ fn push_stop<'a>(
         AreStops (circuit_of circuit.now) locals.now (ss ++ stop_in line.now) stops.new.items) }
     ensures slots { AreNamedWires (circuit_of circuit.now) locals.now slots.new }
 {
-    if let CertificateLine::Stop(stop) = line {
-        stops.push(local_stop(circuit, locals, slots, stop))?;
+    if let Some(stop) = line.stop() {
+        stops.push(local_stop(circuit, locals, slots, &stop))?;
     }
     Ok(())
 }
@@ -70,7 +70,7 @@ pub(crate) fn stops_of(
     alloc: Global,
     circuit: &Circuit,
     locals: &Locals,
-    lines: &[CertificateLine],
+    lines: &[KeptLine],
 ) -> Result<Vec<Stop>, AllocError>
     requires { All (λ s. IsTrue (is_local (circuit_of circuit.now) locals.now.circuit_wires s.wire))
         (flat_map stop_in lines.now) }

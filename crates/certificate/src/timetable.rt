@@ -1,6 +1,7 @@
 //! The signals of a module's edge and halo lines, over the wires that the module knows.
 ghost use Rattle.std.specs.Prelude.{◌≡◌, ◌++◌, [], ◌∷◌, List, IfOk, IfSome, IsTrue, OnOk};
 ghost use Rattle.std.specs.List.{All, flat_map};
+ghost use Rattle.std.specs.Option.{option_map};
 ghost use Rattle.circuit.specs.Bridge.{circuit_of};
 ghost use Rattle.circuit.specs.Meaning.{wires};
 ghost use Rattle.module_box.specs.Locals.{circuit_wire};
@@ -13,7 +14,7 @@ ghost use Rattle.certificate.specs.NamedWires.{AreNamedWires};
 ghost use Rattle.certificate_lines.specs.declared.certificate_line.Border.{Border};
 
 use crate::named_wires::{NamedWire, SLOT_COUNT, empty_slots, slot_wire};
-use certificate_lines::{Border, CertificateLine};
+use certificate_lines::{KeptBorder, KeptLine};
 use circuit::Circuit;
 use module_box::{AllTimes, Event, Locals, Moment, Schedule, Signal};
 use section_text::Name;
@@ -39,13 +40,13 @@ fn local_signal<'a>(
     circuit: &Circuit,
     locals: &Locals,
     slots: &mut [Option<NamedWire<'a>>; SLOT_COUNT],
-    signal: &'a Option<Name>,
+    signal: Option<&'a Name>,
 ) -> Signal
-    requires { IfSome signal.now
-        (λ name. IsTrue (is_local (circuit_of circuit.now) locals.now.circuit_wires name)) }
+    requires { IfSome signal
+        (λ name. IsTrue (is_local (circuit_of circuit.now) locals.now.circuit_wires name.now)) }
     ensures same_signal { AreNamedWires (circuit_of circuit.now) locals.now slots.old →
         renumber_signal (circuit_wire locals.now) result
-        ≡ line_signal (circuit_of circuit.now) signal.now }
+        ≡ line_signal (circuit_of circuit.now) (option_map (λ name. name.now) signal.entry) }
     ensures own_wire { AreNamedWires (circuit_of circuit.now) locals.now slots.old →
         IsBelow (wires locals.now.netlist) result }
     ensures slots { AreNamedWires (circuit_of circuit.now) locals.now slots.old →
@@ -58,15 +59,15 @@ fn local_signal<'a>(
 }
 
 impl<'a> Timetable<'a> {
-    fn push(&mut self, border: &Border, signal: Signal) -> Result<(), AllocError>
+    fn push(&mut self, border: &KeptBorder, signal: Signal) -> Result<(), AllocError>
         ensures all_times { OnOk result (self.new.all_times.items
             ≡ self.old.all_times.items ++ all_times_by border.now border.now.time signal) }
         ensures events { OnOk result (self.new.events.items
             ≡ self.old.events.items ++ event_by border.now border.now.time signal) }
         ensures slots { self.new.slots ≡ self.old.slots }
     {
-        let cell = border.cell;
-        match border.time {
+        let cell = border.cell();
+        match border.time() {
             None => self.all_times.push(AllTimes { cell, signal })?,
             Some(time) => self.events.push(Event {
                 at: Moment { time, cell },
@@ -82,14 +83,14 @@ impl<'a> Timetable<'a> {
         &mut self,
         circuit: &Circuit,
         locals: &Locals,
-        border: &'a Border,
+        border: &KeptBorder<'a>,
     ) -> Result<(), AllocError>
         requires { IsNamedLocal (circuit_of circuit.now) locals.now border.now }
         ensures { OnOk result ((es : List Border) →
             IsTimetable (circuit_of circuit.now) locals.now es self.old →
             IsTimetable (circuit_of circuit.now) locals.now (es ++ border.now ∷ []) self.new) }
     {
-        let signal = local_signal(circuit, locals, &mut self.slots, &border.signal);
+        let signal = local_signal(circuit, locals, &mut self.slots, border.signal());
         self.push(border, signal)
     }
 
@@ -99,7 +100,7 @@ impl<'a> Timetable<'a> {
         circuit: &Circuit,
         locals: &Locals,
         side: Side,
-        line: &'a CertificateLine,
+        line: &KeptLine<'a>,
     ) -> Result<(), AllocError>
         requires { All (IsNamedLocal (circuit_of circuit.now) locals.now)
             (borders_in side line.now) }
@@ -108,10 +109,13 @@ impl<'a> Timetable<'a> {
             IsTimetable (circuit_of circuit.now) locals.now (es ++ borders_in side line.now)
             self.new) }
     {
-        match (side, line) {
-            (Side::Ring, CertificateLine::Edge(border)) => self.add(circuit, locals, border),
-            (Side::Halo, CertificateLine::Halo(border)) => self.add(circuit, locals, border),
-            _ => Ok(()),
+        let border = match side {
+            Side::Ring => line.edge(),
+            Side::Halo => line.halo(),
+        };
+        match border {
+            Some(border) => self.add(circuit, locals, &border),
+            None => Ok(()),
         }
     }
 }
@@ -122,7 +126,7 @@ pub(crate) fn signals_of(
     circuit: &Circuit,
     locals: &Locals,
     side: Side,
-    lines: &[CertificateLine],
+    lines: &[KeptLine],
 ) -> Result<Schedule, AllocError>
     requires order { AreInOrder lines.now }
     requires local { All (IsNamedLocal (circuit_of circuit.now) locals.now)

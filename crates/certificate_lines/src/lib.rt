@@ -26,7 +26,7 @@ pub use builder::Builder;
 pub use certificate_line::{Border, CertificateLine, Counts, StopLine};
 pub use counts::push_entry;
 pub use form::line_form;
-pub use kept_line::KeptLine;
+pub use kept_line::{KeptBorder, KeptLine, KeptStop};
 pub use line_tables::LineTables;
 pub use lines::{cut_list, inner_lines, is_module, kept_places, used_gates};
 pub use order::compare_borders;

@@ -12,22 +12,23 @@ use Rattle.certificate.proofs.beside.module_slices.Goals as goal
 pub lines-preserved : goal.lines-preserved
 lines-preserved c =
     let es = c.args.entries.now in
-    elim c.match-entry.branch [
+    elim c.match-line.branch [
       | in-Module+in_ok-push w ↦
           let line_is : Module w.in-Module.area ≡ get_or es c.lines.place (Module w.in-Module.area) =
-          subst (λ e. e ≡ get_or es c.lines.place e) w.in-Module.is c.index-entries-place.is in
+          subst (λ e. e ≡ get_or es c.lines.place e) (sym c.line.ensures ∙ w.in-Module.is) c.index-entries-place.is in
           let inner_is : w.inner_lines.result.now ≡ inner (drop (c.lines.place + 1) es) =
           w.inner_lines.ensures ∙ ap inner (rest_of_lines es (c.lines.place + 1)) in
           one_part es c.lines.place w.in-Module.area
           (record { area = w.in-Module.area; lines = w.inner_lines.result }) c.lines.parts.items
-          c.match-entry.parts.items c.lines-test.true line_is
+          c.match-line.parts.items c.lines-test.true line_is
           (ap (λ ls. record { area = w.in-Module.area; lines = ls }) inner_is)
           (ap (λ v. v.items) w.parts-is ∙ w.in_ok-push.ensures.items) c.lines.invariant
       | in_default w ↦
           subst (λ v. map slice_lines v.items ++ modules_of (drop (c.lines.place + 1) es) ≡ modules_of es)
           (sym w.parts-is)
-          (other_line_on es c.lines.place c.index-entries-place.result c.lines.parts.items c.lines-test.true
-          c.index-entries-place.is (no_module c.index-entries-place.result w.in_default.not-Module) c.lines.invariant)
+          (other_line_on es c.lines.place c.line.result c.lines.parts.items c.lines-test.true
+          (subst (λ e. e ≡ get_or es c.lines.place e) (sym c.line.ensures) c.index-entries-place.is)
+          (no_module c.line.result w.in_default.not-Module) c.lines.invariant)
     ]
 
 pub returns : goal.returns

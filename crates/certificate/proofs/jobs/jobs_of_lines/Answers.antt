@@ -26,7 +26,7 @@ make_job-requires-clause-module c =
     let p : LayoutTablesView = c.args.tables.now in
     let es = c.args.entries.now in
     let line_is : Module c.in-Module.area ≡ get_or es c.lines.place (Module c.in-Module.area) =
-    subst (λ e. e ≡ get_or es c.lines.place e) c.in-Module.is c.index-entries-place.is in
+    subst (λ e. e ≡ get_or es c.lines.place e) (sym c.line.ensures ∙ c.in-Module.is) c.index-entries-place.is in
     let next = next_module (circuit_of p.circuit) p.layout es c.lines.place c.in-Module.area
     (map arc_value c.lines.jobs.items) c.lines-test.true line_is c.lines.invariant in
     let inner_is : c.inner_lines.result.now ≡ inner (drop (c.lines.place + 1) es) =
@@ -39,7 +39,7 @@ make_job-requires-clause-ports c =
     let p : LayoutTablesView = c.args.tables.now in
     let es = c.args.entries.now in
     let line_is : Module c.in-Module.area ≡ get_or es c.lines.place (Module c.in-Module.area) =
-    subst (λ e. e ≡ get_or es c.lines.place e) c.in-Module.is c.index-entries-place.is in
+    subst (λ e. e ≡ get_or es c.lines.place e) (sym c.line.ensures ∙ c.in-Module.is) c.index-entries-place.is in
     let next = next_module (circuit_of p.circuit) p.layout es c.lines.place c.in-Module.area
     (map arc_value c.lines.jobs.items) c.lines-test.true line_is c.lines.invariant in
     let inner_is : c.inner_lines.result.now ≡ inner (drop (c.lines.place + 1) es) =
@@ -52,13 +52,13 @@ lines-preserved c =
     let p : LayoutTablesView = c.args.tables.now in
     let es = c.args.entries.now in
     let b = circuit_of p.circuit in
-    elim c.match-entry.branch [
+    elim c.match-line.branch [
       | in-Module+in_ok-job+in_ok-new+in_ok-push w ↦
           let line_is : Module w.in-Module.area ≡ get_or es c.lines.place (Module w.in-Module.area) =
-          subst (λ e. e ≡ get_or es c.lines.place e) w.in-Module.is c.index-entries-place.is in
+          subst (λ e. e ≡ get_or es c.lines.place e) (sym c.line.ensures ∙ w.in-Module.is) c.index-entries-place.is in
           let inner_is : w.inner_lines.result.now ≡ inner (drop (c.lines.place + 1) es) =
           w.inner_lines.ensures ∙ ap inner (rest_of_lines es (c.lines.place + 1)) in
-          let grown : c.match-entry.jobs.items ≡ c.lines.jobs.items ++ w.in_ok-new.field-0 ∷ [] =
+          let grown : c.match-line.jobs.items ≡ c.lines.jobs.items ++ w.in_ok-new.field-0 ∷ [] =
           ap (λ v. v.items) w.jobs-is ∙ w.in_ok-push.ensures.items in
           let made : IsJobOf b p.layout
           (record { area = w.in-Module.area; lines = inner (drop (c.lines.place + 1) es) }) w.in_ok-job.job =
@@ -75,9 +75,9 @@ lines-preserved c =
           (arc_value w.in_ok-new.field-0) c.lines-test.true line_is kept c.lines.invariant)
       | in_default w ↦
           subst (λ v. HaveJobs b p.layout es (c.lines.place + 1) (map arc_value v.items)) (sym w.jobs-is)
-          (other_line b p.layout es c.lines.place c.index-entries-place.result
-          (map arc_value c.lines.jobs.items) c.lines-test.true c.index-entries-place.is
-          (no_module c.index-entries-place.result w.in_default.not-Module) c.lines.invariant)
+          (other_line b p.layout es c.lines.place c.line.result
+          (map arc_value c.lines.jobs.items) c.lines-test.true (subst (λ e. e ≡ get_or es c.lines.place e) (sym c.line.ensures) c.index-entries-place.is)
+          (no_module c.line.result w.in_default.not-Module) c.lines.invariant)
     ]
 
 pub returns : goal.returns

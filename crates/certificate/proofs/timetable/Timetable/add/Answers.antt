@@ -1,5 +1,6 @@
-use Rattle.std.proofs.Common.{sym, subst}
+use Rattle.std.proofs.Common.{◌∙◌, ap, sym, subst}
 use Rattle.circuit.specs.Bridge.{circuit_of}
+use Rattle.certificate.specs.Jobs.{line_signal}
 use Rattle.certificate.specs.NamedWires.{AreNamedWires}
 use Rattle.certificate.proofs.TimetableLemmas.{both_ok, with_border}
 use Rattle.certificate.proofs.timetable.Timetable.add.Goals as goal
@@ -11,6 +12,7 @@ returns c =
     let locals = c.args.locals.now in
     both_ok c.push.result _ _ _ (λ h e es t.
     with_border circuit locals es c.args.border.now s.result c.args.self.now c.push.new.self
-    (s.ensures.same_signal t.slots) (s.ensures.own_wire t.slots) h e
+    (s.ensures.same_signal t.slots ∙ ap (line_signal circuit) c.signal.ensures)
+    (s.ensures.own_wire t.slots) h e
     (subst (AreNamedWires circuit locals) (sym c.push.ensures.slots) (s.ensures.slots t.slots)) t)
     c.push.ensures.all_times c.push.ensures.events
