@@ -120,7 +120,8 @@ impl<'a> LocalNames<'a> {
         requires { IsTrue (is_some (wire_of tables.now.circuit name.now)) }
         ensures { result.now ≡ name.now }
     {
-        if let Some(local) = self.slots[slot_of(name)] {
+        let slots = &self.slots[..];
+        if let Some(local) = slots[slot_of(name)] {
             if *local.name == *name {
                 return local.name;
             }
