@@ -87,6 +87,25 @@ first_marked marks at some small =
     minus : (a b : ℕ) → a + b - a ≡ b
     minus a b = omega arith
 
+-- each of these for a whole word
+pub whole_zero : (marks : List ℕ) (k u : ℕ) → get_or marks k 0 ≡ 0 → 64 * k ≤ u → u < 64 * k + 64 → IsUnmarked marks u
+whole_zero marks k u e l h =
+    cell_in marks k (u % 64) u (omega arith) (omega arith) ∙ ap (λ n. bit n (u % 64)) e ∙ bit-zero (u % 64)
+
+pub whole_before : (marks : List ℕ) (k u : ℕ) → get_or marks k 0 ≢ 0 → get_or marks k 0 < 2 ^ 64 → 64 * k ≤ u →
+    u < 64 * k + trailing_zeros w64 (get_or marks k 0) → IsUnmarked marks u
+whole_before marks k u some small l h =
+    let found = bit_at-trailing_zeros w64 (get_or marks k 0) (omega arith) small in
+    let under : trailing_zeros w64 (get_or marks k 0) < 64 = found.0 in
+    cell_in marks k (u % 64) u (omega arith) (omega arith)
+    ∙ bit_none (get_or marks k 0) (u % 64) (found.2 (u % 64) (omega arith))
+
+pub whole_marked : (marks : List ℕ) (k : ℕ) → get_or marks k 0 ≢ 0 → get_or marks k 0 < 2 ^ 64 →
+    cell_at marks (64 * k + trailing_zeros w64 (get_or marks k 0)) ≡ true
+whole_marked marks k some small =
+    let found = bit_at-trailing_zeros w64 (get_or marks k 0) (omega arith) small in
+    cell_in marks k (trailing_zeros w64 (get_or marks k 0)) _ found.0 refl ∙ bit_one (get_or marks k 0) _ found.1
+
 pub bit_ones : (b : ℕ) → b < 64 → bit 18446744073709551615 b ≡ true
 bit_ones b l = bit_one 18446744073709551615 b (bit_at_ones 64 b l)
 

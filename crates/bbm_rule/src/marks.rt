@@ -11,14 +11,19 @@ pub fn next_marked(marks: &[u64], from: usize, end: usize) -> usize
     ensures passed { (u : ℕ) → from ≤ u → u < result → IsUnmarked marks.now u }
     ensures marked { result < end → cell_at marks.now result ≡ true }
 {
-    let mut at = from;
-    'search: while at < end {
-        let rest = marks[at / 64] >> (at % 64);
-        if rest != 0 {
-            let found = at + rest.trailing_zeros() as usize;
-            return if found < end { found } else { end };
+    if from == end {
+        return end;
+    }
+    let rest = marks[from / 64] >> (from % 64);
+    if rest != 0 {
+        return (from + rest.trailing_zeros() as usize).min(end);
+    }
+    // A whole word is read without a shift.
+    'words: for k in from / 64 + 1..end.div_ceil(64) {
+        let whole = marks[k];
+        if whole != 0 {
+            return (64 * k + whole.trailing_zeros() as usize).min(end);
         }
-        at = 64 * (at / 64 + 1);
     }
     end
 }

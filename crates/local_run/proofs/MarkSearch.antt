@@ -125,9 +125,6 @@ lacks_live a l w q u says e word =
       | inr second ↦ inr (says u e second)
     ]
 
-pub lacks_own : (a : List ℕ) (q u : ℕ) → u / 64 ≡ q → bit (get_or a q 0) (u % 64) ≡ false → IsUnmarked a u
-lacks_own a q u e word = cell_is a q u e ∙ word
-
 pub and_small : (a : List ℕ) (w q : ℕ) → get_or a q 0 < 2 ^ 64 → bit_and (get_or a q 0) w < 2 ^ 64
 and_small a w q small = omega (arith, and_le_l (get_or a q 0) w)
 

@@ -16,11 +16,11 @@ ghost use Rattle.std.specs.Prelude.{ℕ, ◌≡◌, ◌≢◌, ◌+◌, ◌*◌,
 use crate::lines::{CELL_WORDS, LinePlaces, line_number, mark_lines};
 use crate::live::LiveMarks;
 use crate::marks::{
-    is_marked, mark_around, mark_border, mark_corners, next_live_marked, next_mark, next_marked_in,
+    is_marked, mark_around, mark_border, mark_corners, next_live_marked, next_marked_in,
 };
 use crate::planes::{Changes, Planes};
 use crate::values::Values;
-use bbm_rule::marks::{mark, mark_all, unmark};
+use bbm_rule::marks::{mark, mark_all, next_marked, unmark};
 use module_box::Signal;
 use module_job::Job;
 use std::alloc::{AllocError, Global};
@@ -608,12 +608,12 @@ impl MarkedPlanes {
         }
         let cells = self.planes.cells() - self.planes.stride() - 1;
         let mut changed = 0;
-        let mut u = next_mark(&self.even_marks, 0, cells);
+        let mut u = next_marked(&self.even_marks, 0, cells);
         'marked: while u < cells {
             if self.turn_even(u) {
                 changed += 1;
             }
-            u = next_mark(&self.even_marks, u + 1, cells);
+            u = next_marked(&self.even_marks, u + 1, cells);
         }
         if are_many(
             changed,

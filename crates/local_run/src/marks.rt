@@ -192,25 +192,3 @@ pub fn next_live_marked(marks: &[u64], live: &LiveMarks, from: usize, end: usize
     }
     end
 }
-
-/// Returns the same as [`bbm_rule::marks::next_marked`]. A whole word is read without a shift.
-pub fn next_mark(marks: &[u64], from: usize, end: usize) -> usize
-    requires within { (from ≤ end) × (end ≤ 64 * length marks.now) × (end < 2 ^ 32) }
-    ensures range { (from ≤ result) × (result ≤ end) }
-    ensures passed { (u : ℕ) → from ≤ u → u < result → IsUnmarked marks.now u }
-{
-    if from == end {
-        return end;
-    }
-    let rest = marks[from / 64] >> (from % 64);
-    if rest != 0 {
-        return (from + rest.trailing_zeros() as usize).min(end);
-    }
-    'words: for k in from / 64 + 1..end.div_ceil(64) {
-        let whole = marks[k];
-        if whole != 0 {
-            return (64 * k + whole.trailing_zeros() as usize).min(end);
-        }
-    }
-    end
-}

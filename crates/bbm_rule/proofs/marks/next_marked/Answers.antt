@@ -1,24 +1,37 @@
-use Rattle.std.proofs.Common.{arith, ◌/◌}
+use Rattle.std.proofs.Common.{◌≡◌, true, ◌+◌, ◌*◌, ◌/◌, ◌%◌, ◌^◌, arith, get_or, subst, w64}
+use Rattle.std.specs.Int.{trailing_zeros}
+use Rattle.bbm_rule.specs.Rows.{cell_at}
 use Rattle.bbm_rule.proofs.BitLemmas.{by_lt_or_le}
-use Rattle.bbm_rule.proofs.MarkLemmas.{first_marked, none_in_word, none_before}
+use Rattle.bbm_rule.proofs.MarkLemmas.{first_marked, none_before, none_in_word, whole_before, whole_marked, whole_zero}
 use Rattle.bbm_rule.proofs.marks.next_marked.Goals as goal
 
-pub returns-then-found-end-clause-passed : goal.returns-then-found-end-clause-passed
-returns-then-found-end-clause-passed c = λ u l h. by_lt_or_le u c.search.at (c.search.invariant.passed u l)
-    (λ g. none_before c.args.marks.now c.search.at u c.if-rest-ne0.true (c.type_inv.marks (c.search.at / 64)).fits g h)
+pub returns-then-rest-ne0-clause-passed : goal.returns-then-rest-ne0-clause-passed
+returns-then-rest-ne0-clause-passed c = λ u l h.
+    none_before c.args.marks.now c.args.from u c.if-rest-ne0.true (c.type_inv.marks (c.args.from / 64)).fits l
+    (omega arith)
 
-pub returns-else-found-end-clause-passed : goal.returns-else-found-end-clause-passed
-returns-else-found-end-clause-passed c = λ u l h. by_lt_or_le u c.search.at (c.search.invariant.passed u l)
-    (λ g. none_before c.args.marks.now c.search.at u c.if-rest-ne0.true (c.type_inv.marks (c.search.at / 64)).fits g
-    (omega (arith, c.if-found-end.false)))
+pub words-init : goal.words-init
+words-init c = λ u l h. none_in_word c.args.marks.now c.args.from u c.if-rest-ne0.false l (omega arith)
 
-pub returns-then-found-end-clause-marked : goal.returns-then-found-end-clause-marked
-returns-then-found-end-clause-marked c = λ l.
-    first_marked c.args.marks.now c.search.at c.if-rest-ne0.true (c.type_inv.marks (c.search.at / 64)).fits
+pub returns-then-whole-ne0-clause-passed : goal.returns-then-whole-ne0-clause-passed
+returns-then-whole-ne0-clause-passed c = λ u l h. by_lt_or_le u (64 * c.words.k) (c.words.invariant u l)
+    (λ g. whole_before c.args.marks.now c.words.k u c.if-whole-ne0.true (c.type_inv.marks c.words.k).fits g
+    (omega arith))
 
-pub search-preserved : goal.search-preserved
-search-preserved c = record {
-  after = omega arith;
-  passed = λ u l h. by_lt_or_le u c.search.at (c.search.invariant.passed u l)
-      (λ g. none_in_word c.args.marks.now c.search.at u c.if-rest-ne0.false g h);
-}
+pub words-preserved : goal.words-preserved
+words-preserved c = λ u l h. by_lt_or_le u (64 * c.words.k) (c.words.invariant u l)
+    (λ g. whole_zero c.args.marks.now c.words.k u c.if-whole-ne0.false g (omega arith))
+
+pub returns-then-rest-ne0-clause-marked : goal.returns-then-rest-ne0-clause-marked
+returns-then-rest-ne0-clause-marked c = λ l.
+    let rest = get_or c.args.marks.now (c.args.from / 64) 0 / 2 ^ (c.args.from % 64) in
+    let e : c.args.from + trailing_zeros w64 rest ≡ c.min.result = omega arith in
+    subst (λ n. cell_at c.args.marks.now n ≡ true) e
+    (first_marked c.args.marks.now c.args.from c.if-rest-ne0.true (c.type_inv.marks (c.args.from / 64)).fits)
+
+pub returns-then-whole-ne0-clause-marked : goal.returns-then-whole-ne0-clause-marked
+returns-then-whole-ne0-clause-marked c = λ l.
+    let e : 64 * c.words.k + trailing_zeros w64 (get_or c.args.marks.now c.words.k 0) ≡ c.min-then-whole-ne0.result =
+    omega arith in
+    subst (λ n. cell_at c.args.marks.now n ≡ true) e
+    (whole_marked c.args.marks.now c.words.k c.if-whole-ne0.true (c.type_inv.marks c.words.k).fits)

@@ -11,20 +11,20 @@ use Rattle.local_run.proofs.marked_planes.MarkedPlanes.even_step.Goals.{then-tur
 pub marked-init : goal.marked-init
 marked-init c =
     let f = c.args.self.now in
-    let n = c.next_mark-u.ensures in
+    let n = c.next_marked-u.ensures in
     let passed = rw c.deref.ensures.value at n.passed in
     record {
       size = (refl, refl, refl);
       stays = λ e. refl;
       within = (omega arith, n.range.1);
-      turned = inside_first f.planes f.even_marks.items c.next_mark-u.result f.even_calm (omega arith) passed;
+      turned = inside_first f.planes f.even_marks.items c.next_marked-u.result f.even_calm (omega arith) passed;
     }
 
 pub marked-preserved : goal.marked-preserved
 marked-preserved c =
     let p = c.args.self.now.planes in
     let m = c.marked.invariant in
-    let n = c.next_mark-u-in-marked.ensures in
+    let n = c.next_marked-u-in-marked.ensures in
     let t = c.turn_even.ensures in
     let r = c.turn_even.new.self in
     let passed = rw c.deref-in-marked.ensures.value at n.passed in
@@ -36,7 +36,7 @@ marked-preserved c =
       ];
       within = (omega arith, n.range.1);
       turned = inside_next p c.marked.self.planes r.planes r.even_marks.items c.marked.u
-          c.next_mark-u-in-marked.result m.size t.size m.turned t.part t.last r.even_calm n.range.0
+          c.next_marked-u-in-marked.result m.size t.size m.turned t.part t.last r.even_calm n.range.0
           (omega arith) passed;
     }
 
