@@ -1,12 +1,15 @@
 -- Steps that pass over the blocks that stay
-use Rattle.std.proofs.Common.{◌≡◌, ◌≢◌, ℕ, ◌<◌, ◌≤◌, ◌+◌, ◌-◌, ◌*◌, ◌%◌, ◌⊎◌, inl, inr, refl, arith, sym, ◌∙◌, ap, List}
-use Rattle.std.proofs.Common.{get_or}
-use Rattle.std.proofs.Math.Nat.{mul-le-mul_left}
+use Rattle.std.proofs.Common.{◌≡◌, ◌≢◌, ℕ, true, false, ◌<◌, ◌≤◌, ◌+◌, ◌*◌, ◌/◌, ◌%◌, ◌⊎◌, inl, inr, refl, arith, sym, ◌∙◌, ap}
+use Rattle.std.proofs.Common.{List, get_or, subst}
+use Rattle.std.proofs.lemmas.Bool.{false≢true}
+use Rattle.std.proofs.Math.Nat.{div-add-mod, mod-lt, mul-le-mul_left}
+use Rattle.bbm_rule.specs.Bits.{bit}
 use Rattle.bbm_rule.specs.Words.{AreTurned}
-use Rattle.bbm_rule.proofs.BitLemmas.{by_eq_or_not, by_lt_or_le}
+use Rattle.bbm_rule.proofs.BitLemmas.{bit-zero, by_eq_or_not, by_lt_or_le}
 use Rattle.bbm_rule.specs.Plane.{turned}
 use Rattle.bbm_rule.specs.Rows.{mate}
 use Rattle.bbm_rule.specs.Marks.{IsUnmarked}
+use Rattle.local_run.specs.Sweeps.{TurnsEven, TurnsEvenNamed, TurnsNamed, TurnsOdd, TurnsOddNamed}
 use Rattle.local_run.specs.Turns.{IsCalmBlock, TurnsPart}
 use Rattle.local_run.specs.Calm.{OddCalm, EvenCalm}
 use Rattle.local_run.specs.Live.{AllDead, AreUnmarked}
@@ -14,110 +17,10 @@ use Rattle.local_run.specs.declared.live.LiveMarks.{LiveMarks}
 use Rattle.local_run.proofs.LiveLemmas.{dead_at, dead_calm}
 use Rattle.local_run.specs.Lanes.{HasSize, lane}
 use Rattle.local_run.specs.declared.planes.Planes.{Planes}
-use Rattle.local_run.proofs.TurnLemmas.{calm_part, calm_turned, part_after}
+use Rattle.local_run.proofs.TurnLemmas.{calm_turned}
 use Rattle.local_run.proofs.CalmLemmas.{other_cell}
 use Rattle.local_run.proofs.InsideLemmas.{next_in_row}
 use Rattle.local_run.proofs.LaneLemmas.{inner_lane, odd_lane}
-
-by_sum : (u d v w : ℕ) → v ≡ u + d → w * v ≡ w * u + w * d
-by_sum u d v w e = rw e (omega arith)
-
-long_of : (v u w : ℕ) → u ≤ v → w * v ≡ w * u + w * (v - u)
-long_of v u w le = let e : v ≡ u + (v - u) = omega arith in by_sum u (v - u) v w e
-
-none_before : (k : ℕ) → 0 + k ≡ k
-none_before k = omega arith
-
-none_more : (n : ℕ) → n + 0 ≡ n
-none_more n = omega arith
-
--- the parts of the planes at n blocks from block u on, for the blocks of the odd partition and those of the even
--- partition
-abbrev pub TurnsOdd : ℕ → ℕ → Planes → Planes → Type 0
-TurnsOdd at long p q = TurnsPart at at at at long p.odd.items p.right.items p.down.items p.even.items q.odd.items
-    q.right.items q.down.items q.even.items
-
-abbrev pub TurnsEven : ℕ → ℕ → ℕ → ℕ → ℕ → Planes → Planes → Type 0
-TurnsEven a b c d long p q = TurnsPart a b c d long p.even.items p.down.items p.right.items p.odd.items q.even.items
-    q.down.items q.right.items q.odd.items
-
--- ---- the odd partition
--- block n of it stays
-abbrev pub OddStays : Planes → ℕ → Type 0
-OddStays p n = IsCalmBlock p.words n n n n p.odd.items p.right.items p.down.items p.even.items
-
--- so does one without a mark, and one of which no cell has a mark
-pub odd_stays : (p : Planes) (marks : List ℕ) (l : LiveMarks) (n : ℕ) → OddCalm marks p → AllDead l p →
-    IsUnmarked marks n ⊎ AreUnmarked l n n n n → n < p.stride * p.rows → OddStays p n
-odd_stays p marks l n calm dead (inl free) h = calm n h free
-odd_stays p marks l n calm dead (inr free) h =
-    let d = dead_at n l p h dead free in
-    dead_calm p.words n n n n p.odd.items p.right.items p.down.items p.even.items (λ k i. (d k i).0)
-    (λ k i. (d k i).1) (λ k i. (d k i).2) (λ k i. (d k i).3)
-
-odd_skip : (p : Planes) (u v at long : ℕ) → at ≡ p.words * u → long ≡ p.words * (v - u) → 0 < p.words → u ≤ v →
-    v ≤ p.stride * p.rows → ((n : ℕ) → u ≤ n → n < v → n < p.stride * p.rows → OddStays p n) → TurnsOdd at long p p
-odd_skip p u v at long ea el some le room stay =
-    let h = calm_part p.words 0 0 0 0 u v long p.odd.items p.right.items p.down.items p.even.items some el le
-    (λ n l h. rw (none_more n) (stay n l h (omega arith))) in
-    let h = rw (none_more u) at h in rw ea h
-
-pub odd_first : (p : Planes) (v : ℕ) → 0 < p.words → v ≤ p.stride * p.rows →
-    ((n : ℕ) → 0 ≤ n → n < v → n < p.stride * p.rows → OddStays p n) → TurnsOdd 0 (p.words * v) p p
-odd_first p v some room stay =
-    odd_skip p 0 v 0 (p.words * v) (omega arith) (let e : v - 0 ≡ v = omega arith in rw e refl) some (omega arith) room
-    stay
-
-pub odd_next : (p q r : Planes) (u v : ℕ) → HasSize p.words p.stride p.rows q →
-    HasSize q.words q.stride q.rows r → 0 < p.words →
-    TurnsOdd 0 (p.words * u) p q → TurnsOdd (q.words * u) q.words q r → u + 1 ≤ v → v ≤ p.stride * p.rows →
-    ((n : ℕ) → u + 1 ≤ n → n < v → n < r.stride * r.rows → OddStays r n) → TurnsOdd 0 (p.words * v) p r
-odd_next p q r u v sq sr some first second le room stay =
-    let ew = sq.0 in
-    let es = sq.1 in
-    let er = sq.2 in
-    let rw0 : r.words ≡ p.words = sr.0 ∙ sq.0 in
-    let place : q.words * u ≡ 0 + p.words * u = rw ew (omega arith) in
-    let both : TurnsOdd 0 (p.words * (u + 1)) p r =
-    part_after 0 0 0 0 (p.words * u) q.words (p.words * (u + 1)) (q.words * u) (q.words * u) (q.words * u)
-    (q.words * u) _ _ _ _ _ _ _ _ _ _ _ _
-    place place place place (omega arith) first second in
-    let rest : TurnsOdd (p.words * (u + 1)) (p.words * (v - (u + 1))) r r =
-    odd_skip r (u + 1) v (p.words * (u + 1)) (p.words * (v - (u + 1)))
-    (ap (λ w. w * (u + 1)) (sym' rw0)) (ap (λ w. w * (v - (u + 1))) (sym' rw0)) (omega arith) le
-    (room_of (sr.1 ∙ sq.1) (sr.2 ∙ sq.2)) stay in
-    part_after 0 0 0 0 (p.words * (u + 1)) (p.words * (v - (u + 1))) (p.words * v) (p.words * (u + 1))
-    (p.words * (u + 1)) (p.words * (u + 1)) (p.words * (u + 1)) _ _ _ _ _ _ _ _ _ _ _ _
-    (omega arith) (omega arith) (omega arith) (omega arith) (long_of v (u + 1) p.words le) both rest
-  where
-    sym' : {a b : ℕ} → a ≡ b → b ≡ a
-    sym' e = omega arith
-
-    room_of : r.stride ≡ p.stride → r.rows ≡ p.rows → v ≤ r.stride * r.rows
-    room_of e f = rw (e, f) room
-
-pub odd_all : (p q : Planes) (u : ℕ) → HasSize p.words p.stride p.rows q → u ≡ p.stride * p.rows →
-    TurnsOdd 0 (p.words * u) p q →
-    (a x y : ℕ) → a < 64 * p.words → x < 2 * p.stride → y < 2 * p.rows →
-    lane q a x y ≡ turned (lane p a x y) (lane p a (mate x) (mate y)) (lane p a (mate x) y) (lane p a x (mate y))
-odd_all p q u size e part = odd_lane p q size (λ k l. let h = part.turned k (rw e l) in rw (none_before k) at h)
-
--- ---- the even partition
--- The blocks before number u are turned, but for the last ones of the rows, and no cell of the others has changed
-pub record TurnsInside (u : ℕ) (p q : Planes) : Type 0 where
-  pub turned : (n k : ℕ) → n < u → k < p.words → (n + 1) % p.stride ≢ 0 →
-      AreTurned (get_or p.even.items (p.words * n + k) 0) (get_or p.down.items (p.words * (n + 1) + k) 0)
-      (get_or p.right.items (p.words * (n + p.stride) + k) 0) (get_or p.odd.items (p.words * (n + p.stride + 1) + k) 0)
-      (get_or q.even.items (p.words * n + k) 0) (get_or q.down.items (p.words * (n + 1) + k) 0)
-      (get_or q.right.items (p.words * (n + p.stride) + k) 0) (get_or q.odd.items (p.words * (n + p.stride + 1) + k) 0)
-  pub even : (n k : ℕ) → u ≤ n → k < p.words →
-      get_or q.even.items (p.words * n + k) 0 ≡ get_or p.even.items (p.words * n + k) 0
-  pub down : (n k : ℕ) → u ≤ n → k < p.words →
-      get_or q.down.items (p.words * (n + 1) + k) 0 ≡ get_or p.down.items (p.words * (n + 1) + k) 0
-  pub right : (n k : ℕ) → u ≤ n → k < p.words →
-      get_or q.right.items (p.words * (n + p.stride) + k) 0 ≡ get_or p.right.items (p.words * (n + p.stride) + k) 0
-  pub odd : (n k : ℕ) → u ≤ n → k < p.words →
-      get_or q.odd.items (p.words * (n + p.stride + 1) + k) 0 ≡ get_or p.odd.items (p.words * (n + p.stride + 1) + k) 0
 
 turned_before : (a b c d a' b' c' d' e f g h : ℕ) → a' ≡ a → b' ≡ b → c' ≡ c → d' ≡ d → AreTurned a' b' c' d' e f g h →
     AreTurned a b c d e f g h
@@ -127,113 +30,252 @@ turned_after : (a b c d e f g h e' f' g' h' : ℕ) → e' ≡ e → f' ≡ f →
     AreTurned a b c d e' f' g' h'
 turned_after a b c d e f g h e' f' g' h' ee ef eg eh t = rw (ee, ef, eg, eh) t
 
--- the blocks from number u to below v stay
-inside_skip : (p q : Planes) (marks : List ℕ) (u v : ℕ) → HasSize p.words p.stride p.rows q → EvenCalm marks q →
-    v + p.stride + 1 ≤ p.stride * p.rows → ((n : ℕ) → u ≤ n → n < v → IsUnmarked marks n) →
-    TurnsInside u p q → u ≤ v → TurnsInside v p q
-inside_skip p q marks u v size calm room free t le = record {
-  turned = λ n k l lk inside. by_lt_or_le n u (λ h. t.turned n k h lk inside)
-      (λ h. let c = calm in let c = rw (size.0, size.1, size.2) at c in let b = c n (omega arith) inside (free n h l) in
-      turned_before _ _ _ _ _ _ _ _ _ _ _ _ (t.even n k h lk) (t.down n k h lk) (t.right n k h lk) (t.odd n k h lk)
-      (calm_turned _ _ _ _ (b.0 k lk) (b.1 k lk)));
-  even = λ n k h. t.even n k (omega arith);
-  down = λ n k h. t.down n k (omega arith);
-  right = λ n k h. t.right n k (omega arith);
-  odd = λ n k h. t.odd n k (omega arith);
+-- ---- named blocks
+-- other numbers give other cells
+abbrev IsInjective : (ℕ → ℕ) → Type 0
+IsInjective f = (n m : ℕ) → f n ≡ f m → n ≡ m
+
+-- nothing changes where the named blocks stay
+named_stay : (w : ℕ) (a b c d : ℕ → ℕ) (P : ℕ → Type 0) (ul ur ll lr : List ℕ) →
+    ((n : ℕ) → P n → IsCalmBlock w (a n) (b n) (c n) (d n) ul ur ll lr) →
+    TurnsNamed w a b c d P ul ur ll lr ul ur ll lr
+named_stay w a b c d P ul ur ll lr stay = record {
+  turned = λ n k is l. let calm = stay n is in calm_turned _ _ _ _ (calm.0 k l) (calm.1 k l);
+  upper_left = λ n k miss l. refl;
+  upper_right = λ n k miss l. refl;
+  lower_left = λ n k miss l. refl;
+  lower_right = λ n k miss l. refl;
 }
 
-inside_none : (p : Planes) → TurnsInside 0 p p
-inside_none p = record {
-  turned = λ n k l lk inside. absurd (omega arith);
-  even = λ n k h lk. refl;
-  down = λ n k h lk. refl;
-  right = λ n k h lk. refl;
-  odd = λ n k h lk. refl;
+-- the same blocks under another name
+renamed : (w : ℕ) (a b c d : ℕ → ℕ) (P Q : ℕ → Type 0) (ul ur ll lr ul' ur' ll' lr' : List ℕ) →
+    ((n : ℕ) → Q n → P n) → ((n : ℕ) → P n → Q n) → TurnsNamed w a b c d P ul ur ll lr ul' ur' ll' lr' →
+    TurnsNamed w a b c d Q ul ur ll lr ul' ur' ll' lr'
+renamed w a b c d P Q ul ur ll lr ul' ur' ll' lr' from to t = record {
+  turned = λ n k is l. t.turned n k (from n is) l;
+  upper_left = λ n k miss l. t.upper_left n k (λ is. miss (to n is)) l;
+  upper_right = λ n k miss l. t.upper_right n k (λ is. miss (to n is)) l;
+  lower_left = λ n k miss l. t.lower_left n k (λ is. miss (to n is)) l;
+  lower_right = λ n k miss l. t.lower_right n k (λ is. miss (to n is)) l;
 }
 
-pub inside_first : (p : Planes) (marks : List ℕ) (v : ℕ) → EvenCalm marks p → v + p.stride + 1 ≤ p.stride * p.rows →
-    ((n : ℕ) → 0 ≤ n → n < v → IsUnmarked marks n) → TurnsInside v p p
-inside_first p marks v calm room free =
-    inside_skip p p marks 0 v (refl, refl, refl) calm room free (inside_none p) (omega arith)
+-- one more block is turned
+named_next : (w u : ℕ) (a b c d : ℕ → ℕ) (P Q : ℕ → Type 0) (ul ur ll lr ul' ur' ll' lr' ul'' ur'' ll'' lr'' : List ℕ) →
+    IsInjective a → IsInjective b → IsInjective c → IsInjective d → (P u → ⊥) → Q u →
+    ((n : ℕ) → n ≢ u → Q n → P n) → ((n : ℕ) → n ≢ u → P n → Q n) →
+    TurnsNamed w a b c d P ul ur ll lr ul' ur' ll' lr' →
+    TurnsPart (w * a u) (w * b u) (w * c u) (w * d u) w ul' ur' ll' lr' ul'' ur'' ll'' lr'' →
+    TurnsNamed w a b c d Q ul ur ll lr ul'' ur'' ll'' lr''
+named_next w u a b c d P Q ul ur ll lr ul' ur' ll' lr' ul'' ur'' ll'' lr'' ia ib ic id free here from to t part =
+    record {
+      turned = λ n k is l. by_eq_or_not n u
+          (λ same. rw same (turned_before _ _ _ _ _ _ _ _ _ _ _ _ (t.upper_left u k free l) (t.upper_right u k free l)
+          (t.lower_left u k free l) (t.lower_right u k free l) (part.turned k l)))
+          (λ ne. turned_after _ _ _ _ _ _ _ _ _ _ _ _ (ul_same n k l ne) (ur_same n k l ne) (ll_same n k l ne)
+          (lr_same n k l ne) (t.turned n k (from n ne is) l));
+      upper_left = λ n k miss l. ul_same n k l (other n miss) ∙ t.upper_left n k (λ is. miss (to n (other n miss) is)) l;
+      upper_right = λ n k miss l. ur_same n k l (other n miss) ∙ t.upper_right n k (λ is. miss (to n (other n miss) is)) l;
+      lower_left = λ n k miss l. ll_same n k l (other n miss) ∙ t.lower_left n k (λ is. miss (to n (other n miss) is)) l;
+      lower_right = λ n k miss l. lr_same n k l (other n miss) ∙ t.lower_right n k (λ is. miss (to n (other n miss) is)) l;
+    }
+  where
+    other : (n : ℕ) → (Q n → ⊥) → n ≢ u
+    other n miss e = miss (subst Q (sym e) here)
 
--- the last block of a row stays
-inside_last : (u : ℕ) (p q r : Planes) → r ≡ q → (u + 1) % p.stride ≡ 0 → TurnsInside u p q → TurnsInside (u + 1) p r
-inside_last u p q r e last t = rw e (record {
-  turned = λ n k l lk inside. by_eq_or_not n u
-      (λ same. absurd (inside (ap (λ (m : ℕ). (m + 1) % p.stride) same ∙ last)))
-      (λ ne. t.turned n k (omega (arith, ne, l)) lk inside);
-  even = λ n k h. t.even n k (omega arith);
-  down = λ n k h. t.down n k (omega arith);
-  right = λ n k h. t.right n k (omega arith);
-  odd = λ n k h. t.odd n k (omega arith);
-})
+    ul_same : (n k : ℕ) → k < w → n ≢ u → get_or ul'' (w * a n + k) 0 ≡ get_or ul' (w * a n + k) 0
+    ul_same n k l ne = other_cell w (a u) (a n) k ul' ul'' part.upper_left l (λ e. ne (ia n u e))
 
-inside_turned : (u : ℕ) (p q r : Planes) →
-    TurnsEven (p.words * u) (p.words * (u + 1)) (p.words * (u + p.stride)) (p.words * (u + p.stride + 1)) p.words q r →
-    TurnsInside u p q → TurnsInside (u + 1) p r
-inside_turned u p q r part t = record {
-  turned = λ n k l lk inside. by_eq_or_not n u
-      (λ same. rw same (turned_before _ _ _ _ _ _ _ _ _ _ _ _ (t.even u k (omega arith) lk)
-      (t.down u k (omega arith) lk) (t.right u k (omega arith) lk) (t.odd u k (omega arith) lk) (part.turned k lk)))
-      (λ ne. turned_after _ _ _ _ _ _ _ _ _ _ _ _ (even_same n k lk ne) (down_same n k lk ne) (right_same n k lk ne)
-      (odd_same n k lk ne) (t.turned n k (omega (arith, ne, l)) lk inside));
-  even = λ n k h lk. even_same n k lk (λ e. omega (arith, e, h)) ∙ t.even n k (omega arith) lk;
-  down = λ n k h lk. down_same n k lk (λ e. omega (arith, e, h)) ∙ t.down n k (omega arith) lk;
-  right = λ n k h lk. right_same n k lk (λ e. omega (arith, e, h)) ∙ t.right n k (omega arith) lk;
-  odd = λ n k h lk. odd_same n k lk (λ e. omega (arith, e, h)) ∙ t.odd n k (omega arith) lk;
+    ur_same : (n k : ℕ) → k < w → n ≢ u → get_or ur'' (w * b n + k) 0 ≡ get_or ur' (w * b n + k) 0
+    ur_same n k l ne = other_cell w (b u) (b n) k ur' ur'' part.upper_right l (λ e. ne (ib n u e))
+
+    ll_same : (n k : ℕ) → k < w → n ≢ u → get_or ll'' (w * c n + k) 0 ≡ get_or ll' (w * c n + k) 0
+    ll_same n k l ne = other_cell w (c u) (c n) k ll' ll'' part.lower_left l (λ e. ne (ic n u e))
+
+    lr_same : (n k : ℕ) → k < w → n ≢ u → get_or lr'' (w * d n + k) 0 ≡ get_or lr' (w * d n + k) 0
+    lr_same n k l ne = other_cell w (d u) (d n) k lr' lr'' part.lower_right l (λ e. ne (id n u e))
+
+-- some blocks are turned after others
+named_join : (w : ℕ) (a b c d : ℕ → ℕ) (P Q R : ℕ → Type 0) (ul ur ll lr ul' ur' ll' lr' ul'' ur'' ll'' lr'' : List ℕ) →
+    ((n : ℕ) → P n → Q n → ⊥) → ((n : ℕ) → R n → P n ⊎ Q n) → ((n : ℕ) → P n → R n) → ((n : ℕ) → Q n → R n) →
+    TurnsNamed w a b c d P ul ur ll lr ul' ur' ll' lr' → TurnsNamed w a b c d Q ul' ur' ll' lr' ul'' ur'' ll'' lr'' →
+    TurnsNamed w a b c d R ul ur ll lr ul'' ur'' ll'' lr''
+named_join w a b c d P Q R ul ur ll lr ul' ur' ll' lr' ul'' ur'' ll'' lr'' apart of_r r_of_p r_of_q s t = record {
+  turned = λ n k is l. elim (of_r n is) [
+    | inl p ↦ let miss : Q n → ⊥ = λ q. apart n p q in turned_after _ _ _ _ _ _ _ _ _ _ _ _ (t.upper_left n k miss l)
+        (t.upper_right n k miss l) (t.lower_left n k miss l) (t.lower_right n k miss l) (s.turned n k p l)
+    | inr q ↦ let miss : P n → ⊥ = λ p. apart n p q in turned_before _ _ _ _ _ _ _ _ _ _ _ _ (s.upper_left n k miss l)
+        (s.upper_right n k miss l) (s.lower_left n k miss l) (s.lower_right n k miss l) (t.turned n k q l)
+  ];
+  upper_left = λ n k miss l. t.upper_left n k (λ q. miss (r_of_q n q)) l ∙ s.upper_left n k (λ p. miss (r_of_p n p)) l;
+  upper_right = λ n k miss l. t.upper_right n k (λ q. miss (r_of_q n q)) l ∙ s.upper_right n k (λ p. miss (r_of_p n p)) l;
+  lower_left = λ n k miss l. t.lower_left n k (λ q. miss (r_of_q n q)) l ∙ s.lower_left n k (λ p. miss (r_of_p n p)) l;
+  lower_right = λ n k miss l. t.lower_right n k (λ q. miss (r_of_q n q)) l ∙ s.lower_right n k (λ p. miss (r_of_p n p)) l;
+}
+
+-- ---- blocks whose marks are in one word, and those whose marks are not among the rest of the word
+abbrev pub IsPast : ℕ → ℕ → ℕ → ℕ → Type 0
+IsPast first end rest n = (first ≤ n) × (n < end) × (bit rest (n % 64) ≡ false)
+
+-- where the mark of block u is cleared, this block is one of them too
+pub record OnePast (first end rest rest' u : ℕ) : Type 0 where
+  pub free : IsPast first end rest u → ⊥
+  pub here : IsPast first end rest' u
+  pub from : (n : ℕ) → n ≢ u → IsPast first end rest' n → IsPast first end rest n
+  pub to : (n : ℕ) → n ≢ u → IsPast first end rest n → IsPast first end rest' n
+
+pub one_past : (first end rest rest' t : ℕ) → first % 64 ≡ 0 → end ≤ first + 64 → t < 64 → first + t < end →
+    bit rest t ≡ true → bit rest' t ≡ false → ((j : ℕ) → j ≢ t → bit rest' j ≡ bit rest j) →
+    OnePast first end rest rest' (first + t)
+one_past first end rest rest' t aligned short small le set cleared same = record {
+  free = λ is. false≢true (sym is.2 ∙ ap (bit rest) place ∙ set);
+  here = (omega arith, le, ap (bit rest') place ∙ cleared);
+  from = λ n ne is. (is.0, is.1, sym (same (n % 64) (λ e. ne (omega (arith, e, is.0, is.1)))) ∙ is.2);
+  to = λ n ne is. (is.0, is.1, same (n % 64) (λ e. ne (omega (arith, e, is.0, is.1))) ∙ is.2);
 }
   where
-    even_same : (n k : ℕ) → k < p.words → n ≢ u →
-        get_or r.even.items (p.words * n + k) 0 ≡ get_or q.even.items (p.words * n + k) 0
-    even_same n k lk ne = other_cell p.words u n k q.even.items r.even.items part.upper_left lk ne
+    place : (first + t) % 64 ≡ t
+    place = omega arith
 
-    down_same : (n k : ℕ) → k < p.words → n ≢ u →
-        get_or r.down.items (p.words * (n + 1) + k) 0 ≡ get_or q.down.items (p.words * (n + 1) + k) 0
-    down_same n k lk ne = other_cell p.words (u + 1) (n + 1) k q.down.items r.down.items part.upper_right lk
-        (λ e. ne (omega (arith, e)))
+-- before the first mark of the rest all are
+pub past_before : (first end rest t n : ℕ) → first % 64 ≡ 0 → end ≤ first + 64 → end ≤ first + t →
+    ((j : ℕ) → j < t → bit rest j ≡ false) → first ≤ n → n < end → IsPast first end rest n
+past_before first end rest t n aligned short le none l h = (l, h, none (n % 64) (omega arith))
 
-    right_same : (n k : ℕ) → k < p.words → n ≢ u →
-        get_or r.right.items (p.words * (n + p.stride) + k) 0 ≡ get_or q.right.items (p.words * (n + p.stride) + k) 0
-    right_same n k lk ne = other_cell p.words (u + p.stride)
-        (n + p.stride) k q.right.items r.right.items part.lower_left lk (λ e. ne (omega (arith, e)))
+-- and so are all if there is no rest
+pub past_all : (first end rest n : ℕ) → rest ≡ 0 → first ≤ n → n < end → IsPast first end rest n
+past_all first end rest n e l h = (l, h, ap (λ (m : ℕ). bit m (n % 64)) e ∙ bit-zero (n % 64))
 
-    odd_same : (n k : ℕ) → k < p.words → n ≢ u →
-        get_or r.odd.items (p.words * (n + p.stride + 1) + k) 0
-        ≡ get_or q.odd.items (p.words * (n + p.stride + 1) + k) 0
-    odd_same n k lk ne = other_cell p.words (u + p.stride + 1)
-        (n + p.stride + 1) k q.odd.items r.odd.items part.lower_right lk (λ e. ne (omega (arith, e)))
+-- the same, but for the last blocks of the rows
+abbrev pub IsPastInside : ℕ → ℕ → ℕ → ℕ → ℕ → Type 0
+IsPastInside s first end rest n = IsPast first end rest n × ((n + 1) % s ≢ 0)
 
-pub inside_next : (p q r : Planes) (marks : List ℕ) (u v : ℕ) → HasSize p.words p.stride p.rows q →
-    HasSize q.words q.stride q.rows r → TurnsInside u p q →
-    ((u + 1) % q.stride ≢ 0 → TurnsEven (q.words * u) (q.words * (u + 1)) (q.words * (u + q.stride))
-    (q.words * (u + q.stride + 1)) q.words q r) → ((u + 1) % q.stride ≡ 0 → r ≡ q) →
-    EvenCalm marks r → u + 1 ≤ v → v + p.stride + 1 ≤ p.stride * p.rows →
-    ((n : ℕ) → u + 1 ≤ n → n < v → IsUnmarked marks n) → TurnsInside v p r
-inside_next p q r marks u v sq sr first part last calm le room free =
-    inside_skip p r marks (u + 1) v (sr.0 ∙ sq.0, sr.1 ∙ sq.1, sr.2 ∙ sq.2) calm room free
-    (by_eq_or_not ((u + 1) % p.stride) 0
-    (λ e. inside_last u p q r (last (ap (λ (s : ℕ). (u + 1) % s) sq.1 ∙ e)) e first)
-    (λ ne. inside_turned u p q r (part' (part (λ e. ne (sym (ap (λ (s : ℕ). (u + 1) % s) sq.1) ∙ e)))) first)) le
+-- ---- the odd partition
+self : IsInjective (λ n. n)
+self n m e = e
+
+-- a block without a mark stays, and one of which no cell has a mark
+odd_stays : (p : Planes) (marks : List ℕ) (l : LiveMarks) (n : ℕ) → OddCalm marks p → AllDead l p →
+    IsUnmarked marks n ⊎ AreUnmarked l n n n n → n < p.stride * p.rows →
+    IsCalmBlock p.words n n n n p.odd.items p.right.items p.down.items p.even.items
+odd_stays p marks l n calm dead (inl free) h = calm n h free
+odd_stays p marks l n calm dead (inr free) h =
+    let d = dead_at n l p h dead free in
+    dead_calm p.words n n n n p.odd.items p.right.items p.down.items p.even.items (λ k i. (d k i).0)
+    (λ k i. (d k i).1) (λ k i. (d k i).2) (λ k i. (d k i).3)
+
+-- the named blocks have no mark
+pub odd_none : (p : Planes) (marks : List ℕ) (l : LiveMarks) (P : ℕ → Type 0) → OddCalm marks p → AllDead l p →
+    ((n : ℕ) → P n → (n < p.stride * p.rows) × (IsUnmarked marks n ⊎ AreUnmarked l n n n n)) → TurnsOddNamed P p p
+odd_none p marks l P calm dead free =
+    named_stay p.words (λ n. n) (λ n. n) (λ n. n) (λ n. n) P p.odd.items p.right.items p.down.items p.even.items
+    (λ n is. let f = free n is in odd_stays p marks l n calm dead f.1 f.0)
+
+pub odd_next : (p q r : Planes) (u : ℕ) (P Q : ℕ → Type 0) → HasSize p.words p.stride p.rows q →
+    TurnsOddNamed P p q → TurnsPart (q.words * u) (q.words * u) (q.words * u) (q.words * u) q.words q.odd.items
+    q.right.items q.down.items q.even.items r.odd.items r.right.items r.down.items r.even.items →
+    (P u → ⊥) → Q u → ((n : ℕ) → n ≢ u → Q n → P n) → ((n : ℕ) → n ≢ u → P n → Q n) → TurnsOddNamed Q p r
+odd_next p q r u P Q size first part free here from to =
+    let part = rw (size.0) at part in
+    named_next p.words u (λ n. n) (λ n. n) (λ n. n) (λ n. n) P Q _ _ _ _ _ _ _ _ _ _ _ _ self self self self free here
+    from to first part
+
+pub odd_renamed : (p q : Planes) (P Q : ℕ → Type 0) → ((n : ℕ) → Q n → P n) → ((n : ℕ) → P n → Q n) →
+    TurnsOddNamed P p q → TurnsOddNamed Q p q
+odd_renamed p q P Q from to t =
+    renamed p.words (λ n. n) (λ n. n) (λ n. n) (λ n. n) P Q _ _ _ _ _ _ _ _ from to t
+
+pub odd_join : (p q r : Planes) (at end : ℕ) → HasSize p.words p.stride p.rows q → at ≤ end →
+    TurnsOdd 0 at p q → TurnsOdd at end q r → TurnsOdd 0 end p r
+odd_join p q r at end size le s t =
+    let t = rw (size.0) at t in
+    named_join p.words (λ n. n) (λ n. n) (λ n. n) (λ n. n) (λ n. (0 ≤ n) × (n < at)) (λ n. (at ≤ n) × (n < end))
+    (λ n. (0 ≤ n) × (n < end)) _ _ _ _ _ _ _ _ _ _ _ _ (λ n l g. absurd (omega (arith, l.1, g.0)))
+    (λ n l. by_lt_or_le n at (λ h. inl (l.0, h)) (λ h. inr (h, l.1)))
+    (λ n l. (l.0, omega (arith, l.1))) (λ n g. (omega arith, g.1)) s t
+
+pub odd_all : (p q : Planes) (u : ℕ) → HasSize p.words p.stride p.rows q → u ≡ p.stride * p.rows → TurnsOdd 0 u p q →
+    (a x y : ℕ) → a < 64 * p.words → x < 2 * p.stride → y < 2 * p.rows →
+    lane q a x y ≡ turned (lane p a x y) (lane p a (mate x) (mate y)) (lane p a (mate x) y) (lane p a x (mate y))
+odd_all p q u size e t = odd_lane p q size (λ k l.
+    let at : p.words * (k / p.words) + k % p.words ≡ k = div-add-mod k p.words in
+    let cell : k / p.words < u = by_lt_or_le (k / p.words) u (λ h. h)
+    (λ h. let m : p.words * u ≤ p.words * (k / p.words) = mul-le-mul_left p.words h in
+    let l = rw (← e) at l in absurd (omega arith)) in
+    let h = t.turned (k / p.words) (k % p.words) (omega arith, cell) (mod-lt k p.some.0) in rw at at h)
+
+-- ---- the even partition
+after : (s : ℕ) → IsInjective (λ n. n + s)
+after s n m e = omega (arith, e)
+
+after_next : (s : ℕ) → IsInjective (λ n. n + s + 1)
+after_next s n m e = omega (arith, e)
+
+-- the named blocks have no mark
+pub even_none : (p : Planes) (marks : List ℕ) (P : ℕ → Type 0) → EvenCalm marks p →
+    ((n : ℕ) → P n → (n + p.stride + 1 < p.stride * p.rows) × ((n + 1) % p.stride ≢ 0) × IsUnmarked marks n) →
+    TurnsEvenNamed P p p
+even_none p marks P calm free =
+    named_stay p.words (λ n. n) (λ n. n + 1) (λ n. n + p.stride) (λ n. n + p.stride + 1) P p.even.items p.down.items
+    p.right.items p.odd.items (λ n is. let f = free n is in calm n f.0 f.1 f.2)
+
+even_next : (p q r : Planes) (u : ℕ) (P Q : ℕ → Type 0) → HasSize p.words p.stride p.rows q →
+    TurnsEvenNamed P p q → TurnsPart (q.words * u) (q.words * (u + 1)) (q.words * (u + q.stride))
+    (q.words * (u + q.stride + 1)) q.words q.even.items
+    q.down.items q.right.items q.odd.items r.even.items r.down.items r.right.items r.odd.items →
+    (P u → ⊥) → Q u → ((n : ℕ) → n ≢ u → Q n → P n) → ((n : ℕ) → n ≢ u → P n → Q n) → TurnsEvenNamed Q p r
+even_next p q r u P Q size first part free here from to =
+    let part = rw (size.0, size.1) at part in
+    named_next p.words u (λ n. n) (λ n. n + 1) (λ n. n + p.stride) (λ n. n + p.stride + 1) P Q
+    _ _ _ _ _ _ _ _ _ _ _ _ self (after 1) (after p.stride) (after_next p.stride) free here from to first part
+
+pub even_renamed : (p q : Planes) (P Q : ℕ → Type 0) → ((n : ℕ) → Q n → P n) → ((n : ℕ) → P n → Q n) →
+    TurnsEvenNamed P p q → TurnsEvenNamed Q p q
+even_renamed p q P Q from to t =
+    renamed p.words (λ n. n) (λ n. n + 1) (λ n. n + p.stride) (λ n. n + p.stride + 1) P Q _ _ _ _ _ _ _ _ from to t
+
+-- one more mark is cleared: its block is turned, or is the last one of its row
+pub even_past : (p q r : Planes) (u first end rest rest' : ℕ) → OnePast first end rest rest' u →
+    HasSize p.words p.stride p.rows q → TurnsEvenNamed (IsPastInside p.stride first end rest) p q →
+    ((u + 1) % q.stride ≢ 0 → TurnsPart (q.words * u) (q.words * (u + 1)) (q.words * (u + q.stride))
+    (q.words * (u + q.stride + 1)) q.words q.even.items q.down.items q.right.items q.odd.items r.even.items r.down.items
+    r.right.items r.odd.items) → ((u + 1) % q.stride ≡ 0 → r ≡ q) →
+    TurnsEvenNamed (IsPastInside p.stride first end rest') p r
+even_past p q r u first end rest rest' one size before part last = by_eq_or_not ((u + 1) % p.stride) 0
+    (λ e. subst (λ (o : Planes). TurnsEvenNamed (IsPastInside p.stride first end rest') p o) (sym (last (stride ∙ e)))
+    (even_renamed p q (IsPastInside p.stride first end rest) (IsPastInside p.stride first end rest')
+    (λ n is. (one.from n (λ same. is.1 (ap (λ (m : ℕ). (m + 1) % p.stride) same ∙ e)) is.0, is.1))
+    (λ n is. (one.to n (λ same. is.1 (ap (λ (m : ℕ). (m + 1) % p.stride) same ∙ e)) is.0, is.1)) before))
+    (λ ne. even_next p q r u (IsPastInside p.stride first end rest) (IsPastInside p.stride first end rest') size before
+    (part (λ e. ne (sym stride ∙ e))) (λ is. one.free is.0) (one.here, ne) (λ n other is. (one.from n other is.0, is.1))
+    (λ n other is. (one.to n other is.0, is.1)))
   where
-    part' : TurnsEven (q.words * u) (q.words * (u + 1)) (q.words * (u + q.stride))
-        (q.words * (u + q.stride + 1)) q.words q r →
-        TurnsEven (p.words * u) (p.words * (u + 1)) (p.words * (u + p.stride))
-        (p.words * (u + p.stride + 1)) p.words q r
-    part' h = rw (sq.0, sq.1) at h
+    stride : (u + 1) % q.stride ≡ (u + 1) % p.stride
+    stride = ap (λ (s : ℕ). (u + 1) % s) size.1
 
-pub inside_all : (p q : Planes) (u : ℕ) → HasSize p.words p.stride p.rows q → u + p.stride + 1 ≡ p.stride * p.rows →
-    TurnsInside u p q →
+pub even_join : (p q r : Planes) (at end : ℕ) → HasSize p.words p.stride p.rows q → at ≤ end →
+    TurnsEven 0 at p q → TurnsEven at end q r → TurnsEven 0 end p r
+even_join p q r at end size le s t =
+    let t = rw (size.0, size.1) at t in
+    named_join p.words (λ n. n) (λ n. n + 1) (λ n. n + p.stride) (λ n. n + p.stride + 1)
+    (λ n. (0 ≤ n) × (n < at) × ((n + 1) % p.stride ≢ 0)) (λ n. (at ≤ n) × (n < end) × ((n + 1) % p.stride ≢ 0))
+    (λ n. (0 ≤ n) × (n < end) × ((n + 1) % p.stride ≢ 0))
+    _ _ _ _ _ _ _ _ _ _ _ _ (λ n l g. absurd (omega (arith, l.1, g.0)))
+    (λ n l. by_lt_or_le n at (λ h. inl (l.0, h, l.2)) (λ h. inr (h, l.1, l.2)))
+    (λ n l. (l.0, omega (arith, l.1), l.2)) (λ n g. (omega arith, g.1, g.2)) s t
+
+pub even_all : (p q : Planes) (u : ℕ) → HasSize p.words p.stride p.rows q → u + p.stride + 1 ≡ p.stride * p.rows →
+    TurnsEven 0 u p q →
     (a x y : ℕ) → a < 64 * p.words → x + 2 < 2 * p.stride → y + 2 < 2 * p.rows →
     lane q a (1 + x) (1 + y) ≡ turned (lane p a (1 + x) (1 + y)) (lane p a (1 + mate x) (1 + mate y))
     (lane p a (1 + mate x) (1 + y)) (lane p a (1 + x) (1 + mate y))
-inside_all p q u size e t = inner_lane p q size (λ i j k li lj lk.
+even_all p q u size e t = inner_lane p q size (λ i j k li lj lk.
     let down : p.stride * j + i + 1 ≡ p.stride * j + (1 + i) = omega arith in
     let right : p.stride * j + i + p.stride ≡ p.stride * (1 + j) + i = omega arith in
     let odd : p.stride * j + i + p.stride + 1 ≡ p.stride * (1 + j) + (1 + i) = omega arith in
     let below : p.stride * (1 + j) + (1 + i) < p.stride * p.rows = let m : p.stride * (1 + j + 1) ≤ p.stride * p.rows =
     mul-le-mul_left p.stride (omega arith) in omega arith in
-    let h = t.turned (p.stride * j + i) k (omega (arith, below, e)) lk
-    (λ z. zero_not i (sym (next_in_row p.stride j i (omega arith)) ∙ z)) in
+    let h = t.turned (p.stride * j + i) k
+    (omega arith, omega (arith, below, e), λ z. zero_not i (sym (next_in_row p.stride j i (omega arith)) ∙ z)) lk in
     rw (odd, right, down) at h)
   where
     zero_not : (i : ℕ) → i + 1 ≡ 0 → ⊥

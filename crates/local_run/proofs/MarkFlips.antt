@@ -2,14 +2,18 @@
 use Rattle.std.proofs.Common.{◌≡◌, ◌≢◌, ℕ, Bool, true, false, not, ◌<◌, ◌*◌, ◌/◌, ◌^◌, ◌%◌, refl, arith, sym, ◌∙◌, ap}
 use Rattle.std.proofs.Common.{List, length, get_or, set, bit_or, w64, inl, inr}
 use Rattle.std.specs.Bool.{beq}
+use Rattle.std.specs.Int.{bit_at, trailing_zeros}
+use Rattle.std.specs.Int.Count.{trailing_of_zero}
 use Rattle.std.specs.Prelude.{bit_xor}
 use Rattle.std.specs.Int.Bits.{or_zero_l}
 use Rattle.std.proofs.lemmas.Bool.{false≢true}
 use Rattle.std.proofs.lemmas.List.{get_or-set_same, get_or-set_other}
-use Rattle.std.proofs.lemmas.Nat.Bits.{bit_at_set_same, bit_at_set_other}
+use Rattle.std.proofs.Math.Nat.{mod-lt}
+use Rattle.std.proofs.lemmas.Nat.{xor_lt}
+use Rattle.std.proofs.lemmas.Nat.Bits.{bit_at-trailing_zeros, bit_at_set_same, bit_at_set_other}
 use Rattle.bbm_rule.specs.Bits.{bit}
 use Rattle.bbm_rule.specs.Rows.{cell_at}
-use Rattle.bbm_rule.proofs.BitLemmas.{by_eq_or_not, bit-is, bit-xor, bit-zero, xor}
+use Rattle.bbm_rule.proofs.BitLemmas.{by_eq_or_not, by_lt_or_le, bit-is, bit-xor, bit-zero, xor}
 use Rattle.local_run.specs.Live.{TakesMark}
 
 -- the word with one bit
@@ -31,6 +35,63 @@ xor_true false = refl
 xor_false : (v : Bool) → xor v false ≡ v
 xor_false true = refl
 xor_false false = refl
+
+-- the first set bit of a word is cleared
+pub record ClearsFirst (w w' : ℕ) : Type 0 where
+  pub within : trailing_zeros w64 w < 64
+  pub first : bit w (trailing_zeros w64 w) ≡ true
+  pub none : (j : ℕ) → j < trailing_zeros w64 w → bit w j ≡ false
+  pub cleared : bit w' (trailing_zeros w64 w) ≡ false
+  pub elsewhere : (j : ℕ) → j ≢ trailing_zeros w64 w → bit w' j ≡ bit w j
+  pub later : trailing_zeros w64 w < trailing_zeros w64 w'
+
+bit_none : (n j : ℕ) → bit_at n j ≡ 0 → bit n j ≡ false
+bit_none n j e = rw (bit-is n j, e) refl
+
+bit_one : (n j : ℕ) → bit_at n j ≡ 1 → bit n j ≡ true
+bit_one n j e = rw (bit-is n j, e) refl
+
+zeros_of_zero : trailing_zeros w64 0 ≡ 64
+zeros_of_zero = trailing_of_zero 64
+
+pub clears_first : (w : ℕ) → w ≢ 0 → w < 2 ^ 64 → ClearsFirst w (bit_xor w (one_at (trailing_zeros w64 w)))
+clears_first w some small = record {
+  within = found.0;
+  first = bit_one w _ found.1;
+  none = λ j l. bit_none w j (found.2 j l);
+  cleared = cleared;
+  elsewhere = elsewhere;
+  later = by_eq_or_not (bit_xor w (one_at (trailing_zeros w64 w))) 0
+      (λ e. let z : trailing_zeros w64 (bit_xor w (one_at (trailing_zeros w64 w))) ≡ 64 =
+      ap (trailing_zeros w64) e ∙ zeros_of_zero in omega (arith, z, found.0))
+      (λ ne. later_of (bit_xor w (one_at (trailing_zeros w64 w))) ne rest_small cleared elsewhere);
+}
+  where
+    found : (trailing_zeros w64 w < 64) × (bit_at w (trailing_zeros w64 w) ≡ 1)
+        × ((j : ℕ) → j < trailing_zeros w64 w → bit_at w j ≡ 0)
+    found = bit_at-trailing_zeros w64 w (omega arith) small
+
+    rest_small : bit_xor w (one_at (trailing_zeros w64 w)) < 2 ^ 64
+    rest_small = xor_lt 64 w (one_at (trailing_zeros w64 w)) small (mod-lt (1 * 2 ^ trailing_zeros w64 w) (omega arith))
+
+    cleared : bit (bit_xor w (one_at (trailing_zeros w64 w))) (trailing_zeros w64 w) ≡ false
+    cleared = bit-xor w (one_at (trailing_zeros w64 w)) (trailing_zeros w64 w)
+        ∙ ap (xor (bit w (trailing_zeros w64 w))) (bit_there (trailing_zeros w64 w) found.0)
+        ∙ xor_true (bit w (trailing_zeros w64 w)) ∙ ap not (bit_one w _ found.1)
+
+    elsewhere : (j : ℕ) → j ≢ trailing_zeros w64 w → bit (bit_xor w (one_at (trailing_zeros w64 w))) j ≡ bit w j
+    elsewhere j ne = bit-xor w (one_at (trailing_zeros w64 w)) j
+        ∙ ap (xor (bit w j)) (bit_elsewhere (trailing_zeros w64 w) j found.0 ne) ∙ xor_false (bit w j)
+
+    later_of : (v : ℕ) → v ≢ 0 → v < 2 ^ 64 → bit v (trailing_zeros w64 w) ≡ false →
+        ((j : ℕ) → j ≢ trailing_zeros w64 w → bit v j ≡ bit w j) → trailing_zeros w64 w < trailing_zeros w64 v
+    later_of v ne small' off same =
+        let next = bit_at-trailing_zeros w64 v (omega arith) small' in
+        let set = bit_one v _ next.1 in
+        by_lt_or_le (trailing_zeros w64 w) (trailing_zeros w64 v) (λ h. h)
+        (λ h. by_eq_or_not (trailing_zeros w64 v) (trailing_zeros w64 w)
+        (λ e. absurd (false≢true (sym off ∙ ap (bit v) (sym e) ∙ set)))
+        (λ other. absurd (false≢true (sym (bit_none w _ (found.2 _ (omega arith))) ∙ sym (same _ other) ∙ set))))
 
 abbrev flipped : List ℕ → ℕ → List ℕ
 flipped marks at = set marks (at / 64) (bit_xor (get_or marks (at / 64) 0) (one_at (at % 64)))

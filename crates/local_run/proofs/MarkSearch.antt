@@ -125,8 +125,8 @@ lacks_live a l w q u says e word =
       | inr second ↦ inr (says u e second)
     ]
 
-pub and_small : (a : List ℕ) (w q : ℕ) → get_or a q 0 < 2 ^ 64 → bit_and (get_or a q 0) w < 2 ^ 64
-and_small a w q small = omega (arith, and_le_l (get_or a q 0) w)
+pub lacks_own : (a : List ℕ) (q u : ℕ) → u / 64 ≡ q → bit (get_or a q 0) (u % 64) ≡ false → IsUnmarked a u
+lacks_own a q u e word = cell_is a q u e ∙ word
 
 pub joined_small : (a : List ℕ) (w : ℕ) (c : List ℕ) (q : ℕ) → get_or a q 0 < 2 ^ 64 → joined a w c q < 2 ^ 64
 joined_small a w c q small = omega (arith, and_le_l (get_or a q 0) (bit_or w (get_or c q 0)))

@@ -1,5 +1,5 @@
 -- Parts of lists whose blocks are turned, and blocks that stay
-use Rattle.std.proofs.Common.{◌≡◌, ℕ, Bool, true, false, ◌<◌, ◌≤◌, ◌+◌, ◌-◌, ◌*◌, ◌/◌, ◌%◌, refl, arith, sym, ◌∙◌, ap}
+use Rattle.std.proofs.Common.{◌≡◌, ℕ, Bool, true, false, ◌<◌, ◌≤◌, ◌+◌, ◌*◌, refl, arith, sym, ◌∙◌, ap}
 use Rattle.std.proofs.Common.{List, length, get_or, inl, inr, nat_eq, bit_and, bit_or}
 use Rattle.std.proofs.lemmas.Nat.{and_or_self, or_comm}
 use Rattle.std.specs.Int.Bits.{and_zero_l, xor_assoc, xor_self, xor_zero_l, xor_zero_r}
@@ -9,11 +9,10 @@ use Rattle.std.proofs.lemmas.Bool.{false≢true}
 use Rattle.std.proofs.lemmas.Nat.Bits.{bit_at-lt, same_from_bits}
 use Rattle.std.proofs.lemmas.List.{get_or-take, get_or-drop}
 use Rattle.std.proofs.lemmas.Slice.{take-put_mid_below, drop-put_mid}
-use Rattle.std.proofs.Math.Nat.{mul-le-mul_left, div-add-mod, mod-lt}
 use borrow.Rule.Slice.PartMut.{mid_of, put_mid}
 use Rattle.bbm_rule.specs.Bits.{bit}
 use Rattle.bbm_rule.specs.Words.{AreTurned, AreTurnedAt}
-use Rattle.bbm_rule.proofs.BitLemmas.{by_lt_or_le, xor, zero_or_one, bit-is, bit-xor, bit-zero}
+use Rattle.bbm_rule.proofs.BitLemmas.{xor, zero_or_one, bit-is, bit-xor, bit-zero}
 use Rattle.bbm_rule.proofs.Turning.{words_turned, flip_main_of, flip_anti_of}
 use Rattle.local_run.specs.Turns.{DiagonalStays, IsCalmBlock, SameBeside, TurnsPart}
 use Rattle.local_run.proofs.LaneLemmas.{part_read, part_written}
@@ -68,63 +67,8 @@ part_turned a b c d ka kb kc kd long ul ur ll lr p q r s ea eb ec ed ra rb rc rd
   lower_right = beside d kd long lr s ed rd ls;
 }
 
--- one part after another
-join_beside : (a n m : ℕ) (xs ys zs : List ℕ) → SameBeside a n xs ys → SameBeside (a + n) m ys zs →
-    SameBeside a (n + m) xs zs
-join_beside a n m xs ys zs f g = record {
-  below = λ k l. g.below k (omega arith) ∙ f.below k l;
-  above = λ k l. g.above k (omega arith) ∙ f.above k (omega arith);
-}
-
-parts_join : (a b c d n m : ℕ) (ul ur ll lr ul' ur' ll' lr' ul'' ur'' ll'' lr'' : List ℕ) →
-    TurnsPart a b c d n ul ur ll lr ul' ur' ll' lr' →
-    TurnsPart (a + n) (b + n) (c + n) (d + n) m ul' ur' ll' lr' ul'' ur'' ll'' lr'' →
-    TurnsPart a b c d (n + m) ul ur ll lr ul'' ur'' ll'' lr''
-parts_join a b c d n m ul ur ll lr ul' ur' ll' lr' ul'' ur'' ll'' lr'' f g = record {
-  turned = λ k l. by_lt_or_le k n
-      (λ h. rw (
-        g.upper_left.below (a + k) (omega arith),
-        g.upper_right.below (b + k) (omega arith),
-        g.lower_left.below (c + k) (omega arith),
-        g.lower_right.below (d + k) (omega arith),
-      ) (f.turned k h))
-      (λ h.
-      let ea : a + n + (k - n) ≡ a + k = omega arith in
-      let eb : b + n + (k - n) ≡ b + k = omega arith in
-      let ec : c + n + (k - n) ≡ c + k = omega arith in
-      let ed : d + n + (k - n) ≡ d + k = omega arith in
-      let t = g.turned (k - n) (omega arith) in
-      let t = rw (ea, eb, ec, ed) at t in
-      rw (
-        f.upper_left.above (a + k) (omega arith),
-        f.upper_right.above (b + k) (omega arith),
-        f.lower_left.above (c + k) (omega arith),
-        f.lower_right.above (d + k) (omega arith),
-      ) at t);
-  upper_left = join_beside a n m ul ul' ul'' f.upper_left g.upper_left;
-  upper_right = join_beside b n m ur ur' ur'' f.upper_right g.upper_right;
-  lower_left = join_beside c n m ll ll' ll'' f.lower_left g.lower_left;
-  lower_right = join_beside d n m lr lr' lr'' f.lower_right g.lower_right;
-}
-
-pub part_after : (a b c d n m t a' b' c' d' : ℕ) (ul ur ll lr ul' ur' ll' lr' ul'' ur'' ll'' lr'' : List ℕ) →
-    a' ≡ a + n → b' ≡ b + n → c' ≡ c + n → d' ≡ d + n → t ≡ n + m →
-    TurnsPart a b c d n ul ur ll lr ul' ur' ll' lr' → TurnsPart a' b' c' d' m ul' ur' ll' lr' ul'' ur'' ll'' lr'' →
-    TurnsPart a b c d t ul ur ll lr ul'' ur'' ll'' lr''
-part_after a b c d n m t a' b' c' d' ul ur ll lr ul' ur' ll' lr' ul'' ur'' ll'' lr'' ea eb ec ed et f g =
-    rw et (parts_join a b c d n m ul ur ll lr ul' ur' ll' lr' ul'' ur'' ll'' lr'' f (rw (ea, eb, ec, ed) at g))
-
 pub same_beside : (a n : ℕ) (xs : List ℕ) → SameBeside a n xs xs
 same_beside a n xs = record { below = λ k l. refl; above = λ k l. refl }
-
-pub no_part : (a b c d n : ℕ) (ul ur ll lr : List ℕ) → n ≡ 0 → TurnsPart a b c d n ul ur ll lr ul ur ll lr
-no_part a b c d n ul ur ll lr e = record {
-  turned = λ k l. absurd (omega arith);
-  upper_left = same_beside a n ul;
-  upper_right = same_beside b n ur;
-  lower_left = same_beside c n ll;
-  lower_right = same_beside d n lr;
-}
 
 -- ---- blocks that stay
 flips_none : (a f j : ℕ) → f ≡ 0 → bit (bit_xor a f) j ≡ bit a j
@@ -184,35 +128,6 @@ pub anti_words : (ul ur ll lr ul' ur' ll' lr' : ℕ) → DiagonalStays ur ll ul 
     (ur' ≡ ur) × (ll' ≡ ll)
 anti_words ul ur ll lr ul' ur' ll' lr' stays t =
     (word_of_bits ur' ur (λ j. t.upper_right j ∙ (stays j).0), word_of_bits ll' ll (λ j. t.lower_left j ∙ (stays j).1))
-
--- the blocks from number u to below v stay
-pub calm_part : (w a b c d u v long : ℕ) (ul ur ll lr : List ℕ) → 0 < w → long ≡ w * (v - u) → u ≤ v →
-    ((n : ℕ) → u ≤ n → n < v → IsCalmBlock w (n + a) (n + b) (n + c) (n + d) ul ur ll lr) →
-    TurnsPart (w * (u + a)) (w * (u + b)) (w * (u + c)) (w * (u + d)) long ul ur ll lr ul ur ll lr
-calm_part w a b c d u v long ul ur ll lr some e le calm = record {
-  turned = λ k l. at_place k (k / w) (k % w) (sym (div-add-mod k w)) (few k l) (mod-lt k some);
-  upper_left = same_beside _ long ul;
-  upper_right = same_beside _ long ur;
-  lower_left = same_beside _ long ll;
-  lower_right = same_beside _ long lr;
-}
-  where
-    few : (k : ℕ) → k < long → k / w < v - u
-    few k l = by_lt_or_le (k / w) (v - u) (λ h. h) (λ h.
-        let m : w * (v - u) ≤ w * (k / w) = mul-le-mul_left w h in
-        let whole : w * (k / w) + k % w ≡ k = div-add-mod k w in absurd (omega arith))
-
-    at_place : (k q r : ℕ) → k ≡ w * q + r → q < v - u → r < w →
-        AreTurned (get_or ul (w * (u + a) + k) 0) (get_or ur (w * (u + b) + k) 0) (get_or ll (w * (u + c) + k) 0)
-        (get_or lr (w * (u + d) + k) 0) (get_or ul (w * (u + a) + k) 0) (get_or ur (w * (u + b) + k) 0)
-        (get_or ll (w * (u + c) + k) 0) (get_or lr (w * (u + d) + k) 0)
-    at_place k q r whole lq lr' =
-        let ea : w * (u + a) + k ≡ w * (u + q + a) + r = omega arith in
-        let eb : w * (u + b) + k ≡ w * (u + q + b) + r = omega arith in
-        let ec : w * (u + c) + k ≡ w * (u + q + c) + r = omega arith in
-        let ed : w * (u + d) + k ≡ w * (u + q + d) + r = omega arith in
-        let h = calm (u + q) (omega arith) (omega arith) in
-        rw (ea, eb, ec, ed) (calm_turned _ _ _ _ (h.0 r lr') (h.1 r lr'))
 
 -- one block that stays
 pub calm_block : (w a b c d : ℕ) (ul ur ll lr : List ℕ) → IsCalmBlock w a b c d ul ur ll lr →

@@ -5,6 +5,7 @@ pub mod Shown
 pub mod Laws
 pub mod Across
 pub mod Turns
+pub mod Sweeps
 pub mod Borders
 pub mod Calm
 pub mod Live

@@ -15,12 +15,10 @@ ghost use Rattle.std.specs.Prelude.{ℕ, ◌≡◌, ◌≢◌, ◌+◌, ◌*◌,
 
 use crate::lines::{CELL_WORDS, LinePlaces, line_number, mark_lines};
 use crate::live::LiveMarks;
-use crate::marks::{
-    is_marked, mark_around, mark_border, mark_corners, next_live_marked, next_marked_in,
-};
+use crate::marks::{is_marked, mark_around, mark_border, mark_corners, next_marked_in, take_first};
 use crate::planes::{Changes, Planes};
 use crate::values::Values;
-use bbm_rule::marks::{mark, mark_all, next_marked, unmark};
+use bbm_rule::marks::{mark, mark_all, unmark};
 use module_box::Signal;
 use module_job::Job;
 use std::alloc::{AllocError, Global};
@@ -92,6 +90,7 @@ impl MarkedPlanes {
     ghost use Rattle.bbm_rule.specs.Marks.{IsUnmarked};
     ghost use Rattle.local_run.specs.Calm.{AreDead};
     ghost use Rattle.local_run.specs.Live.{AreUnmarked, IsLoneAnti, IsLoneMain};
+    ghost use Rattle.local_run.specs.Sweeps.{TurnsEven, TurnsOdd};
     ghost use Rattle.local_run.specs.Turns.{TurnsPart};
     ghost use Rattle.local_run.specs.Quiet.{AreLines};
     ghost use Rattle.local_run.specs.Scans.{IsReady};
@@ -538,6 +537,61 @@ impl MarkedPlanes {
         self.turn_even_by_marks(u)
     }
 
+    // Turns the blocks of the odd partition from `first` on to below `end`, whose marks are in one word, and returns
+    // how many it turned. The word is read once: a block's turn changes marks of its own number alone.
+    fn turn_odd_word(&mut self, first: usize, end: usize) -> usize
+        requires word { (first % 64 ≡ 0) × (first < end) × (end ≤ first + 64) }
+        requires within { end ≤ self.old.planes.stride * self.old.planes.rows }
+        ensures turned { TurnsOdd first end self.old.planes self.new.planes }
+        ensures size { HasSize self.old.planes.words self.old.planes.stride self.old.planes.rows
+            self.new.planes }
+        ensures stays { result ≡ 0 → self.new.planes ≡ self.old.planes }
+        ensures count { first + result ≤ end }
+    {
+        let mut rest = self.odd_marks[first / 64] & self.live_marks.word(first / 64);
+        let mut changed = 0;
+        'marked: while rest != 0 {
+            let (place, others) = take_first(rest);
+            let u = first + place;
+            if u >= end {
+                return changed;
+            }
+            rest = others;
+            if self.turn_odd(u) {
+                changed += 1;
+            }
+        }
+        changed
+    }
+
+    // Turns the blocks of the even partition from `first` on to below `end`, whose marks are in one word, and returns
+    // how many it turned.
+    fn turn_even_word(&mut self, first: usize, end: usize) -> usize
+        requires word { (first % 64 ≡ 0) × (first < end) × (end ≤ first + 64) }
+        requires within { end + self.old.planes.stride + 1 ≤ self.old.planes.stride
+            * self.old.planes.rows }
+        ensures turned { TurnsEven first end self.old.planes self.new.planes }
+        ensures size { HasSize self.old.planes.words self.old.planes.stride self.old.planes.rows
+            self.new.planes }
+        ensures stays { result ≡ 0 → self.new.planes ≡ self.old.planes }
+        ensures count { first + result ≤ end }
+    {
+        let mut rest = self.even_marks[first / 64];
+        let mut changed = 0;
+        'marked: while rest != 0 {
+            let (place, others) = take_first(rest);
+            let u = first + place;
+            if u >= end {
+                return changed;
+            }
+            rest = others;
+            if self.turn_even(u) {
+                changed += 1;
+            }
+        }
+        changed
+    }
+
     /// Turns the blocks whose upper left corner is odd, which fill box and halo. Returns whether a block may have
     /// changed.
     pub fn odd_step(&mut self) -> bool
@@ -561,12 +615,11 @@ impl MarkedPlanes {
         }
         let cells = self.planes.cells();
         let mut changed = 0;
-        let mut u = next_live_marked(&self.odd_marks, &self.live_marks, 0, cells);
-        'marked: while u < cells {
-            if self.turn_odd(u) {
-                changed += 1;
-            }
-            u = next_live_marked(&self.odd_marks, &self.live_marks, u + 1, cells);
+        let mut at = 0;
+        'words: while at < cells {
+            let end = (at + 64).min(cells);
+            changed += self.turn_odd_word(at, end);
+            at = end;
         }
         // Where nothing was known all blocks had marks, and these fill box and halo.
         self.is_exact = true;
@@ -608,12 +661,11 @@ impl MarkedPlanes {
         }
         let cells = self.planes.cells() - self.planes.stride() - 1;
         let mut changed = 0;
-        let mut u = next_marked(&self.even_marks, 0, cells);
-        'marked: while u < cells {
-            if self.turn_even(u) {
-                changed += 1;
-            }
-            u = next_marked(&self.even_marks, u + 1, cells);
+        let mut at = 0;
+        'words: while at < cells {
+            let end = (at + 64).min(cells);
+            changed += self.turn_even_word(at, end);
+            at = end;
         }
         if are_many(
             changed,

@@ -1,10 +1,12 @@
 //! Marks on the blocks around a block, and on the cells of ring and halo.
 
+ghost use Rattle.bbm_rule.specs.Bits.{bit};
 ghost use Rattle.bbm_rule.specs.Marks.{IsUnmarked};
 ghost use Rattle.bbm_rule.specs.Rows.{cell_at};
 ghost use Rattle.local_run.specs.Borders.{AllInner};
 ghost use Rattle.local_run.specs.Live.{AreUnmarked, DropsDead, HasMarks, IsDeadCell, MarksCell, TakesMark};
 ghost use Rattle.local_run.specs.Turns.{MarksAround, MarksCorners};
+ghost use Rattle.std.specs.Int.{trailing_zeros, w64};
 ghost use Rattle.std.specs.Prelude.{ℕ, ◌≡◌, ◌≢◌, ◌+◌, ◌*◌, ◌/◌, ◌^◌, ◌<◌, ◌≤◌, ◌⊎◌, length, not, true, false};
 
 use crate::live::LiveMarks;
@@ -166,29 +168,17 @@ pub fn next_marked_in(
     end
 }
 
-/// Returns the next number from `from` on that may have a mark in the list, and one among those of live cells.
-///
-/// If there is none below `end`, it returns `end`.
-pub fn next_live_marked(marks: &[u64], live: &LiveMarks, from: usize, end: usize) -> usize
-    requires within { (from ≤ end) × (end < 2 ^ 32) }
-    requires marks_reach_end { (end ≤ 64 * length marks.now) × HasMarks end live.now }
-    ensures range { (from ≤ result) × (result ≤ end) }
-    ensures passed { (u : ℕ) → from ≤ u → u < result →
-        IsUnmarked marks.now u ⊎ AreUnmarked live.now u u u u }
+/// Returns the place of the first mark in a word of marks, and the word without it.
+#[inline(always)]
+pub fn take_first(word: u64) -> (usize, u64)
+    requires { word ≢ 0 }
+    ensures first { (result.0 < 64) × (bit word result.0 ≡ true)
+        × ((j : ℕ) → j < result.0 → bit word j ≡ false) }
+    ensures rest { (bit result.1 result.0 ≡ false)
+        × ((j : ℕ) → j ≢ result.0 → bit result.1 j ≡ bit word j) }
+    ensures later { (result.0 ≡ trailing_zeros w64 word)
+        × (result.0 < trailing_zeros w64 result.1) }
 {
-    if from == end {
-        return end;
-    }
-    let word = marks[from / 64] & live.word(from / 64);
-    let rest = word >> (from % 64);
-    if rest != 0 {
-        return (from + rest.trailing_zeros() as usize).min(end);
-    }
-    'words: for k in from / 64 + 1..end.div_ceil(64) {
-        let whole = marks[k] & live.word(k);
-        if whole != 0 {
-            return (64 * k + whole.trailing_zeros() as usize).min(end);
-        }
-    }
-    end
+    let place = word.trailing_zeros();
+    (place as usize, word ^ (1u64 << place))
 }

@@ -1,58 +1,52 @@
-use Rattle.std.proofs.Common.{◌≡◌, ◌+◌, ◌*◌, List, ℕ, length, ap, subst, false, ltb, refl, arith, sym, ◌∙◌}
-use Rattle.local_run.proofs.FieldLemmas.{inside_first, inside_next, inside_all}
+use Rattle.std.proofs.Common.{◌≡◌, ◌≢◌, ◌<◌, ◌≤◌, ◌+◌, ◌*◌, ◌%◌, List, ℕ, length, ap, subst, false, ltb, refl, arith, sym, ◌∙◌}
+use Rattle.local_run.proofs.FieldLemmas.{even_all, even_join, even_none}
 use Rattle.std.proofs.lemmas.List.{with_items_is}
 use Rattle.local_run.specs.Calm.{EvenCalm, OddCalm}
 use Rattle.local_run.specs.Lanes.{lane}
 use Rattle.local_run.specs.declared.planes.Planes.{Planes}
 use Rattle.local_run.proofs.LiveLemmas.{marked_dead, marked_even, marked_odd}
 use Rattle.local_run.proofs.marked_planes.MarkedPlanes.even_step.Goals as goal
-use Rattle.local_run.proofs.marked_planes.MarkedPlanes.even_step.Goals.{then-turn_even, else-turn_even}
 
-pub marked-init : goal.marked-init
-marked-init c =
+pub words-init : goal.words-init
+words-init c =
     let f = c.args.self.now in
-    let n = c.next_marked-u.ensures in
-    let passed = rw c.deref.ensures.value at n.passed in
     record {
       size = (refl, refl, refl);
       stays = λ e. refl;
-      within = (omega arith, n.range.1);
-      turned = inside_first f.planes f.even_marks.items c.next_marked-u.result f.even_calm (omega arith) passed;
+      within = (omega arith, omega arith);
+      aligned = λ l. refl;
+      turned = even_none f.planes f.even_marks.items (λ n. (0 ≤ n) × (n < 0) × ((n + 1) % f.planes.stride ≢ 0)) f.even_calm
+          (λ n l. absurd (omega (arith, l.1)));
     }
 
-pub marked-preserved : goal.marked-preserved
-marked-preserved c =
-    let p = c.args.self.now.planes in
-    let m = c.marked.invariant in
-    let n = c.next_marked-u-in-marked.ensures in
-    let t = c.turn_even.ensures in
-    let r = c.turn_even.new.self in
-    let passed = rw c.deref-in-marked.ensures.value at n.passed in
+pub words-preserved : goal.words-preserved
+words-preserved c =
+    let m = c.words.invariant in
+    let t = c.turn_even_word-changed.ensures in
+    let none : c.words.changed + c.turn_even_word-changed.result ≡ 0 → (c.words.changed ≡ 0) × (c.turn_even_word-changed.result ≡ 0) =
+    λ e. (omega (arith, e), omega (arith, e)) in
     record {
       size = (t.size.0 ∙ m.size.0, t.size.1 ∙ m.size.1, t.size.2 ∙ m.size.2);
-      stays = elim c.if-turn_even.branch [
-        | then-turn_even w ↦ λ e. let some = w.changed-is in absurd (omega (arith, some, e))
-        | else-turn_even w ↦ λ e. t.stays w.if-turn_even.false ∙ m.stays (sym w.changed-is ∙ e)
-      ];
-      within = (omega arith, n.range.1);
-      turned = inside_next p c.marked.self.planes r.planes r.even_marks.items c.marked.u
-          c.next_marked-u-in-marked.result m.size t.size m.turned t.part t.last r.even_calm n.range.0
-          (omega arith) passed;
+      stays = λ e. t.stays (none e).1 ∙ m.stays (none e).0;
+      within = (omega arith, omega arith);
+      aligned = λ l. let before = m.aligned (omega arith) in omega (arith, l, before);
+      turned = even_join c.args.self.now.planes c.words.self.planes c.turn_even_word-changed.new.self.planes c.words.at
+          c.min-end.result m.size (omega arith) m.turned t.turned;
     }
 
 pub returns-then-are_many-clause-turned : goal.returns-then-are_many-clause-turned
 returns-then-are_many-clause-turned c =
-    let m = c.marked.invariant in
-    inside_all c.args.self.now.planes c.marked.self.planes c.marked.u m.size (omega arith) m.turned
+    let m = c.words.invariant in
+    even_all c.args.self.now.planes c.words.self.planes c.words.at m.size (omega arith) m.turned
 
 pub returns-clause-turned : goal.returns-clause-turned
 returns-clause-turned c =
-    let m = c.marked.invariant in
-    inside_all c.args.self.now.planes c.marked.self.planes c.marked.u m.size (omega arith) m.turned
+    let m = c.words.invariant in
+    even_all c.args.self.now.planes c.words.self.planes c.words.at m.size (omega arith) m.turned
 
 pub returns-clause-stays : goal.returns-clause-stays
 returns-clause-stays c e a x y la lx ly =
-    ap (λ (p : Planes). lane p a (1 + x) (1 + y)) (c.marked.invariant.stays (none_more c.marked.changed e))
+    ap (λ (p : Planes). lane p a (1 + x) (1 + y)) (c.words.invariant.stays (none_more c.words.changed e))
   where
     none_more : (n : ℕ) → ltb 0 n ≡ false → n ≡ 0
     none_more n e = grind arith

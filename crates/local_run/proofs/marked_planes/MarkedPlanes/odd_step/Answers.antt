@@ -1,56 +1,49 @@
-use Rattle.std.proofs.Common.{◌≡◌, ◌*◌, List, ℕ, length, ap, subst, false, ltb, refl, arith, sym, ◌∙◌}
-use Rattle.local_run.proofs.FieldLemmas.{odd_first, odd_next, odd_all, odd_stays}
+use Rattle.std.proofs.Common.{◌≡◌, ◌<◌, ◌≤◌, ◌+◌, ◌*◌, List, ℕ, length, ap, subst, false, ltb, refl, arith, sym, ◌∙◌}
+use Rattle.local_run.proofs.FieldLemmas.{odd_all, odd_join, odd_none}
 use Rattle.std.proofs.lemmas.List.{with_items_is}
 use Rattle.local_run.specs.Calm.{EvenCalm, OddCalm}
 use Rattle.local_run.proofs.LiveLemmas.{marked_dead, marked_even, marked_odd}
 use Rattle.local_run.proofs.marked_planes.MarkedPlanes.odd_step.Goals as goal
-use Rattle.local_run.proofs.marked_planes.MarkedPlanes.odd_step.Goals.{then-turn_odd, else-turn_odd}
 
-pub marked-init : goal.marked-init
-marked-init c =
+pub words-init : goal.words-init
+words-init c =
     let f = c.args.self.now in
-    let n = c.next_live_marked-u.ensures in
-    let passed = rw c.deref.ensures.value at n.passed in
     record {
       size = (refl, refl, refl);
       stays = λ e. refl;
-      within = (omega arith, n.range.1);
-      turned = odd_first f.planes c.next_live_marked-u.result f.planes.some.0 (omega arith)
-          (λ k l h. odd_stays f.planes f.odd_marks.items f.live_marks k f.odd_calm f.all_dead (passed k l h));
+      within = (omega arith, omega arith);
+      aligned = λ l. refl;
+      turned = odd_none f.planes f.odd_marks.items f.live_marks (λ n. (0 ≤ n) × (n < 0)) f.odd_calm f.all_dead
+          (λ n l. absurd (omega (arith, l.1)));
     }
 
-pub marked-preserved : goal.marked-preserved
-marked-preserved c =
-    let p = c.args.self.now.planes in
-    let m = c.marked.invariant in
-    let n = c.next_live_marked-u-in-marked.ensures in
-    let t = c.turn_odd.ensures in
-    let r = c.turn_odd.new.self in
-    let passed = rw c.deref-in-marked.ensures.value at n.passed in
+pub words-preserved : goal.words-preserved
+words-preserved c =
+    let m = c.words.invariant in
+    let t = c.turn_odd_word-changed.ensures in
+    let none : c.words.changed + c.turn_odd_word-changed.result ≡ 0 → (c.words.changed ≡ 0) × (c.turn_odd_word-changed.result ≡ 0) =
+    λ e. (omega (arith, e), omega (arith, e)) in
     record {
       size = (t.size.0 ∙ m.size.0, t.size.1 ∙ m.size.1, t.size.2 ∙ m.size.2);
-      stays = elim c.if-turn_odd.branch [
-        | then-turn_odd w ↦ λ e. let some = w.changed-is in absurd (omega (arith, some, e))
-        | else-turn_odd w ↦ λ e. t.stays w.if-turn_odd.false ∙ m.stays (sym w.changed-is ∙ e)
-      ];
-      within = (omega arith, n.range.1);
-      turned = odd_next p c.marked.self.planes r.planes c.marked.u c.next_live_marked-u-in-marked.result m.size t.size
-          p.some.0 m.turned t.part n.range.0 (omega arith)
-          (λ k l h. odd_stays r.planes r.odd_marks.items r.live_marks k r.odd_calm r.all_dead (passed k l h));
+      stays = λ e. t.stays (none e).1 ∙ m.stays (none e).0;
+      within = (omega arith, omega arith);
+      aligned = λ l. let before = m.aligned (omega arith) in omega (arith, l, before);
+      turned = odd_join c.args.self.now.planes c.words.self.planes c.turn_odd_word-changed.new.self.planes c.words.at
+          c.min-end.result m.size (omega arith) m.turned t.turned;
     }
 
 pub returns-then-are_many-clause-turned : goal.returns-then-are_many-clause-turned
 returns-then-are_many-clause-turned c =
-    let m = c.marked.invariant in
-    odd_all c.args.self.now.planes c.marked.self.planes c.marked.u m.size (omega arith) m.turned
+    let m = c.words.invariant in
+    odd_all c.args.self.now.planes c.words.self.planes c.words.at m.size (omega arith) m.turned
 
 pub returns-clause-turned : goal.returns-clause-turned
 returns-clause-turned c =
-    let m = c.marked.invariant in
-    odd_all c.args.self.now.planes c.marked.self.planes c.marked.u m.size (omega arith) m.turned
+    let m = c.words.invariant in
+    odd_all c.args.self.now.planes c.words.self.planes c.words.at m.size (omega arith) m.turned
 
 pub returns-clause-stays : goal.returns-clause-stays
-returns-clause-stays c e = c.marked.invariant.stays (none_more c.marked.changed e)
+returns-clause-stays c e = c.words.invariant.stays (none_more c.words.changed e)
   where
     none_more : (n : ℕ) → ltb 0 n ≡ false → n ≡ 0
     none_more n e = grind arith

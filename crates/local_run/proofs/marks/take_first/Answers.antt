@@ -1,0 +1,13 @@
+use Rattle.std.proofs.Common.{refl}
+use Rattle.local_run.proofs.MarkFlips.{clears_first}
+use Rattle.local_run.proofs.marks.take_first.Goals as goal
+
+pub returns-clause-first : goal.returns-clause-first
+returns-clause-first c =
+    let t = clears_first c.args.word c.requires c.ranges.word.fits in (t.within, t.first, t.none)
+
+pub returns-clause-rest : goal.returns-clause-rest
+returns-clause-rest c = let t = clears_first c.args.word c.requires c.ranges.word.fits in (t.cleared, t.elsewhere)
+
+pub returns-clause-later : goal.returns-clause-later
+returns-clause-later c = let t = clears_first c.args.word c.requires c.ranges.word.fits in (refl, t.later)

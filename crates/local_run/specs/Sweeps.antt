@@ -1,0 +1,37 @@
+-- Blocks of a partition that are turned, by their numbers
+use Rattle.std.specs.Prelude.{◌≡◌, ◌≢◌, ℕ, ◌+◌, ◌*◌, ◌%◌, ◌<◌, ◌≤◌, List, slice_index}
+use Rattle.bbm_rule.specs.Words.{AreTurned}
+use Rattle.local_run.specs.declared.planes.Planes.{Planes}
+
+-- The words of four lists, w of each cell, are those of the corners of blocks: block n has the cells with the numbers
+-- a n, b n, c n and d n. The named blocks are turned, and no cell of another block has changed
+pub record TurnsNamed (w : ℕ) (a b c d : ℕ → ℕ) (IsNamed : ℕ → Type 0) (ul ur ll lr ul' ur' ll' lr' : List ℕ) : Type 0
+  where
+    pub turned : (n k : ℕ) → IsNamed n → k < w →
+        AreTurned (slice_index ul (w * a n + k)) (slice_index ur (w * b n + k)) (slice_index ll (w * c n + k))
+        (slice_index lr (w * d n + k)) (slice_index ul' (w * a n + k)) (slice_index ur' (w * b n + k))
+        (slice_index ll' (w * c n + k)) (slice_index lr' (w * d n + k))
+    pub upper_left : (n k : ℕ) → (IsNamed n → ⊥) → k < w → slice_index ul' (w * a n + k) ≡ slice_index ul (w * a n + k)
+    pub upper_right : (n k : ℕ) → (IsNamed n → ⊥) → k < w → slice_index ur' (w * b n + k) ≡ slice_index ur (w * b n + k)
+    pub lower_left : (n k : ℕ) → (IsNamed n → ⊥) → k < w → slice_index ll' (w * c n + k) ≡ slice_index ll (w * c n + k)
+    pub lower_right : (n k : ℕ) → (IsNamed n → ⊥) → k < w → slice_index lr' (w * d n + k) ≡ slice_index lr (w * d n + k)
+
+-- the named blocks of the odd partition are turned
+abbrev pub TurnsOddNamed : (ℕ → Type 0) → Planes → Planes → Type 0
+TurnsOddNamed IsNamed p q =
+    TurnsNamed p.words (λ n. n) (λ n. n) (λ n. n) (λ n. n) IsNamed p.odd.items p.right.items p.down.items p.even.items
+    q.odd.items q.right.items q.down.items q.even.items
+
+-- the named blocks of the even partition are turned
+abbrev pub TurnsEvenNamed : (ℕ → Type 0) → Planes → Planes → Type 0
+TurnsEvenNamed IsNamed p q =
+    TurnsNamed p.words (λ n. n) (λ n. n + 1) (λ n. n + p.stride) (λ n. n + p.stride + 1) IsNamed p.even.items
+    p.down.items p.right.items p.odd.items q.even.items q.down.items q.right.items q.odd.items
+
+-- the blocks of the odd partition from one number to another are turned
+abbrev pub TurnsOdd : ℕ → ℕ → Planes → Planes → Type 0
+TurnsOdd from end p q = TurnsOddNamed (λ n. (from ≤ n) × (n < end)) p q
+
+-- those of the even partition are turned, but for the last ones of the rows, which are not in the box
+abbrev pub TurnsEven : ℕ → ℕ → Planes → Planes → Type 0
+TurnsEven from end p q = TurnsEvenNamed (λ n. (from ≤ n) × (n < end) × ((n + 1) % p.stride ≢ 0)) p q
