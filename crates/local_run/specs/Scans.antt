@@ -174,9 +174,24 @@ abbrev pub SameButIn : JobView → Planes → Planes → ℕ → ℕ → Type 0
 SameButIn j p q column row = (a x y : ℕ) → a < assignments j → x < j.area.w + 2 →
     ((x / 2 ≡ column) × (y / 2 ≡ row) → ⊥) → lane q a x y ≡ lane p a x y
 
+-- the cells of the halo with the numbers from one to another are what their signals say
+abbrev pub HasHaloFrom : JobView → Values → ℕ → ℕ → ℕ → Planes → Type 0
+HasHaloFrom j vs t from end p = (x y : ℕ) → x < j.area.w + 2 → y < j.area.h + 2 → from ≤ number_at j.area x y →
+    number_at j.area x y < end → HasHaloAt j vs t p x y
+
+-- no cell changes whose number is before this one
+abbrev pub SameBefore : JobView → Planes → Planes → ℕ → Type 0
+SameBefore j p q end = (a x y : ℕ) → a < assignments j → x < j.area.w + 2 → number_at j.area x y < end →
+    lane q a x y ≡ lane p a x y
+
 -- a cell, counted from the halo, is outside the ring or carries what its signal says, wherever each used gate has a row
 abbrev pub HasEdgeAt : JobView → Values → ℕ → ℕ → ℕ → Type 0
 HasEdgeAt j vs t x y = (a : ℕ) → a < assignments j → ¬ IsFound j vs a t Edge (outer j.area.x x) (outer j.area.y y)
+
+-- so do the cells with the numbers from one to another
+abbrev pub HasEdgesFrom : JobView → Values → ℕ → ℕ → ℕ → Type 0
+HasEdgesFrom j vs t from end = (x y : ℕ) → x < j.area.w + 2 → y < j.area.h + 2 → from ≤ number_at j.area x y →
+    number_at j.area x y < end → HasEdgeAt j vs t x y
 
 -- so do the cells in this column and row of the planes
 abbrev pub HasEdgesIn : JobView → Values → ℕ → ℕ → ℕ → Type 0

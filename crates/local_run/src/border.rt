@@ -1,15 +1,16 @@
 //! The cells of ring and halo at an odd time.
-ghost use Rattle.std.specs.Prelude.{◌≡◌, ◌+◌, ◌/◌, ◌<◌, ◌≤◌, true};
+ghost use Rattle.std.specs.Prelude.{◌≡◌, ◌+◌, ◌*◌, ◌/◌, ◌%◌, ◌<◌, ◌≤◌, true};
 ghost use Rattle.circuit.specs.Meaning.{wires};
 ghost use Rattle.module_box.specs.Schedules.{signal_at};
 ghost use Rattle.module_job.specs.Jobs.{IsJob};
 ghost use Rattle.module_job.specs.Signals.{IsBelow};
 ghost use Rattle.local_run.specs.Places.{outer};
 ghost use Rattle.local_run.specs.Quiet.{AreLines};
-ghost use Rattle.local_run.specs.Scans.{HasEdgeAt, HasEdgesIn, HasHalo, HasHaloAt, HasHaloIn, IsFree, IsOuter, IsReady, IsSought, SameButIn, SameElsewhere, Shows};
+ghost use Rattle.local_run.specs.Scans.{HasEdgeAt, HasEdgesFrom, HasEdgesIn, HasHalo, HasHaloAt, HasHaloFrom, HasHaloIn, IsFree, IsOuter, IsReady, IsSought, SameBefore, SameButIn, SameElsewhere, Shows};
 
 use crate::fault::Kind;
 use crate::marked_planes::MarkedPlanes;
+use crate::marks::take_first;
 use crate::places::{edge_at, halo_at};
 use crate::values::Values;
 use module_box::Signal;
@@ -171,6 +172,44 @@ fn set_border_cells(
     first & second & third & fourth
 }
 
+// Sets the cells of the halo with the numbers from `first` on to below `end`, whose marks are in one word, to what their
+// signals say, and returns whether the cells of the ring with these numbers carry what their edge signals say; only
+// `true` is proved to be right. The word is read once: what is set changes marks of its own number alone.
+fn set_border_word(
+    marked_planes: &mut MarkedPlanes,
+    values: &Values,
+    job: &Job,
+    time: u32,
+    first: usize,
+    end: usize,
+) -> bool
+    requires ready { IsReady job.now values.now }
+    requires shows { Shows job.now values.now time marked_planes.old.planes }
+    requires lines { AreLines job.now time marked_planes.old.line_marks.items }
+    requires sought { IsSought job.now time Kind.Edge }
+    requires word { (first % 64 ≡ 0) × (first < end) × (end ≤ first + 64) }
+    requires within { end ≤ (job.now.area.w / 2 + 1) * (job.now.area.h / 2 + 1) }
+    ensures shows { Shows job.now values.now time marked_planes.new.planes }
+    ensures lines { marked_planes.new.line_marks ≡ marked_planes.old.line_marks }
+    ensures halo { HasHaloFrom job.now values.now time first end marked_planes.new.planes }
+    ensures edges { result ≡ true → HasEdgesFrom job.now values.now time first end }
+    ensures rest { SameBefore job.now marked_planes.old.planes marked_planes.new.planes first }
+{
+    let mut is_right = true;
+    let mut rest = marked_planes.border_word(first / 64);
+    'border: while rest != 0 {
+        let (place, others) = take_first(rest);
+        let u = first + place;
+        if u >= end {
+            return is_right;
+        }
+        rest = others;
+        let (column, row) = marked_planes.planes().place(u);
+        is_right &= set_border_cells(marked_planes, values, job, time, column, row);
+    }
+    is_right
+}
+
 /// Sets the cells of the halo to what their signals say, and returns whether the cells of the ring carry what their
 /// edge signals say. Only `true` is proved to be right.
 pub fn set_border(marked_planes: &mut MarkedPlanes, values: &Values, job: &Job, time: u32) -> bool
@@ -185,11 +224,11 @@ pub fn set_border(marked_planes: &mut MarkedPlanes, values: &Values, job: &Job, 
     let _area = job.area();
     let cells = marked_planes.planes().cells();
     let mut is_right = true;
-    let mut u = marked_planes.next_border(0);
-    'border: while u < cells {
-        let (column, row) = marked_planes.planes().place(u);
-        is_right &= set_border_cells(marked_planes, values, job, time, column, row);
-        u = marked_planes.next_border(u + 1);
+    let mut at = 0;
+    'words: while at < cells {
+        let end = (at + 64).min(cells);
+        is_right &= set_border_word(marked_planes, values, job, time, at, end);
+        at = end;
     }
     is_right
 }

@@ -15,7 +15,7 @@ ghost use Rattle.std.specs.Prelude.{ℕ, ◌≡◌, ◌≢◌, ◌+◌, ◌*◌,
 
 use crate::lines::{CELL_WORDS, LinePlaces, line_number, mark_lines};
 use crate::live::LiveMarks;
-use crate::marks::{is_marked, mark_around, mark_border, mark_corners, next_marked_in, take_first};
+use crate::marks::{is_marked, mark_around, mark_border, mark_corners, take_first, word_marked_in};
 use crate::planes::{Changes, Planes};
 use crate::values::Values;
 use bbm_rule::marks::{mark, mark_all, unmark};
@@ -87,6 +87,7 @@ fn are_many(changed: usize, cells: usize, words: usize, columns_and_rows: usize)
 }
 
 impl MarkedPlanes {
+    ghost use Rattle.bbm_rule.specs.Bits.{bit};
     ghost use Rattle.bbm_rule.specs.Marks.{IsUnmarked};
     ghost use Rattle.local_run.specs.Calm.{AreDead};
     ghost use Rattle.local_run.specs.Live.{AreUnmarked, IsLoneAnti, IsLoneMain};
@@ -164,24 +165,17 @@ impl MarkedPlanes {
         }
     }
 
-    /// Returns the next number from `from` on whose cells of ring and halo must be looked at, or how many numbers there
-    /// are.
+    /// Returns a word of marks on the numbers whose cells of ring and halo must be looked at.
     ///
-    /// Such a cell may be live, or a line says something of it at the time that was looked at. The function passes a
-    /// number only if its cells are neither in the ring nor in the halo, or dead under each assignment and without a
-    /// line.
-    pub fn next_border(&self, from: usize) -> usize
-        requires { from ≤ self.now.planes.stride * self.now.planes.rows }
-        ensures range { (from ≤ result) × (result ≤ self.now.planes.stride * self.now.planes.rows) }
-        ensures passed { ArePassed from result self.now.line_marks.items self.now.planes }
+    /// Such a cell may be live, or a line says something of it at the time that was looked at. A number has no mark
+    /// only if its cells are neither in the ring nor in the halo, or dead under each assignment and without a line.
+    #[inline(always)]
+    pub fn border_word(&self, k: usize) -> u64
+        requires { 64 * k < self.now.planes.stride * self.now.planes.rows }
+        ensures passed { (u : ℕ) → u / 64 ≡ k → bit result (u % 64) ≡ false →
+            ArePassed u (u + 1) self.now.line_marks.items self.now.planes }
     {
-        next_marked_in(
-            &self.border_marks,
-            &self.live_marks,
-            &self.line_marks,
-            from,
-            self.planes.cells(),
-        )
+        word_marked_in(&self.border_marks, &self.live_marks, &self.line_marks, k)
     }
 
     /// Returns whether an edge or halo line may say something of a cell, counted from the halo, at the time that was

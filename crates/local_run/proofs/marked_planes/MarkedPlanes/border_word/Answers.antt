@@ -1,0 +1,24 @@
+use Rattle.std.proofs.Common.{◌≡◌, ◌<◌, ◌≤◌, ◌+◌, ◌*◌, inl, inr, arith, subst}
+use Rattle.std.proofs.Math.Nat.{mul-le-mul_left}
+use Rattle.bbm_rule.specs.Marks.{IsUnmarked}
+use Rattle.local_run.proofs.LiveLemmas.{dead_at}
+use Rattle.local_run.proofs.marked_planes.MarkedPlanes.border_word.Goals as goal
+
+pub returns : goal.returns
+returns c =
+    let f = c.args.self.now in
+    let says = rw (c.deref.ensures.value, c.deref-2.ensures.value) at c.word_marked_in.ensures in
+    record {
+      passed = λ u e none column row lc lr after before.
+          let s = f.planes.stride in
+          let at : u ≡ s * row + column = omega arith in
+          let within : s * row + column < s * f.planes.rows =
+          let m : s * (row + 1) ≤ s * f.planes.rows = mul-le-mul_left s (omega arith) in omega arith in
+          elim (says u e none) [
+            | inl free ↦ inl (f.all_inner column row lc lr (subst (IsUnmarked f.border_marks.items) at free))
+            | inr free ↦ inr (
+              dead_at (s * row + column) f.live_marks f.planes within f.all_dead (rw at at free.0),
+              subst (IsUnmarked f.line_marks.items) at free.1,
+            )
+          ];
+    }
