@@ -1,19 +1,22 @@
 -- A draft with one more line.
 use Rattle.std.proofs.Common.{◌≡◌, ℕ, ◌+◌, ◌≤◌, ◌||◌, ◌&&◌, Bool, true, false, cond, List, [], ◌∷◌, ◌++◌, map, length}
-use Rattle.std.proofs.Common.{take, None, refl, sym, ap, ap₂, subst, ◌∙◌, arith, length-append}
+use Rattle.std.proofs.Common.{take, get_or, Some, None, refl, sym, ap, ap₂, subst, ◌∙◌, arith, length-append}
 use Rattle.std.specs.Prelude.{nat_lt, nat_le}
-use Rattle.std.proofs.lemmas.List.{append-nil}
-use Rattle.std.proofs.lemmas.Grind.{flat_map-append}
+use Rattle.std.specs.List.{position}
+use Rattle.std.specs.Str.{bytes_eq}
 use Rattle.std.proofs.lemmas.Bool.{true≢false, ltb-false, leb-false}
 use Rattle.circuit.specs.Entries.{defined}
 use Rattle.circuit.specs.declared.circuit_line.CircuitLine.{CircuitLine}
 use Rattle.circuit.specs.Rules.{consumed, consume, define, is_gate, gate_count, add_fault, passes_limit, is_wrong_delay}
 use Rattle.circuit.specs.Bridge.{gates_of, FitsKind, InputsFirst, IsGoodAfter, AreGood}
 use Rattle.circuit.specs.Meaning.{Gate, number}
-use Rattle.circuit.specs.Wiring.{gate_of, gate_at}
+use Rattle.section_text.specs.Words.{has}
+use Rattle.circuit.specs.Wiring.{gate_of, gate_at, marked}
 use Rattle.circuit.specs.declared.draft.Draft.TheInside.{Inside}
 use Rattle.circuit.specs.DraftView.{IsDraft}
 use Rattle.circuit.proofs.Bridging.{gates_push, good_push, defined_push, count_append}
+use Rattle.circuit.proofs.Places.{found_number}
+use Rattle.circuit.proofs.WireMarks.{mark_read, marks_push}
 
 or_false : (a b : Bool) → (a || b) ≡ false → (a ≡ false) × (b ≡ false)
 or_false true b e = absurd (true≢false e)
@@ -29,13 +32,13 @@ no_fault entries r limit ins outs = rw (limit, ins) outs
 pub record Added (a b : Inside) (r : CircuitLine) (numbers : List ℕ) : Type 0 where
   pub entries : b.entries.items ≡ a.entries.items ++ r ∷ []
   pub wires : b.wires.keys ≡ a.wires.keys ++ r.outs
-  pub used : b.consumed.keys ≡ a.consumed.keys ++ r.ins
+  pub used : b.consumed.items ≡ marked (take (length r.ins) numbers) (a.consumed.items ++ map (λ _. false) r.outs)
   pub limit : passes_limit a.entries.items r ≡ false
-  pub ins_pass : consume a.wires.keys a.consumed.keys r.ins ≡ None
+  pub ins_pass : consume (defined a.entries.items) (consumed a.entries.items) r.ins ≡ None
   pub outs_pass : define a.wires.keys r.outs ≡ None
   pub fits : FitsKind r
   pub inputs_first : InputsFirst a.entries.items r
-  pub numbered : take (length r.ins) numbers ≡ map (number a.wires.keys) r.ins
+  pub numbered : take (length r.ins) numbers ≡ map (number (defined a.entries.items)) r.ins
   pub wired : map gate_of b.wired.items ≡ map gate_of a.wired.items ++ gate_at r.kind numbers (length a.wires.keys)
   pub gates : b.gates ≡ a.gates + cond (is_gate r.kind) 1 0
 
@@ -53,10 +56,12 @@ few_more false n e h = omega arith
 pub added : (a b : Inside) (r : CircuitLine) (numbers : List ℕ) → IsDraft a → Added a b r numbers → IsDraft b
 added a b r numbers is new =
     let entries : List CircuitLine = a.entries.items in
+    let outs_pass : define (defined entries) r.outs ≡ None =
+    ap (λ (d : List (List ℕ)). define d r.outs) (sym is.wires) ∙ new.outs_pass in
     let faultless : add_fault entries r ≡ None = no_fault entries r new.limit
-    (ap₂ (λ (d c : List (List ℕ)). consume d c r.ins) (sym is.wires) (sym is.consumed) ∙ new.ins_pass)
-    (ap (λ (d : List (List ℕ)). define d r.outs) (sym is.wires) ∙ new.outs_pass) in
+    new.ins_pass outs_pass in
     let good : IsGoodAfter entries r = record { adds = faultless; fits = new.fits; inputs_first = new.inputs_first } in
+    let more : AreGood (entries ++ r ∷ []) = good_push [] entries r is.good good in
     let here = few entries r new.limit in
     let count : gate_count (entries ++ r ∷ []) ≡ gate_count entries + cond (is_gate r.kind) 1 0 =
     count_append (λ (r : CircuitLine). is_gate r.kind) entries (r ∷ []) ∙ omega arith in
@@ -67,8 +72,9 @@ added a b r numbers is new =
     record {
       wires = new.wires ∙ ap (λ (l : List (List ℕ)). l ++ r.outs) is.wires ∙ sym (defined_push entries r)
           ∙ ap defined (sym new.entries);
-      consumed = new.used ∙ ap (λ (l : List (List ℕ)). l ++ r.ins) is.consumed ∙ sym (consumed_push entries r)
-          ∙ ap consumed (sym new.entries);
+      consumed = new.used ∙ ap₂ marked new.numbered (ap (λ (marks : List Bool). marks ++ map (λ (n : List ℕ). false) r.outs) is.consumed)
+          ∙ marks_push entries r is.good more new.ins_pass outs_pass
+          ∙ ap (λ (l : List CircuitLine). map (has (consumed l)) (defined l)) (sym new.entries);
       gates = gates ∙ ap gate_count (sym new.entries);
       few_gates = omega (
         arith,
@@ -77,15 +83,19 @@ added a b r numbers is new =
         few_more (is_gate r.kind) (gate_count entries) here.1 (omega (arith, is.few_gates, is.gates)),
       );
       few_wires = omega (arith, longer, here.0, ap (λ (l : List CircuitLine). length (defined l)) new.entries);
-      good = subst AreGood (sym new.entries) (good_push [] entries r is.good good);
+      good = subst AreGood (sym new.entries) more;
       wired = new.wired ∙ ap₂ (λ (x y : List Gate). x ++ y) is.wired
           (ap (λ (d : List (List ℕ)). gate_at r.kind numbers (length d)) is.wires)
-          ∙ sym (gates_push entries r numbers is.good good
-          (new.numbered ∙ ap (λ (d : List (List ℕ)). map (number d) r.ins) is.wires))
+          ∙ sym (gates_push entries r numbers is.good good new.numbered)
           ∙ ap (λ (l : List CircuitLine). gates_of (defined l) l) (sym new.entries);
     }
-  where
-    consumed_push : (before : List CircuitLine) (r : CircuitLine) →
-        consumed (before ++ r ∷ []) ≡ consumed before ++ r.ins
-    consumed_push before r = flat_map-append (λ (r : CircuitLine). r.ins) before (r ∷ [])
-        ∙ ap (λ l. consumed before ++ l) (append-nil r.ins)
+
+-- the mark that is read by the number of a name
+pub mark_of_line : (a : Inside) (entries : List CircuitLine) → IsDraft a → a.entries.items ≡ entries →
+    (n : List ℕ) (i : ℕ) (b : Bool) → has (defined entries) n ≡ true →
+    Some i ≡ position (bytes_eq n) a.wires.keys → b ≡ get_or a.consumed.items i b → b ≡ has (consumed entries) n
+mark_of_line a entries is same n i b known at read =
+    mark_read (consumed entries) (defined entries) a.consumed.items n i b
+    (is.consumed ∙ ap (λ (l : List CircuitLine). map (has (consumed l)) (defined l)) same) known
+    (found_number a.wires.keys n i at
+    ∙ ap (λ (d : List (List ℕ)). number d n) (is.wires ∙ ap defined same)) read

@@ -13,3 +13,4 @@ pub mod Values
 pub mod Counting
 pub mod GateLaws
 pub mod GateLines
+pub mod WireMarks

@@ -1,5 +1,6 @@
 -- The fields of a draft, and its view: the lines.
 use Rattle.std.specs.Prelude.{◌≡◌, ◌≤◌, List, length, map}
+use Rattle.section_text.specs.Words.{has}
 use Rattle.circuit.specs.Entries.{defined}
 use Rattle.circuit.specs.declared.circuit_line.CircuitLine.{CircuitLine}
 use Rattle.circuit.specs.declared.draft.Draft.TheInside.{Inside}
@@ -11,10 +12,11 @@ use Rattle.circuit.specs.Wiring.{gate_of}
 abbrev pub draft_entries : Inside → List CircuitLine
 draft_entries a = a.entries.items
 
--- the fields of every draft: good lines within the limits, with the names that they define and consume
+-- the fields of every draft: good lines within the limits, with the names that they define. The mark of each of these
+-- is set exactly if the lines consume it
 pub record IsDraft (a : Inside) : Type 0 where
   pub wires : a.wires.keys ≡ defined a.entries.items
-  pub consumed : a.consumed.keys ≡ consumed a.entries.items
+  pub consumed : a.consumed.items ≡ map (has (consumed a.entries.items)) (defined a.entries.items)
   pub gates : a.gates ≡ gate_count a.entries.items
   pub few_gates : a.gates ≤ 1024
   pub few_wires : length (defined a.entries.items) ≤ 4096

@@ -1,5 +1,5 @@
--- The gates as the code keeps them.
-use Rattle.std.specs.Prelude.{ℕ, List, [], ◌∷◌, take}
+-- The gates and the marks of wires as the code keeps them.
+use Rattle.std.specs.Prelude.{ℕ, Bool, true, List, [], ◌∷◌, take, slice_set}
 use Rattle.std.specs.List.{range_with_len}
 use Rattle.circuit.specs.declared.circuit_line.Kind.{Kind}
 use Rattle.circuit.specs.declared.circuit_line.Kind.TheVariants.{Input, Output, Spill}
@@ -25,3 +25,8 @@ gate_at (GateLine k) ins first =
     ∷ []
 gate_at Output ins first = []
 gate_at Spill ins first = []
+
+-- the marks after those of some wires are set
+abbrev pub marked : List ℕ → List Bool → List Bool
+marked [] marks = marks
+marked (w ∷ ws) marks = marked ws (slice_set marks w true)

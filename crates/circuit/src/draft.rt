@@ -1,20 +1,21 @@
 //! Circuits, line by line.
-ghost use Rattle.std.specs.Prelude.{◌≡◌, ◌==◌, ◌+◌, ◌-◌, true, [], ◌∷◌, ◌++◌, ◌≤◌, map, length, Option, None, Some, OnOk, OnErr, IfOk, IfErr};
+ghost use Rattle.std.specs.Prelude.{◌≡◌, ◌==◌, ◌+◌, ◌-◌, true, false, [], ◌∷◌, ◌++◌, ◌≤◌, map, length, take, Option, None, Some, OnOk, OnErr, IfOk, IfErr};
 ghost use Rattle.circuit.specs.Entries.{entry, defined};
 ghost use Rattle.circuit.specs.Gates.{uses, defines};
 ghost use Rattle.circuit.specs.declared.circuit_line.Kind.TheVariants.{Input, Gate, Output, Spill};
 ghost use Rattle.circuit.specs.declared.circuit_line.GateKind.TheVariants.{Source};
 ghost use Rattle.circuit.specs.Rules.{add_fault, passes_limit, is_wrong_delay, is_gate, gate_count, consumed, consume, define, unused};
 ghost use Rattle.circuit.specs.Wiring.{gate_of, gate_at};
-ghost use Rattle.section_text.specs.Codes.{or_else};
+ghost use Rattle.circuit.specs.Meaning.{number};
+ghost use Rattle.section_text.specs.Words.{has};
 ghost use Rattle.section_text.specs.Adding.{FaultIs};
 ghost use Rattle.circuit.specs.Bridge.{FitsKind, InputsFirst};
 
 use crate::circuit_line::{CircuitLine, GateKind, Kind};
 use crate::netlist::Circuit;
 use crate::number::WireNo;
-use crate::sets::{consume_all, define_all};
-use crate::wiring::{GateWires, add_wires, wire_numbers};
+use crate::sets::{define_wires, mark_wires};
+use crate::wiring::{GateWires, add_wires};
 use indexmap::IndexSet;
 use section_text::{LineFault, Name, Names, RefusalCode, Seed};
 use std::alloc::{AllocError, Global};
@@ -30,7 +31,8 @@ const MAX_GATES: usize = 1024;
 #[derive(Drop)]
 pub struct Draft {
     wires: IndexSet<Name, Seed>,
-    consumed: IndexSet<Name, Seed>,
+    // for each wire, by its number, whether a line consumes it
+    consumed: Vec<bool>,
     entries: Vec<CircuitLine>,
     wired: Vec<GateWires>,
     gates: usize,
@@ -74,43 +76,6 @@ fn is_gate_kind(kind: Kind) -> bool
     }
 }
 
-// The first name that is not among the consumed ones.
-fn first_unused(wires: &[Name], consumed: &IndexSet<Name, Seed>) -> Option<Name>
-    ensures { result ≡ unused consumed.now.keys wires.now }
-{
-    for name in wires {
-        if !consumed.contains(name) {
-            return Some(*name);
-        }
-    }
-    None
-}
-
-// Consumes and defines the names of a line. A fault changes nothing.
-fn take_names(
-    wires: &mut IndexSet<Name, Seed>,
-    consumed: &mut IndexSet<Name, Seed>,
-    entry: &CircuitLine,
-) -> Result<(), LineFault>
-    ensures ins { OnOk result ((consume wires.old.keys consumed.old.keys entry.now.ins ≡ None)
-        × (consumed.new.keys ≡ consumed.old.keys ++ entry.now.ins)) }
-    ensures outs { OnOk result ((define wires.old.keys entry.now.outs ≡ None)
-        × (wires.new.keys ≡ wires.old.keys ++ entry.now.outs)) }
-    ensures err { OnErr result ((wires.new.keys ≡ wires.old.keys)
-        × (consumed.new.keys ≡ consumed.old.keys)) }
-    ensures fault { IfErr result (λ e. FaultIs e
-        (or_else (consume wires.old.keys consumed.old.keys entry.now.ins)
-        (define wires.old.keys entry.now.outs))) }
-{
-    let before = consumed.len();
-    consume_all(wires, consumed, entry.ins.as_slice())?;
-    if let Err(fault) = define_all(wires, entry.outs.as_slice()) {
-        consumed.truncate(before);
-        return Err(fault);
-    }
-    Ok(())
-}
-
 // Keeps a line and its gate. An error changes nothing.
 fn keep_line(
     entries: &mut Vec<CircuitLine>,
@@ -149,7 +114,7 @@ impl Draft {
     {
         Draft {
             wires: IndexSet::with_hasher(alloc, seed),
-            consumed: IndexSet::with_hasher(alloc, seed),
+            consumed: Vec::new(alloc),
             entries: Vec::new(alloc),
             wired: Vec::new(alloc),
             gates: 0,
@@ -165,6 +130,43 @@ impl Draft {
             || (is_gate_kind(entry.kind) && self.gates >= MAX_GATES)
     }
 
+    // The wire of a name, if no line consumes it yet, else the code.
+    fn free_wire(&self, name: &Name) -> Result<WireNo, RefusalCode>
+        ensures known { OnOk result (has (defined self.now) name.now ≡ true) }
+        ensures free { OnOk result (has (consumed self.now) name.now ≡ false) }
+        ensures wire { IfOk result (λ w. w ≡ number (defined self.now) name.now) }
+        ensures err { IfErr result (λ code.
+            consume (defined self.now) (consumed self.now) (name.now ∷ []) ≡ Some code) }
+    {
+        let Some(index) = self.wires.get_index_of(name) else {
+            return Err(RefusalCode::UnknownName);
+        };
+        if self.consumed[index] {
+            return Err(RefusalCode::ConsumedTwice);
+        }
+        Ok(WireNo::of(index as u16))
+    }
+
+    // The wires that a line with these inputs consumes, else the code of the first input that it may not consume.
+    fn free_wires(&self, names: &[Name]) -> Result<[WireNo; 4], RefusalCode>
+        requires { length names.now ≤ 4 }
+        ensures ok { OnOk result (consume (defined self.now) (consumed self.now) names.now ≡ None) }
+        ensures wires { IfOk result (λ ins.
+            take (length names.now) ins ≡ map (number (defined self.now)) names.now) }
+        ensures err { IfErr result (λ code.
+            consume (defined self.now) (consumed self.now) names.now ≡ Some code) }
+    {
+        let mut ins = [WireNo::of(0); 4];
+        'names: for (place, name) in names.iter().enumerate() {
+            let wire = self.free_wire(name)?;
+            if ins[..place].contains(&wire) {
+                return Err(RefusalCode::ConsumedTwice);
+            }
+            ins[place] = wire;
+        }
+        Ok(ins)
+    }
+
     // Adds a line, whatever the kinds of the lines before it. A fault changes nothing.
     #[tactic(auto, unfolding(crate::specs::Rules::add_fault))]
     pub(crate) fn add(&mut self, entry: CircuitLine) -> Result<(), LineFault>
@@ -178,16 +180,20 @@ impl Draft {
         if self.passes(&entry) {
             return Err(LineFault::Code(RefusalCode::PastLimit));
         }
-        let consumed = self.consumed.len();
+        let ins = match self.free_wires(entry.ins.as_slice()) {
+            Ok(ins) => ins,
+            Err(code) => return Err(LineFault::Code(code)),
+        };
+        let used = entry.ins.as_slice().len();
         let wires = self.wires.len();
-        let ins = wire_numbers(&self.wires, entry.ins.as_slice());
-        take_names(&mut self.wires, &mut self.consumed, &entry)?;
+        define_wires(&mut self.wires, &mut self.consumed, entry.outs.as_slice())?;
         let is_gate = is_gate_kind(entry.kind);
         if keep_line(&mut self.entries, &mut self.wired, entry, ins, wires as u16).is_err() {
-            self.consumed.truncate(consumed);
             self.wires.truncate(wires);
+            self.consumed.truncate(wires);
             return Err(LineFault::Memory);
         }
+        mark_wires(&mut self.consumed, &ins[..used]);
         if is_gate {
             self.gates += 1;
         }
@@ -306,7 +312,12 @@ impl Draft {
     pub(crate) fn missing(&self) -> Option<Name>
         ensures { result ≡ unused (consumed self.now) (defined self.now) }
     {
-        first_unused(self.wires.as_slice(), &self.consumed)
+        'wires: for (number, name) in self.wires.as_slice().iter().enumerate() {
+            if !self.consumed[number] {
+                return Some(*name);
+            }
+        }
+        None
     }
 
     /// Makes the circuit of these lines. It takes no memory.
@@ -320,7 +331,7 @@ impl Draft {
         ensures err { IfErr result (λ u. (u.draft ≡ self)
             × (unused (consumed self) (defined self) ≡ Some u.wire)) }
     {
-        if let Some(wire) = first_unused(self.wires.as_slice(), &self.consumed) {
+        if let Some(wire) = self.missing() {
             return Err(Unused { draft: self, wire });
         }
         let Draft {

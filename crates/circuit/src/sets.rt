@@ -1,33 +1,14 @@
-//! Names that are consumed and defined, one after the other.
-ghost use Rattle.std.specs.Prelude.{◌≡◌, ◌+◌, true, false, [], ◌∷◌, ◌++◌, None, OnOk, OnErr, IfErr};
+//! Wires that a line defines, and marks on those that it consumes.
+ghost use Rattle.std.specs.Prelude.{◌≡◌, ◌+◌, ◌<◌, ◌≤◌, true, false, [], ◌∷◌, ◌++◌, map, length, None, OnOk, OnErr, IfErr};
+ghost use Rattle.std.specs.List.{All};
 ghost use Rattle.section_text.specs.Words.{has};
-ghost use Rattle.circuit.specs.Rules.{consume, define};
+ghost use Rattle.circuit.specs.Rules.{define};
+ghost use Rattle.circuit.specs.Wiring.{marked};
 ghost use Rattle.section_text.specs.Adding.{FaultIs};
 
+use crate::number::WireNo;
 use indexmap::IndexSet;
 use section_text::{LineFault, Name, RefusalCode, Seed};
-
-fn consume_one(
-    wires: &IndexSet<Name, Seed>,
-    consumed: &mut IndexSet<Name, Seed>,
-    name: Name,
-) -> Result<(), LineFault>
-    ensures ok { OnOk result ((has wires.now.keys name ≡ true)
-        × (has consumed.old.keys name ≡ false)
-        × (consumed.new.keys ≡ consumed.old.keys ++ name ∷ [])) }
-    ensures err { OnErr result (consumed.new.keys ≡ consumed.old.keys) }
-    ensures fault { IfErr result (λ e. FaultIs e
-        (consume wires.now.keys consumed.old.keys (name ∷ []))) }
-{
-    if !wires.contains(&name) {
-        return Err(LineFault::Code(RefusalCode::UnknownName));
-    }
-    match consumed.insert(name) {
-        Ok(true) => Ok(()),
-        Ok(false) => Err(LineFault::Code(RefusalCode::ConsumedTwice)),
-        Err(_) => Err(LineFault::Memory),
-    }
-}
 
 fn define_one(wires: &mut IndexSet<Name, Seed>, name: Name) -> Result<(), LineFault>
     ensures ok { OnOk result ((has wires.old.keys name ≡ false)
@@ -42,30 +23,8 @@ fn define_one(wires: &mut IndexSet<Name, Seed>, name: Name) -> Result<(), LineFa
     }
 }
 
-/// Consumes names from left to right. An error changes nothing.
-pub fn consume_all(
-    wires: &IndexSet<Name, Seed>,
-    consumed: &mut IndexSet<Name, Seed>,
-    names: &[Name],
-) -> Result<(), LineFault>
-    ensures ok { OnOk result ((consume wires.now.keys consumed.old.keys names.now ≡ None)
-        × (consumed.new.keys ≡ consumed.old.keys ++ names.now)) }
-    ensures err { OnErr result (consumed.new.keys ≡ consumed.old.keys) }
-    ensures fault { IfErr result (λ e. FaultIs e
-        (consume wires.now.keys consumed.old.keys names.now)) }
-{
-    let before = consumed.len();
-    for name in names {
-        if let Err(fault) = consume_one(wires, consumed, *name) {
-            consumed.truncate(before);
-            return Err(fault);
-        }
-    }
-    Ok(())
-}
-
-/// Defines names from left to right. An error changes nothing.
-pub fn define_all(wires: &mut IndexSet<Name, Seed>, names: &[Name]) -> Result<(), LineFault>
+// Defines names from left to right. An error changes nothing.
+fn define_all(wires: &mut IndexSet<Name, Seed>, names: &[Name]) -> Result<(), LineFault>
     ensures ok { OnOk result ((define wires.old.keys names.now ≡ None)
         × (wires.new.keys ≡ wires.old.keys ++ names.now)) }
     ensures err { OnErr result (wires.new.keys ≡ wires.old.keys) }
@@ -79,4 +38,41 @@ pub fn define_all(wires: &mut IndexSet<Name, Seed>, names: &[Name]) -> Result<()
         }
     }
     Ok(())
+}
+
+/// Defines names from left to right, and gives each an unset mark. An error changes nothing.
+pub(crate) fn define_wires(
+    wires: &mut IndexSet<Name, Seed>,
+    consumed: &mut Vec<bool>,
+    names: &[Name],
+) -> Result<(), LineFault>
+    requires { length names.now ≤ 4 }
+    ensures ok { OnOk result ((define wires.old.keys names.now ≡ None)
+        × (wires.new.keys ≡ wires.old.keys ++ names.now)) }
+    ensures marks { OnOk result (consumed.new.items
+        ≡ consumed.old.items ++ map (λ _. false) names.now) }
+    ensures err { OnErr result ((wires.new.keys ≡ wires.old.keys)
+        × (consumed.new.items ≡ consumed.old.items)) }
+    ensures fault { IfErr result (λ e. FaultIs e (define wires.old.keys names.now)) }
+{
+    let first = wires.len();
+    define_all(wires, names)?;
+    if consumed
+        .extend_from_slice(&[false; 4][..names.len()])
+        .is_err()
+    {
+        wires.truncate(first);
+        return Err(LineFault::Memory);
+    }
+    Ok(())
+}
+
+/// Sets the marks of wires.
+pub(crate) fn mark_wires(consumed: &mut Vec<bool>, wires: &[WireNo])
+    requires { All (λ w. w < length consumed.old.items) wires.now }
+    ensures { consumed.new.items ≡ marked wires.now consumed.old.items }
+{
+    for wire in wires {
+        consumed[wire.number() as usize] = true;
+    }
 }

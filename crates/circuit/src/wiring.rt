@@ -1,7 +1,6 @@
 //! Gates by the numbers of their wires, and the values of wires, gate after gate.
 ghost use Rattle.std.specs.Prelude.{◌≡◌, ◌≤◌, ◌++◌, Bool, List, Some, None, Ok, true, false, map, length, take, option_map, OnOk, OnErr, IfErr, IfOk};
 ghost use Rattle.std.specs.List.{range_with_len};
-ghost use Rattle.circuit.specs.Meaning.{number};
 ghost use Rattle.circuit.specs.Gates.{row, uses};
 ghost use Rattle.circuit.specs.Bridge.{read};
 ghost use Rattle.circuit.specs.Evaluate.{evaluate, IsEvaluateFault};
@@ -10,8 +9,6 @@ ghost use Rattle.circuit.specs.Wiring.{gate_of, gate_at};
 use crate::circuit_line::{GateKind, Kind};
 use crate::netlist::ValuesFault;
 use crate::number::WireNo;
-use indexmap::IndexSet;
-use section_text::{Name, Seed};
 use std::alloc::{AllocError, Global};
 
 /// A gate of a circuit: its kind, and the numbers of its wires. Contracts see it by `gate_of`.
@@ -43,43 +40,6 @@ impl GateWires {
         ensures { result.now ≡ (gate_of self.now).outs }
     {
         &self.outs[..self.kind.outs()]
-    }
-}
-
-fn wire_number(wires: &IndexSet<Name, Seed>, name: Name) -> WireNo
-    requires { length wires.now.keys ≤ 4096 }
-    ensures { result ≡ number wires.now.keys name }
-{
-    match wires.get_index_of(&name) {
-        Some(index) => WireNo::of(index as u16),
-        None => WireNo::of(wires.len() as u16),
-    }
-}
-
-/// Returns the numbers of wires that are named.
-pub(crate) fn wire_numbers(wires: &IndexSet<Name, Seed>, names: &[Name]) -> [WireNo; 4]
-    requires at_most_4 { length names.now ≤ 4 }
-    requires fits { length wires.now.keys ≤ 4096 }
-    ensures { take (length names.now) result ≡ map (number wires.now.keys) names.now }
-{
-    let none = WireNo::of(0);
-    match names {
-        [] => [none, none, none, none],
-        [a] => [wire_number(wires, *a), none, none, none],
-        [a, b] => [wire_number(wires, *a), wire_number(wires, *b), none, none],
-        [a, b, c] => [
-            wire_number(wires, *a),
-            wire_number(wires, *b),
-            wire_number(wires, *c),
-            none,
-        ],
-        [a, b, c, d] => [
-            wire_number(wires, *a),
-            wire_number(wires, *b),
-            wire_number(wires, *c),
-            wire_number(wires, *d),
-        ],
-        _ => unreachable!(),
     }
 }
 

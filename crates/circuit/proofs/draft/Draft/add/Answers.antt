@@ -1,33 +1,60 @@
-use Rattle.std.proofs.Common.{rules, ◌≡◌, sym, ap, ◌∙◌, List, [], ◌∷◌, ◌++◌, length, map, subst, None}
+use Rattle.std.proofs.Common.{rules, ◌≡◌, sym, ap, ◌∙◌, List, [], ◌∷◌, ◌++◌, ℕ, false, arith, length, map, subst, take, None, length-append}
+use Rattle.std.proofs.lemmas.List.{length-map}
 use Rattle.circuit.specs.declared.circuit_line.CircuitLine.{CircuitLine}
-use Rattle.circuit.specs.Rules.{consume, define, passes_limit}
+use Rattle.circuit.specs.Entries.{defined}
+use Rattle.circuit.specs.Rules.{consumed, consume, define, passes_limit}
+use Rattle.circuit.specs.Meaning.{number}
 use Rattle.circuit.specs.Bridge.{InputsFirst}
-use Rattle.circuit.specs.Wiring.{gate_of, gate_at}
+use Rattle.circuit.specs.Wiring.{gate_of, gate_at, marked}
 use Rattle.circuit.proofs.Drafts.{added}
+use Rattle.circuit.proofs.WireMarks.{marks_reach}
 use Rattle.circuit.proofs.draft.Draft.add.Goals as goal
+
+pub mark_wires-requires : goal.mark_wires-requires
+mark_wires-requires c =
+    let numbered : take (length c.as_slice-used.result.now) c.in-Ok.ins
+    ≡ map (number (defined c.args.self.now)) c.as_slice.result.now = search rules in
+    let pass : consume (defined c.args.self.now) (consumed c.args.self.now) c.as_slice.result.now ≡ None =
+    search rules in
+    let marks : length c.define_wires.new.consumed.items
+    ≡ length (c.self.inside.consumed.items ++ map (λ (n : List ℕ). false) c.as_slice-2.result.now) = search rules in
+    let long : length c.self.inside.consumed.items ≡ length (defined c.args.self.now) =
+    ap length c.self.invariant.consumed ∙ length-map (defined c.self.inside.entries.items) _
+    ∙ ap (λ (l : List CircuitLine). length (defined l)) c.self.view_is in
+    marks_reach (defined c.args.self.now) (consumed c.args.self.now) c.as_slice.result.now
+    c.define_wires.new.consumed.items _ pass numbered
+    (omega (
+      arith,
+      marks,
+      long,
+      length-append c.self.inside.consumed.items
+          (map (λ (n : List ℕ). false) c.as_slice-2.result.now),
+    ))
 
 pub invariant_of-self-then-is_gate : goal.invariant_of-self-then-is_gate
 invariant_of-self-then-is_gate c =
     let entries : c.keep_line.new.entries.items ≡ c.self.inside.entries.items ++ c.args.entry ∷ [] = search rules in
-    let wires : c.take_names.new.wires.keys ≡ c.self.inside.wires.keys ++ c.args.entry.outs = search rules in
-    let used : c.take_names.new.consumed.keys ≡ c.self.inside.consumed.keys ++ c.args.entry.ins = search rules in
-    let ins_pass : consume c.self.inside.wires.keys c.self.inside.consumed.keys c.args.entry.ins ≡ None =
-    search rules in
+    let wires : c.define_wires.new.wires.keys ≡ c.self.inside.wires.keys ++ c.args.entry.outs = search rules in
     let outs_pass : define c.self.inside.wires.keys c.args.entry.outs ≡ None = search rules in
     let wired : map gate_of c.keep_line.new.wired.items
     ≡ map gate_of c.self.inside.wired.items
-    ++ gate_at c.args.entry.kind c.wire_numbers-ins.result (length c.self.inside.wires.keys) = search rules in
-    added c.self.inside _ c.args.entry c.wire_numbers-ins.result c.self.invariant (record {
+    ++ gate_at c.args.entry.kind c.in-Ok.ins (length c.self.inside.wires.keys) = search rules in
+    let used : c.mark_wires.new.consumed.items ≡ marked (take (length c.args.entry.ins) c.in-Ok.ins)
+    (c.self.inside.consumed.items ++ map (λ (n : List ℕ). false) c.args.entry.outs) = search rules in
+    let entries_are = sym c.self.view_is in
+    added c.self.inside _ c.args.entry c.in-Ok.ins c.self.invariant (record {
       entries = entries;
       wires = wires;
       used = used;
       limit = ap (λ (l : List CircuitLine). passes_limit l c.args.entry) c.self.view_is ∙ sym c.if-passes.ensures;
-      ins_pass = ins_pass;
+      ins_pass = subst (λ (l : List CircuitLine). consume (defined l) (consumed l) c.args.entry.ins ≡ None)
+          entries_are (search rules);
       outs_pass = outs_pass;
       fits = c.requires.fits;
-      inputs_first = subst (λ (l : List CircuitLine). InputsFirst l c.args.entry)
-          (sym c.self.view_is) c.requires.inputs_first;
-      numbered = search rules;
+      inputs_first = subst (λ (l : List CircuitLine). InputsFirst l c.args.entry) entries_are c.requires.inputs_first;
+      numbered = subst (λ (l : List CircuitLine).
+          take (length c.args.entry.ins) c.in-Ok.ins ≡ map (number (defined l)) c.args.entry.ins)
+          entries_are (search rules);
       wired = wired;
       gates = search rules;
     })
@@ -35,25 +62,27 @@ invariant_of-self-then-is_gate c =
 pub invariant_of-self-else-is_gate : goal.invariant_of-self-else-is_gate
 invariant_of-self-else-is_gate c =
     let entries : c.keep_line.new.entries.items ≡ c.self.inside.entries.items ++ c.args.entry ∷ [] = search rules in
-    let wires : c.take_names.new.wires.keys ≡ c.self.inside.wires.keys ++ c.args.entry.outs = search rules in
-    let used : c.take_names.new.consumed.keys ≡ c.self.inside.consumed.keys ++ c.args.entry.ins = search rules in
-    let ins_pass : consume c.self.inside.wires.keys c.self.inside.consumed.keys c.args.entry.ins ≡ None =
-    search rules in
+    let wires : c.define_wires.new.wires.keys ≡ c.self.inside.wires.keys ++ c.args.entry.outs = search rules in
     let outs_pass : define c.self.inside.wires.keys c.args.entry.outs ≡ None = search rules in
     let wired : map gate_of c.keep_line.new.wired.items
     ≡ map gate_of c.self.inside.wired.items
-    ++ gate_at c.args.entry.kind c.wire_numbers-ins.result (length c.self.inside.wires.keys) = search rules in
-    added c.self.inside _ c.args.entry c.wire_numbers-ins.result c.self.invariant (record {
+    ++ gate_at c.args.entry.kind c.in-Ok.ins (length c.self.inside.wires.keys) = search rules in
+    let used : c.mark_wires.new.consumed.items ≡ marked (take (length c.args.entry.ins) c.in-Ok.ins)
+    (c.self.inside.consumed.items ++ map (λ (n : List ℕ). false) c.args.entry.outs) = search rules in
+    let entries_are = sym c.self.view_is in
+    added c.self.inside _ c.args.entry c.in-Ok.ins c.self.invariant (record {
       entries = entries;
       wires = wires;
       used = used;
       limit = ap (λ (l : List CircuitLine). passes_limit l c.args.entry) c.self.view_is ∙ sym c.if-passes.ensures;
-      ins_pass = ins_pass;
+      ins_pass = subst (λ (l : List CircuitLine). consume (defined l) (consumed l) c.args.entry.ins ≡ None)
+          entries_are (search rules);
       outs_pass = outs_pass;
       fits = c.requires.fits;
-      inputs_first = subst (λ (l : List CircuitLine). InputsFirst l c.args.entry)
-          (sym c.self.view_is) c.requires.inputs_first;
-      numbered = search rules;
+      inputs_first = subst (λ (l : List CircuitLine). InputsFirst l c.args.entry) entries_are c.requires.inputs_first;
+      numbered = subst (λ (l : List CircuitLine).
+          take (length c.args.entry.ins) c.in-Ok.ins ≡ map (number (defined l)) c.args.entry.ins)
+          entries_are (search rules);
       wired = wired;
       gates = search rules;
     })
