@@ -72,7 +72,8 @@ added a b r numbers is new =
     record {
       wires = new.wires ∙ ap (λ (l : List (List ℕ)). l ++ r.outs) is.wires ∙ sym (defined_push entries r)
           ∙ ap defined (sym new.entries);
-      consumed = new.used ∙ ap₂ marked new.numbered (ap (λ (marks : List Bool). marks ++ map (λ (n : List ℕ). false) r.outs) is.consumed)
+      consumed = new.used ∙ ap₂ marked new.numbered
+          (ap (λ (marks : List Bool). marks ++ map (λ (n : List ℕ). false) r.outs) is.consumed)
           ∙ marks_push entries r is.good more new.ins_pass outs_pass
           ∙ ap (λ (l : List CircuitLine). map (has (consumed l)) (defined l)) (sym new.entries);
       gates = gates ∙ ap gate_count (sym new.entries);

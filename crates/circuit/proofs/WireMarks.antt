@@ -229,8 +229,8 @@ has_number d (m ∷ ns) n h = ap₂ (λ (a b : Bool). a || b) (one m) (has_numbe
   where
     one : (m : List ℕ) → eqb (number d m) (number d n) ≡ bytes_eq n m
     one m = elim (cases_Bool (bytes_eq n m)) [
-      | inl e ↦ ap (λ (k : List ℕ). eqb (number d k) (number d n)) (sym (same_name n m e)) ∙ eq-eqb (number d n) (number d n) refl
-          ∙ sym e
+      | inl e ↦ ap (λ (k : List ℕ). eqb (number d k) (number d n)) (sym (same_name n m e))
+          ∙ eq-eqb (number d n) (number d n) refl ∙ sym e
       | inr e ↦ elim (cases_Bool (eqb (number d m) (number d n))) [
         | inl q ↦ absurd (true≢false (sym (bytes_same n)
             ∙ ap (bytes_eq n) (number_name d n m h (eqb-true (number d m) (number d n) q)) ∙ e))

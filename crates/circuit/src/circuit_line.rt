@@ -1,8 +1,9 @@
 //! The lines of a circuit.
-ghost use Rattle.std.specs.Prelude.{◌≡◌, ◌≤◌, [], ◌∷◌};
+ghost use Rattle.std.specs.Prelude.{◌≡◌, ◌≤◌, [], ◌∷◌, if◌then◌else◌};
 ghost use Rattle.circuit.specs.Entries.{rank_of, entry};
+ghost use Rattle.circuit.specs.Bridge.{is_input};
 ghost use Rattle.circuit.specs.Gates.{is_inverse, uses, defines};
-ghost use Rattle.circuit.specs.declared.circuit_line.Kind.TheVariants.{Input, Gate, Output, Spill};
+ghost use Rattle.circuit.specs.declared.circuit_line.Kind.TheVariants.{Gate};
 ghost use Rattle.circuit.specs.declared.circuit_line.GateKind.TheVariants.{Source};
 
 use section_text::{Name, Names};
@@ -108,24 +109,19 @@ impl Kind {
     }
 }
 
-fn one(name: Name) -> Names
-    ensures { result ≡ name ∷ [] }
-{
-    let mut names = Names::new();
-    names.push(name);
-    names
-}
-
 impl CircuitLine {
-    /// Creates the line of an input, which defines a wire.
-    pub fn input(name: Name) -> CircuitLine
-        ensures { result ≡ entry Input [] (name ∷ []) }
+    /// Creates the line of an input, an output or a spill, which has one name.
+    pub fn lone(kind: Kind, name: Name) -> CircuitLine
+        ensures { result ≡ entry kind (if is_input kind then [] else name ∷ [])
+            (if is_input kind then name ∷ [] else []) }
     {
-        CircuitLine {
-            kind: Kind::Input,
-            ins: Names::new(),
-            outs: one(name),
+        let mut ins = Names::new();
+        let mut outs = Names::new();
+        match kind {
+            Kind::Input => outs.push(name),
+            _ => ins.push(name),
         }
+        CircuitLine { kind, ins, outs }
     }
 
     /// Creates the line of a source, which defines a wire.
@@ -135,29 +131,7 @@ impl CircuitLine {
         CircuitLine {
             kind: Kind::Gate(GateKind::Source(bit)),
             ins: Names::new(),
-            outs: one(name),
-        }
-    }
-
-    /// Creates the line of an output, which consumes a wire.
-    pub fn output(name: Name) -> CircuitLine
-        ensures { result ≡ entry Output (name ∷ []) [] }
-    {
-        CircuitLine {
-            kind: Kind::Output,
-            ins: one(name),
-            outs: Names::new(),
-        }
-    }
-
-    /// Creates the line of a spill, which consumes a wire.
-    pub fn spill(name: Name) -> CircuitLine
-        ensures { result ≡ entry Spill (name ∷ []) [] }
-    {
-        CircuitLine {
-            kind: Kind::Spill,
-            ins: one(name),
-            outs: Names::new(),
+            outs: Names::of(&[name]),
         }
     }
 }

@@ -223,7 +223,7 @@ impl Draft {
         ensures fault { IfErr result (λ e. FaultIs e
             (add_fault self.old (entry Input [] (name ∷ [])))) }
     {
-        self.add(CircuitLine::input(name))
+        self.add(CircuitLine::lone(Kind::Input, name))
     }
 
     /// Adds a source, a gate without inputs whose wire has the value `bit`.
@@ -287,7 +287,7 @@ impl Draft {
         ensures fault { IfErr result (λ e. FaultIs e
             (add_fault self.old (entry Output (name ∷ []) []))) }
     {
-        self.add(CircuitLine::output(name))
+        self.add(CircuitLine::lone(Kind::Output, name))
     }
 
     /// Adds a spill, which consumes a wire that is no output.
@@ -305,7 +305,7 @@ impl Draft {
         ensures fault { IfErr result (λ e. FaultIs e
             (add_fault self.old (entry Spill (name ∷ []) []))) }
     {
-        self.add(CircuitLine::spill(name))
+        self.add(CircuitLine::lone(Kind::Spill, name))
     }
 
     // The first wire that nobody consumes.

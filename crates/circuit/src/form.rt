@@ -1,7 +1,8 @@
 //! The line forms of the circuit section.
-ghost use Rattle.std.specs.Prelude.{◌≡◌, ◌+◌, ◌≤◌, Some, slice_get};
+ghost use Rattle.std.specs.Prelude.{◌≡◌, ◌+◌, ◌≤◌, Some, None, codes, slice_get, if◌then◌else◌};
 ghost use Rattle.std.specs.Str.{bytes_eq};
 ghost use Rattle.section_text.specs.Words.{words_of};
+ghost use Rattle.circuit.specs.declared.circuit_line.Kind.TheVariants.{Input, Output, Spill};
 ghost use Rattle.section_text.specs.Feeds.{IsLine, line_bytes};
 ghost use Rattle.circuit.specs.Forms.{bit_at, gate_kind, words_before, gate_entry, form_of};
 
@@ -89,6 +90,23 @@ fn gate_entry_of(feed: &Feed, line: &Line, keyword: &[u8]) -> Option<CircuitLine
     })
 }
 
+// The kind of a line of a keyword and a name.
+fn lone_kind(keyword: &[u8]) -> Option<Kind>
+    ensures { result ≡ (if bytes_eq keyword.now (codes "input") then Some Input
+        else if bytes_eq keyword.now (codes "output") then Some Output
+        else if bytes_eq keyword.now (codes "spill") then Some Spill else None) }
+{
+    if is_keyword(keyword, b"input") {
+        Some(Kind::Input)
+    } else if is_keyword(keyword, b"output") {
+        Some(Kind::Output)
+    } else if is_keyword(keyword, b"spill") {
+        Some(Kind::Spill)
+    } else {
+        None
+    }
+}
+
 /// Returns the form of a line, if it has one.
 #[tactic(auto, unfolding(crate::specs::Forms::form_of, section_text::specs::Words::is_word_at))]
 pub fn line_form(feed: &Feed, line: &Line) -> Option<Form<(), CircuitLine>>
@@ -97,16 +115,13 @@ pub fn line_form(feed: &Feed, line: &Line) -> Option<Form<(), CircuitLine>>
 {
     let keyword = feed.first_word(line);
     if is_keyword(keyword, b"circuit") {
-        feed.lone(line, Form::Header(()))
-    } else if is_keyword(keyword, b"end") {
-        feed.lone(line, Form::End)
-    } else if is_keyword(keyword, b"input") {
-        Some(Form::Item(CircuitLine::input(feed.lone_name(line)?)))
-    } else if is_keyword(keyword, b"output") {
-        Some(Form::Item(CircuitLine::output(feed.lone_name(line)?)))
-    } else if is_keyword(keyword, b"spill") {
-        Some(Form::Item(CircuitLine::spill(feed.lone_name(line)?)))
-    } else {
-        Some(Form::Item(gate_entry_of(feed, line, keyword)?))
+        return feed.lone(line, Form::Header(()));
+    }
+    if is_keyword(keyword, b"end") {
+        return feed.lone(line, Form::End);
+    }
+    match lone_kind(keyword) {
+        Some(kind) => Some(Form::Item(CircuitLine::lone(kind, feed.lone_name(line)?))),
+        None => Some(Form::Item(gate_entry_of(feed, line, keyword)?)),
     }
 }

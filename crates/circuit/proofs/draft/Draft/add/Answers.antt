@@ -1,4 +1,5 @@
-use Rattle.std.proofs.Common.{rules, ◌≡◌, sym, ap, ◌∙◌, List, [], ◌∷◌, ◌++◌, ℕ, false, arith, length, map, subst, take, None, length-append}
+use Rattle.std.proofs.Common.{rules, ◌≡◌, sym, ap, ◌∙◌, List, [], ◌∷◌, ◌++◌, ℕ, false, arith}
+use Rattle.std.proofs.Common.{length, map, subst, take, None, length-append}
 use Rattle.std.proofs.lemmas.List.{length-map}
 use Rattle.circuit.specs.declared.circuit_line.CircuitLine.{CircuitLine}
 use Rattle.circuit.specs.Entries.{defined}
