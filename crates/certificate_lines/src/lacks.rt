@@ -5,18 +5,20 @@ ghost use Rattle.certificate_lines.specs.Entries.{ModuleLines, areas, edge_in, k
 ghost use Rattle.certificate_lines.specs.ModuleParts.{AreInBox};
 ghost use Rattle.certificate_lines.specs.Rules.{whole};
 ghost use Rattle.module_box.specs.Boxes.{in_box, in_halo};
+ghost use Rattle.module_box.specs.Locals.{is_among};
 ghost use Rattle.circuit.specs.Meaning.{wire_of};
 ghost use Rattle.certificate_lines.specs.BuilderView.{AreModuleOwners, is_lacked, is_strange_outside, is_wire_lacked, lacks_edge};
-ghost use Rattle.certificate_lines.specs.LastNames.{IsLastName};
+ghost use Rattle.certificate_lines.specs.LastNames.{AreKnownWires, IsLastName};
 ghost use Rattle.certificate_lines.specs.Versions.{is_strange, lacks_wire};
 
 use crate::blocks::odd_partner;
 use crate::builder::Builder;
 use crate::certificate_line::CertificateLine;
 use crate::kept_line::{KeptBorder, KeptLine};
+use crate::known::knows;
 use crate::line_tables::LineTables;
 use crate::lines::inner_lines;
-use crate::rules::{is_local_name, is_local_wire};
+use crate::rules::is_local_name;
 use crate::tiles::whole_of;
 use bbm_rule::Cell;
 use indexmap::IndexSet;
@@ -98,6 +100,16 @@ fn wire_by_last<'b>(
     wire
 }
 
+// The count of slots for wires that modules know.
+const SLOT_COUNT: usize = 16;
+
+// The number of a module, and a wire that is local in it.
+#[derive(Clone, Copy)]
+struct KnownWire {
+    module: usize,
+    wire: u16,
+}
+
 impl<'a> Builder<'a> {
     // The wires that are local in the module of this number.
     fn wires_of(&self, number: usize) -> &IndexSet<u16>
@@ -170,46 +182,106 @@ impl<'a> Builder<'a> {
         }
     }
 
+    // Whether the wire is local in the module of this number. Most edge lines ask it of a module for the wire that the
+    // line before them asked it for, and this costs less than to look the wire up by its hash.
+    fn is_known_in(
+        &self,
+        number: usize,
+        wire: u16,
+        found: &mut [Option<KnownWire>; SLOT_COUNT],
+    ) -> bool
+        requires number { number < length (modules_of self.now.entries) }
+        requires found { AreKnownWires self.now found.old }
+        ensures known { (m : ModuleLines) →
+            slice_get (modules_of self.now.entries) number ≡ Some m →
+            result ≡ is_among (known self.now.setting.circuit m) wire }
+        ensures found { AreKnownWires self.now found.new }
+    {
+        let slot = number % SLOT_COUNT;
+        if let Some(last) = found[slot] {
+            if (last.module == number) & (last.wire == wire) {
+                return true;
+            }
+        }
+        if !knows(self.wires_of(number), wire) {
+            return false;
+        }
+        found[slot] = Some(KnownWire {
+            module: number,
+            wire,
+        });
+        true
+    }
+
     // Whether the cell is outside the module of this number, and there is no such wire or it is not local there.
-    fn is_unknown_in(&self, number: usize, cell: Cell, wire: Option<u16>) -> bool
-        requires { number < length (modules_of self.now.entries) }
-        ensures { (m : ModuleLines) → slice_get (modules_of self.now.entries) number ≡ Some m →
+    fn is_unknown_in(
+        &self,
+        number: usize,
+        cell: Cell,
+        wire: Option<u16>,
+        found: &mut [Option<KnownWire>; SLOT_COUNT],
+    ) -> bool
+        requires number { number < length (modules_of self.now.entries) }
+        requires found { AreKnownWires self.now found.old }
+        ensures lacked { (m : ModuleLines) →
+            slice_get (modules_of self.now.entries) number ≡ Some m →
             result ≡ is_strange_outside self.now.setting.circuit cell wire m }
+        ensures found { AreKnownWires self.now found.new }
     {
         if self.modules[number].area.holds(cell) {
             return false;
         }
-        !is_local_wire(self.wires_of(number), wire)
+        match wire {
+            None => true,
+            Some(wire) => !self.is_known_in(number, wire, found),
+        }
     }
 
     // The same of the module that has the cell `beside`, if one has it.
-    fn is_unknown_at(&self, owners: &Owners, cell: Cell, wire: Option<u16>, beside: Cell) -> bool
-        requires { AreModuleOwners self.now owners.now }
-        ensures { result
+    fn is_unknown_at(
+        &self,
+        owners: &Owners,
+        cell: Cell,
+        wire: Option<u16>,
+        beside: Cell,
+        found: &mut [Option<KnownWire>; SLOT_COUNT],
+    ) -> bool
+        requires owners { AreModuleOwners self.now owners.now }
+        requires found { AreKnownWires self.now found.old }
+        ensures lacked { result
             ≡ list_any (λ m. in_box m.area beside.x beside.y
             && is_strange_outside self.now.setting.circuit cell wire m)
             (modules_of self.now.entries) }
+        ensures found { AreKnownWires self.now found.new }
     {
         if !whole_of(self.tables.size()).holds(beside) {
             return false;
         }
-        self.is_unknown_in(owners.owner(beside), cell, wire)
+        self.is_unknown_in(owners.owner(beside), cell, wire, found)
     }
 
     // Whether some module has the cell in its halo, and there is no such wire or it is not local there.
-    fn is_unknown_beside(&self, owners: &Owners, cell: Cell, wire: Option<u16>) -> bool
+    fn is_unknown_beside(
+        &self,
+        owners: &Owners,
+        cell: Cell,
+        wire: Option<u16>,
+        found: &mut [Option<KnownWire>; SLOT_COUNT],
+    ) -> bool
         requires owners { AreModuleOwners self.now owners.now }
+        requires found { AreKnownWires self.now found.old }
         requires inside { IsTrue (in_box (whole self.now.setting.size) cell.x cell.y) }
-        ensures { result
+        ensures lacked { result
             ≡ is_wire_lacked self.now.setting.circuit (modules_of self.now.entries) cell wire }
+        ensures found { AreKnownWires self.now found.new }
     {
         let Cell { x, y } = cell;
         // Corners and sides are even, so a box with a neighbour of the cell has it or one of these.
         let column = odd_partner(x);
         let row = odd_partner(y);
-        let beside = self.is_unknown_at(owners, cell, wire, Cell { x: column, y });
-        let above = self.is_unknown_at(owners, cell, wire, Cell { x, y: row });
-        let corner = self.is_unknown_at(owners, cell, wire, Cell { x: column, y: row });
+        let beside = self.is_unknown_at(owners, cell, wire, Cell { x: column, y }, found);
+        let above = self.is_unknown_at(owners, cell, wire, Cell { x, y: row }, found);
+        let corner = self.is_unknown_at(owners, cell, wire, Cell { x: column, y: row }, found);
         beside | above | corner
     }
 
@@ -218,22 +290,25 @@ impl<'a> Builder<'a> {
         &self,
         owners: &Owners,
         last: &mut Option<LastName<'b>>,
+        found: &mut [Option<KnownWire>; SLOT_COUNT],
         border: &KeptBorder<'b>,
     ) -> bool
         requires owners { AreModuleOwners self.now owners.now }
         requires last { IsLastName self.now.setting.circuit last.old }
+        requires found { AreKnownWires self.now found.old }
         requires inside { IsTrue
             (in_box (whole self.now.setting.size) border.now.cell.x border.now.cell.y) }
         ensures lacked { result
             ≡ is_lacked self.now.setting.circuit (modules_of self.now.entries) border.now }
         ensures last { IsLastName self.now.setting.circuit last.new }
+        ensures found { AreKnownWires self.now found.new }
     {
         match border.signal() {
             None => false,
             Some(name) => {
                 // The name is looked up once for all modules beside the cell.
                 let wire = wire_by_last(&self.tables, last, name);
-                self.is_unknown_beside(owners, border.cell(), wire)
+                self.is_unknown_beside(owners, border.cell(), wire, found)
             }
         }
     }
@@ -245,18 +320,21 @@ impl<'a> Builder<'a> {
         &self,
         owners: &Owners,
         last: &mut Option<LastName<'b>>,
+        found: &mut [Option<KnownWire>; SLOT_COUNT],
         line: &KeptLine<'b>,
     ) -> bool
         requires owners { AreModuleOwners self.now owners.now }
         requires last { IsLastName self.now.setting.circuit last.old }
+        requires found { AreKnownWires self.now found.old }
         requires inside { AreInBox (whole self.now.setting.size) (edge_in line.now) }
         ensures lacked { result
             ≡ list_any (is_lacked self.now.setting.circuit (modules_of self.now.entries))
             (edge_in line.now) }
         ensures last { IsLastName self.now.setting.circuit last.new }
+        ensures found { AreKnownWires self.now found.new }
     {
         match line.edge() {
-            Some(border) => self.is_lacked(owners, last, &border),
+            Some(border) => self.is_lacked(owners, last, found, &border),
             None => false,
         }
     }
@@ -270,8 +348,9 @@ impl<'a> Builder<'a> {
             (modules_of self.now.entries) }
     {
         let mut last = None;
+        let mut found = [None; SLOT_COUNT];
         'lines: for line in lines {
-            if self.is_unknown_line_beside(owners, &mut last, line) {
+            if self.is_unknown_line_beside(owners, &mut last, &mut found, line) {
                 return true;
             }
         }

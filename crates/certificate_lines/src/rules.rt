@@ -52,8 +52,8 @@ pub(crate) fn is_bad_place(size: LayoutHeader, area: Box2) -> bool
         || bottom > u64::from(size.h)
 }
 
-/// Returns whether there is a wire, and it is local.
-pub(crate) fn is_local_wire(known: &IndexSet<u16>, wire: Option<u16>) -> bool
+// Whether there is a wire, and it is local.
+fn is_local_wire(known: &IndexSet<u16>, wire: Option<u16>) -> bool
     ensures { result ≡ is_local_wire known.now.keys wire }
 {
     match wire {

@@ -29,8 +29,8 @@ odd_partner-row-requires c =
     let low = low_cell o.width o.height cell.x cell.y c.requires.owners.small.0 c.requires.owners.small.1 inside in
     simp to_z-of_z low.1
 
-pub returns : goal.returns
-returns c =
+pub returns-clause-lacked : goal.returns-clause-lacked
+returns-clause-lacked c =
     let v = c.args.self.now in let cell = c.args.cell in
     let ms = modules_of v.entries in
     let fx : SFits w32 cell.x = search rules in
@@ -42,11 +42,11 @@ returns c =
     let fc : SFits w32 c.odd_partner-column.result = search rules in
     let fr : SFits w32 c.odd_partner-row.result = search rules in
     let beside : c.is_unknown_at-beside.result ≡ asks c.odd_partner-column.result cell.y =
-    simp to_z-of_z at c.is_unknown_at-beside.ensures in
+    simp to_z-of_z at c.is_unknown_at-beside.ensures.lacked in
     let above : c.is_unknown_at-above.result ≡ asks cell.x c.odd_partner-row.result =
-    simp to_z-of_z at c.is_unknown_at-above.ensures in
+    simp to_z-of_z at c.is_unknown_at-above.ensures.lacked in
     let corner : c.is_unknown_at-corner.result ≡ asks c.odd_partner-column.result c.odd_partner-row.result =
-    simp to_z-of_z at c.is_unknown_at-corner.ensures in
+    simp to_z-of_z at c.is_unknown_at-corner.ensures.lacked in
     ap₂ (λ a b. a || b)
     (ap₂ (λ a b. a || b) (beside ∙ ap (λ x. asks x cell.y) px) (above ∙ ap (asks cell.x) py))
     (corner ∙ ap₂ asks px py)

@@ -3,7 +3,7 @@ use Rattle.std.proofs.Common.{◌≡◌, false, take}
 use Rattle.std.specs.List.{flat_map, list_any}
 use Rattle.certificate_lines.specs.BuilderView.{is_lacked}
 use Rattle.certificate_lines.specs.Entries.{edge_in, modules_of}
-use Rattle.certificate_lines.specs.LastNames.{IsLastName}
+use Rattle.certificate_lines.specs.LastNames.{AreKnownWires, IsLastName}
 use Rattle.certificate_lines.proofs.builder.Builder.lacks_some_beside.Given as goal
 
 abbrev pub invariant-lines : goal.invariant-lines
@@ -11,4 +11,5 @@ invariant-lines l = record {
   none : list_any (is_lacked l.self.setting.circuit (modules_of l.self.entries))
       (flat_map edge_in (take l.line-index l.lines)) ≡ false;
   last : IsLastName l.self.setting.circuit l.last;
+  found : AreKnownWires l.self l.found;
 }
