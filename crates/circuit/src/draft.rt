@@ -108,7 +108,7 @@ impl Draft {
         Draft::seeded(alloc, Seed::of(&[]))
     }
 
-    /// Creates a draft without lines whose tables of names hash by the seed. The seed changes no result.
+    /// Creates a draft without lines whose table of names hashes by the seed. The seed changes no result.
     pub fn seeded(alloc: Global, seed: Seed) -> Draft
         ensures { result ≡ [] }
     {
