@@ -23,11 +23,8 @@ use Rattle.answers.specs.Answers.{Answered, names_asked}
 
 -- the name of an input cell
 abbrev pub in_name : LayoutLine → List (List ℕ)
-in_name (Mirror r) = []
-in_name (Ball c) = []
 in_name (In p) = p.name ∷ []
-in_name (Out p) = []
-in_name (Waste c) = []
+in_name _ = []
 
 -- the lines of a layout, and the names that are on
 abbrev pub RunAsked : Type 0

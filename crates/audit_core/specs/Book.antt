@@ -59,16 +59,12 @@ filing_of b f = record {
 -- what is held after a reply
 unfoldable pub findings_after : List (Option Finding) → Finding → Reply → List (Option Finding)
 findings_after held f Accepted = slice_set held (number_of f) (Some f)
-findings_after held f Closed = held
-findings_after held f (Stranger mismatch) = held
-findings_after held f (Double number) = held
+findings_after held f _ = held
 
 -- for how many numbers a finding is held after a reply, if one was held for n
 abbrev pub count_after : ℕ → Reply → ℕ
 count_after count Accepted = count + 1
-count_after count Closed = count
-count_after count (Stranger mismatch) = count
-count_after count (Double number) = count
+count_after count _ = count
 
 -- the book after a filing
 abbrev pub after_filing : BookView → Finding → BookView

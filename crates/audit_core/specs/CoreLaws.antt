@@ -46,9 +46,7 @@ EmptyWhereAllAreDrawn = (digest : List ℕ) (jobs : List JobView) (seats : ℕ) 
 -- the finding, if the reply to it is `Accepted`
 abbrev pub accepted_of : Finding → Reply → List Finding
 accepted_of f Accepted = f ∷ []
-accepted_of f Closed = []
-accepted_of f (Stranger mismatch) = []
-accepted_of f (Double number) = []
+accepted_of f _ = []
 
 -- the finding that an event has accepted, if it does
 abbrev pub accepted_by : CoreView → Event → List Finding

@@ -36,9 +36,7 @@ has_number ks k = list_any (λ x. nat_eq x k) ks
 -- the numbers accepted after a reply to a finding of this number
 abbrev pub accepted_after : List ℕ → ℕ → Reply → List ℕ
 accepted_after ks k Accepted = ks ++ k ∷ []
-accepted_after ks k Closed = ks
-accepted_after ks k (Stranger mismatch) = ks
-accepted_after ks k (Double number) = ks
+accepted_after ks k _ = ks
 
 -- after one entry
 abbrev pub after_entry : Replayed → LogEntry → Replayed

@@ -4,8 +4,7 @@ use Rattle.std.specs.Prelude.{Some, None, nat_lt, nat_le, min, max, nat_eq}
 use Rattle.std.specs.List.{fold, flat_map, list_all}
 use Rattle.std.specs.Option.{option_to_list, option_eq}
 use Rattle.circuit.specs.declared.circuit_line.GateKind.{GateKind}
-use Rattle.circuit.specs.declared.circuit_line.GateKind.TheVariants.{Source, Fredkin, Cswap, Interact, Switch, Delay}
-use Rattle.circuit.specs.declared.circuit_line.GateKind.TheVariants.{Unswitch, Uninteract}
+use Rattle.circuit.specs.declared.circuit_line.GateKind.TheVariants.{Delay}
 use Rattle.circuit.specs.Meaning.{Circuit, Gate, wire_of}
 use Rattle.certificate_lines.specs.Entries.{ModuleLines, stops}
 use Rattle.certificate_lines.specs.declared.certificate_line.StopLine.{StopLine}
@@ -61,14 +60,8 @@ of_wire seen (w ∷ ws) = seen w
 
 -- the line for a gate that is a delay, and none for another gate
 abbrev pub delay_by : ℕ → GateKind → StopGap → List TimeLine
-delay_by k (Source b) gap = []
-delay_by k Fredkin gap = []
-delay_by k Cswap gap = []
-delay_by k Interact gap = []
-delay_by k Switch gap = []
 delay_by k (Delay n) gap = line.Delay k n gap ∷ []
-delay_by k Unswitch gap = []
-delay_by k Uninteract gap = []
+delay_by k _ gap = []
 
 -- the line of gate k, if it is a delay: from the last time of the wire that it uses to the first time of the one that
 -- it defines

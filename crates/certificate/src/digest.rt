@@ -12,11 +12,7 @@ use sha2::{Digest, Sha256};
 use std::alloc::{AllocError, Global};
 
 // Hashes the text of a line, which is printed in place of the one before it.
-fn hash_line(
-    hasher: &mut Sha256,
-    line: &mut Vec<u8>,
-    entry: &KeptLine,
-) -> Result<(), AllocError>
+fn hash_line(hasher: &mut Sha256, line: &mut Vec<u8>, entry: &KeptLine) -> Result<(), AllocError>
     ensures { OnOk result ((m : List ℕ) → Holds256 hasher.old m →
         Holds256 hasher.new (m ++ entry_text entry.now)) }
 {

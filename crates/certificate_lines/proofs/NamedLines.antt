@@ -1,5 +1,5 @@
 -- The name in a good line is that of a wire
-use Rattle.std.proofs.Common.{◌≡◌, ℕ, List, None, Some, refl, subst, sym}
+use Rattle.std.proofs.Common.{◌≡◌, None, Some, refl, subst, sym}
 use Rattle.std.specs.Prelude.{IsTrue}
 use Rattle.std.specs.Option.{is_some}
 use Rattle.certificate_lines.specs.BuilderView.{NamesWire}

@@ -175,22 +175,14 @@ NamesWire c local _ = Unit {0}
 -- the line is no `module` line
 abbrev pub IsInner : CertificateLine → Type 0
 IsInner (Module b) = ⊥
-IsInner (Cut n) = Unit {0}
-IsInner (Use k) = Unit {0}
-IsInner (Keep k) = Unit {0}
-IsInner (Edge e) = Unit {0}
-IsInner (Halo e) = Unit {0}
-IsInner (Stop s) = Unit {0}
+IsInner _ = Unit {0}
 
 -- the line is an edge, halo or stop line
 abbrev pub IsBorderLine : CertificateLine → Type 0
-IsBorderLine (Module b) = ⊥
-IsBorderLine (Cut n) = ⊥
-IsBorderLine (Use k) = ⊥
-IsBorderLine (Keep k) = ⊥
 IsBorderLine (Edge e) = Unit {0}
 IsBorderLine (Halo e) = Unit {0}
 IsBorderLine (Stop s) = Unit {0}
+IsBorderLine _ = ⊥
 
 -- ---- what a line of a module makes local
 
@@ -201,10 +193,6 @@ outs_at (Some gate) = gate.outs
 
 -- the wire that is cut, or what the gate that is used defines
 abbrev pub wires_in : Circuit → CertificateLine → List ℕ
-wires_in c (Module b) = []
 wires_in c (Cut n) = option_to_list (wire_of c n)
 wires_in c (Use k) = outs_at (slice_get c.netlist.gates k)
-wires_in c (Keep k) = []
-wires_in c (Edge e) = []
-wires_in c (Halo e) = []
-wires_in c (Stop s) = []
+wires_in c _ = []

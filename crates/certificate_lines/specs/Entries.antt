@@ -69,43 +69,23 @@ areas ms = map (λ m. m.area) ms
 
 -- the name that a line cuts, if it is a cut line
 abbrev pub cut_in : CertificateLine → List (List ℕ)
-cut_in (Module b) = []
 cut_in (Cut n) = n ∷ []
-cut_in (Use k) = []
-cut_in (Keep k) = []
-cut_in (Edge e) = []
-cut_in (Halo e) = []
-cut_in (Stop s) = []
+cut_in _ = []
 
 -- the gate that a line uses, if it is a use line
 abbrev pub use_in : CertificateLine → List ℕ
-use_in (Module b) = []
-use_in (Cut n) = []
 use_in (Use k) = k ∷ []
-use_in (Keep k) = []
-use_in (Edge e) = []
-use_in (Halo e) = []
-use_in (Stop s) = []
+use_in _ = []
 
 -- an edge line, and no other line
 abbrev pub edge_in : CertificateLine → List Border
-edge_in (Module b) = []
-edge_in (Cut n) = []
-edge_in (Use k) = []
-edge_in (Keep k) = []
 edge_in (Edge e) = e ∷ []
-edge_in (Halo e) = []
-edge_in (Stop s) = []
+edge_in _ = []
 
 -- a halo line, and no other line
 abbrev pub halo_in : CertificateLine → List Border
-halo_in (Module b) = []
-halo_in (Cut n) = []
-halo_in (Use k) = []
-halo_in (Keep k) = []
-halo_in (Edge e) = []
 halo_in (Halo e) = e ∷ []
-halo_in (Stop s) = []
+halo_in _ = []
 
 -- the name in a line, if it has one
 abbrev pub name_in : CertificateLine → Option (List ℕ)
@@ -117,23 +97,13 @@ name_in _ = None
 
 -- a stop line, and no other line
 abbrev pub stop_in : CertificateLine → List StopLine
-stop_in (Module b) = []
-stop_in (Cut n) = []
-stop_in (Use k) = []
-stop_in (Keep k) = []
-stop_in (Edge e) = []
-stop_in (Halo e) = []
 stop_in (Stop s) = s ∷ []
+stop_in _ = []
 
 -- the gate that a line keeps, if it is a keep line
 abbrev pub keep_in : CertificateLine → List ℕ
-keep_in (Module b) = []
-keep_in (Cut n) = []
-keep_in (Use k) = []
 keep_in (Keep k) = k ∷ []
-keep_in (Edge e) = []
-keep_in (Halo e) = []
-keep_in (Stop s) = []
+keep_in _ = []
 
 -- the names of the wires that are cut
 abbrev pub cuts : ModuleLines → List (List ℕ)

@@ -5,18 +5,12 @@ use Rattle.module_box.specs.Boxes.{in_box}
 use Rattle.module_box.specs.declared.boxes.Box2.{Box2}
 use Rattle.certificate_lines.specs.declared.certificate_line.Border.{Border}
 use Rattle.certificate_lines.specs.declared.certificate_line.CertificateLine.{CertificateLine}
-use Rattle.certificate_lines.specs.declared.certificate_line.CertificateLine.TheVariants.{Module, Cut, Use, Keep, Edge}
-use Rattle.certificate_lines.specs.declared.certificate_line.CertificateLine.TheVariants.{Halo, Stop}
+use Rattle.certificate_lines.specs.declared.certificate_line.CertificateLine.TheVariants.{Module}
 
 -- whether the line begins a module
 abbrev pub is_module : CertificateLine → Bool
 is_module (Module b) = true
-is_module (Cut n) = false
-is_module (Use k) = false
-is_module (Keep k) = false
-is_module (Edge e) = false
-is_module (Halo e) = false
-is_module (Stop s) = false
+is_module _ = false
 
 -- the lines before the next `module` line
 unfoldable pub inner : List CertificateLine → List CertificateLine

@@ -40,13 +40,10 @@ origin = record { x = pos 0; y = pos 0 }
 
 -- then the cell of the line
 unfoldable pub cell_of : CertificateLine → Cell
-cell_of (Module b) = origin
-cell_of (Cut n) = origin
-cell_of (Use k) = origin
-cell_of (Keep k) = origin
 cell_of (Edge e) = e.cell
 cell_of (Halo e) = e.cell
 cell_of (Stop s) = s.cell
+cell_of _ = origin
 
 -- by kind, then by number or time, then by y and x
 unfoldable pub line_cmp : CertificateLine → CertificateLine → Ordering
@@ -56,13 +53,8 @@ line_cmp i j =
 
 -- whether the line is a cut line
 unfoldable pub is_cut : CertificateLine → Bool
-is_cut (Module b) = false
 is_cut (Cut n) = true
-is_cut (Use k) = false
-is_cut (Keep k) = false
-is_cut (Edge e) = false
-is_cut (Halo e) = false
-is_cut (Stop s) = false
+is_cut _ = false
 
 -- whether the first line may come before the second in a module: the cuts come in any order
 unfoldable pub may_precede : CertificateLine → CertificateLine → Bool

@@ -16,7 +16,6 @@ use Rattle.certificate_lines.specs.Orders.{time_rank}
 use Rattle.certificate_lines.specs.Rules.{entry_fault, is_local}
 use Rattle.certificate_lines.specs.declared.certificate_line.Border.{Border}
 use Rattle.certificate_lines.specs.declared.certificate_line.CertificateLine.{CertificateLine}
-use Rattle.certificate_lines.specs.declared.certificate_line.CertificateLine.TheVariants.{Module, Cut, Use, Keep, Edge}
 use Rattle.certificate_lines.specs.declared.certificate_line.CertificateLine.TheVariants.{Halo, Stop}
 
 -- ---- the order of edge and of halo lines
@@ -44,13 +43,8 @@ beside g ms area = if nat_lt 1 g.size.steps then filter (λ e. in_halo area e.ce
 
 -- whether a line is a halo line
 unfoldable pub is_halo : CertificateLine → Bool
-is_halo (Module b) = false
-is_halo (Cut n) = false
-is_halo (Use k) = false
-is_halo (Keep k) = false
-is_halo (Edge e) = false
 is_halo (Halo e) = true
-is_halo (Stop s) = false
+is_halo _ = false
 
 -- the lines other than halo lines
 unfoldable pub without_halos : List CertificateLine → List CertificateLine
@@ -62,13 +56,9 @@ stripped m = record m { lines = without_halos m.lines }
 
 -- whether a line is before the halo lines of its module
 unfoldable pub is_early : CertificateLine → Bool
-is_early (Module b) = true
-is_early (Cut n) = true
-is_early (Use k) = true
-is_early (Keep k) = true
-is_early (Edge e) = true
 is_early (Halo e) = false
 is_early (Stop s) = false
+is_early _ = true
 
 -- a module of version 2 as one of version 1, if these are all modules; its stops come after the halo lines
 unfoldable pub with_halos : Setting → List ModuleLines → ModuleLines → ModuleLines

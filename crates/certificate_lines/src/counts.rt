@@ -51,10 +51,7 @@ pub(crate) fn count_in_last(modules: &mut Vec<Counts>, entry: &CertificateLine)
 
 /// Adds a line at the end.
 #[inline(always)]
-pub fn push_entry<'a>(
-    entries: &mut Vec<KeptLine<'a>>,
-    line: KeptLine<'a>,
-) -> Result<(), LineFault>
+pub fn push_entry<'a>(entries: &mut Vec<KeptLine<'a>>, line: KeptLine<'a>) -> Result<(), LineFault>
     ensures ok { OnOk result (entries.new.items ≡ entries.old.items ++ line.entry ∷ []) }
     ensures err { OnErr result (entries.new.items ≡ entries.old.items) }
     ensures memory { IfErr result (λ e. e ≡ Memory) }

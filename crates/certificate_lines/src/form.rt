@@ -12,7 +12,7 @@ use crate::certificate_line::{Border, CertificateLine, StopLine};
 use bbm_rule::Cell;
 use module_box::Box2;
 use pattern::cell_from_words;
-use section_text::{Feed, FiveWords, Form, Line, Name, read_number, take_number};
+use section_text::{Feed, FiveWords, Form, Line, Name, is_keyword, read_number, take_number};
 
 #[tactic(auto, unfolding(crate::specs::Forms::area_of, crate::specs::Forms::corner_and_sides, section_text::specs::Words::number_at))]
 fn area_of_words(words: &FiveWords) -> Option<Box2>
@@ -93,13 +93,6 @@ fn end_in(feed: &Feed, line: &Line) -> Option<Form<u32, CertificateLine>>
     } else {
         None
     }
-}
-
-// Whether a word is a keyword.
-fn is_keyword(word: &[u8], keyword: &[u8]) -> bool
-    ensures { result ≡ bytes_eq word.now keyword.now }
-{
-    word == keyword
 }
 
 // Whether a line begins with `edge` and a space. A pattern is compared in place, without a call.

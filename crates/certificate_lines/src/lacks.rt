@@ -37,12 +37,7 @@ fn is_unknown(tables: &LineTables, known: &IndexSet<u16>, border: &KeptBorder) -
 }
 
 // Whether the signal of an edge line is such, and the line is for a cell of the halo.
-fn is_unknown_line(
-    tables: &LineTables,
-    known: &IndexSet<u16>,
-    area: Box2,
-    line: &KeptLine,
-) -> bool
+fn is_unknown_line(tables: &LineTables, known: &IndexSet<u16>, area: Box2, line: &KeptLine) -> bool
     ensures { result
         ≡ list_any (λ e. is_strange tables.now.circuit known.now.keys e.signal)
         (filter (λ e. in_halo area e.cell.x e.cell.y) (edge_in line.now)) }
@@ -54,12 +49,7 @@ fn is_unknown_line(
 }
 
 // Whether one of these lines is an edge line for a cell in the halo of the box, of a wire that is not local.
-fn has_unknown(
-    tables: &LineTables,
-    known: &IndexSet<u16>,
-    area: Box2,
-    lines: &[KeptLine],
-) -> bool
+fn has_unknown(tables: &LineTables, known: &IndexSet<u16>, area: Box2, lines: &[KeptLine]) -> bool
     ensures { result
         ≡ list_any (λ e. is_strange tables.now.circuit known.now.keys e.signal)
         (filter (λ e. in_halo area e.cell.x e.cell.y) (flat_map edge_in lines.now)) }

@@ -64,11 +64,7 @@ pub(crate) fn is_used(entries: &[KeptLine], number: u32) -> bool
     false
 }
 
-fn push_cut(
-    wires: &mut Vec<WireNo>,
-    circuit: &Circuit,
-    line: &KeptLine,
-) -> Result<(), AllocError>
+fn push_cut(wires: &mut Vec<WireNo>, circuit: &Circuit, line: &KeptLine) -> Result<(), AllocError>
     ensures { OnOk result (wires.new.items
         ≡ wires.old.items ++ flat_map (λ n. option_to_list (wire_of (circuit_of circuit.now) n))
         (cut_in line.now)) }
@@ -148,11 +144,7 @@ fn place_of(gates: &[GateNo], number: u32) -> u16
     unreachable!()
 }
 
-fn push_keep(
-    places: &mut Vec<u16>,
-    gates: &[GateNo],
-    line: &KeptLine,
-) -> Result<(), AllocError>
+fn push_keep(places: &mut Vec<u16>, gates: &[GateNo], line: &KeptLine) -> Result<(), AllocError>
     requires at_most_64 { length gates.now ≤ 64 }
     requires used { All (λ k. IsTrue (is_among gates.now k)) (keep_in line.now) }
     requires within { All (λ place. place < length gates.now) places.old.items }

@@ -43,11 +43,6 @@ defines Uninteract = 2
 
 -- an inverse gate has no row at some inputs
 abbrev pub is_inverse : GateKind → Bool
-is_inverse (Source b) = false
-is_inverse Fredkin = false
-is_inverse Cswap = false
-is_inverse Interact = false
-is_inverse Switch = false
-is_inverse (Delay n) = false
 is_inverse Unswitch = true
 is_inverse Uninteract = true
+is_inverse _ = false

@@ -21,10 +21,8 @@ consumed entries = flat_map (λ r. r.ins) entries
 
 -- whether the line is a gate
 abbrev pub is_gate : Kind → Bool
-is_gate Input = false
 is_gate (Gate k) = true
-is_gate Output = false
-is_gate Spill = false
+is_gate _ = false
 
 -- how many gates there are, sources among them
 abbrev pub gate_count : List CircuitLine → ℕ

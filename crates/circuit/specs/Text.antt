@@ -32,13 +32,8 @@ gate_word Uninteract = codes "uninteract"
 -- the words between the keyword of a gate and its names
 abbrev pub gate_number : GateKind → List (List ℕ)
 gate_number (Source b) = bit_word b ∷ []
-gate_number Fredkin = []
-gate_number Cswap = []
-gate_number Interact = []
-gate_number Switch = []
 gate_number (Delay n) = decimal n ∷ []
-gate_number Unswitch = []
-gate_number Uninteract = []
+gate_number _ = []
 
 -- the first word of a entry, and the others
 unfoldable pub first_word : Kind → List ℕ

@@ -7,14 +7,7 @@ ghost use Rattle.section_text.specs.Feeds.{IsLine, line_bytes};
 ghost use Rattle.circuit.specs.Forms.{bit_at, gate_kind, words_before, gate_entry, form_of};
 
 use crate::circuit_line::{CircuitLine, GateKind, Kind};
-use section_text::{Feed, Form, Line};
-
-// Whether a word is a keyword.
-fn is_keyword(word: &[u8], keyword: &[u8]) -> bool
-    ensures { result ≡ bytes_eq word.now keyword.now }
-{
-    word == keyword
-}
+use section_text::{Feed, Form, Line, is_keyword};
 
 #[tactic(auto, unfolding(crate::specs::Forms::bit_at, section_text::specs::Words::is_word_at))]
 fn bit_of(feed: &Feed, line: &Line, index: usize) -> Option<bool>

@@ -90,24 +90,12 @@ gate_kind_place Uninteract = 7
 -- the bit of a source
 abbrev pub source_bit : GateKind → Option Bool
 source_bit (Source b) = Some b
-source_bit Fredkin = None
-source_bit Cswap = None
-source_bit Interact = None
-source_bit Switch = None
-source_bit (Delay n) = None
-source_bit Unswitch = None
-source_bit Uninteract = None
+source_bit _ = None
 
 -- the steps of a delay
 abbrev pub delay_number : GateKind → Option ℕ
-delay_number (Source b) = None
-delay_number Fredkin = None
-delay_number Cswap = None
-delay_number Interact = None
-delay_number Switch = None
 delay_number (Delay n) = Some n
-delay_number Unswitch = None
-delay_number Uninteract = None
+delay_number _ = None
 
 -- whether two kinds of gate are the same
 abbrev pub same_gate_kind : GateKind → GateKind → Bool

@@ -80,14 +80,9 @@ word_row Uninteract a b c d = bit_or a c ∷ bit_or a b ∷ []
 
 -- the bits at which a gate has no row
 abbrev pub no_row : GateKind → ℕ → ℕ → ℕ → ℕ → ℕ
-no_row (Source v) a b c d = 0
-no_row Fredkin a b c d = 0
-no_row Cswap a b c d = 0
-no_row Interact a b c d = 0
-no_row Switch a b c d = 0
-no_row (Delay n) a b c d = 0
 no_row Unswitch a b c d = bit_xor b (bit_and a (bit_xor b c))
 no_row Uninteract a b c d = bit_or (bit_xor a d) (bit_or (bit_and a (bit_or b c)) (bit_and b c))
+no_row _ a b c d = 0
 
 -- a row where the bit is false
 abbrev pub row_unless : Bool → List Bool → Option (List Bool)

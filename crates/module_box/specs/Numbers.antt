@@ -19,13 +19,8 @@ AreTelling {A} numbers = (a b : A) (r s : List ℕ) → numbers a ++ r ≡ numbe
 -- the bit of a source, the number of a delay
 abbrev pub gate_kind_detail : GateKind → ℕ
 gate_kind_detail (Source b) = one_if b
-gate_kind_detail Fredkin = 0
-gate_kind_detail Cswap = 0
-gate_kind_detail Interact = 0
-gate_kind_detail Switch = 0
 gate_kind_detail (Delay n) = n
-gate_kind_detail Unswitch = 0
-gate_kind_detail Uninteract = 0
+gate_kind_detail _ = 0
 
 -- what the gate does, the wires that it uses, and those that it defines
 abbrev pub gate_numbers : Gate → List ℕ

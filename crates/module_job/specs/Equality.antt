@@ -28,10 +28,8 @@ demand_place Any = 3
 
 -- the wire of a demand, if it has one
 abbrev pub wire_asked : Demand → Option ℕ
-wire_asked Dead = None
-wire_asked Live = None
 wire_asked (Wire w) = Some w
-wire_asked Any = None
+wire_asked _ = None
 
 -- whether two demands are the same
 abbrev pub same_demand : Demand → Demand → Bool

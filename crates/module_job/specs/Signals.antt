@@ -33,10 +33,8 @@ IsBelow n (Wire w) = w < n
 
 -- the wire of the demand, if it has one, is below n
 abbrev pub IsDemandBelow : ℕ → Demand → Type 0
-IsDemandBelow n Demanded.Dead = Unit {0}
-IsDemandBelow n Demanded.Live = Unit {0}
 IsDemandBelow n (Demanded.Wire w) = w < n
-IsDemandBelow n Demanded.Any = Unit {0}
+IsDemandBelow n _ = Unit {0}
 
 -- ---- the same by other numbers of the wires
 

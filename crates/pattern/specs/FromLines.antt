@@ -12,42 +12,27 @@ use Rattle.pattern.specs.declared.layout_line.Rectangle.{Rectangle}
 -- the rectangle of a line, if it is a mirror
 abbrev pub mirror_in : LayoutLine → List Rectangle
 mirror_in (Mirror r) = r ∷ []
-mirror_in (Ball c) = []
-mirror_in (In p) = []
-mirror_in (Out p) = []
-mirror_in (Waste c) = []
+mirror_in _ = []
 
 -- the cell of a line, if it is a ball
 abbrev pub ball_in : LayoutLine → List Cell
-ball_in (Mirror r) = []
 ball_in (Ball c) = c ∷ []
-ball_in (In p) = []
-ball_in (Out p) = []
-ball_in (Waste c) = []
+ball_in _ = []
 
 -- the port of a line, if it is an input
 abbrev pub input_in : LayoutLine → List Port
-input_in (Mirror r) = []
-input_in (Ball c) = []
 input_in (In p) = p ∷ []
-input_in (Out p) = []
-input_in (Waste c) = []
+input_in _ = []
 
 -- the port of a line, if it is an output
 abbrev pub output_in : LayoutLine → List Port
-output_in (Mirror r) = []
-output_in (Ball c) = []
-output_in (In p) = []
 output_in (Out p) = p ∷ []
-output_in (Waste c) = []
+output_in _ = []
 
 -- the cell of a line, if it is a waste cell
 abbrev pub waste_in : LayoutLine → List Cell
-waste_in (Mirror r) = []
-waste_in (Ball c) = []
-waste_in (In p) = []
-waste_in (Out p) = []
 waste_in (Waste c) = c ∷ []
+waste_in _ = []
 
 -- the layout of this extent that these lines make
 abbrev pub layout_of : LayoutHeader → List LayoutLine → Pattern

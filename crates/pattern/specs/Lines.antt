@@ -34,10 +34,7 @@ is_mirror_side n = nat_le 1 n && nat_le n 512
 -- the sides of a mirror are 1 to 512
 unfoldable pub limit_fault : LayoutLine → Option RefusalCode
 limit_fault (Mirror r) = code_where (not (is_mirror_side r.w && is_mirror_side r.h)) PastLimit
-limit_fault (Ball c) = None
-limit_fault (In p) = None
-limit_fault (Out p) = None
-limit_fault (Waste c) = None
+limit_fault _ = None
 
 -- ---- order
 
@@ -76,11 +73,9 @@ is_out_name (Some names) n = has names.outs n
 
 -- the name of an input cell is one of the inputs, that of an output cell one of the outputs
 unfoldable pub name_fault : Option Named → LayoutLine → Option RefusalCode
-name_fault ports (Mirror r) = None
-name_fault ports (Ball c) = None
 name_fault ports (In p) = code_where (not (is_in_name ports p.name)) UnknownName
 name_fault ports (Out p) = code_where (not (is_out_name ports p.name)) UnknownName
-name_fault ports (Waste c) = None
+name_fault ports _ = None
 
 -- ---- cells
 
@@ -102,19 +97,15 @@ is_inside s (Waste c) = in_layout s c.x c.y
 
 -- mirrors, balls and input cells take their cells at the start
 unfoldable pub begins : LayoutLine → Bool
-begins (Mirror r) = true
-begins (Ball c) = true
-begins (In p) = true
 begins (Out p) = false
 begins (Waste c) = false
+begins _ = true
 
 -- mirrors, output cells and waste cells take theirs at the end
 unfoldable pub ends : LayoutLine → Bool
-ends (Mirror r) = true
 ends (Ball c) = false
 ends (In p) = false
-ends (Out p) = true
-ends (Waste c) = true
+ends _ = true
 
 -- whether the line has the cell (x, y)
 abbrev pub holds : LayoutLine → State
@@ -150,19 +141,13 @@ part_fault ports s before part = or_else (line_fault ports before part) (cell_fa
 
 -- each input and each output has a cell
 abbrev pub is_in : List ℕ → LayoutLine → Bool
-is_in n (Mirror r) = false
-is_in n (Ball c) = false
 is_in n (In p) = bytes_eq n p.name
-is_in n (Out p) = false
-is_in n (Waste c) = false
+is_in n _ = false
 
 -- whether the line is an output cell of this name
 abbrev pub is_out : List ℕ → LayoutLine → Bool
-is_out n (Mirror r) = false
-is_out n (Ball c) = false
-is_out n (In p) = false
 is_out n (Out p) = bytes_eq n p.name
-is_out n (Waste c) = false
+is_out n _ = false
 
 -- the code of a layout in which an input or an output has no cell
 unfoldable pub missing_fault : Option Named → List LayoutLine → Option RefusalCode

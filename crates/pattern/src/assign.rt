@@ -5,11 +5,11 @@ ghost use Rattle.section_text.specs.Feeds.{IsLine, line_bytes};
 ghost use Rattle.section_text.specs.Section.{Reads};
 ghost use Rattle.pattern.specs.Assign.{assign_form, assign_grammar, assign_value, on_fault};
 
-use crate::form::is_keyword;
 use crate::names::index_of;
 use indexmap::IndexSet;
 use section_text::{
-    Feed, Form, Line, LineFault, Name, ReadFault, RefusalCode, Section, Seed, read_section,
+    Feed, Form, Line, LineFault, Name, ReadFault, RefusalCode, Section, Seed, is_keyword,
+    read_section,
 };
 use std::alloc::Global;
 

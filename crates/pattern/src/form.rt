@@ -1,6 +1,5 @@
 //! The line forms of the layout section.
 ghost use Rattle.std.specs.Prelude.{◌≡◌, ◌≤◌};
-ghost use Rattle.std.specs.Str.{bytes_eq};
 ghost use Rattle.section_text.specs.Listed.{four_listed, listed};
 ghost use Rattle.section_text.specs.Words.{words_of};
 ghost use Rattle.section_text.specs.Feeds.{IsLine, line_bytes};
@@ -9,7 +8,7 @@ ghost use Rattle.pattern.specs.Forms.{cell_from, lone_cell, port_of, rectangle_o
 
 use crate::layout_line::{LayoutHeader, LayoutLine, Port, Rectangle};
 use bbm_rule::Cell;
-use section_text::{Feed, FiveWords, Form, FourWords, Line, Name, read_number};
+use section_text::{Feed, FiveWords, Form, FourWords, Line, Name, is_keyword, read_number};
 
 fn lone_cell_on(feed: &Feed, line: &Line) -> Option<Cell>
     requires { IsLine feed.now line.now }
@@ -92,13 +91,6 @@ fn size_on(feed: &Feed, line: &Line) -> Option<LayoutHeader>
         return None;
     };
     size_of_words(&words)
-}
-
-// Whether a word is a keyword.
-pub(crate) fn is_keyword(word: &[u8], keyword: &[u8]) -> bool
-    ensures { result ≡ bytes_eq word.now keyword.now }
-{
-    word == keyword
 }
 
 /// Returns the form of a line, if it has one.

@@ -4,6 +4,7 @@
 mod code;
 mod fault;
 mod feed;
+mod keyword;
 pub mod laws;
 mod name;
 mod names;
@@ -18,6 +19,7 @@ pub use fault::{PushFault, ReadFault, Refusal};
 pub use feed::{
     Feed, FiveWords, FourWords, Line, MAX_TEXT_BYTES, ThreeWords, read_number, take_number,
 };
+pub use keyword::is_keyword;
 pub use name::Name;
 pub use names::Names;
 pub use ports::PortNames;
