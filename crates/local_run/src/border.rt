@@ -172,9 +172,12 @@ fn set_border_cells(
     first & second & third & fourth
 }
 
-// Sets the cells of the halo with the numbers from `first` on to below `end`, whose marks are in one word, to what their
-// signals say, and returns whether the cells of the ring with these numbers carry what their edge signals say; only
-// `true` is proved to be right. The word is read once: what is set changes marks of its own number alone.
+// Sets the cells of the halo with the numbers from `first` on to below `end` to what their signals say, and returns
+// whether the cells of the ring with these numbers carry what their edge signals say. Only `true` is proved to be
+// right.
+//
+// The marks of these numbers are in one word. It is read once: a cell that is set changes live marks of its own number
+// alone.
 fn set_border_word(
     marked_planes: &mut MarkedPlanes,
     values: &Values,

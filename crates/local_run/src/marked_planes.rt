@@ -532,7 +532,9 @@ impl MarkedPlanes {
     }
 
     // Turns the blocks of the odd partition from `first` on to below `end`, whose marks are in one word, and returns
-    // how many it turned. The word is read once: a block's turn changes marks of its own number alone.
+    // how many it turned.
+    //
+    // The word is read once: the turn of a block changes marks of its partition and live marks at its own number alone.
     fn turn_odd_word(&mut self, first: usize, end: usize) -> usize
         requires word { (first % 64 ≡ 0) × (first < end) × (end ≤ first + 64) }
         requires within { end ≤ self.old.planes.stride * self.old.planes.rows }

@@ -132,8 +132,8 @@ pub fn mark_border(marks: &mut [u64], stride: usize, rows: usize)
     }
 }
 
-/// Returns a word of marks on the numbers that have a mark in the first list, and one among the others or among those of
-/// live cells.
+/// Returns a word of marks on the numbers that have a mark in the first list, and one among the others or among those
+/// of live cells.
 #[inline(always)]
 pub fn word_marked_in(first: &[u64], live: &LiveMarks, others: &[u64], k: usize) -> u64
     requires live { HasCells live.now (64 * k) (64 * k) (64 * k) (64 * k) }
