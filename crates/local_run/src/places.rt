@@ -1,5 +1,5 @@
 //! Cells of a job by their places in its box, and in the box together with its halo.
-ghost use Rattle.std.specs.Prelude.{pos, ◌≡◌, ◌+◌, ◌-ℤ◌, ◌<◌, ◌≤◌, IsTrue};
+ghost use Rattle.std.specs.Prelude.{ℕ, pos, ◌≡◌, ◌+◌, ◌-ℤ◌, ◌<◌, ◌≤◌, IsTrue};
 ghost use Rattle.circuit.specs.Meaning.{wires};
 ghost use Rattle.module_box.specs.Boxes.{in_box, in_ring};
 ghost use Rattle.module_box.specs.Schedules.{signal_at};
@@ -59,6 +59,20 @@ pub fn start_at(job: &Job, x: usize, y: usize) -> Signal
     ensures below { IsBelow (wires job.now.locals.netlist) result }
 {
     job.start(inner_cell(job.area(), x, y))
+}
+
+/// Returns the column of the first cell of a row of the box, from a column on, that may be another than dead at time 0,
+/// or the box's width if there is none.
+pub fn next_start(job: &Job, x: usize, y: usize) -> usize
+    requires { (x ≤ job.now.area.w) × (y < job.now.area.h) }
+    ensures range { (x ≤ result) × (result ≤ job.now.area.w) }
+    ensures dead { (k : ℕ) → x ≤ k → k < result →
+        job_start job.now (inner job.now.area.x k) (inner job.now.area.y y) ≡ Signal.Zero }
+{
+    let width = job.area().w as usize;
+    let first = width * y;
+    let shape: &Shape = job.shape();
+    shape.next_start(first + x, first + width) - first
 }
 
 /// Returns what the cell at a column and row of the box must be at the last time.

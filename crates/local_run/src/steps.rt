@@ -7,7 +7,7 @@ ghost use Rattle.local_run.specs.Places.{inner};
 ghost use Rattle.local_run.specs.Scans.{HasHalo, IsReady, PutsCell, Shows};
 
 use crate::marked_planes::MarkedPlanes;
-use crate::places::start_at;
+use crate::places::{next_start, start_at};
 use crate::values::Values;
 use module_box::Signal;
 use module_job::Job;
@@ -26,7 +26,6 @@ fn put_start_cell(marked_planes: &mut MarkedPlanes, values: &Values, job: &Job, 
         marked_planes.old.planes marked_planes.new.planes }
 {
     let signal = start_at(job, x, y);
-    // Most cells stay dead.
     if let Signal::Zero = signal {
         return;
     }
@@ -43,8 +42,10 @@ pub fn put_start(marked_planes: &mut MarkedPlanes, values: &Values, job: &Job)
 {
     let area = job.area();
     'rows: for y in 0..area.h as usize {
-        'cells: for x in 0..area.w as usize {
+        let mut x = next_start(job, 0, y);
+        'cells: while x < area.w as usize {
             put_start_cell(marked_planes, values, job, x, y);
+            x = next_start(job, x + 1, y);
         }
     }
 }

@@ -1,5 +1,5 @@
 //! The cells of a box: their signals at time 0, and the demands on them at the last time.
-ghost use Rattle.std.specs.Prelude.{◌≡◌, ◌<◌, ◌++◌, [], ◌∷◌, IfOk, OnOk, replicate, slice_get, unwrap_or};
+ghost use Rattle.std.specs.Prelude.{ℕ, ◌≡◌, ◌^◌, ◌<◌, ◌≤◌, ◌++◌, [], ◌∷◌, IfOk, OnOk, replicate, slice_get, unwrap_or};
 ghost use Rattle.std.specs.Cmp.{partial_equiv_from_equiv};
 ghost use Rattle.std.specs.Cmp.Lexicographic.{lists_equiv, pointwise};
 ghost use Rattle.module_box.specs.Equality.{same_signal, signal_equivalence};
@@ -102,6 +102,17 @@ impl Starts {
         Starts::numbered(self.numbers.at(place))
     }
 
+    /// Returns the place of the first cell from `place` on that may carry another signal than `Zero`, or `end` if all
+    /// before that carry `Zero`.
+    pub(crate) fn next(&self, place: usize, end: usize) -> usize
+        requires { (place ≤ end) × (end < 2 ^ 32) }
+        ensures range { (place ≤ result) × (result ≤ end) }
+        ensures dead { (u : ℕ) → place ≤ u → u < result →
+            unwrap_or (slice_get self.now u) Signal.Zero ≡ Signal.Zero }
+    {
+        self.numbers.next(place, end)
+    }
+
     /// Adds how many cells there are, the entries of what they carry, and a 0.
     pub(crate) fn push_numbers(&self, numbers: &mut Vec<u64>) -> Result<(), AllocError>
         ensures { OnOk result (numbers.new.items
@@ -168,6 +179,17 @@ impl Demands {
         ensures { result ≡ unwrap_or (slice_get self.now place) Demand.Dead }
     {
         Demands::numbered(self.numbers.at(place))
+    }
+
+    /// Returns the place of the first cell from `place` on on which there may be another demand than `Dead`, or `end`
+    /// if all before that must be dead.
+    pub(crate) fn next(&self, place: usize, end: usize) -> usize
+        requires { (place ≤ end) × (end < 2 ^ 32) }
+        ensures range { (place ≤ result) × (result ≤ end) }
+        ensures dead { (u : ℕ) → place ≤ u → u < result →
+            unwrap_or (slice_get self.now u) Demand.Dead ≡ Demand.Dead }
+    {
+        self.numbers.next(place, end)
     }
 
     /// Adds how many cells there are, the entries of what they must be, and a 0.

@@ -1,5 +1,5 @@
 //! The shape of a job: the job without its place.
-ghost use Rattle.std.specs.Prelude.{◌≡◌, slice_get, unwrap_or};
+ghost use Rattle.std.specs.Prelude.{ℕ, ◌≡◌, ◌^◌, ◌<◌, ◌≤◌, slice_get, unwrap_or};
 ghost use Rattle.module_box.specs.Locals.{is_among};
 
 use crate::cell_lists::{Demands, Starts};
@@ -86,6 +86,28 @@ impl Shape {
         ensures { result ≡ unwrap_or (slice_get self.now.demands place) Demand.Dead }
     {
         self.demands.at(place)
+    }
+
+    /// Returns the place of the first cell of the box from `place` on that may be another than dead at time 0, or `end`
+    /// if all before that are dead.
+    pub fn next_start(&self, place: usize, end: usize) -> usize
+        requires { (place ≤ end) × (end < 2 ^ 32) }
+        ensures range { (place ≤ result) × (result ≤ end) }
+        ensures dead { (u : ℕ) → place ≤ u → u < result →
+            unwrap_or (slice_get self.now.starts u) Signal.Zero ≡ Signal.Zero }
+    {
+        self.starts.next(place, end)
+    }
+
+    /// Returns the place of the first cell of the box from `place` on on which there may be another demand than `Dead`,
+    /// or `end` if all before that must be dead at the last time.
+    pub fn next_demand(&self, place: usize, end: usize) -> usize
+        requires { (place ≤ end) × (end < 2 ^ 32) }
+        ensures range { (place ≤ result) × (result ≤ end) }
+        ensures dead { (u : ℕ) → place ≤ u → u < result →
+            unwrap_or (slice_get self.now.demands u) Demand.Dead ≡ Demand.Dead }
+    {
+        self.demands.next(place, end)
     }
 
     /// Returns what the cells of the ring carry at odd times.

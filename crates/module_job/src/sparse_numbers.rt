@@ -1,12 +1,12 @@
 //! Lists of numbers of which most are 0.
-ghost use Rattle.std.specs.Prelude.{◌≡◌, ◌≢◌, ◌*◌, ◌/◌, ◌<◌, ◌≤◌, ◌++◌, [], ◌∷◌, ℕ, List, IfOk, OnErr, OnOk, length, replicate, slice_get, take, unwrap_or};
+ghost use Rattle.std.specs.Prelude.{◌≡◌, ◌≢◌, ◌*◌, ◌/◌, ◌^◌, ◌<◌, ◌≤◌, ◌++◌, [], ◌∷◌, ℕ, List, IfOk, OnErr, OnOk, length, replicate, slice_get, take, unwrap_or};
 ghost use Rattle.std.specs.Cmp.{nat_eq_equiv, partial_equiv_from_equiv};
 ghost use Rattle.std.specs.Cmp.Lexicographic.{lists_equiv, pointwise};
 ghost use Rattle.bbm_rule.specs.Marks.{IsUnmarked};
 ghost use Rattle.bbm_rule.specs.Rows.{cell_at};
 ghost use Rattle.module_job.specs.Keys.{entries_from};
 
-use bbm_rule::marks::mark;
+use bbm_rule::marks::{mark, next_marked};
 use std::alloc::{AllocError, Global};
 use std::marker::Model;
 
@@ -129,6 +129,20 @@ impl SparseNumbers {
             return self.entries[at + 1];
         }
         0
+    }
+
+    /// Returns a place from `place` on: all numbers from there to before it are 0. It is the first one with a mark, or
+    /// `end` if there is none, where there are marks up to `end`.
+    pub(crate) fn next(&self, place: usize, end: usize) -> usize
+        requires { (place ≤ end) × (end < 2 ^ 32) }
+        ensures range { (place ≤ result) × (result ≤ end) }
+        ensures zeros { (u : ℕ) → place ≤ u → u < result →
+            unwrap_or (slice_get self.now u) 0 ≡ 0 }
+    {
+        if end.div_ceil(64) > self.marks.len() {
+            return place;
+        }
+        next_marked(&self.marks, place, end)
     }
 
     /// Adds to the numbers how many there are, the entries, and a 0.

@@ -1,4 +1,4 @@
-use Rattle.std.proofs.Common.{◌≡◌, ℕ, ◌<◌, ◌≤◌, ◌+◌, ◌*◌, ◌/◌, false}
+use Rattle.std.proofs.Common.{◌≡◌, ℕ, ◌<◌, ◌≤◌, ◌+◌, ◌-◌, ◌*◌, ◌/◌, false}
 use Rattle.local_run.specs.Runs.{local_run}
 use Rattle.local_run.specs.Places.{inner}
 use Rattle.local_run.specs.Lanes.{lane, HasSize}
@@ -32,3 +32,6 @@ invariant-cells l = record {
   below : (a x y : ℕ) → a < 64 * l.values.words → x < l.job.area.w → l.y + 1 ≤ y →
       lane l.marked_planes.planes a (1 + x) (1 + y) ≡ false;
 }
+
+abbrev pub decreases-cells : goal.decreases-cells
+decreases-cells l = l.job.area.w - l.x
