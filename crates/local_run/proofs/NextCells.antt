@@ -1,15 +1,25 @@
 -- Cells of a row that are known to be dead
-use Rattle.std.proofs.Common.{◌≡◌, ◌+◌, ◌-◌, ◌*◌, ℕ, Bool, true, false, if◌then◌else◌, refl, sym, ap, ap₂, ◌∙◌}
-use Rattle.std.proofs.Common.{arith}
+use Rattle.std.proofs.Common.{◌≡◌, ◌+◌, ◌-◌, ◌*◌, ◌<◌, ◌≤◌, ℕ, Bool, true, false, if◌then◌else◌, refl, sym, ap, ap₂, ◌∙◌}
+use Rattle.std.proofs.Common.{arith, inl, inr, subst, None, ◌≢◌}
 use Rattle.std.specs.Prelude.{ℤ, slice_get, unwrap_or}
 use Rattle.circuit.specs.Meaning.{Valuation}
 use Rattle.module_box.specs.Places.{place_in}
 use Rattle.module_box.specs.declared.boxes.Box2.{Box2}
 use Rattle.module_box.specs.declared.schedules.Signal.TheVariants.{Zero}
-use Rattle.module_job.specs.Jobs.{JobView, job_start}
+use Rattle.module_job.specs.Jobs.{JobView, job_demand, job_start}
 use Rattle.module_job.specs.Signals.{is_live}
+use Rattle.module_job.specs.declared.job.Demand.TheVariants as Demanded
+use Rattle.local_run.specs.Faults.{assignments}
+use Rattle.local_run.specs.Lanes.{lane}
 use Rattle.local_run.specs.Places.{inner}
 use Rattle.local_run.specs.Runs.{local_run}
+use Rattle.local_run.specs.Scans.{IsReady, IsSought, IsStride, Shows}
+use Rattle.local_run.specs.declared.fault.Kind.{Kind}
+use Rattle.local_run.specs.declared.fault.Kind.TheVariants.{Edge, End}
+use Rattle.local_run.specs.declared.planes.Planes.{Planes}
+use Rattle.local_run.specs.declared.values.Values.{Values}
+use Rattle.bbm_rule.proofs.BitLemmas.{by_eq_or_not, by_lt_or_le}
+use Rattle.local_run.proofs.Firsts.{FreeAt, IsAtEnd, end_least, inner_in_box}
 use Rattle.local_run.proofs.Stepping.{run_start}
 
 either : {A : Type 0} (b : Bool) (s t : A) → s ≡ t → (if b then s else t) ≡ t
@@ -30,6 +40,54 @@ unfolding job_start
 start_dead j x y none =
     either _ _ _ (ap (λ (p : ℕ). unwrap_or (slice_get j.starts p) Zero) (placed j.area x y) ∙ none)
 
+pub demand_dead : (j : JobView) (x y : ℕ) →
+    unwrap_or (slice_get j.demands (j.area.w * y + x)) Demanded.Dead ≡ Demanded.Dead →
+    job_demand j (inner j.area.x x) (inner j.area.y y) ≡ Demanded.Dead
+unfolding job_demand
+demand_dead j x y none =
+    either _ _ _ (ap (λ (p : ℕ). unwrap_or (slice_get j.demands p) Demanded.Dead) (placed j.area x y) ∙ none)
+
 -- such a cell is dead at time 0
 pub dead_start : (j : JobView) (u : Valuation) (x y : ℤ) → job_start j x y ≡ Zero → false ≡ local_run j u 0 x y
 dead_start j u x y none = sym (ap (is_live u) none) ∙ run_start j u x y
+
+-- ---- rows at the last time
+
+-- a dead cell that must be dead has no fault
+end_free : (j : JobView) (vs : Values) (t : ℕ) (kind : Kind) (x y : ℕ) (p : Planes) → IsReady j vs →
+    IsSought j t kind → Shows j vs t p → x < j.area.w → y < j.area.h → kind ≡ End →
+    job_demand j (inner j.area.x x) (inner j.area.y y) ≡ Demanded.Dead →
+    ((a : ℕ) → a < 64 * p.words → lane p a (1 + x) (1 + y) ≡ false) →
+    (a : ℕ) → a < assignments j → FreeAt j vs t kind x y a
+end_free j vs t kind x y p ready sought shows lx ly end must dead =
+    let room = ready.room in
+    let count = ready.count in
+    let words = shows.size.0 in
+    end_least j vs (assignments j) (λ a. lane p a (1 + x) (1 + y)) Zero Demanded.Dead t kind _ _ None (sym end) sought
+    (inner_in_box j.area x y lx ly) must (λ v b h. h) (λ v b h. h) (λ a l. shows.cells a x y l lx ly)
+    (λ a l ne. ne.1 (dead a (omega (arith, l, room, count, words))))
+
+-- nor do cells that are passed over
+pub free_to : (j : JobView) (vs : Values) (t : ℕ) (kind : Kind) (x next y : ℕ) (p : Planes) → IsReady j vs →
+    IsSought j t kind → Shows j vs t p → y < j.area.h →
+    ((k a : ℕ) → k < x → k < j.area.w → a < assignments j → FreeAt j vs t kind k y a) → (x < next → kind ≡ End) →
+    ((k : ℕ) → x ≤ k → k < next → job_demand j (inner j.area.x k) (inner j.area.y y) ≡ Demanded.Dead) →
+    ((a k : ℕ) → a < 64 * p.words → x ≤ k → k < next → lane p a (1 + k) (1 + y) ≡ false) →
+    (k a : ℕ) → k < next → k < j.area.w → a < assignments j → FreeAt j vs t kind k y a
+free_to j vs t kind x next y p ready sought shows ly before end must dead k a lk lw la = by_lt_or_le k x
+    (λ l. before k a l lw la)
+    (λ g. end_free j vs t kind k y p ready sought shows lw ly (end (omega (arith, g, lk))) (must k g lk)
+    (λ b lb. dead b k lb g lk) a la)
+
+-- only at the last time are cells passed over, and there the next one is looked at after each
+pub next_at_end : (kind : Kind) (w h y x next stride : ℕ) → IsStride kind w h y stride → x ≤ next →
+    (x < next → kind ≡ End) → IsAtEnd w x stride → IsAtEnd w next stride
+next_at_end kind w h y x next stride s le end at = by_eq_or_not next x
+    (λ same. subst (λ (n : ℕ). IsAtEnd w n stride) (sym same) at)
+    (λ other. elim s.2 [
+      | inl one ↦ inl one
+      | inr both ↦ absurd (edge_is_not_end (both.edge ∙ end (omega (arith, le, other))))
+    ])
+  where
+    edge_is_not_end : Edge ≢ End
+    edge_is_not_end e = cc

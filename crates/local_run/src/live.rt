@@ -7,9 +7,9 @@
 ghost use Rattle.bbm_rule.specs.Bits.{bit};
 ghost use Rattle.bbm_rule.specs.Marks.{IsUnmarked};
 ghost use Rattle.local_run.specs.Live.{AreMarked, AreUnmarked, HasCells, HasMarks, HasSameRoom, IsLoneAnti, IsLoneMain, MarksCell, TakesMark};
-ghost use Rattle.std.specs.Prelude.{ℕ, ◌≡◌, ◌/◌, ◌<◌, ◌≤◌, ◌%◌, ◌+◌, ◌*◌, ◌⊎◌, length, vec_len, IfOk, true, false};
+ghost use Rattle.std.specs.Prelude.{ℕ, ◌≡◌, ◌/◌, ◌<◌, ◌≤◌, ◌%◌, ◌+◌, ◌*◌, ◌^◌, ◌⊎◌, length, vec_len, IfOk, true, false};
 
-use crate::marks::{is_marked, mark_if, swap_marks};
+use crate::marks::{is_marked, mark_if, next_in_either, swap_marks};
 use crate::planes::Changes;
 use bbm_rule::marks::mark_all;
 use std::alloc::{AllocError, Global};
@@ -61,6 +61,23 @@ impl LiveMarks {
             AreUnmarked self.now u u u u }
     {
         (self.odd[k] | self.right[k]) | (self.down[k] | self.even[k])
+    }
+
+    /// Returns the first number from `from` on of which a cell has a mark that is in a row with the parity of row y, or
+    /// `end` if there is none below it.
+    pub fn next_in_row(&self, y: usize, from: usize, end: usize) -> usize
+        requires within { (from ≤ end) × (end < 2 ^ 32) }
+        requires room { HasMarks end self.now }
+        ensures range { (from ≤ result) × (result ≤ end) }
+        ensures upper { y % 2 ≡ 0 → (u : ℕ) → from ≤ u → u < result →
+            IsUnmarked self.now.odd.items u × IsUnmarked self.now.right.items u }
+        ensures lower { y % 2 ≡ 1 → (u : ℕ) → from ≤ u → u < result →
+            IsUnmarked self.now.down.items u × IsUnmarked self.now.even.items u }
+    {
+        if y % 2 == 0 {
+            return next_in_either(&self.odd, &self.right, from, end);
+        }
+        next_in_either(&self.down, &self.even, from, end)
     }
 
     /// Returns whether no cell of a block has a mark.

@@ -214,6 +214,21 @@ impl MarkedPlanes {
         }
     }
 
+    /// Returns the column of the first cell of a row, from a column on, that may be live under some assignment, or the
+    /// number of columns if there is none. Columns and rows are counted from the halo. The cell before the first one
+    /// that may be live can be the answer too.
+    pub fn next_live(&self, x: usize, y: usize) -> usize
+        requires { (x / 2 < self.now.planes.stride) × (y / 2 < self.now.planes.rows) }
+        ensures range { x ≤ result }
+        ensures dead { (a k : ℕ) → a < 64 * self.now.planes.words → x ≤ k → k < result →
+            lane self.now.planes a k y ≡ false }
+    {
+        let first = self.planes.number(0, y);
+        let end = first + self.planes.stride();
+        let next = self.live_marks.next_in_row(y, first + x / 2, end);
+        x.max(2 * (next - first))
+    }
+
     // Takes the marks off the cells of a block that are dead.
     fn drop_dead(&mut self, odd: usize, right: usize, down: usize, even: usize)
         requires main { (odd < self.old.planes.stride * self.old.planes.rows)

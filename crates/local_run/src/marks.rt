@@ -11,7 +11,7 @@ ghost use Rattle.std.specs.Prelude.{ℕ, ◌≡◌, ◌≢◌, ◌+◌, ◌*◌,
 
 use crate::live::LiveMarks;
 use crate::planes::Changes;
-use bbm_rule::marks::{mark, mark_before, unmark};
+use bbm_rule::marks::{mark, mark_before, next_marked, unmark};
 
 /// Returns whether a number has a mark.
 #[inline(always)]
@@ -157,4 +157,15 @@ pub fn take_first(word: u64) -> (usize, u64)
 {
     let place = word.trailing_zeros();
     (place as usize, word ^ (1u64 << place))
+}
+
+/// Returns the first number from `from` on that has a mark in one of the lists, or `end` if there is none below it.
+pub fn next_in_either(first: &[u64], second: &[u64], from: usize, end: usize) -> usize
+    requires within { (from ≤ end) × (end < 2 ^ 32) }
+    requires room { (end ≤ 64 * length first.now) × (end ≤ 64 * length second.now) }
+    ensures range { (from ≤ result) × (result ≤ end) }
+    ensures passed { (u : ℕ) → from ≤ u → u < result →
+        IsUnmarked first.now u × IsUnmarked second.now u }
+{
+    next_marked(second, from, next_marked(first, from, end))
 }

@@ -85,6 +85,20 @@ pub fn demand_at(job: &Job, x: usize, y: usize) -> Demand
     job.demand(inner_cell(job.area(), x, y))
 }
 
+/// Returns the column of the first cell of a row of the box, from a column on, that need not be dead at the last time,
+/// or the box's width if there is none.
+pub fn next_demand(job: &Job, x: usize, y: usize) -> usize
+    requires { (x ≤ job.now.area.w) × (y < job.now.area.h) }
+    ensures range { (x ≤ result) × (result ≤ job.now.area.w) }
+    ensures dead { (k : ℕ) → x ≤ k → k < result →
+        job_demand job.now (inner job.now.area.x k) (inner job.now.area.y y) ≡ Demand.Dead }
+{
+    let width = job.area().w as usize;
+    let first = width * y;
+    let shape: &Shape = job.shape();
+    shape.next_demand(first + x, first + width) - first
+}
+
 /// Returns what the cell at a column and row of the box carries at an odd time, if it is in the ring. Its event is
 /// sought first at some places, whatever they are.
 pub fn edge_at(job: &Job, time: u32, x: usize, y: usize, near: EventPlaces) -> Signal

@@ -1,16 +1,17 @@
 //! The first fault of a kind at a time.
-ghost use Rattle.std.specs.Prelude.{◌≡◌, ◌≢◌, ◌+◌, ◌*◌, ◌/◌, ◌<◌, ◌≤◌, length, true, IsTrue, MatchOption};
+ghost use Rattle.std.specs.Prelude.{ℕ, ◌≡◌, ◌≢◌, ◌+◌, ◌*◌, ◌/◌, ◌<◌, ◌≤◌, length, true, false, IsTrue, MatchOption};
 ghost use Rattle.circuit.specs.Meaning.{wires};
 ghost use Rattle.module_box.specs.Boxes.{in_box};
 ghost use Rattle.local_run.specs.Faults.{assignments};
 ghost use Rattle.local_run.specs.Places.{inner};
 ghost use Rattle.local_run.specs.Lanes.{lane};
+ghost use Rattle.module_job.specs.Jobs.{job_demand};
 ghost use Rattle.module_job.specs.Signals.{is_live};
 ghost use Rattle.local_run.specs.Scans.{IsFirst, IsFound, IsFree, IsLeastBelow, IsMissed, IsNextStop, IsReady, IsSought, IsStride, Shows, is_defined, valuation};
 
 use crate::fault::{Fault, Kind};
 use crate::marked_planes::MarkedPlanes;
-use crate::places::{demand_at, edge_at, inner_cell, is_ring, place_of};
+use crate::places::{demand_at, edge_at, inner_cell, is_ring, next_demand, place_of};
 use crate::values::Values;
 use module_box::Signal;
 use module_job::{Demand, Job, Stop};
@@ -84,6 +85,28 @@ fn stride_of(kind: Kind, width: usize, height: usize, y: usize) -> usize
     }
 }
 
+// The column of the first cell of row y, from column x on, that can have a fault of the kind, or the width of the box if
+// there is none. At the last time most cells are dead and must be dead.
+fn next_column(marked_planes: &MarkedPlanes, job: &Job, kind: Kind, x: usize, y: usize) -> usize
+    requires place { (x < job.now.area.w) × (y < job.now.area.h) }
+    requires columns { marked_planes.now.planes.stride ≡ job.now.area.w / 2 + 1 }
+    requires rows { marked_planes.now.planes.rows ≡ job.now.area.h / 2 + 1 }
+    ensures range { x ≤ result }
+    ensures at_end { x < result → kind ≡ Kind.End }
+    ensures demands { (k : ℕ) → x ≤ k → k < result →
+        job_demand job.now (inner job.now.area.x k) (inner job.now.area.y y) ≡ Demand.Dead }
+    ensures dead { (a k : ℕ) → a < 64 * marked_planes.now.planes.words → x ≤ k → k < result →
+        lane marked_planes.now.planes a (1 + k) (1 + y) ≡ false }
+{
+    match kind {
+        Kind::End => {
+            let live = marked_planes.next_live(1 + x, 1 + y) - 1;
+            next_demand(job, x, y).min(live)
+        }
+        Kind::Edge | Kind::Stop => x,
+    }
+}
+
 /// Returns the first fault of the kind at the time, by row, column and assignment, if there is one.
 pub fn first_fault(
     marked_planes: &MarkedPlanes,
@@ -105,6 +128,10 @@ pub fn first_fault(
         let stride = stride_of(kind, width, height, y);
         let mut x = 0;
         'cells: while x < width {
+            x = next_column(marked_planes, job, kind, x, y);
+            if x >= width {
+                break;
+            }
             if let Some(assignment) = cell_fault(marked_planes, values, job, time, kind, x, y) {
                 let cell = inner_cell(area, x, y);
                 return Some(Fault {
