@@ -214,9 +214,9 @@ impl MarkedPlanes {
         }
     }
 
-    /// Returns the column of the first cell of a row, from a column on, that may be live under some assignment, or the
-    /// number of columns if there is none. Columns and rows are counted from the halo. The cell before the first one
-    /// that may be live can be the answer too.
+    /// Returns a column from `x` on: the cells of row `y` from `x` to before it are dead under each assignment.
+    ///
+    /// Columns and rows are counted from the halo. The cell there or the next one may be live, or the row ends there.
     pub fn next_live(&self, x: usize, y: usize) -> usize
         requires { (x / 2 < self.now.planes.stride) × (y / 2 < self.now.planes.rows) }
         ensures range { x ≤ result }

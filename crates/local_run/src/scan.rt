@@ -85,8 +85,8 @@ fn stride_of(kind: Kind, width: usize, height: usize, y: usize) -> usize
     }
 }
 
-// The column of the first cell of row y, from column x on, that can have a fault of the kind, or the width of the box if
-// there is none. At the last time most cells are dead and must be dead.
+// A column from x on: no cell of row y from x to before it has a fault of the kind. At the last time most cells are dead
+// and must be dead.
 fn next_column(marked_planes: &MarkedPlanes, job: &Job, kind: Kind, x: usize, y: usize) -> usize
     requires place { (x < job.now.area.w) × (y < job.now.area.h) }
     requires columns { marked_planes.now.planes.stride ≡ job.now.area.w / 2 + 1 }
@@ -99,11 +99,11 @@ fn next_column(marked_planes: &MarkedPlanes, job: &Job, kind: Kind, x: usize, y:
         lane marked_planes.now.planes a (1 + k) (1 + y) ≡ false }
 {
     match kind {
-        Kind::End => {
+        Kind::End if !marked_planes.may_be_live(1 + x, 1 + y) => {
             let live = marked_planes.next_live(1 + x, 1 + y) - 1;
             next_demand(job, x, y).min(live)
         }
-        Kind::Edge | Kind::Stop => x,
+        _ => x,
     }
 }
 

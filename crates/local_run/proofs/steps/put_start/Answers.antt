@@ -30,7 +30,8 @@ cells-init c =
     record {
       size = m.size;
       above = m.above;
-      here = λ a x la lx. m.below a x c.rows.y (omega (arith, la, room, count)) (omega (arith, lx, next.range)) (omega arith)
+      here = λ a x la lx.
+          m.below a x c.rows.y (omega (arith, la, room, count)) (omega (arith, lx, next.range)) (omega arith)
           ∙ dead_start j (valuation c.args.values.now a) _ _ (next.dead x (omega arith) lx);
       beside = λ a x la lx gx. m.below a x c.rows.y la lx (omega arith);
       below = λ a x y la lx gy. m.below a x y la lx (omega arith);
