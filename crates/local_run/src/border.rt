@@ -227,11 +227,11 @@ pub fn set_border(marked_planes: &mut MarkedPlanes, values: &Values, job: &Job, 
     let _area = job.area();
     let cells = marked_planes.planes().cells();
     let mut is_right = true;
-    let mut at = 0;
+    let mut at = marked_planes.next_border_word(0);
     'words: while at < cells {
         let end = (at + 64).min(cells);
         is_right &= set_border_word(marked_planes, values, job, time, at, end);
-        at = end;
+        at = marked_planes.next_border_word(end);
     }
     is_right
 }

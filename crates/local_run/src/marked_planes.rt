@@ -15,10 +15,13 @@ ghost use Rattle.std.specs.Prelude.{ℕ, ◌≡◌, ◌≢◌, ◌+◌, ◌*◌,
 
 use crate::lines::{CELL_WORDS, LinePlaces, line_number, mark_lines};
 use crate::live::LiveMarks;
-use crate::marks::{is_marked, mark_around, mark_border, mark_corners, take_first, word_marked_in};
+use crate::marks::{
+    is_marked, mark_around, mark_border, mark_corners, next_live_marked, next_marked_in, start_of_word,
+    take_first, word_marked_in,
+};
 use crate::planes::{Changes, Planes};
 use crate::values::Values;
-use bbm_rule::marks::{mark, mark_all, unmark};
+use bbm_rule::marks::{mark, mark_all, next_marked, unmark};
 use module_box::Signal;
 use module_job::Job;
 use std::alloc::{AllocError, Global};
@@ -163,6 +166,28 @@ impl MarkedPlanes {
         if self.busy == 0 {
             self.drop_all();
         }
+    }
+
+    /// Returns the first number, from `from` on, of a word with cells of ring and halo that must be looked at, or how many
+    /// numbers there are if there is none.
+    ///
+    /// Such a cell may be live, or a line says something of it at the time that was looked at.
+    pub fn next_border_word(&self, from: usize) -> usize
+        requires within { from ≤ self.now.planes.stride * self.now.planes.rows }
+        requires word { from < self.now.planes.stride * self.now.planes.rows → from % 64 ≡ 0 }
+        ensures range { (from ≤ result) × (result ≤ self.now.planes.stride * self.now.planes.rows) }
+        ensures word { result < self.now.planes.stride * self.now.planes.rows → result % 64 ≡ 0 }
+        ensures passed { ArePassed from result self.now.line_marks.items self.now.planes }
+    {
+        let cells = self.planes.cells();
+        let at = next_marked_in(
+            &self.border_marks,
+            &self.live_marks,
+            &self.line_marks,
+            from,
+            cells,
+        );
+        start_of_word(at, cells)
     }
 
     /// Returns a word of marks on the numbers whose cells of ring and halo must be looked at.
@@ -575,6 +600,33 @@ impl MarkedPlanes {
         changed
     }
 
+    // Returns the first number, from `from` on, of a word with a block of the odd partition that may change, or `end` if
+    // there is none below it.
+    fn next_odd_word(&self, from: usize, end: usize) -> usize
+        requires within { (from ≤ end) × (end ≤ self.now.planes.stride * self.now.planes.rows) }
+        requires word { from < end → from % 64 ≡ 0 }
+        ensures range { (from ≤ result) × (result ≤ end) }
+        ensures word { result < end → result % 64 ≡ 0 }
+        ensures calm { TurnsOdd from result self.now.planes self.now.planes }
+    {
+        start_of_word(
+            next_live_marked(&self.odd_marks, &self.live_marks, from, end),
+            end,
+        )
+    }
+
+    // The same of the even partition.
+    fn next_even_word(&self, from: usize, end: usize) -> usize
+        requires within { (from ≤ end) × (end + self.now.planes.stride + 1 ≤ self.now.planes.stride
+            * self.now.planes.rows) }
+        requires word { from < end → from % 64 ≡ 0 }
+        ensures range { (from ≤ result) × (result ≤ end) }
+        ensures word { result < end → result % 64 ≡ 0 }
+        ensures calm { TurnsEven from result self.now.planes self.now.planes }
+    {
+        start_of_word(next_marked(&self.even_marks, from, end), end)
+    }
+
     // Turns the blocks of the even partition from `first` on to below `end`, whose marks are in one word, and returns
     // how many it turned.
     fn turn_even_word(&mut self, first: usize, end: usize) -> usize
@@ -626,11 +678,11 @@ impl MarkedPlanes {
         }
         let cells = self.planes.cells();
         let mut changed = 0;
-        let mut at = 0;
+        let mut at = self.next_odd_word(0, cells);
         'words: while at < cells {
             let end = (at + 64).min(cells);
             changed += self.turn_odd_word(at, end);
-            at = end;
+            at = self.next_odd_word(end, cells);
         }
         // Where nothing was known all blocks had marks, and these fill box and halo.
         self.is_exact = true;
@@ -672,11 +724,11 @@ impl MarkedPlanes {
         }
         let cells = self.planes.cells() - self.planes.stride() - 1;
         let mut changed = 0;
-        let mut at = 0;
+        let mut at = self.next_even_word(0, cells);
         'words: while at < cells {
             let end = (at + 64).min(cells);
             changed += self.turn_even_word(at, end);
-            at = end;
+            at = self.next_even_word(end, cells);
         }
         if are_many(
             changed,

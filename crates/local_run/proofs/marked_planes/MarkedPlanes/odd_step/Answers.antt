@@ -1,35 +1,41 @@
 use Rattle.std.proofs.Common.{◌≡◌, ◌<◌, ◌≤◌, ◌+◌, ◌*◌, List, ℕ, length, ap, subst, false, ltb, refl, arith, sym, ◌∙◌}
-use Rattle.local_run.proofs.FieldLemmas.{odd_all, odd_join, odd_none}
+use Rattle.local_run.proofs.FieldLemmas.{odd_all, odd_join}
 use Rattle.std.proofs.lemmas.List.{with_items_is}
 use Rattle.local_run.specs.Calm.{EvenCalm, OddCalm}
+use Rattle.local_run.specs.Lanes.{HasSize}
 use Rattle.local_run.proofs.LiveLemmas.{marked_dead, marked_even, marked_odd}
 use Rattle.local_run.proofs.marked_planes.MarkedPlanes.odd_step.Goals as goal
 
 pub words-init : goal.words-init
 words-init c =
-    let f = c.args.self.now in
+    let next = c.next_odd_word-at.ensures in
     record {
       size = (refl, refl, refl);
       stays = λ e. refl;
-      within = (omega arith, omega arith);
-      aligned = λ l. refl;
-      turned = odd_none f.planes f.odd_marks.items f.live_marks (λ n. (0 ≤ n) × (n < 0)) f.odd_calm f.all_dead
-          (λ n l. absurd (omega (arith, l.1)));
+      within = (omega arith, next.range.1);
+      aligned = next.word;
+      turned = next.calm;
     }
 
 pub words-preserved : goal.words-preserved
 words-preserved c =
     let m = c.words.invariant in
     let t = c.turn_odd_word-changed.ensures in
-    let none : c.words.changed + c.turn_odd_word-changed.result ≡ 0 → (c.words.changed ≡ 0) × (c.turn_odd_word-changed.result ≡ 0) =
-    λ e. (omega (arith, e), omega (arith, e)) in
+    let next = c.next_odd_word-at-in-words.ensures in
+    let none : c.words.changed + c.turn_odd_word-changed.result ≡ 0 →
+    (c.words.changed ≡ 0) × (c.turn_odd_word-changed.result ≡ 0) = λ e. (omega (arith, e), omega (arith, e)) in
+    let size : HasSize c.args.self.now.planes.words c.args.self.now.planes.stride c.args.self.now.planes.rows
+    c.turn_odd_word-changed.new.self.planes = (t.size.0 ∙ m.size.0, t.size.1 ∙ m.size.1, t.size.2 ∙ m.size.2) in
     record {
-      size = (t.size.0 ∙ m.size.0, t.size.1 ∙ m.size.1, t.size.2 ∙ m.size.2);
+      size = size;
       stays = λ e. t.stays (none e).1 ∙ m.stays (none e).0;
       within = (omega arith, omega arith);
-      aligned = λ l. let before = m.aligned (omega arith) in omega (arith, l, before);
-      turned = odd_join c.args.self.now.planes c.words.self.planes c.turn_odd_word-changed.new.self.planes c.words.at
-          c.min-end.result m.size (omega arith) m.turned t.turned;
+      aligned = next.word;
+      turned = odd_join c.args.self.now.planes c.turn_odd_word-changed.new.self.planes
+          c.turn_odd_word-changed.new.self.planes c.min-end.result c.next_odd_word-at-in-words.result size
+          next.range.0
+          (odd_join c.args.self.now.planes c.words.self.planes c.turn_odd_word-changed.new.self.planes c.words.at
+          c.min-end.result m.size (omega arith) m.turned t.turned) next.calm;
     }
 
 pub returns-then-are_many-clause-turned : goal.returns-then-are_many-clause-turned
