@@ -1,12 +1,12 @@
 //! When wires are seen by stops, and what that says of delays and of gates whose inputs are to meet.
-ghost use Rattle.std.specs.Prelude.{◌≡◌, ◌==◌, ◌++◌, ◌∷◌, [], ℕ, List, None, IfOk, OnOk, length};
+ghost use Rattle.std.specs.Prelude.{◌≡◌, ◌==◌, ◌++◌, ◌∷◌, [], List, None, IfOk, OnOk, length};
 ghost use Rattle.std.specs.List.{flat_map, list_all};
 ghost use Rattle.circuit.specs.Bridge.{circuit_of, netlist_of};
 ghost use Rattle.circuit.specs.Meaning.{wires};
 ghost use Rattle.circuit.specs.Wiring.{gate_of};
 ghost use Rattle.certificate_lines.specs.Entries.{modules_of, stop_in};
 ghost use Rattle.certificate.specs.Grammars.{modules_in};
-ghost use Rattle.certificate.specs.Times.{agreed, all_stops, delay_line, gap_between, is_obeyed, last_times, lines_by, meet_by, meet_line, of_wire, time_lines};
+ghost use Rattle.certificate.specs.Times.{agreed, all_stops, delay_line, gap_between, is_obeyed, last_times, lines_by, meet_line, of_wire, time_lines};
 ghost use Rattle.certificate.specs.SeenTimes.{IsTable, chosen, told_by};
 ghost use Rattle.certificate_lines.specs.declared.certificate_line.StopLine.{StopLine as Line};
 

@@ -108,7 +108,7 @@ pub record AreModuleOwners (b : BuilderView) (o : Owning) : Type 0 where
 abbrev pub AreWires : Circuit → List ModuleLines → List (List ℕ) → List ℕ → Type 0
 AreWires c ms earlier local = earlier ++ local ∷ [] ≡ [] ∷ map (known c) ms
 
--- the names in slots are those of wires that are local, if these wires are
+-- each name in a slot is that of a wire of the circuit whose number is in `local`
 abbrev pub AreLocalNames : Circuit → List ℕ → List (Option LocalName) → Type 0
 AreLocalNames c local slots = All (λ slot. IfSome slot (λ n. is_local c local n.name.now ≡ true)) slots
 

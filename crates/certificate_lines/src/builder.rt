@@ -1,7 +1,6 @@
 //! A certificate that is read, line by line.
 ghost use Rattle.std.specs.Prelude.{◌≡◌, ◌+◌, ◌≤◌, ◌<◌, ◌++◌, ◌∷◌, [], not, map, ◌&&◌, Bool, None, Some, List, ℕ, length, IsTrue, OnOk, IfOk, IfErr, IfSome};
-ghost use Rattle.std.specs.Option.{is_some, option_map};
-ghost use Rattle.circuit.specs.Meaning.{wire_of};
+ghost use Rattle.std.specs.Option.{option_map};
 ghost use Rattle.section_text.specs.Adding.{FaultIs};
 ghost use Rattle.std.specs.List.{list_any};
 ghost use Rattle.certificate_lines.specs.Entries.{ModuleLines, counts_of, known, modules_of, last_module, name_in};

@@ -1,5 +1,5 @@
 //! How many lines of each kind a module has, line by line.
-ghost use Rattle.std.specs.Prelude.{◌≡◌, ◌+◌, ◌-◌, ◌<◌, ◌≤◌, ◌++◌, ◌∷◌, [], length, take, Some, OnOk, OnErr, IfErr};
+ghost use Rattle.std.specs.Prelude.{◌≡◌, ◌+◌, ◌-◌, ◌<◌, ◌++◌, ◌∷◌, [], length, take, Some, OnOk, OnErr, IfErr};
 ghost use Rattle.section_text.specs.declared.section.LineFault.TheVariants.{Memory};
 ghost use Rattle.certificate_lines.specs.Entries.{change_last, last_of};
 ghost use Rattle.certificate_lines.specs.BuilderView.{counted, IsSmall};

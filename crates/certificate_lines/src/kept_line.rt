@@ -96,7 +96,7 @@ impl<'a> KeptLine<'a> {
         }
     }
 
-    /// Returns a line whose name, if it has one, is this one.
+    /// Returns the line, with this reference in place of its name, if it has one.
     #[inline(always)]
     pub(crate) fn of(line: &CertificateLine, name: Option<&'a Name>) -> KeptLine<'a>
         requires { option_map (λ n. n.now) name ≡ name_in line.now }

@@ -1,5 +1,5 @@
 //! Whether an edge line names a wire that is not local in a module beside it.
-ghost use Rattle.std.specs.Prelude.{◌≡◌, ◌+◌, ◌<◌, not, map, ◌&&◌, Some, length, slice_get, IfOk, IfSome, IsTrue};
+ghost use Rattle.std.specs.Prelude.{◌≡◌, ◌+◌, ◌<◌, map, ◌&&◌, Some, length, slice_get, IfOk, IfSome, IsTrue};
 ghost use Rattle.std.specs.List.{filter, flat_map, list_any};
 ghost use Rattle.certificate_lines.specs.Entries.{ModuleLines, areas, edge_in, known, modules_of};
 ghost use Rattle.certificate_lines.specs.ModuleParts.{AreInBox};
@@ -172,8 +172,8 @@ impl<'a> Builder<'a> {
         }
     }
 
-    // Whether the wire is local in the module of this number. Most edge lines ask it of a module for the wire that the
-    // line before them asked it for, and this costs less than to look the wire up by its hash.
+    // Whether the wire is local in the module of this number. Most edge lines ask this of the same module and wire as
+    // the line before them, and to compare two numbers costs less than to look the wire up by its hash.
     fn is_known_in(
         &self,
         number: usize,

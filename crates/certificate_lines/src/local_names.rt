@@ -1,4 +1,4 @@
-//! The names of wires that are local in the last module, which are remembered as the circuit has them.
+//! Names of wires that are local in the last module, with references to the circuit's names.
 ghost use Rattle.std.specs.Prelude.{◌≡◌, ◌<◌, None, replicate, IfSome, IsTrue};
 ghost use Rattle.circuit.specs.Meaning.{wire_of};
 ghost use Rattle.std.specs.Option.{is_some};
@@ -59,7 +59,7 @@ fn look_up<'a>(
     Some(own_name)
 }
 
-// The same. The name is looked up only if another name has its slot.
+// The same. The name is looked up only if its slot does not hold it.
 #[inline(always)]
 fn find_in<'a>(
     tables: &LineTables<'a>,
@@ -114,7 +114,7 @@ impl<'a> LocalNames<'a> {
 
     /// Returns the circuit's name of the wire of this name.
     ///
-    /// The name is looked up only if another name has its slot.
+    /// The name is looked up only if its slot does not hold it.
     #[inline(always)]
     pub(crate) fn own_name(&self, tables: &LineTables<'a>, name: &Name) -> &'a Name
         requires { IsTrue (is_some (wire_of tables.now.circuit name.now)) }

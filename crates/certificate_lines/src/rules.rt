@@ -1,12 +1,9 @@
 //! The tests of a line of a module, after its order.
-ghost use Rattle.std.specs.Prelude.{◌≡◌, ◌+◌, ◌≤◌, Some};
-ghost use Rattle.std.specs.List.{list_all};
+ghost use Rattle.std.specs.Prelude.{◌≡◌, ◌+◌, Some};
 ghost use Rattle.circuit.specs.Meaning.{wire_of};
-ghost use Rattle.circuit.specs.Wiring.{gate_of};
-ghost use Rattle.module_box.specs.Locals.{is_among};
 ghost use Rattle.certificate_lines.specs.BuilderView.{AreLocalNames};
 ghost use Rattle.certificate_lines.specs.Entries.{ModuleLines, gates, last_module};
-ghost use Rattle.certificate_lines.specs.Rules.{is_wrong_side, is_misplaced, is_odd, whole, is_local, is_local_wire, are_new, cut_fault, cut_wire_fault, gate_fault, use_fault, keep_fault, is_time, is_edge_place, is_halo_place, is_stop_place, signal_fault, wire_fault, border_fault};
+ghost use Rattle.certificate_lines.specs.Rules.{is_wrong_side, is_misplaced, is_odd, is_local, is_local_wire, cut_fault, gate_fault, use_fault, keep_fault, is_time, is_edge_place, is_halo_place, is_stop_place, signal_fault, wire_fault, border_fault};
 
 use crate::certificate_line::{Border, StopLine};
 use crate::kept_line::KeptLine;
@@ -145,7 +142,7 @@ fn looked_up_code(tables: &LineTables, known: &IndexSet<u16>, name: &Name) -> Op
     }
 }
 
-// The code of a wire's name. Only a name that is refused is looked up for it.
+// The code of a wire's name. A name that is refused is looked up once more, for its code.
 #[inline(always)]
 fn name_code<'a>(
     tables: &LineTables<'a>,
