@@ -1,6 +1,6 @@
 -- Lines in order: what comes after the last comes after all.
 use Rattle.std.proofs.Common.{◌≡◌, ◌⊎◌, ℕ, Bool, true, false, ◌&&◌, List, [], ◌∷◌, ◌++◌, Some, None, Less, Equal}
-use Rattle.std.proofs.Common.{Greater}
+use Rattle.std.proofs.Common.{Greater, get_or}
 use Rattle.std.proofs.Common.{Ordering, refl, sym, ap, ◌∙◌, inl, inr}
 use Rattle.std.specs.List.{list_all}
 use Rattle.std.specs.Cmp.{IsTotalOrder}
@@ -12,7 +12,7 @@ use Rattle.module_box.proofs.Rising.{cell_total}
 use Rattle.certificate_lines.specs.declared.certificate_line.CertificateLine.{CertificateLine}
 use Rattle.certificate_lines.specs.declared.certificate_line.CertificateLine.TheVariants.{Module, Cut, Use, Keep, Edge}
 use Rattle.certificate_lines.specs.declared.certificate_line.CertificateLine.TheVariants.{Halo, Stop}
-use Rattle.certificate_lines.specs.Entries.{last_of}
+use Rattle.certificate_lines.specs.Entries.{edge_in, halo_in, last_of, stop_in}
 use Rattle.certificate_lines.specs.Orders.{AreInOrder, rank_of, number_of, cell_of, line_cmp, is_cut, may_precede}
 use Rattle.certificate_lines.specs.Orders.{may_follow}
 use Rattle.certificate_lines.specs.Versions.{line_order}
@@ -80,6 +80,34 @@ halos_precede d e = sym (or_none _)
 pub stops_precede : (s t : StopLine) → is_lt (line_cmp (Stop s) (Stop t)) ≡ may_precede (Stop s) (Stop t)
 unfolding may_precede is_cut
 stops_precede s t = sym (or_none _)
+
+-- ---- a line by its kind
+pub edge_is : (l : CertificateLine) (e : Border) → e ∷ [] ≡ edge_in l → l ≡ Edge e
+edge_is (Module b) e h = absurd cc
+edge_is (Cut n) e h = absurd cc
+edge_is (Use k) e h = absurd cc
+edge_is (Keep k) e h = absurd cc
+edge_is (Edge d) e h = ap Edge (sym (ap (λ l. get_or l 0 e) h))
+edge_is (Halo d) e h = absurd cc
+edge_is (Stop s) e h = absurd cc
+
+pub halo_is : (l : CertificateLine) (e : Border) → e ∷ [] ≡ halo_in l → l ≡ Halo e
+halo_is (Module b) e h = absurd cc
+halo_is (Cut n) e h = absurd cc
+halo_is (Use k) e h = absurd cc
+halo_is (Keep k) e h = absurd cc
+halo_is (Edge d) e h = absurd cc
+halo_is (Halo d) e h = ap Halo (sym (ap (λ l. get_or l 0 e) h))
+halo_is (Stop s) e h = absurd cc
+
+pub stop_is : (l : CertificateLine) (s : StopLine) → s ∷ [] ≡ stop_in l → l ≡ Stop s
+stop_is (Module b) s h = absurd cc
+stop_is (Cut n) s h = absurd cc
+stop_is (Use k) s h = absurd cc
+stop_is (Keep k) s h = absurd cc
+stop_is (Edge d) s h = absurd cc
+stop_is (Halo d) s h = absurd cc
+stop_is (Stop t) s h = ap Stop (sym (ap (λ l. get_or l 0 s) h))
 
 -- how two lines may stand one before the other
 precede_parts : (i j : CertificateLine) → may_precede i j ≡ true →

@@ -9,7 +9,7 @@ ghost use Rattle.certificate_lines.specs.declared.certificate_line.CertificateLi
 ghost use Rattle.certificate_lines.specs.declared.certificate_line.CertificateLine.TheVariants.{Stop};
 
 use crate::certificate_line::{Border, CertificateLine, StopLine};
-use crate::kept_line::{KeptBorder, KeptLine};
+use crate::kept_line::{KeptBorder, KeptLine, KeptStop};
 use bbm_rule::Cell;
 use module_box::compare_cells;
 use std::cmp::Ordering;
@@ -103,13 +103,13 @@ fn does_any_precede(first: &CertificateLine, second: &CertificateLine) -> bool
 // Whether the first of two edge lines, or of two halo lines, may stand before the second.
 #[inline(always)]
 #[tactic(auto, unfolding(crate::specs::Versions::line_order))]
-fn does_border_precede(first: &Border, second: &Border) -> bool
+fn does_border_precede(first: &KeptBorder, second: &Border) -> bool
     ensures { result ≡ is_lt (line_order first.now second.now) }
 {
-    let first_time = rank_of_time(first.time);
+    let first_time = rank_of_time(first.time());
     let second_time = rank_of_time(second.time);
     if first_time == second_time {
-        compare_cells(first.cell, second.cell).is_lt()
+        compare_cells(first.cell(), second.cell).is_lt()
     } else {
         first_time < second_time
     }
@@ -118,33 +118,48 @@ fn does_border_precede(first: &Border, second: &Border) -> bool
 // Whether the first of two stops may stand before the second.
 #[inline(always)]
 #[tactic(auto, unfolding(crate::specs::Orders::line_cmp, crate::specs::Orders::rank_of, crate::specs::Orders::number_of, crate::specs::Orders::cell_of))]
-fn does_stop_precede(first: &StopLine, second: &StopLine) -> bool
+fn does_stop_precede(first: &KeptStop, second: &StopLine) -> bool
     ensures { result ≡ is_lt (line_cmp (Stop first.now) (Stop second.now)) }
 {
-    if first.time == second.time {
-        compare_cells(first.cell, second.cell).is_lt()
+    if first.time() == second.time {
+        compare_cells(first.cell(), second.cell).is_lt()
     } else {
-        first.time < second.time
+        first.time() < second.time
     }
 }
 
-// Whether the first line may stand before the second. Most lines follow a line of their kind.
-#[inline(always)]
-fn does_precede(first: &CertificateLine, second: &CertificateLine) -> bool
+// Whether the first line may stand before the second. It makes a copy of the first line with its name.
+#[inline(never)]
+fn does_any_precede_line(first: &KeptLine, second: &CertificateLine) -> bool
     ensures { result ≡ may_precede first.now second.now }
 {
-    match (first, second) {
-        (CertificateLine::Edge(first), CertificateLine::Edge(second)) => {
-            does_border_precede(first, second)
+    does_any_precede(&first.line(), second)
+}
+
+// The same. Most lines follow a line of their kind.
+#[inline(always)]
+fn does_precede(first: &KeptLine, second: &CertificateLine) -> bool
+    ensures { result ≡ may_precede first.now second.now }
+{
+    match second {
+        CertificateLine::Edge(second) => {
+            if let Some(first) = first.edge() {
+                return does_border_precede(&first, second);
+            }
         }
-        (CertificateLine::Halo(first), CertificateLine::Halo(second)) => {
-            does_border_precede(first, second)
+        CertificateLine::Halo(second) => {
+            if let Some(first) = first.halo() {
+                return does_border_precede(&first, second);
+            }
         }
-        (CertificateLine::Stop(first), CertificateLine::Stop(second)) => {
-            does_stop_precede(first, second)
+        CertificateLine::Stop(second) => {
+            if let Some(first) = first.stop() {
+                return does_stop_precede(&first, second);
+            }
         }
-        _ => does_any_precede(first, second),
+        _ => {}
     }
+    does_any_precede_line(first, second)
 }
 
 /// Returns whether a line of a module may follow the lines of the last module of a certificate.
@@ -159,7 +174,7 @@ pub(crate) fn does_follow(entries: &[KeptLine], entry: &CertificateLine) -> bool
 {
     match entries.last() {
         None => true,
-        Some(last) => does_precede(&last.line(), entry),
+        Some(last) => does_precede(last, entry),
     }
 }
 

@@ -1,15 +1,21 @@
-use Rattle.std.proofs.Common.{◌∙◌}
-use Rattle.certificate_lines.proofs.OrderLemmas.{edges_precede, halos_precede, stops_precede}
+use Rattle.std.proofs.Common.{◌∙◌, ap, sym}
+use Rattle.std.specs.Option.{option_to_list}
+use Rattle.certificate_lines.proofs.OrderLemmas.{edge_is, edges_precede, halo_is, halos_precede, stop_is, stops_precede}
 use Rattle.certificate_lines.proofs.order.does_precede.Goals as goal
 
-pub returns-in-Edge-Edge : goal.returns-in-Edge-Edge
-returns-in-Edge-Edge c = rw (c.in-Edge-Edge.is-0, c.in-Edge-Edge.is-1)
-    (c.does_border_precede.ensures ∙ edges_precede c.in-Edge-Edge.first c.in-Edge-Edge.second)
+pub returns-in-Some : goal.returns-in-Some
+returns-in-Some c =
+    let first_is = edge_is c.args.first.now c.in-Some.first (ap option_to_list (sym c.in-Some.is) ∙ c.edge.ensures) in
+    rw (first_is, c.in-Edge.is) (c.does_border_precede.ensures ∙ edges_precede c.in-Some.first c.in-Edge.second)
 
-pub returns-in-Halo-Halo : goal.returns-in-Halo-Halo
-returns-in-Halo-Halo c = rw (c.in-Halo-Halo.is-0, c.in-Halo-Halo.is-1)
-    (c.does_border_precede-in-Halo-Halo.ensures ∙ halos_precede c.in-Halo-Halo.first c.in-Halo-Halo.second)
+pub returns-in-Some-halo : goal.returns-in-Some-halo
+returns-in-Some-halo c =
+    let first_is = halo_is c.args.first.now c.in-Some-halo.first
+    (ap option_to_list (sym c.in-Some-halo.is) ∙ c.halo.ensures) in
+    rw (first_is, c.in-Halo.is) (c.does_border_precede-in-Some-halo.ensures ∙ halos_precede c.in-Some-halo.first c.in-Halo.second)
 
-pub returns-in-Stop-Stop : goal.returns-in-Stop-Stop
-returns-in-Stop-Stop c = rw (c.in-Stop-Stop.is-0, c.in-Stop-Stop.is-1)
-    (c.does_stop_precede.ensures ∙ stops_precede c.in-Stop-Stop.first c.in-Stop-Stop.second)
+pub returns-in-Some-stop : goal.returns-in-Some-stop
+returns-in-Some-stop c =
+    let first_is = stop_is c.args.first.now c.in-Some-stop.first
+    (ap option_to_list (sym c.in-Some-stop.is) ∙ c.stop.ensures) in
+    rw (first_is, c.in-Stop.is) (c.does_stop_precede.ensures ∙ stops_precede c.in-Some-stop.first c.in-Stop.second)
