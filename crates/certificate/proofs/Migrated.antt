@@ -62,10 +62,10 @@ alone (Edge e) o = refl
 alone (Halo e) o = absurd cc
 alone (Stop s) o = refl
 
-kept_line : (i : CertificateLine) → is_halo i ≡ false → (m : ModuleLines) →
+stored_line : (i : CertificateLine) → is_halo i ≡ false → (m : ModuleLines) →
     stripped (with_line i m) ≡ with_line i (stripped m)
 unfolding stripped without_halos is_halo
-kept_line i other m = ap (λ l. record m { lines = l })
+stored_line i other m = ap (λ l. record m { lines = l })
     (without_append m.lines (i ∷ []) ∙ ap (λ l. without_halos m.lines ++ l) (alone i other))
 
 dropped_line : (e : Border) (m : ModuleLines) → stripped (with_line (Halo e) m) ≡ stripped m
@@ -75,7 +75,7 @@ dropped_line e m = ap (λ l. record m { lines = l })
 
 inner_step : (i : CertificateLine) → is_halo i ≡ false → (ms : List ModuleLines) →
     map stripped (change_last (with_line i) ms) ≡ change_last (with_line i) (map stripped ms)
-inner_step i other ms = map_changed stripped (with_line i) (with_line i) (kept_line i other) ms
+inner_step i other ms = map_changed stripped (with_line i) (with_line i) (stored_line i other) ms
 
 halo_step : (e : Border) (ms : List ModuleLines) → map stripped (change_last (with_line (Halo e)) ms) ≡ map stripped ms
 halo_step e ms = map_changed stripped (with_line (Halo e)) (λ m. m) (dropped_line e) ms ∙ unchanged (map stripped ms)

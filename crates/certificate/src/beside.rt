@@ -11,7 +11,7 @@ ghost use Rattle.certificate_lines.specs.Versions.{beside, in_order, is_early, i
 ghost use Rattle.certificate_lines.specs.declared.certificate_line.CertificateLine.TheVariants.{Halo, Stop};
 
 use certificate_lines::{
-    CertificateLine, KeptBorder, KeptLine, compare_borders, inner_lines, push_entry,
+    CertificateLine, StoredBorder, StoredLine, compare_borders, inner_lines, push_entry,
 };
 use module_box::Box2;
 use std::alloc::{AllocError, Global};
@@ -20,13 +20,13 @@ use std::alloc::{AllocError, Global};
 #[derive(Clone, Copy)]
 pub(crate) struct ModuleSlice<'b, 'a> {
     pub(crate) area: Box2,
-    pub(crate) lines: &'b [KeptLine<'a>],
+    pub(crate) lines: &'b [StoredLine<'a>],
 }
 
 /// Returns the modules of lines.
 pub(crate) fn module_slices<'b, 'a>(
     alloc: Global,
-    entries: &'b [KeptLine<'a>],
+    entries: &'b [StoredLine<'a>],
 ) -> Result<Vec<ModuleSlice<'b, 'a>>, AllocError>
     ensures { IfOk result (λ parts. map slice_lines parts.items ≡ modules_of entries.now) }
 {
@@ -43,7 +43,7 @@ pub(crate) fn module_slices<'b, 'a>(
 }
 
 // Adds a line that is an edge line.
-fn push_edge<'a>(halos: &mut Vec<KeptBorder<'a>>, line: &KeptLine<'a>) -> Result<(), AllocError>
+fn push_edge<'a>(halos: &mut Vec<StoredBorder<'a>>, line: &StoredLine<'a>) -> Result<(), AllocError>
     ensures { OnOk result (halos.new.items ≡ halos.old.items ++ edge_in line.now) }
 {
     if let Some(border) = line.edge() {
@@ -54,8 +54,8 @@ fn push_edge<'a>(halos: &mut Vec<KeptBorder<'a>>, line: &KeptLine<'a>) -> Result
 
 // Adds the line at this place, if there is one and it is an edge line.
 fn push_edge_at<'a>(
-    halos: &mut Vec<KeptBorder<'a>>,
-    entries: &[KeptLine<'a>],
+    halos: &mut Vec<StoredBorder<'a>>,
+    entries: &[StoredLine<'a>],
     place: u32,
 ) -> Result<(), AllocError>
     ensures { OnOk result (halos.new.items
@@ -69,9 +69,9 @@ fn push_edge_at<'a>(
 
 fn lines_at<'a>(
     alloc: Global,
-    entries: &[KeptLine<'a>],
+    entries: &[StoredLine<'a>],
     places: &[u32],
-) -> Result<Vec<KeptBorder<'a>>, AllocError>
+) -> Result<Vec<StoredBorder<'a>>, AllocError>
     ensures { IfOk result (λ halos. halos.items ≡ edges_at entries.now places.now) }
 {
     let mut halos = Vec::with_capacity(alloc, places.len())?;
@@ -84,9 +84,9 @@ fn lines_at<'a>(
 // The edge lines at these places, in order, if they are those beside a box.
 fn halos_at<'a>(
     alloc: Global,
-    entries: &[KeptLine<'a>],
+    entries: &[StoredLine<'a>],
     places: &[u32],
-) -> Result<Vec<KeptBorder<'a>>, AllocError>
+) -> Result<Vec<StoredBorder<'a>>, AllocError>
     ensures { IfOk result (λ halos. (g : Setting) (area : Box2) →
         AreModules g (modules_of entries.now) →
         edges_at entries.now places.now ≡ beside g (modules_of entries.now) area →
@@ -109,7 +109,7 @@ pub(crate) fn is_halo(line: &CertificateLine) -> bool
 }
 
 /// Returns whether a line that is kept is a halo line.
-pub(crate) fn is_halo_line(line: &KeptLine) -> bool
+pub(crate) fn is_halo_line(line: &StoredLine) -> bool
     ensures { result ≡ is_halo line.now }
 {
     is_halo(&line.line())
@@ -117,7 +117,7 @@ pub(crate) fn is_halo_line(line: &KeptLine) -> bool
 
 // Whether a line stands before the halo lines of its module.
 #[tactic(auto, unfolding(certificate_lines::specs::Versions::is_early))]
-fn is_early(line: &KeptLine) -> bool
+fn is_early(line: &StoredLine) -> bool
     ensures { result ≡ is_early line.now }
 {
     match line.line() {
@@ -127,7 +127,7 @@ fn is_early(line: &KeptLine) -> bool
     }
 }
 
-fn push_line_of<'a>(full: &mut Vec<KeptLine<'a>>, line: KeptLine<'a>) -> Result<(), AllocError>
+fn push_line_of<'a>(full: &mut Vec<StoredLine<'a>>, line: StoredLine<'a>) -> Result<(), AllocError>
     ensures { OnOk result (full.new.items ≡ full.old.items ++ line.entry ∷ []) }
 {
     match push_entry(full, line) {
@@ -137,7 +137,10 @@ fn push_line_of<'a>(full: &mut Vec<KeptLine<'a>>, line: KeptLine<'a>) -> Result<
 }
 
 // Adds the lines that stand before the halo lines.
-fn push_early<'a>(full: &mut Vec<KeptLine<'a>>, lines: &[KeptLine<'a>]) -> Result<(), AllocError>
+fn push_early<'a>(
+    full: &mut Vec<StoredLine<'a>>,
+    lines: &[StoredLine<'a>],
+) -> Result<(), AllocError>
     ensures { OnOk result (full.new.items ≡ full.old.items ++ filter is_early lines.now) }
 {
     'lines: for line in lines {
@@ -148,17 +151,20 @@ fn push_early<'a>(full: &mut Vec<KeptLine<'a>>, lines: &[KeptLine<'a>]) -> Resul
     Ok(())
 }
 
-fn push_halos<'a>(full: &mut Vec<KeptLine<'a>>, halos: &[KeptBorder<'a>]) -> Result<(), AllocError>
+fn push_halos<'a>(
+    full: &mut Vec<StoredLine<'a>>,
+    halos: &[StoredBorder<'a>],
+) -> Result<(), AllocError>
     ensures { OnOk result (full.new.items ≡ full.old.items ++ map Halo halos.now) }
 {
     'halos: for halo in halos {
-        push_line_of(full, KeptLine::halo_line(halo))?;
+        push_line_of(full, StoredLine::halo_line(halo))?;
     }
     Ok(())
 }
 
 // Adds a line that is a stop.
-fn push_stop<'a>(full: &mut Vec<KeptLine<'a>>, line: &KeptLine<'a>) -> Result<(), AllocError>
+fn push_stop<'a>(full: &mut Vec<StoredLine<'a>>, line: &StoredLine<'a>) -> Result<(), AllocError>
     ensures { OnOk result (full.new.items ≡ full.old.items ++ map Stop (stop_in line.now)) }
 {
     match line.line() {
@@ -168,7 +174,10 @@ fn push_stop<'a>(full: &mut Vec<KeptLine<'a>>, line: &KeptLine<'a>) -> Result<()
 }
 
 // Adds the stops.
-fn push_stops<'a>(full: &mut Vec<KeptLine<'a>>, lines: &[KeptLine<'a>]) -> Result<(), AllocError>
+fn push_stops<'a>(
+    full: &mut Vec<StoredLine<'a>>,
+    lines: &[StoredLine<'a>],
+) -> Result<(), AllocError>
     ensures { OnOk result (full.new.items
         ≡ full.old.items ++ map Stop (flat_map stop_in lines.now)) }
 {
@@ -184,10 +193,10 @@ fn push_stops<'a>(full: &mut Vec<KeptLine<'a>>, lines: &[KeptLine<'a>]) -> Resul
 #[tactic(auto, unfolding(certificate_lines::specs::Versions::with_halos))]
 pub(crate) fn full_lines<'a>(
     alloc: Global,
-    entries: &[KeptLine<'a>],
+    entries: &[StoredLine<'a>],
     places: &[u32],
     part: &ModuleSlice<'_, 'a>,
-) -> Result<Vec<KeptLine<'a>>, AllocError>
+) -> Result<Vec<StoredLine<'a>>, AllocError>
     ensures { IfOk result (λ lines. (g : Setting) → AreModules g (modules_of entries.now) →
         edges_at entries.now places.now ≡ beside g (modules_of entries.now) part.now.area →
         record { area = part.now.area; lines = lines.items }

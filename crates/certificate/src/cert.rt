@@ -11,7 +11,7 @@ ghost use Rattle.certificate.specs.Grammars.{modules_in};
 ghost use Rattle.certificate_lines.specs.Settings.{setting_of};
 ghost use Rattle.certificate_lines.specs.Modules.{AreModules, HasFewLines};
 
-use certificate_lines::{Counts, KeptLine};
+use certificate_lines::{Counts, StoredLine};
 use circuit::Circuit;
 use pattern::{Layout, LayoutHeader};
 use std::marker::Model;
@@ -24,7 +24,7 @@ pub struct Cert<'a> {
     pub(crate) circuit: &'a Circuit,
     pub(crate) layout: &'a Layout,
     pub(crate) version: u32,
-    pub(crate) entries: Vec<KeptLine<'a>>,
+    pub(crate) entries: Vec<StoredLine<'a>>,
     pub(crate) modules: Vec<Counts>,
     // the digest of its text, if it was taken from the bytes that were read
     pub(crate) digest: Option<[u8; 32]>,
@@ -66,7 +66,7 @@ impl<'a> Cert<'a> {
     }
 
     // The lines between the header and the end.
-    pub(crate) fn entries(&self) -> &[KeptLine<'a>]
+    pub(crate) fn entries(&self) -> &[StoredLine<'a>]
         ensures { result.now ≡ self.now.entries }
     {
         self.entries.as_slice()

@@ -7,12 +7,12 @@ ghost use Rattle.certificate.specs.Text.{certificate_text, entry_text};
 
 use crate::cert::Cert;
 use crate::printing::{print_entry, print_header};
-use certificate_lines::KeptLine;
+use certificate_lines::StoredLine;
 use sha2::{Digest, Sha256};
 use std::alloc::{AllocError, Global};
 
 // Hashes the text of a line, which is printed in place of the one before it.
-fn hash_line(hasher: &mut Sha256, line: &mut Vec<u8>, entry: &KeptLine) -> Result<(), AllocError>
+fn hash_line(hasher: &mut Sha256, line: &mut Vec<u8>, entry: &StoredLine) -> Result<(), AllocError>
     ensures { OnOk result ((m : List ℕ) → Holds256 hasher.old m →
         Holds256 hasher.new (m ++ entry_text entry.now)) }
 {
@@ -26,7 +26,7 @@ fn hash_line(hasher: &mut Sha256, line: &mut Vec<u8>, entry: &KeptLine) -> Resul
 fn hash_lines(
     hasher: &mut Sha256,
     line: &mut Vec<u8>,
-    entries: &[KeptLine],
+    entries: &[StoredLine],
 ) -> Result<(), AllocError>
     ensures { OnOk result ((m : List ℕ) → Holds256 hasher.old m →
         Holds256 hasher.new (m ++ flat_map entry_text entries.now)) }

@@ -16,7 +16,7 @@ ghost use Rattle.certificate.specs.SliceLines.{slice_lines};
 use crate::beside::ModuleSlice;
 use crate::layout_tables::LayoutTables;
 use bbm_rule::Cell;
-use certificate_lines::{CertificateLine, KeptLine, inner_lines, is_module, odd_partner};
+use certificate_lines::{CertificateLine, StoredLine, inner_lines, is_module, odd_partner};
 use module_box::{Box2, Owners, owner_table};
 use std::alloc::{AllocError, Global};
 use std::mem::replace;
@@ -132,7 +132,7 @@ fn push_line(
     owners: &Owners,
     boxes: &[Box2],
     place: u32,
-    line: &KeptLine,
+    line: &StoredLine,
 ) -> Result<(), AllocError>
     requires table { AreReady boxes.now owners.now (map (λ l. l.items) lists.old.items) }
     requires inner { All (λ e. IsInnerCell (rectangle owners.now) e.cell) (edge_in line.now) }
@@ -154,7 +154,7 @@ fn push_lines(
     owners: &Owners,
     boxes: &[Box2],
     from: usize,
-    lines: &[KeptLine],
+    lines: &[StoredLine],
 ) -> Result<(), AllocError>
     requires table { AreReady boxes.now owners.now (map (λ l. l.items) lists.old.items) }
     requires inner { All (λ e. IsInnerCell (rectangle owners.now) e.cell)
@@ -199,7 +199,7 @@ fn owners_of(
     alloc: Global,
     tables: &LayoutTables,
     boxes: &[Box2],
-    entries: &[KeptLine],
+    entries: &[StoredLine],
 ) -> Result<Owners, AllocError>
     requires modules { AreModules (setting_of tables.now.circuit tables.now.layout)
         (modules_of entries.now) }
@@ -221,7 +221,7 @@ fn push_modules(
     lists: &mut Vec<Vec<u32>>,
     owners: &Owners,
     boxes: &[Box2],
-    entries: &[KeptLine],
+    entries: &[StoredLine],
 ) -> Result<(), AllocError>
     requires table { AreReady boxes.now owners.now (map (λ l. l.items) lists.old.items) }
     requires inner { All (λ e. IsInnerCell (rectangle owners.now) e.cell)
@@ -246,7 +246,7 @@ fn push_modules(
 pub(crate) fn halo_places(
     alloc: Global,
     tables: &LayoutTables,
-    entries: &[KeptLine],
+    entries: &[StoredLine],
     parts: &[ModuleSlice],
 ) -> Result<Vec<Vec<u32>>, AllocError>
     requires modules { AreModules (setting_of tables.now.circuit tables.now.layout)

@@ -28,7 +28,7 @@ use crate::layout_tables::LayoutTables;
 use crate::stops::stops_of;
 use crate::timetable::{Side, signals_of};
 use certificate_lines::{
-    CertificateLine, KeptLine, cut_list, inner_lines, kept_places, used_gates,
+    CertificateLine, StoredLine, cut_list, inner_lines, kept_places, used_gates,
 };
 use circuit::Circuit;
 use module_box::{Box2, Locals, Schedule};
@@ -40,7 +40,7 @@ use std::sync::Arc;
 fn named_locals(
     alloc: Global,
     circuit: &Circuit,
-    lines: &[KeptLine],
+    lines: &[StoredLine],
 ) -> Result<(Locals, Vec<u16>), AllocError>
     requires lines { AreLocalLines (netlist_of circuit.now)
         (flat_map (λ n. option_to_list (wire_of (circuit_of circuit.now) n))
@@ -79,7 +79,7 @@ fn own_signals(
     locals: &Locals,
     side: Side,
     area: Box2,
-    lines: &[KeptLine],
+    lines: &[StoredLine],
 ) -> Result<Schedule, AllocError>
     requires order { AreInOrder lines.now }
     requires local { All (IsNamedLocal (circuit_of circuit.now) locals.now)
@@ -105,7 +105,7 @@ fn schedules(
     circuit: &Circuit,
     locals: &Locals,
     area: Box2,
-    lines: &[KeptLine],
+    lines: &[StoredLine],
 ) -> Result<(Schedule, Schedule), AllocError>
     requires order { AreInOrder lines.now }
     requires edges { All (IsNamedLocal (circuit_of circuit.now) locals.now)
@@ -143,7 +143,7 @@ fn own_stops(
     circuit: &Circuit,
     locals: &Locals,
     area: Box2,
-    lines: &[KeptLine],
+    lines: &[StoredLine],
 ) -> Result<Vec<Stop>, AllocError>
     requires local { All
         (λ s. IsTrue (is_local (circuit_of circuit.now) locals.now.circuit_wires s.wire))
@@ -168,7 +168,7 @@ fn make_job(
     alloc: Global,
     tables: &LayoutTables,
     area: Box2,
-    lines: &[KeptLine],
+    lines: &[StoredLine],
 ) -> Result<Job, AllocError>
     requires module { IsModule (setting_of tables.now.circuit tables.now.layout)
         (record { area = area; lines = lines.now }) }
@@ -209,7 +209,7 @@ fn make_job(
 fn jobs_of_lines(
     alloc: Global,
     tables: &LayoutTables,
-    entries: &[KeptLine],
+    entries: &[StoredLine],
 ) -> Result<Vec<Arc<Job>>, AllocError>
     requires { AreModules (setting_of tables.now.circuit tables.now.layout)
         (modules_of entries.now) }
@@ -230,7 +230,7 @@ fn jobs_of_lines(
 fn jobs_of_parts<'a>(
     alloc: Global,
     tables: &LayoutTables,
-    entries: &[KeptLine<'a>],
+    entries: &[StoredLine<'a>],
     parts: &[ModuleSlice<'_, 'a>],
 ) -> Result<Vec<Arc<Job>>, AllocError>
     requires parts { map slice_lines parts.now ≡ modules_of entries.now }
@@ -262,7 +262,7 @@ fn jobs_of_version(
     alloc: Global,
     tables: &LayoutTables,
     version: u32,
-    entries: &[KeptLine],
+    entries: &[StoredLine],
 ) -> Result<Vec<Arc<Job>>, AllocError>
     requires modules { AreModules (setting_of tables.now.circuit tables.now.layout)
         (modules_of entries.now) }

@@ -8,13 +8,13 @@ ghost use Rattle.certificate_lines.specs.Settings.{setting_of};
 ghost use Rattle.certificate.specs.Keeps.{is_kept, unkept};
 
 use crate::cert::Cert;
-use certificate_lines::{CertificateLine, KeptLine, inner_lines, is_module};
+use certificate_lines::{CertificateLine, StoredLine, inner_lines, is_module};
 use circuit::GateNo;
 use indexmap::IndexSet;
 use std::alloc::{AllocError, Global};
 
 // Notes the gate that a line keeps, if it is such a line.
-fn note_keep(kept: &mut IndexSet<u32>, line: &KeptLine) -> Result<(), AllocError>
+fn note_keep(kept: &mut IndexSet<u32>, line: &StoredLine) -> Result<(), AllocError>
     ensures { OnOk result ((n : ℕ) →
         is_among kept.new.keys n ≡ (is_among kept.old.keys n || is_among (keep_in line.now) n)) }
 {
@@ -25,7 +25,7 @@ fn note_keep(kept: &mut IndexSet<u32>, line: &KeptLine) -> Result<(), AllocError
 }
 
 // Notes the gates that the lines keep.
-fn note_keeps(kept: &mut IndexSet<u32>, lines: &[KeptLine]) -> Result<(), AllocError>
+fn note_keeps(kept: &mut IndexSet<u32>, lines: &[StoredLine]) -> Result<(), AllocError>
     ensures { OnOk result ((n : ℕ) →
         is_among kept.new.keys n
         ≡ (is_among kept.old.keys n || is_among (flat_map keep_in lines.now) n)) }
@@ -37,7 +37,7 @@ fn note_keeps(kept: &mut IndexSet<u32>, lines: &[KeptLine]) -> Result<(), AllocE
 }
 
 // The gates that some module of the lines keeps.
-fn kept_gates(alloc: Global, entries: &[KeptLine]) -> Result<IndexSet<u32>, AllocError>
+fn kept_gates(alloc: Global, entries: &[StoredLine]) -> Result<IndexSet<u32>, AllocError>
     ensures { IfOk result (λ kept. (n : ℕ) →
         is_among kept.keys n ≡ is_kept (modules_of entries.now) n) }
 {

@@ -9,7 +9,7 @@ ghost use Rattle.certificate_lines.specs.Versions.{without_halos};
 
 use crate::beside::is_halo_line;
 use crate::cert::Cert;
-use certificate_lines::{Border, CertificateLine, KeptLine, StopLine};
+use certificate_lines::{Border, CertificateLine, StopLine, StoredLine};
 use module_box::Box2;
 use pattern::print_cell;
 use section_text::{Name, print_number, print_word};
@@ -113,7 +113,7 @@ fn print_stop(out: &mut Vec<u8>, stop: &StopLine) -> Result<(), AllocError>
 }
 
 /// Prints a line between the header and the end.
-pub(crate) fn print_entry(out: &mut Vec<u8>, entry: &KeptLine) -> Result<(), AllocError>
+pub(crate) fn print_entry(out: &mut Vec<u8>, entry: &StoredLine) -> Result<(), AllocError>
     ensures { OnOk result (out.new.items ≡ out.old.items ++ entry_text entry.now) }
 {
     match entry.line() {
@@ -127,7 +127,7 @@ pub(crate) fn print_entry(out: &mut Vec<u8>, entry: &KeptLine) -> Result<(), All
     }
 }
 
-fn print_entries(out: &mut Vec<u8>, entries: &[KeptLine]) -> Result<(), AllocError>
+fn print_entries(out: &mut Vec<u8>, entries: &[StoredLine]) -> Result<(), AllocError>
     ensures { OnOk result (out.new.items ≡ out.old.items ++ flat_map entry_text entries.now) }
 {
     for entry in entries {
@@ -138,7 +138,7 @@ fn print_entries(out: &mut Vec<u8>, entries: &[KeptLine]) -> Result<(), AllocErr
 
 // A line, unless it is a halo line.
 #[tactic(auto, unfolding(certificate_lines::specs::Versions::without_halos))]
-fn print_unless_halo(out: &mut Vec<u8>, entry: &KeptLine) -> Result<(), AllocError>
+fn print_unless_halo(out: &mut Vec<u8>, entry: &StoredLine) -> Result<(), AllocError>
     ensures { OnOk result (out.new.items
         ≡ out.old.items ++ flat_map entry_text (without_halos (entry.now ∷ []))) }
 {
@@ -149,7 +149,7 @@ fn print_unless_halo(out: &mut Vec<u8>, entry: &KeptLine) -> Result<(), AllocErr
 }
 
 // The lines other than halo lines.
-fn print_without_halos(out: &mut Vec<u8>, entries: &[KeptLine]) -> Result<(), AllocError>
+fn print_without_halos(out: &mut Vec<u8>, entries: &[StoredLine]) -> Result<(), AllocError>
     ensures { OnOk result (out.new.items
         ≡ out.old.items ++ flat_map entry_text (without_halos entries.now)) }
 {

@@ -13,7 +13,7 @@ ghost use Rattle.certificate.specs.StopLists.{AreStops};
 ghost use Rattle.certificate_lines.specs.declared.certificate_line.StopLine.{StopLine as Line};
 
 use crate::named_wires::{NamedWire, SLOT_COUNT, empty_slots, slot_wire};
-use certificate_lines::{KeptLine, KeptStop};
+use certificate_lines::{StoredLine, StoredStop};
 use circuit::Circuit;
 use module_box::{Locals, Moment};
 use module_job::Stop;
@@ -24,7 +24,7 @@ fn local_stop<'a>(
     circuit: &Circuit,
     locals: &Locals,
     slots: &mut [Option<NamedWire<'a>>; SLOT_COUNT],
-    line: &KeptStop<'a>,
+    line: &StoredStop<'a>,
 ) -> Stop
     requires local { IsTrue
         (is_local (circuit_of circuit.now) locals.now.circuit_wires line.now.wire) }
@@ -48,7 +48,7 @@ fn push_stop<'a>(
     circuit: &Circuit,
     locals: &Locals,
     slots: &mut [Option<NamedWire<'a>>; SLOT_COUNT],
-    line: &KeptLine<'a>,
+    line: &StoredLine<'a>,
 ) -> Result<(), AllocError>
     requires local { All
         (λ s. IsTrue (is_local (circuit_of circuit.now) locals.now.circuit_wires s.wire))
@@ -70,7 +70,7 @@ pub(crate) fn stops_of(
     alloc: Global,
     circuit: &Circuit,
     locals: &Locals,
-    lines: &[KeptLine],
+    lines: &[StoredLine],
 ) -> Result<Vec<Stop>, AllocError>
     requires { All (λ s. IsTrue (is_local (circuit_of circuit.now) locals.now.circuit_wires s.wire))
         (flat_map stop_in lines.now) }

@@ -11,7 +11,7 @@ ghost use Rattle.certificate.specs.SeenTimes.{IsTable, chosen, told_by};
 ghost use Rattle.certificate_lines.specs.declared.certificate_line.StopLine.{StopLine as Line};
 
 use crate::cert::Cert;
-use certificate_lines::{KeptLine, KeptStop, inner_lines};
+use certificate_lines::{StoredLine, StoredStop, inner_lines};
 use circuit::{Circuit, GateKind, GateNo, GateWires, WireNo};
 use std::alloc::{AllocError, Global};
 
@@ -78,7 +78,7 @@ fn chosen(choice: Choice, before: Option<u32>, time: u32) -> Option<u32>
 }
 
 // Takes a stop into a table of the wires.
-fn note_stop(table: &mut [Option<u32>], circuit: &Circuit, choice: Choice, stop: &KeptStop)
+fn note_stop(table: &mut [Option<u32>], circuit: &Circuit, choice: Choice, stop: &StoredStop)
     requires { length table.old ≡ wires (netlist_of circuit.now) }
     ensures table { (ss : List Line) → IsTable choice (circuit_of circuit.now) ss table.old →
         IsTable choice (circuit_of circuit.now) (ss ++ stop.now ∷ []) table.new }
@@ -91,7 +91,7 @@ fn note_stop(table: &mut [Option<u32>], circuit: &Circuit, choice: Choice, stop:
 }
 
 // Takes a line into it, if it is a stop.
-fn note_line(table: &mut [Option<u32>], circuit: &Circuit, choice: Choice, line: &KeptLine)
+fn note_line(table: &mut [Option<u32>], circuit: &Circuit, choice: Choice, line: &StoredLine)
     requires { length table.old ≡ wires (netlist_of circuit.now) }
     ensures table { (ss : List Line) → IsTable choice (circuit_of circuit.now) ss table.old →
         IsTable choice (circuit_of circuit.now) (ss ++ stop_in line.now) table.new }
@@ -107,7 +107,7 @@ fn table_of(
     alloc: Global,
     circuit: &Circuit,
     choice: Choice,
-    lines: &[KeptLine],
+    lines: &[StoredLine],
 ) -> Result<Vec<Option<u32>>, AllocError>
     ensures { IfOk result (λ table. IsTable choice (circuit_of circuit.now)
         (flat_map stop_in lines.now) table.items) }
@@ -249,7 +249,7 @@ fn lines_by(
 
 // The lines from the first `module` line on.
 #[tactic(auto, using(crate::proofs::TimeLemmas::inner_within))]
-fn module_lines<'b, 'a>(entries: &'b [KeptLine<'a>]) -> &'b [KeptLine<'a>]
+fn module_lines<'b, 'a>(entries: &'b [StoredLine<'a>]) -> &'b [StoredLine<'a>]
     ensures { flat_map stop_in result.now ≡ all_stops (modules_of entries.now) }
 {
     let before = inner_lines(entries).len();
@@ -260,7 +260,7 @@ fn module_lines<'b, 'a>(entries: &'b [KeptLine<'a>]) -> &'b [KeptLine<'a>]
 fn lines_of(
     alloc: Global,
     circuit: &Circuit,
-    entries: &[KeptLine],
+    entries: &[StoredLine],
 ) -> Result<Vec<TimeLine>, AllocError>
     ensures { IfOk result (λ lines. lines.items
         ≡ time_lines (circuit_of circuit.now) (modules_of entries.now)) }

@@ -14,7 +14,7 @@ ghost use Rattle.certificate.specs.NamedWires.{AreNamedWires};
 ghost use Rattle.certificate_lines.specs.declared.certificate_line.Border.{Border};
 
 use crate::named_wires::{NamedWire, SLOT_COUNT, empty_slots, slot_wire};
-use certificate_lines::{KeptBorder, KeptLine};
+use certificate_lines::{StoredBorder, StoredLine};
 use circuit::Circuit;
 use module_box::{AllTimes, Event, Locals, Moment, Schedule, Signal};
 use section_text::Name;
@@ -59,7 +59,7 @@ fn local_signal<'a>(
 }
 
 impl<'a> Timetable<'a> {
-    fn push(&mut self, border: &KeptBorder, signal: Signal) -> Result<(), AllocError>
+    fn push(&mut self, border: &StoredBorder, signal: Signal) -> Result<(), AllocError>
         ensures all_times { OnOk result (self.new.all_times.items
             ≡ self.old.all_times.items ++ all_times_by border.now border.now.time signal) }
         ensures events { OnOk result (self.new.events.items
@@ -83,7 +83,7 @@ impl<'a> Timetable<'a> {
         &mut self,
         circuit: &Circuit,
         locals: &Locals,
-        border: &KeptBorder<'a>,
+        border: &StoredBorder<'a>,
     ) -> Result<(), AllocError>
         requires { IsNamedLocal (circuit_of circuit.now) locals.now border.now }
         ensures { OnOk result ((es : List Border) →
@@ -100,7 +100,7 @@ impl<'a> Timetable<'a> {
         circuit: &Circuit,
         locals: &Locals,
         side: Side,
-        line: &KeptLine<'a>,
+        line: &StoredLine<'a>,
     ) -> Result<(), AllocError>
         requires { All (IsNamedLocal (circuit_of circuit.now) locals.now)
             (borders_in side line.now) }
@@ -126,7 +126,7 @@ pub(crate) fn signals_of(
     circuit: &Circuit,
     locals: &Locals,
     side: Side,
-    lines: &[KeptLine],
+    lines: &[StoredLine],
 ) -> Result<Schedule, AllocError>
     requires order { AreInOrder lines.now }
     requires local { All (IsNamedLocal (circuit_of circuit.now) locals.now)

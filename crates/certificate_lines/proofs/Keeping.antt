@@ -257,12 +257,12 @@ module _ (g : Setting) (es : List CertificateLine) (covered : Board) (counts : L
   the_same : (m : ModuleLines) → last_module es ≡ Some m → good.module_lines ≡ m
   the_same m some = some_is good.module_lines m (sym good.last ∙ some)
 
-  pub kept_line : (IsWritten g good.module_lines → IsWritten g (with_line i good.module_lines)) →
+  pub stored_line : (IsWritten g good.module_lines → IsWritten g (with_line i good.module_lines)) →
       (local' : List ℕ) (e' h' : List Cell)
       → (IsLastModule g good.module_lines last names local e h →
       IsLastModule g (with_line i good.module_lines) (Some i) names local' e' h') →
       IsTracked g (es ++ i ∷ []) covered after (Some i) names local' e' h'
-  kept_line grows local' e' h' shows = record {
+  stored_line grows local' e' h' shows = record {
     built = subst (λ ms. AreBuilt g ms covered after) (sym after_line)
         (line_built g (modules_of es) i covered counts after (counted i) kept.built
         (λ m some. subst (λ k. IsWritten g k → IsWritten g (with_line i k)) (the_same m some) grows) are now);
@@ -395,7 +395,7 @@ module _ (g : Setting) (es : List CertificateLine) (covered : Board) (counts : L
       → ((c : Cell) → list_any (same_cell c) h' ≡ (list_any (same_cell c) h || list_any (is_starred c) (halo_in i)))
       → IsTracked g (es ++ i ∷ []) covered after (Some i) names (local ++ wires_in g.circuit i) e' h'
   kept_inner after now e' h' stars halo_stars =
-      kept_line g es covered counts last names local e h kept i good the_line.line the_line.counts after now
+      stored_line g es covered counts last names local e h kept i good the_line.line the_line.counts after now
       the_line.grows (local ++ wires_in g.circuit i) e' h'
       (λ p. present_line g good.module_lines last names local e h p i the_line.wires e' h' stars halo_stars)
 

@@ -2,7 +2,6 @@ pub mod BorderWords
 pub mod BuilderView
 pub mod Entries
 pub mod Forms
-pub mod KeptLines
 pub mod LineTablesView
 pub mod ModuleParts
 pub mod Modules
@@ -10,5 +9,6 @@ pub mod Orders
 pub mod PortTables
 pub mod Rules
 pub mod Settings
+pub mod StoredLines
 pub mod Versions
 pub mod LastNames

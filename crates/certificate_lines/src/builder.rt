@@ -11,7 +11,6 @@ ghost use Rattle.certificate_lines.specs.declared.certificate_line.CertificateLi
 
 use crate::certificate_line::{CertificateLine, Counts};
 use crate::counts::{count_in_last, last_counts, pop_module, push_entry, push_module};
-use crate::kept_line::KeptLine;
 use crate::known::{learn_line, make_room_for_wires, put_away};
 use crate::line_tables::LineTables;
 use crate::local_names::LocalNames;
@@ -21,6 +20,7 @@ use crate::rules::{
     may_be_halo, may_be_stop, stop_code, use_code,
 };
 use crate::stars::{has_star, make_room_for_stars, note_stars};
+use crate::stored_line::StoredLine;
 use crate::tiles::is_full;
 use bbm_rule::{Cell, Grid};
 use indexmap::IndexSet;
@@ -40,7 +40,7 @@ const MAX_MODULES: usize = 1024;
 #[derive(Drop)]
 pub struct Builder<'a> {
     pub(crate) tables: LineTables<'a>,
-    pub(crate) entries: Vec<KeptLine<'a>>,
+    pub(crate) entries: Vec<StoredLine<'a>>,
     pub(crate) modules: Vec<Counts>,
     // the cells of all boxes
     covered: Grid,
@@ -247,7 +247,7 @@ impl<'a> Builder<'a> {
             return Err(LineFault::Memory);
         }
         let name = own_name(&self.tables, &self.known, &self.local_names, &entry);
-        push_entry(&mut self.entries, KeptLine::of(&entry, name))?;
+        push_entry(&mut self.entries, StoredLine::of(&entry, name))?;
         note_stars(&mut self.edges, &mut self.halos, &entry);
         count_in_last(&mut self.modules, &entry);
         Ok(())
@@ -272,7 +272,7 @@ impl<'a> Builder<'a> {
             return Err(LineFault::Memory);
         }
         let name = own_name(&self.tables, &self.known, &self.local_names, &entry);
-        push_entry(&mut self.entries, KeptLine::of(&entry, name))?;
+        push_entry(&mut self.entries, StoredLine::of(&entry, name))?;
         learn_line(&mut self.known, &self.tables, &entry);
         note_stars(&mut self.edges, &mut self.halos, &entry);
         count_in_last(&mut self.modules, &entry);
@@ -412,7 +412,7 @@ impl<'a> Builder<'a> {
     }
 
     /// Returns the lines, and the counts of the modules.
-    pub fn into_parts(self) -> (Vec<KeptLine<'a>>, Vec<Counts>)
+    pub fn into_parts(self) -> (Vec<StoredLine<'a>>, Vec<Counts>)
         ensures entries { result.0.items ≡ self.entry.entries }
         ensures counts { result.1.items ≡ map counts_of (modules_of self.entry.entries) }
     {

@@ -7,7 +7,7 @@ ghost use Rattle.certificate_lines.specs.declared.certificate_line.Counts.{Count
 ghost use Rattle.certificate_lines.specs.declared.certificate_line.CertificateLine.TheVariants.{Module};
 
 use crate::certificate_line::{CertificateLine, Counts};
-use crate::kept_line::KeptLine;
+use crate::stored_line::StoredLine;
 use module_box::Box2;
 use section_text::LineFault;
 
@@ -51,7 +51,10 @@ pub(crate) fn count_in_last(modules: &mut Vec<Counts>, entry: &CertificateLine)
 
 /// Adds a line at the end.
 #[inline(always)]
-pub fn push_entry<'a>(entries: &mut Vec<KeptLine<'a>>, line: KeptLine<'a>) -> Result<(), LineFault>
+pub fn push_entry<'a>(
+    entries: &mut Vec<StoredLine<'a>>,
+    line: StoredLine<'a>,
+) -> Result<(), LineFault>
     ensures ok { OnOk result (entries.new.items ≡ entries.old.items ++ line.entry ∷ []) }
     ensures err { OnErr result (entries.new.items ≡ entries.old.items) }
     ensures memory { IfErr result (λ e. e ≡ Memory) }
@@ -64,7 +67,7 @@ pub fn push_entry<'a>(entries: &mut Vec<KeptLine<'a>>, line: KeptLine<'a>) -> Re
 
 /// Adds a `module` line, and its counts, or leaves both as they are.
 pub(crate) fn push_module(
-    entries: &mut Vec<KeptLine>,
+    entries: &mut Vec<StoredLine>,
     modules: &mut Vec<Counts>,
     area: Box2,
 ) -> Result<(), LineFault>
@@ -80,7 +83,7 @@ pub(crate) fn push_module(
     let Ok(()) = modules.push(Counts::new(area)) else {
         return Err(LineFault::Memory);
     };
-    if let Err(fault) = push_entry(entries, KeptLine::module(area)) {
+    if let Err(fault) = push_entry(entries, StoredLine::module(area)) {
         modules.truncate(before);
         return Err(fault);
     }
@@ -88,7 +91,7 @@ pub(crate) fn push_module(
 }
 
 /// Takes the last line, and the last counts, away.
-pub(crate) fn pop_module(entries: &mut Vec<KeptLine>, modules: &mut Vec<Counts>)
+pub(crate) fn pop_module(entries: &mut Vec<StoredLine>, modules: &mut Vec<Counts>)
     requires lines { 0 < length entries.old.items }
     requires modules { 0 < length modules.old.items }
     ensures entries { entries.new.items ≡ take (length entries.old.items - 1) entries.old.items }

@@ -14,11 +14,11 @@ ghost use Rattle.certificate_lines.specs.Versions.{is_strange, lacks_wire};
 use crate::blocks::odd_partner;
 use crate::builder::Builder;
 use crate::certificate_line::CertificateLine;
-use crate::kept_line::{KeptBorder, KeptLine};
 use crate::known::knows;
 use crate::line_tables::LineTables;
 use crate::lines::inner_lines;
 use crate::rules::is_local_name;
+use crate::stored_line::{StoredBorder, StoredLine};
 use crate::tiles::whole_of;
 use bbm_rule::Cell;
 use indexmap::IndexSet;
@@ -27,7 +27,7 @@ use section_text::Name;
 use std::alloc::{AllocError, Global};
 
 // Whether a signal is neither `1` nor one of the local wires.
-fn is_unknown(tables: &LineTables, known: &IndexSet<u16>, border: &KeptBorder) -> bool
+fn is_unknown(tables: &LineTables, known: &IndexSet<u16>, border: &StoredBorder) -> bool
     ensures { result ≡ is_strange tables.now.circuit known.now.keys border.now.signal }
 {
     match border.signal() {
@@ -37,7 +37,12 @@ fn is_unknown(tables: &LineTables, known: &IndexSet<u16>, border: &KeptBorder) -
 }
 
 // Whether the signal of an edge line is such, and the line is for a cell of the halo.
-fn is_unknown_line(tables: &LineTables, known: &IndexSet<u16>, area: Box2, line: &KeptLine) -> bool
+fn is_unknown_line(
+    tables: &LineTables,
+    known: &IndexSet<u16>,
+    area: Box2,
+    line: &StoredLine,
+) -> bool
     ensures { result
         ≡ list_any (λ e. is_strange tables.now.circuit known.now.keys e.signal)
         (filter (λ e. in_halo area e.cell.x e.cell.y) (edge_in line.now)) }
@@ -49,7 +54,7 @@ fn is_unknown_line(tables: &LineTables, known: &IndexSet<u16>, area: Box2, line:
 }
 
 // Whether one of these lines is an edge line for a cell in the halo of the box, of a wire that is not local.
-fn has_unknown(tables: &LineTables, known: &IndexSet<u16>, area: Box2, lines: &[KeptLine]) -> bool
+fn has_unknown(tables: &LineTables, known: &IndexSet<u16>, area: Box2, lines: &[StoredLine]) -> bool
     ensures { result
         ≡ list_any (λ e. is_strange tables.now.circuit known.now.keys e.signal)
         (filter (λ e. in_halo area e.cell.x e.cell.y) (flat_map edge_in lines.now)) }
@@ -117,7 +122,7 @@ impl<'a> Builder<'a> {
 
     // Whether one of the edge lines of a module names a wire that is not local in the module of this number, which is
     // beside it.
-    fn lacks_wire_in(&self, number: usize, area: Box2, lines: &[KeptLine]) -> bool
+    fn lacks_wire_in(&self, number: usize, area: Box2, lines: &[StoredLine]) -> bool
         requires number { number < length (modules_of self.now.entries) }
         requires inside { AreInBox area (flat_map edge_in lines.now) }
         ensures { (m : ModuleLines) → slice_get (modules_of self.now.entries) number ≡ Some m →
@@ -131,7 +136,7 @@ impl<'a> Builder<'a> {
     }
 
     // The same of some module. It asks each module, and takes no memory.
-    fn lacks_some_of_all(&self, area: Box2, lines: &[KeptLine]) -> bool
+    fn lacks_some_of_all(&self, area: Box2, lines: &[StoredLine]) -> bool
         requires inside { AreInBox area (flat_map edge_in lines.now) }
         ensures { result
             ≡ list_any (lacks_edge self.now.setting.circuit (flat_map edge_in lines.now))
@@ -281,7 +286,7 @@ impl<'a> Builder<'a> {
         owners: &Owners,
         last: &mut Option<LastName<'b>>,
         found: &mut [Option<KnownWire>; SLOT_COUNT],
-        border: &KeptBorder<'b>,
+        border: &StoredBorder<'b>,
     ) -> bool
         requires owners { AreModuleOwners self.now owners.now }
         requires last { IsLastName self.now.setting.circuit last.old }
@@ -311,7 +316,7 @@ impl<'a> Builder<'a> {
         owners: &Owners,
         last: &mut Option<LastName<'b>>,
         found: &mut [Option<KnownWire>; SLOT_COUNT],
-        line: &KeptLine<'b>,
+        line: &StoredLine<'b>,
     ) -> bool
         requires owners { AreModuleOwners self.now owners.now }
         requires last { IsLastName self.now.setting.circuit last.old }
@@ -330,7 +335,7 @@ impl<'a> Builder<'a> {
     }
 
     // Whether some module lacks the wire of one of the edge lines, by the modules beside each of them.
-    fn lacks_some_beside(&self, owners: &Owners, lines: &[KeptLine]) -> bool
+    fn lacks_some_beside(&self, owners: &Owners, lines: &[StoredLine]) -> bool
         requires owners { AreModuleOwners self.now owners.now }
         requires inside { AreInBox (whole self.now.setting.size) (flat_map edge_in lines.now) }
         ensures { result
@@ -348,7 +353,7 @@ impl<'a> Builder<'a> {
     }
 
     // The same of the edge lines of a module, by a table of owners if there is one.
-    fn lacks_some_in(&self, owners: &Option<Owners>, area: Box2, lines: &[KeptLine]) -> bool
+    fn lacks_some_in(&self, owners: &Option<Owners>, area: Box2, lines: &[StoredLine]) -> bool
         requires owners { IfSome owners.now (AreModuleOwners self.now) }
         requires inside { AreInBox area (flat_map edge_in lines.now) }
         requires on_layout { AreInBox (whole self.now.setting.size) (flat_map edge_in lines.now) }

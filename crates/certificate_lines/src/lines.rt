@@ -9,12 +9,12 @@ ghost use Rattle.certificate_lines.specs.Entries.{ModuleLines, cut_in, use_in, k
 ghost use Rattle.certificate_lines.specs.ModuleParts.{inner, is_module};
 
 use crate::certificate_line::CertificateLine;
-use crate::kept_line::KeptLine;
+use crate::stored_line::StoredLine;
 use circuit::{Circuit, GateNo, WireNo};
 use std::alloc::{AllocError, Global};
 
 /// Returns whether the line begins a module.
-pub fn is_module(entry: &KeptLine) -> bool
+pub fn is_module(entry: &StoredLine) -> bool
     ensures { result ≡ is_module entry.now }
 {
     match entry.line() {
@@ -24,7 +24,7 @@ pub fn is_module(entry: &KeptLine) -> bool
 }
 
 /// Returns the lines before the next `module` line.
-pub fn inner_lines<'b, 'a>(entries: &'b [KeptLine<'a>]) -> &'b [KeptLine<'a>]
+pub fn inner_lines<'b, 'a>(entries: &'b [StoredLine<'a>]) -> &'b [StoredLine<'a>]
     ensures { result.now ≡ inner entries.now }
 {
     for (place, entry) in entries.iter().enumerate() {
@@ -36,7 +36,7 @@ pub fn inner_lines<'b, 'a>(entries: &'b [KeptLine<'a>]) -> &'b [KeptLine<'a>]
 }
 
 // Whether the line uses the gate of this number.
-fn uses(entry: &KeptLine, number: u32) -> bool
+fn uses(entry: &StoredLine, number: u32) -> bool
     ensures { result ≡ is_among (use_in entry.now) number }
 {
     match entry.line() {
@@ -47,7 +47,7 @@ fn uses(entry: &KeptLine, number: u32) -> bool
 
 /// Returns whether the last module of the lines uses the gate of this number. It looks back as far as that module's
 /// `module` line.
-pub(crate) fn is_used(entries: &[KeptLine], number: u32) -> bool
+pub(crate) fn is_used(entries: &[StoredLine], number: u32) -> bool
     ensures { (m : ModuleLines) → last_module entries.now ≡ Some m →
         result ≡ is_among (gates m) number }
 {
@@ -64,7 +64,7 @@ pub(crate) fn is_used(entries: &[KeptLine], number: u32) -> bool
     false
 }
 
-fn push_cut(wires: &mut Vec<WireNo>, circuit: &Circuit, line: &KeptLine) -> Result<(), AllocError>
+fn push_cut(wires: &mut Vec<WireNo>, circuit: &Circuit, line: &StoredLine) -> Result<(), AllocError>
     ensures { OnOk result (wires.new.items
         ≡ wires.old.items ++ flat_map (λ n. option_to_list (wire_of (circuit_of circuit.now) n))
         (cut_in line.now)) }
@@ -80,7 +80,7 @@ fn push_cut(wires: &mut Vec<WireNo>, circuit: &Circuit, line: &KeptLine) -> Resu
 fn push_cuts(
     wires: &mut Vec<WireNo>,
     circuit: &Circuit,
-    lines: &[KeptLine],
+    lines: &[StoredLine],
 ) -> Result<(), AllocError>
     ensures { OnOk result (wires.new.items
         ≡ wires.old.items ++ flat_map (λ n. option_to_list (wire_of (circuit_of circuit.now) n))
@@ -96,7 +96,7 @@ fn push_cuts(
 pub fn cut_list(
     alloc: Global,
     circuit: &Circuit,
-    lines: &[KeptLine],
+    lines: &[StoredLine],
 ) -> Result<Vec<WireNo>, AllocError>
     ensures { IfOk result (λ wires. wires.items
         ≡ flat_map (λ n. option_to_list (wire_of (circuit_of circuit.now) n))
@@ -107,7 +107,7 @@ pub fn cut_list(
     Ok(wires)
 }
 
-fn push_use(gates: &mut Vec<GateNo>, line: &KeptLine) -> Result<(), AllocError>
+fn push_use(gates: &mut Vec<GateNo>, line: &StoredLine) -> Result<(), AllocError>
     requires { All (λ k. k < 2 ^ 16) (use_in line.now) }
     ensures { OnOk result (gates.new.items ≡ gates.old.items ++ use_in line.now) }
 {
@@ -118,7 +118,7 @@ fn push_use(gates: &mut Vec<GateNo>, line: &KeptLine) -> Result<(), AllocError>
 }
 
 /// Returns the gates that the lines use.
-pub fn used_gates(alloc: Global, lines: &[KeptLine]) -> Result<Vec<GateNo>, AllocError>
+pub fn used_gates(alloc: Global, lines: &[StoredLine]) -> Result<Vec<GateNo>, AllocError>
     requires { All (λ k. k < 2 ^ 16) (flat_map use_in lines.now) }
     ensures { IfOk result (λ gates. gates.items ≡ flat_map use_in lines.now) }
 {
@@ -144,7 +144,7 @@ fn place_of(gates: &[GateNo], number: u32) -> u16
     unreachable!()
 }
 
-fn push_keep(places: &mut Vec<u16>, gates: &[GateNo], line: &KeptLine) -> Result<(), AllocError>
+fn push_keep(places: &mut Vec<u16>, gates: &[GateNo], line: &StoredLine) -> Result<(), AllocError>
     requires at_most_64 { length gates.now ≤ 64 }
     requires used { All (λ k. IsTrue (is_among gates.now k)) (keep_in line.now) }
     requires within { All (λ place. place < length gates.now) places.old.items }
@@ -162,7 +162,7 @@ fn push_keep(places: &mut Vec<u16>, gates: &[GateNo], line: &KeptLine) -> Result
 pub fn kept_places(
     alloc: Global,
     gates: &[GateNo],
-    lines: &[KeptLine],
+    lines: &[StoredLine],
 ) -> Result<Vec<u16>, AllocError>
     requires at_most_64 { length gates.now ≤ 64 }
     requires used { All (λ k. IsTrue (is_among gates.now k)) (flat_map keep_in lines.now) }

@@ -9,7 +9,7 @@ ghost use Rattle.certificate_lines.specs.declared.certificate_line.CertificateLi
 ghost use Rattle.certificate_lines.specs.declared.certificate_line.CertificateLine.TheVariants.{Stop};
 
 use crate::certificate_line::{Border, CertificateLine, StopLine};
-use crate::kept_line::{KeptBorder, KeptLine, KeptStop};
+use crate::stored_line::{StoredBorder, StoredLine, StoredStop};
 use bbm_rule::Cell;
 use module_box::compare_cells;
 use std::cmp::Ordering;
@@ -103,7 +103,7 @@ fn does_any_precede(first: &CertificateLine, second: &CertificateLine) -> bool
 // Whether the first of two edge lines, or of two halo lines, may stand before the second.
 #[inline(always)]
 #[tactic(auto, unfolding(crate::specs::Versions::line_order))]
-fn does_border_precede(first: &KeptBorder, second: &Border) -> bool
+fn does_border_precede(first: &StoredBorder, second: &Border) -> bool
     ensures { result ≡ is_lt (line_order first.now second.now) }
 {
     let first_time = rank_of_time(first.time());
@@ -118,7 +118,7 @@ fn does_border_precede(first: &KeptBorder, second: &Border) -> bool
 // Whether the first of two stops may stand before the second.
 #[inline(always)]
 #[tactic(auto, unfolding(crate::specs::Orders::line_cmp, crate::specs::Orders::rank_of, crate::specs::Orders::number_of, crate::specs::Orders::cell_of))]
-fn does_stop_precede(first: &KeptStop, second: &StopLine) -> bool
+fn does_stop_precede(first: &StoredStop, second: &StopLine) -> bool
     ensures { result ≡ is_lt (line_cmp (Stop first.now) (Stop second.now)) }
 {
     if first.time() == second.time {
@@ -130,7 +130,7 @@ fn does_stop_precede(first: &KeptStop, second: &StopLine) -> bool
 
 // Whether the first line may stand before the second. It makes a copy of the first line with its name.
 #[inline(never)]
-fn does_any_precede_line(first: &KeptLine, second: &CertificateLine) -> bool
+fn does_any_precede_line(first: &StoredLine, second: &CertificateLine) -> bool
     ensures { result ≡ may_precede first.now second.now }
 {
     does_any_precede(&first.line(), second)
@@ -138,7 +138,7 @@ fn does_any_precede_line(first: &KeptLine, second: &CertificateLine) -> bool
 
 // The same. Most lines follow a line of their kind.
 #[inline(always)]
-fn does_precede(first: &KeptLine, second: &CertificateLine) -> bool
+fn does_precede(first: &StoredLine, second: &CertificateLine) -> bool
     ensures { result ≡ may_precede first.now second.now }
 {
     match second {
@@ -166,7 +166,7 @@ fn does_precede(first: &KeptLine, second: &CertificateLine) -> bool
 ///
 /// A `module` line comes before all lines of its module.
 #[inline(always)]
-pub(crate) fn does_follow(entries: &[KeptLine], entry: &CertificateLine) -> bool
+pub(crate) fn does_follow(entries: &[StoredLine], entry: &CertificateLine) -> bool
     requires { IsInner entry.now }
     ensures { (lines : List CertificateLine) → AreInOrder lines →
         last_of lines ≡ last_inner entries.now →
@@ -180,7 +180,7 @@ pub(crate) fn does_follow(entries: &[KeptLine], entry: &CertificateLine) -> bool
 
 /// Compares two edge lines, or two halo lines.
 #[tactic(auto, unfolding(crate::specs::Versions::line_order))]
-pub fn compare_borders(first: &KeptBorder, second: &KeptBorder) -> Ordering
+pub fn compare_borders(first: &StoredBorder, second: &StoredBorder) -> Ordering
     ensures { result ≡ line_order first.now second.now }
 {
     rank_of_time(first.time())

@@ -6,11 +6,11 @@ ghost use Rattle.certificate_lines.specs.Entries.{ModuleLines, gates, last_modul
 ghost use Rattle.certificate_lines.specs.Rules.{is_wrong_side, is_misplaced, is_odd, is_local, is_local_wire, cut_fault, gate_fault, use_fault, keep_fault, is_time, is_edge_place, is_halo_place, is_stop_place, signal_fault, wire_fault, border_fault};
 
 use crate::certificate_line::{Border, StopLine};
-use crate::kept_line::KeptLine;
 use crate::known::{are_all_new, knows, knows_all};
 use crate::line_tables::LineTables;
 use crate::lines::is_used;
 use crate::local_names::LocalNames;
+use crate::stored_line::StoredLine;
 use crate::tiles::whole_of;
 use indexmap::IndexSet;
 use module_box::Box2;
@@ -115,7 +115,7 @@ pub(crate) fn use_code(
 #[tactic(auto, unfolding(crate::specs::Rules::keep_fault))]
 pub(crate) fn keep_code(
     tables: &LineTables,
-    entries: &[KeptLine],
+    entries: &[StoredLine],
     number: u32,
 ) -> Option<RefusalCode>
     ensures { (m : ModuleLines) → last_module entries.now ≡ Some m →

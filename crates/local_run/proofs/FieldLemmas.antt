@@ -1,5 +1,6 @@
 -- Steps that pass over the blocks that stay
-use Rattle.std.proofs.Common.{◌≡◌, ◌≢◌, ℕ, true, false, ◌<◌, ◌≤◌, ◌+◌, ◌*◌, ◌/◌, ◌%◌, ◌⊎◌, inl, inr, refl, arith, sym, ◌∙◌, ap}
+use Rattle.std.proofs.Common.{◌≡◌, ◌≢◌, ℕ, true, false, ◌<◌, ◌≤◌, ◌+◌, ◌*◌, ◌/◌, ◌%◌, ◌⊎◌, inl, inr, refl, arith, sym}
+use Rattle.std.proofs.Common.{◌∙◌, ap}
 use Rattle.std.proofs.Common.{List, get_or, subst}
 use Rattle.std.proofs.lemmas.Bool.{false≢true}
 use Rattle.std.proofs.Math.Nat.{div-add-mod, mod-lt, mul-le-mul_left}
@@ -73,10 +74,14 @@ named_next w u a b c d P Q ul ur ll lr ul' ur' ll' lr' ul'' ur'' ll'' lr'' ia ib
           (t.lower_left u k free l) (t.lower_right u k free l) (part.turned k l)))
           (λ ne. turned_after _ _ _ _ _ _ _ _ _ _ _ _ (ul_same n k l ne) (ur_same n k l ne) (ll_same n k l ne)
           (lr_same n k l ne) (t.turned n k (from n ne is) l));
-      upper_left = λ n k miss l. ul_same n k l (other n miss) ∙ t.upper_left n k (λ is. miss (to n (other n miss) is)) l;
-      upper_right = λ n k miss l. ur_same n k l (other n miss) ∙ t.upper_right n k (λ is. miss (to n (other n miss) is)) l;
-      lower_left = λ n k miss l. ll_same n k l (other n miss) ∙ t.lower_left n k (λ is. miss (to n (other n miss) is)) l;
-      lower_right = λ n k miss l. lr_same n k l (other n miss) ∙ t.lower_right n k (λ is. miss (to n (other n miss) is)) l;
+      upper_left = λ n k miss l. ul_same n k l (other n miss)
+          ∙ t.upper_left n k (λ is. miss (to n (other n miss) is)) l;
+      upper_right = λ n k miss l. ur_same n k l (other n miss)
+          ∙ t.upper_right n k (λ is. miss (to n (other n miss) is)) l;
+      lower_left = λ n k miss l. ll_same n k l (other n miss)
+          ∙ t.lower_left n k (λ is. miss (to n (other n miss) is)) l;
+      lower_right = λ n k miss l. lr_same n k l (other n miss)
+          ∙ t.lower_right n k (λ is. miss (to n (other n miss) is)) l;
     }
   where
     other : (n : ℕ) → (Q n → ⊥) → n ≢ u
@@ -107,9 +112,11 @@ named_join w a b c d P Q R ul ur ll lr ul' ur' ll' lr' ul'' ur'' ll'' lr'' apart
         (s.upper_right n k miss l) (s.lower_left n k miss l) (s.lower_right n k miss l) (t.turned n k q l)
   ];
   upper_left = λ n k miss l. t.upper_left n k (λ q. miss (r_of_q n q)) l ∙ s.upper_left n k (λ p. miss (r_of_p n p)) l;
-  upper_right = λ n k miss l. t.upper_right n k (λ q. miss (r_of_q n q)) l ∙ s.upper_right n k (λ p. miss (r_of_p n p)) l;
+  upper_right = λ n k miss l. t.upper_right n k (λ q. miss (r_of_q n q)) l
+      ∙ s.upper_right n k (λ p. miss (r_of_p n p)) l;
   lower_left = λ n k miss l. t.lower_left n k (λ q. miss (r_of_q n q)) l ∙ s.lower_left n k (λ p. miss (r_of_p n p)) l;
-  lower_right = λ n k miss l. t.lower_right n k (λ q. miss (r_of_q n q)) l ∙ s.lower_right n k (λ p. miss (r_of_p n p)) l;
+  lower_right = λ n k miss l. t.lower_right n k (λ q. miss (r_of_q n q)) l
+      ∙ s.lower_right n k (λ p. miss (r_of_p n p)) l;
 }
 
 -- ---- blocks whose marks are in one word, and those whose marks are not among the rest of the word

@@ -63,8 +63,9 @@ impl LiveMarks {
         (self.odd[k] | self.right[k]) | (self.down[k] | self.even[k])
     }
 
-    /// Returns the first number from `from` on of which a cell has a mark that is in a row with the parity of row y, or
-    /// `end` if there is none below it.
+    /// Returns the first number from `from` on of which a cell has a mark, or `end` if there is none below it.
+    ///
+    /// Only cells in rows with the parity of row y count.
     pub fn next_in_row(&self, y: usize, from: usize, end: usize) -> usize
         requires within { (from ≤ end) × (end < 2 ^ 32) }
         requires room { HasMarks end self.now }

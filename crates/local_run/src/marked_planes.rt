@@ -16,8 +16,8 @@ ghost use Rattle.std.specs.Prelude.{ℕ, ◌≡◌, ◌≢◌, ◌+◌, ◌*◌,
 use crate::lines::{CELL_WORDS, LinePlaces, line_number, mark_lines};
 use crate::live::LiveMarks;
 use crate::marks::{
-    is_marked, mark_around, mark_border, mark_corners, next_live_marked, next_marked_in, start_of_word,
-    take_first, word_marked_in,
+    is_marked, mark_around, mark_border, mark_corners, next_live_marked, next_marked_in,
+    start_of_word, take_first, word_marked_in,
 };
 use crate::planes::{Changes, Planes};
 use crate::values::Values;
@@ -168,10 +168,10 @@ impl MarkedPlanes {
         }
     }
 
-    /// Returns the first number, from `from` on, of a word with cells of ring and halo that must be looked at, or how many
-    /// numbers there are if there is none.
+    /// Returns the first number of a word with cells of ring and halo that must be looked at, from `from` on.
     ///
-    /// Such a cell may be live, or a line says something of it at the time that was looked at.
+    /// If there is no such word, it returns how many numbers there are. A cell must be looked at if it may be live, or if
+    /// a line says something of it at the time that was looked at.
     pub fn next_border_word(&self, from: usize) -> usize
         requires within { from ≤ self.now.planes.stride * self.now.planes.rows }
         requires word { from < self.now.planes.stride * self.now.planes.rows → from % 64 ≡ 0 }
@@ -600,8 +600,8 @@ impl MarkedPlanes {
         changed
     }
 
-    // Returns the first number, from `from` on, of a word with a block of the odd partition that may change, or `end` if
-    // there is none below it.
+    // Returns the first number, from `from` on, of a word with a block of the odd partition that may change, or `end`
+    // if there is none below it.
     fn next_odd_word(&self, from: usize, end: usize) -> usize
         requires within { (from ≤ end) × (end ≤ self.now.planes.stride * self.now.planes.rows) }
         requires word { from < end → from % 64 ≡ 0 }

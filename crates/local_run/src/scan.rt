@@ -85,8 +85,8 @@ fn stride_of(kind: Kind, width: usize, height: usize, y: usize) -> usize
     }
 }
 
-// A column from x on: no cell of row y from x to before it has a fault of the kind. At the last time most cells are dead
-// and must be dead.
+// A column from x on: no cell of row y from x to before it has a fault of the kind. At the last time most cells are
+// dead and must be dead.
 fn next_column(marked_planes: &MarkedPlanes, job: &Job, kind: Kind, x: usize, y: usize) -> usize
     requires place { (x < job.now.area.w) × (y < job.now.area.h) }
     requires columns { marked_planes.now.planes.stride ≡ job.now.area.w / 2 + 1 }

@@ -88,8 +88,9 @@ impl Shape {
         self.demands.at(place)
     }
 
-    /// Returns the place of the first cell of the box from `place` on that may be another than dead at time 0, or `end`
-    /// if all before that are dead.
+    /// Returns the place of the first cell of the box from `place` on that may be another than dead at time 0.
+    ///
+    /// If all before `end` are dead, it returns `end`.
     pub fn next_start(&self, place: usize, end: usize) -> usize
         requires { (place ≤ end) × (end < 2 ^ 32) }
         ensures range { (place ≤ result) × (result ≤ end) }
@@ -99,8 +100,9 @@ impl Shape {
         self.starts.next(place, end)
     }
 
-    /// Returns the place of the first cell of the box from `place` on on which there may be another demand than `Dead`,
-    /// or `end` if all before that must be dead at the last time.
+    /// Returns the place of the first cell of the box from `place` on that need not be dead at the last time.
+    ///
+    /// If all before `end` must be dead, it returns `end`.
     pub fn next_demand(&self, place: usize, end: usize) -> usize
         requires { (place ≤ end) × (end < 2 ^ 32) }
         ensures range { (place ≤ result) × (result ≤ end) }

@@ -15,6 +15,8 @@ pub returns-in-Edge-clause-edges : goal.returns-in-Edge-clause-edges
 returns-in-Edge-clause-edges c es at =
     let old = map (λ l. l.items) c.args.lists.now.items in
     let new = map (λ l. l.items) c.push_beside.new.lists.items in
-    subst (λ (l : CertificateLine). HaveEdges es c.args.boxes.now (edge_in l) old new) (sym (sym c.line.ensures ∙ c.in-Edge.is))
-    (edge_placed es c.args.boxes.now c.args.place c.in-Edge.border old new (at ∙ ap Some (sym c.line.ensures ∙ c.in-Edge.is))
+    subst (λ (l : CertificateLine). HaveEdges es c.args.boxes.now (edge_in l) old new)
+    (sym (sym c.line.ensures ∙ c.in-Edge.is))
+    (edge_placed es c.args.boxes.now c.args.place c.in-Edge.border old new
+    (at ∙ ap Some (sym c.line.ensures ∙ c.in-Edge.is))
     c.in_ok-push_beside.ensures)

@@ -76,7 +76,8 @@ lines-preserved c =
       | in_default w ↦
           subst (λ v. HaveJobs b p.layout es (c.lines.place + 1) (map arc_value v.items)) (sym w.jobs-is)
           (other_line b p.layout es c.lines.place c.line.result
-          (map arc_value c.lines.jobs.items) c.lines-test.true (subst (λ e. e ≡ get_or es c.lines.place e) (sym c.line.ensures) c.index-entries-place.is)
+          (map arc_value c.lines.jobs.items) c.lines-test.true
+          (subst (λ e. e ≡ get_or es c.lines.place e) (sym c.line.ensures) c.index-entries-place.is)
           (no_module c.line.result w.in_default.not-Module) c.lines.invariant)
     ]
 

@@ -12,7 +12,8 @@ pub returns-in-Some-halo : goal.returns-in-Some-halo
 returns-in-Some-halo c =
     let first_is = halo_is c.args.first.now c.in-Some-halo.first
     (ap option_to_list (sym c.in-Some-halo.is) ∙ c.halo.ensures) in
-    rw (first_is, c.in-Halo.is) (c.does_border_precede-in-Some-halo.ensures ∙ halos_precede c.in-Some-halo.first c.in-Halo.second)
+    rw (first_is, c.in-Halo.is) (c.does_border_precede-in-Some-halo.ensures
+    ∙ halos_precede c.in-Some-halo.first c.in-Halo.second)
 
 pub returns-in-Some-stop : goal.returns-in-Some-stop
 returns-in-Some-stop c =

@@ -23,7 +23,8 @@ words-init c =
       aligned = λ l. next.word (omega (arith, l, long));
       shows = c.requires.shows;
       lines = refl;
-      halo = λ x y lx ly before. passed_halo c.args.job.now c.args.values.now c.args.marked_planes.now.planes c.args.time
+      halo = λ x y lx ly before. passed_halo c.args.job.now c.args.values.now c.args.marked_planes.now.planes
+          c.args.time
           0 c.next_border_word-at.result x y c.args.marked_planes.now.line_marks.items c.requires.ready c.requires.shows
           c.requires.lines next.passed lx ly (omega arith) before;
       right = λ e x y lx ly before. passed_edges c.args.job.now c.args.values.now c.args.marked_planes.now.planes

@@ -17,12 +17,14 @@ border-init c =
       halo = λ x y lx ly past.
           let n = number_at a.job.now.area x y in
           passed_halo a.job.now a.values.now m.planes a.time n (n + 1) x y m.line_marks.items c.requires.ready
-          c.requires.shows c.requires.lines (c.border_word-rest.ensures.passed n (omega (arith, past.0, past.1)) past.2) lx ly
+          c.requires.shows c.requires.lines
+          (c.border_word-rest.ensures.passed n (omega (arith, past.0, past.1)) past.2) lx ly
           (omega arith) (omega arith);
       right = λ e x y lx ly past.
           let n = number_at a.job.now.area x y in
           passed_edges a.job.now a.values.now m.planes a.time n (n + 1) x y m.line_marks.items c.requires.ready
-          c.requires.shows c.requires.lines (c.border_word-rest.ensures.passed n (omega (arith, past.0, past.1)) past.2) lx ly
+          c.requires.shows c.requires.lines
+          (c.border_word-rest.ensures.passed n (omega (arith, past.0, past.1)) past.2) lx ly
           (omega arith) (omega arith);
       same = λ b x y lb lx before. refl;
     }

@@ -12,7 +12,8 @@ returns-clause-dead c a k la from before =
     let range = next.range in
     let stride = c.stride.ensures.stride_is_exact in
     let first : c.number-first.result ≡ p.stride * (y / 2) = omega (arith, c.number-first.ensures.number_is_exact) in
-    let below : k < 2 * (c.next_in_row-next.result - c.number-first.result) = omega (arith, from, before, c.max.ensures) in
+    let below : k < 2 * (c.next_in_row-next.result - c.number-first.result) =
+    omega (arith, from, before, c.max.ensures) in
     let inside : k / 2 < p.stride = omega (arith, below, range, stride) in
     let after : c.number-first.result + c.args.x / 2 ≤ p.stride * (y / 2) + k / 2 = omega (arith, first, from) in
     let marked : p.stride * (y / 2) + k / 2 < c.next_in_row-next.result = omega (arith, first, below, range) in

@@ -1,4 +1,4 @@
-use Rattle.std.proofs.Common.{◌≡◌, ◌<◌, ◌≤◌, ◌+◌, ◌*◌, List, ℕ, length, ap, subst, false, ltb, refl, arith, sym, ◌∙◌}
+use Rattle.std.proofs.Common.{◌≡◌, ◌+◌, ◌*◌, List, ℕ, length, ap, subst, false, ltb, refl, arith, sym, ◌∙◌}
 use Rattle.local_run.proofs.FieldLemmas.{odd_all, odd_join}
 use Rattle.std.proofs.lemmas.List.{with_items_is}
 use Rattle.local_run.specs.Calm.{EvenCalm, OddCalm}

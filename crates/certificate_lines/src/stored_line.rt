@@ -29,54 +29,54 @@ enum Content<'a> {
 ///
 /// It takes 32 bytes. A line with a copy of the name takes 56, and a certificate may have a million lines.
 #[derive(Drop)]
-pub struct KeptLine<'a> {
+pub struct StoredLine<'a> {
     content: Content<'a>,
 }
 
-impl<'a> Model for KeptLine<'a> {
+impl<'a> Model for StoredLine<'a> {
     ghost use Rattle.certificate_lines.specs.declared.certificate_line.CertificateLine.{CertificateLine};
 
     ghost Value = { CertificateLine };
 
-    ghost use Rattle.certificate_lines.specs.KeptLines.{kept_line};
+    ghost use Rattle.certificate_lines.specs.StoredLines.{stored_line};
 
-    ghost view = { kept_line };
+    ghost view = { stored_line };
 }
 
 /// An edge or halo line, with a reference to its wire's name. Contracts see the line with the name.
 #[derive(Drop)]
-pub struct KeptBorder<'a> {
+pub struct StoredBorder<'a> {
     time: Option<u32>,
     cell: Cell,
     signal: Option<&'a Name>,
 }
 
-impl<'a> Model for KeptBorder<'a> {
+impl<'a> Model for StoredBorder<'a> {
     ghost use Rattle.certificate_lines.specs.declared.certificate_line.Border.{Border};
 
     ghost Value = { Border };
 
-    ghost use Rattle.certificate_lines.specs.KeptLines.{kept_border};
+    ghost use Rattle.certificate_lines.specs.StoredLines.{stored_border};
 
-    ghost view = { kept_border };
+    ghost view = { stored_border };
 }
 
 /// A stop, with a reference to its wire's name. Contracts see the stop with the name.
 #[derive(Drop)]
-pub struct KeptStop<'a> {
+pub struct StoredStop<'a> {
     time: u32,
     cell: Cell,
     wire: &'a Name,
 }
 
-impl<'a> Model for KeptStop<'a> {
+impl<'a> Model for StoredStop<'a> {
     ghost use Rattle.certificate_lines.specs.declared.certificate_line.StopLine.{StopLine};
 
     ghost Value = { StopLine };
 
-    ghost use Rattle.certificate_lines.specs.KeptLines.{kept_stop};
+    ghost use Rattle.certificate_lines.specs.StoredLines.{stored_stop};
 
-    ghost view = { kept_stop };
+    ghost view = { stored_stop };
 }
 
 // An edge or halo line of a wire, or of the constant `1`.
@@ -86,19 +86,19 @@ fn border(time: Option<u32>, cell: Cell, signal: Option<Name>) -> Border
     Border { time, cell, signal }
 }
 
-impl<'a> KeptLine<'a> {
+impl<'a> StoredLine<'a> {
     /// Returns a `module` line.
-    pub(crate) fn module(area: Box2) -> KeptLine<'a>
+    pub(crate) fn module(area: Box2) -> StoredLine<'a>
         ensures { result ≡ Module area }
     {
-        KeptLine {
+        StoredLine {
             content: Content::Module(area),
         }
     }
 
     /// Returns the line, with this reference in place of its name, if it has one.
     #[inline(always)]
-    pub(crate) fn of(line: &CertificateLine, name: Option<&'a Name>) -> KeptLine<'a>
+    pub(crate) fn of(line: &CertificateLine, name: Option<&'a Name>) -> StoredLine<'a>
         requires { option_map (λ n. n.now) name ≡ name_in line.now }
         ensures { result ≡ line.now }
     {
@@ -118,19 +118,19 @@ impl<'a> KeptLine<'a> {
             (CertificateLine::Stop(stop), Some(name)) => Content::Stop(stop.time, stop.cell, name),
             _ => unreachable!(),
         };
-        KeptLine { content }
+        StoredLine { content }
     }
 
     /// Returns a halo line.
-    pub fn halo_line(border: &KeptBorder<'a>) -> KeptLine<'a>
+    pub fn halo_line(border: &StoredBorder<'a>) -> StoredLine<'a>
         ensures { result ≡ Halo border.now }
     {
-        let KeptBorder { time, cell, signal } = border;
+        let StoredBorder { time, cell, signal } = border;
         let content = match *signal {
             Some(name) => Content::HaloOfWire(*time, *cell, name),
             None => Content::HaloOfOne(*time, *cell),
         };
-        KeptLine { content }
+        StoredLine { content }
     }
 
     /// Returns the line, with a copy of the name.
@@ -161,16 +161,16 @@ impl<'a> KeptLine<'a> {
 
     /// Returns the line, if it is an edge line.
     #[inline(always)]
-    pub fn edge(&self) -> Option<KeptBorder<'a>>
+    pub fn edge(&self) -> Option<StoredBorder<'a>>
         ensures { option_to_list result ≡ edge_in self.now }
     {
         match self.content {
-            Content::EdgeOfWire(time, cell, name) => Some(KeptBorder {
+            Content::EdgeOfWire(time, cell, name) => Some(StoredBorder {
                 time,
                 cell,
                 signal: Some(name),
             }),
-            Content::EdgeOfOne(time, cell) => Some(KeptBorder {
+            Content::EdgeOfOne(time, cell) => Some(StoredBorder {
                 time,
                 cell,
                 signal: None,
@@ -181,16 +181,16 @@ impl<'a> KeptLine<'a> {
 
     /// Returns the line, if it is a halo line.
     #[inline(always)]
-    pub fn halo(&self) -> Option<KeptBorder<'a>>
+    pub fn halo(&self) -> Option<StoredBorder<'a>>
         ensures { option_to_list result ≡ halo_in self.now }
     {
         match self.content {
-            Content::HaloOfWire(time, cell, name) => Some(KeptBorder {
+            Content::HaloOfWire(time, cell, name) => Some(StoredBorder {
                 time,
                 cell,
                 signal: Some(name),
             }),
-            Content::HaloOfOne(time, cell) => Some(KeptBorder {
+            Content::HaloOfOne(time, cell) => Some(StoredBorder {
                 time,
                 cell,
                 signal: None,
@@ -201,26 +201,26 @@ impl<'a> KeptLine<'a> {
 
     /// Returns the line, if it is a stop.
     #[inline(always)]
-    pub fn stop(&self) -> Option<KeptStop<'a>>
+    pub fn stop(&self) -> Option<StoredStop<'a>>
         ensures { option_to_list result ≡ stop_in self.now }
     {
         match self.content {
-            Content::Stop(time, cell, wire) => Some(KeptStop { time, cell, wire }),
+            Content::Stop(time, cell, wire) => Some(StoredStop { time, cell, wire }),
             _ => None,
         }
     }
 
     /// Returns the same line, with the same reference.
-    pub fn copy(&self) -> KeptLine<'a>
+    pub fn copy(&self) -> StoredLine<'a>
         ensures { result ≡ self.now }
     {
-        KeptLine {
+        StoredLine {
             content: self.content,
         }
     }
 }
 
-impl<'a> KeptBorder<'a> {
+impl<'a> StoredBorder<'a> {
     /// Returns the time, or `None` if the line is for every odd time below the steps.
     #[inline(always)]
     pub fn time(&self) -> Option<u32>
@@ -246,7 +246,7 @@ impl<'a> KeptBorder<'a> {
     }
 }
 
-impl<'a> KeptStop<'a> {
+impl<'a> StoredStop<'a> {
     /// Returns the time.
     pub fn time(&self) -> u32
         ensures { result ≡ self.now.time }

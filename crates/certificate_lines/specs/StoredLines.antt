@@ -6,11 +6,11 @@ use Rattle.certificate_lines.specs.declared.certificate_line.StopLine.{StopLine}
 use Rattle.certificate_lines.specs.declared.certificate_line.CertificateLine.{CertificateLine}
 use Rattle.certificate_lines.specs.declared.certificate_line.CertificateLine.TheVariants.{Module, Cut, Use, Keep, Edge}
 use Rattle.certificate_lines.specs.declared.certificate_line.CertificateLine.TheVariants.{Halo, Stop}
-use Rattle.certificate_lines.specs.declared.kept_line.Content.{Content}
-use Rattle.certificate_lines.specs.declared.kept_line.Content.TheVariants as content
-use Rattle.certificate_lines.specs.declared.kept_line.KeptLine.TheInside as line
-use Rattle.certificate_lines.specs.declared.kept_line.KeptBorder.TheInside as border
-use Rattle.certificate_lines.specs.declared.kept_line.KeptStop.TheInside as stop
+use Rattle.certificate_lines.specs.declared.stored_line.Content.{Content}
+use Rattle.certificate_lines.specs.declared.stored_line.Content.TheVariants as content
+use Rattle.certificate_lines.specs.declared.stored_line.StoredLine.TheInside as line
+use Rattle.certificate_lines.specs.declared.stored_line.StoredBorder.TheInside as border
+use Rattle.certificate_lines.specs.declared.stored_line.StoredStop.TheInside as stop
 
 -- the line of a content, with its name
 abbrev pub line_of : Content → CertificateLine
@@ -25,13 +25,13 @@ line_of (content.HaloOfOne t c) = Halo (record { time = t; cell = c; signal = No
 line_of (content.Stop t c n) = Stop (record { time = t; wire = n.now; cell = c })
 
 -- the line that is kept, from its field
-abbrev pub kept_line : line.Inside → CertificateLine
-kept_line a = line_of a.content
+abbrev pub stored_line : line.Inside → CertificateLine
+stored_line a = line_of a.content
 
 -- the edge or halo line that is kept, from its fields
-abbrev pub kept_border : border.Inside → Border
-kept_border a = record { time = a.time; cell = a.cell; signal = option_map (λ n. n.now) a.signal }
+abbrev pub stored_border : border.Inside → Border
+stored_border a = record { time = a.time; cell = a.cell; signal = option_map (λ n. n.now) a.signal }
 
 -- the stop that is kept, from its fields
-abbrev pub kept_stop : stop.Inside → StopLine
-kept_stop a = record { time = a.time; wire = a.wire.now; cell = a.cell }
+abbrev pub stored_stop : stop.Inside → StopLine
+stored_stop a = record { time = a.time; wire = a.wire.now; cell = a.cell }
