@@ -108,13 +108,6 @@ pub(crate) fn is_halo(line: &CertificateLine) -> bool
     }
 }
 
-/// Returns whether a line that is kept is a halo line.
-pub(crate) fn is_halo_line(line: &StoredLine) -> bool
-    ensures { result ≡ is_halo line.now }
-{
-    is_halo(&line.line())
-}
-
 // Whether a line stands before the halo lines of its module.
 #[tactic(auto, unfolding(certificate_lines::specs::Versions::is_early))]
 fn is_early(line: &StoredLine) -> bool

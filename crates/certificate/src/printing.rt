@@ -7,7 +7,6 @@ ghost use Rattle.certificate.specs.Grammars.{migrated};
 ghost use Rattle.certificate.specs.Text.{area_words, time_word, signal_word, border_words, entry_text, stop_words, certificate_text};
 ghost use Rattle.certificate_lines.specs.Versions.{without_halos};
 
-use crate::beside::is_halo_line;
 use crate::cert::Cert;
 use certificate_lines::{Border, CertificateLine, StopLine, StoredLine};
 use module_box::Box2;
@@ -142,7 +141,7 @@ fn print_unless_halo(out: &mut Vec<u8>, entry: &StoredLine) -> Result<(), AllocE
     ensures { OnOk result (out.new.items
         ≡ out.old.items ++ flat_map entry_text (without_halos (entry.now ∷ []))) }
 {
-    if is_halo_line(entry) {
+    if entry.is_halo() {
         return Ok(());
     }
     print_entry(out, entry)

@@ -2,6 +2,7 @@
 ghost use Rattle.std.specs.Prelude.{◌≡◌};
 ghost use Rattle.std.specs.Option.{option_map, option_to_list};
 ghost use Rattle.certificate_lines.specs.Entries.{edge_in, halo_in, name_in, stop_in};
+ghost use Rattle.certificate_lines.specs.Versions.{is_halo};
 ghost use Rattle.certificate_lines.specs.declared.certificate_line.CertificateLine.TheVariants.{Module, Halo};
 
 use crate::certificate_line::{Border, CertificateLine, StopLine};
@@ -196,6 +197,19 @@ impl<'a> StoredLine<'a> {
                 signal: None,
             }),
             _ => None,
+        }
+    }
+
+    /// Returns whether the line is a halo line.
+    #[inline(always)]
+    #[tactic(auto, unfolding(crate::specs::Versions::is_halo))]
+    pub fn is_halo(&self) -> bool
+        ensures { result ≡ is_halo self.now }
+    {
+        match self.content {
+            Content::HaloOfWire(_, _, _) => true,
+            Content::HaloOfOne(_, _) => true,
+            _ => false,
         }
     }
 
