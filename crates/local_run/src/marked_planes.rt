@@ -170,8 +170,8 @@ impl MarkedPlanes {
 
     /// Returns the first number of a word with cells of ring and halo that must be looked at, from `from` on.
     ///
-    /// If there is no such word, it returns how many numbers there are. A cell must be looked at if it may be live, or if
-    /// a line says something of it at the time that was looked at.
+    /// If there is no such word, it returns how many numbers there are. A cell must be looked at if it may be live, or
+    /// if a line says something of it at the time that was looked at.
     pub fn next_border_word(&self, from: usize) -> usize
         requires within { from ≤ self.now.planes.stride * self.now.planes.rows }
         requires word { from < self.now.planes.stride * self.now.planes.rows → from % 64 ≡ 0 }
