@@ -1,5 +1,6 @@
 //! std's readers and writers, whose interrupted calls are made again.
-ghost use Rattle.std.specs.Prelude.{◌≡◌, IsErr, IsTrue};
+ghost use Rattle.std.specs.Prelude.{◌≡◌, ◌≢◌, false, IfErr, IsErr, IsTrue};
+ghost use Rattle.std.specs.IoError.{error_kind};
 
 use std::io;
 use std::io::{ErrorKind, Read, Write};
@@ -65,7 +66,11 @@ impl<W: Write> Write for Retrying<W> {
 
 // Whether a call was interrupted before it did anything.
 fn is_interrupted(done: &io::Result<usize>) -> bool
-    ensures { IsTrue result → IsErr done.now }
+    ensures error { IsTrue result → IsErr done.now }
+    ensures interrupted { IsTrue result →
+        IfErr done.now (λ error. error_kind error ≡ ErrorKind.Interrupted) }
+    ensures other { result ≡ false →
+        IfErr done.now (λ error. error_kind error ≢ ErrorKind.Interrupted) }
 {
     match done {
         Ok(_) => false,
