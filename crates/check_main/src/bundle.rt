@@ -1,9 +1,14 @@
 //! Reads a bundle, and answers with its report.
-ghost use Rattle.std.specs.Prelude.{◌≡◌, ◌<◌, ◌≤◌, true, None, IfOk};
+ghost use Rattle.std.specs.Prelude.{◌≡◌, ◌<◌, ◌≤◌, ◌↔◌, true, None, IfOk};
 ghost use Rattle.answers.specs.CheckText.{IsReportOf};
+ghost use Rattle.meaning.specs.Headline.{IsRight, SaysYes};
+ghost use Rattle.headline.specs.Stops.{HasRightStops};
+ghost use Rattle.headline.specs.Plain.{IsWrongIfPlain};
+ghost use Rattle.headline.specs.ReportLines.{LinesTell};
+ghost use Rattle.headline.specs.SmallDesigns.{IsNoSmallDesign};
 
 use crate::check::report_on;
-use answers::{Answered, refused};
+use answers::{Answered, Outcome, refused};
 use certificate::read_certificate_with_digest;
 use circuit::{port_names, read_circuit};
 use job_pool::Gate;
@@ -13,10 +18,63 @@ use std::alloc::{AllocError, Global};
 use std::sync::Wait;
 use std::thread::Threads;
 
-/// Returns the report on a text that is read whole.
+/// Checks a bundle whose text is in memory, and returns the report.
 ///
-/// It reads a bundle up to the end of the text, drops the text, and has `workers` workers run the modules.
-pub(crate) fn report_of_text<G: Gate + Sync, R: Threads + Wait + Sync>(
+/// The text is all that the feed took before it was closed. No line of it is taken yet. 1 to 64 workers run the modules
+/// of its certificate. The answer is the same for every number of workers, every gate and every order in which they
+/// end.
+///
+/// If the outcome is `Yes`,
+///
+/// - the text begins with a circuit and a layout, and the whole layout computes the circuit
+///   (`meaning/specs/Headline.antt`);
+/// - it goes on with a certificate whose stops hold on the whole layout (`headline/specs/Stops.antt`).
+///
+/// If it is `No`, and the certificate is one plain module, the whole rectangle, the text is wrong
+/// (`headline/specs/Plain.antt`). `headline/specs/ReportLines.antt` says what the lines of the report mean. The plain
+/// text of a small design is never `Refused` (`headline/specs/SmallDesigns.antt`).
+///
+/// # Errors
+///
+/// Out of memory. Then there is no answer.
+pub fn check_text<G: Gate + Sync, R: Threads + Wait + Sync>(
+    rt: &R,
+    alloc: Global,
+    feed: Feed,
+    workers: usize,
+    gate: &G,
+) -> Result<Answered, AllocError>
+    requires workers { (0 < workers) × (workers ≤ 64) }
+    requires closed { feed.closed ≡ true }
+    requires unread { feed.taken ≡ 0 }
+    requires going { feed.stop ≡ None }
+
+    // The output is the report on the text, with its outcome. `verdict yes` is its fourth line exactly at a yes.
+    ensures reported { IfOk result (λ answered. IsReportOf feed.text answered.output.items
+        answered.outcome) }
+    ensures fourth_line { IfOk result (λ answered. SaysYes answered.output.items
+        ↔ (answered.outcome ≡ Outcome.Yes)) }
+
+    // A yes: the layout computes the circuit, and the stops hold.
+    ensures right { IfOk result (λ answered. answered.outcome ≡ Outcome.Yes → IsRight feed.text) }
+    ensures stops { IfOk result (λ answered. answered.outcome ≡ Outcome.Yes →
+        HasRightStops feed.text) }
+
+    // A no: if the certificate is plain, the text is wrong. The lines of the report have a meaning.
+    ensures wrong { IfOk result (λ answered. answered.outcome ≡ Outcome.No →
+        IsWrongIfPlain feed.text) }
+    ensures lines { IfOk result (λ answered. answered.outcome ≡ Outcome.No →
+        LinesTell feed.text answered.output.items) }
+
+    // A refusal: the text is not the plain text of a small design.
+    ensures small { IfOk result (λ answered. answered.outcome ≡ Outcome.Refused →
+        IsNoSmallDesign feed.text) }
+{
+    report_of_text(rt, alloc, feed, workers, gate)
+}
+
+// Reads a bundle up to the end of the text, drops the text, and has `workers` workers run the modules.
+fn report_of_text<G: Gate + Sync, R: Threads + Wait + Sync>(
     rt: &R,
     alloc: Global,
     feed: Feed,

@@ -9,10 +9,12 @@ mod front;
 pub mod laws;
 mod stream;
 
-pub use answers::Outcome;
+pub use answers::{Answered, Outcome};
 pub use auditing::{Audited, audit};
+pub use bundle::check_text;
 pub use device::{Awaited, Over, Retrying, Sink, Source};
 pub use fault::CheckFault;
 pub use front::{Streams, WORDS_REFUSED, program, status_of};
 pub use job_pool::{Gate, OpenGate};
+pub use section_text::{Feed, PushFault};
 pub use stream::{check_stream, migrate_stream, modules_stream, run_stream, value_stream};

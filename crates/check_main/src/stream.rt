@@ -15,7 +15,7 @@ ghost use Rattle.check_main.specs.Program.{YesPromises};
 ghost use Rattle.check_main.specs.Stream.{ReadsAll, Serves, GivesTooMuch, TakesPrefix, whole_text};
 
 use crate::CheckFault;
-use crate::bundle::report_of_text;
+use crate::bundle::check_text;
 use answers::{Answered, Outcome, migrate_text, modules_text, run_text, value_text};
 use device::{Sink, Source};
 use job_pool::Gate;
@@ -71,7 +71,7 @@ where
     ensures small { result ≡ Ok Outcome.Refused → Gives IsNoSmallDesign (R.left reader.old) }
 {
     let feed = read_text(alloc, reader)?;
-    let answered = report_of_text(rt, alloc, feed, workers, gate)?;
+    let answered = check_text(rt, alloc, feed, workers, gate)?;
     write_answer(writer, &answered)
 }
 

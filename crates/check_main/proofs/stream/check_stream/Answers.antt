@@ -1,14 +1,11 @@
--- What was written is the report on what was read, or its first bytes, or nothing.
+-- What was written is the report on what was read, or its first bytes, or nothing. `check_text` says what it means.
 use Rattle.std.proofs.Common.{refl}
 use Rattle.meaning.specs.Headline.{IsRight}
 use Rattle.headline.specs.Stops.{HasRightStops}
 use Rattle.headline.specs.Plain.{IsWrongIfPlain}
 use Rattle.headline.specs.SmallDesigns.{IsNoSmallDesign}
 use Rattle.headline.specs.ReportLines.{LinesTell}
-use Rattle.headline.proofs.PlainTexts.{no_is_wrong, no_lines_tell}
 use Rattle.answers.specs.declared.outcome.Outcome.TheVariants.{No, Refused}
-use Rattle.headline.proofs.SmallDesigns.{refused_is_none}
-use Rattle.headline.proofs.YesIsRight.{yes_has_right_stops, yes_is_right}
 use Rattle.check_main.proofs.RightStreams.{nothing_promised, outcome_means, outcome_tells, yes_promised}
 use Rattle.check_main.proofs.stream.check_stream.Goals as goal
 
@@ -24,11 +21,11 @@ returns-in_err-answered-clause-right g c =
 
 pub returns-clause-right : goal.returns-clause-right
 returns-clause-right g c =
-    yes_promised IsRight yes_is_right (g.R.Source.left c.args.reader.now) (g.R.Source.left c.read_text.new.reader)
+    yes_promised IsRight (g.R.Source.left c.args.reader.now) (g.R.Source.left c.read_text.new.reader)
     (g.W.Sink.written_bytes c.args.writer.now) (g.W.Sink.written_bytes c.write_answer.new.writer)
     c.in_ok-feed.feed.text c.in_ok-answered.answered.output.items c.in_ok-answered.answered.outcome
-    c.in_ok-feed.ensures.read_all c.in_ok-answered.ensures.answered c.write_answer.result
-    c.write_answer.ensures.outcome c.write_answer.ensures.all c.write_answer.ensures.prefix
+    c.in_ok-answered.ensures.fourth_line c.in_ok-answered.ensures.right c.in_ok-feed.ensures.read_all
+    c.write_answer.result c.write_answer.ensures.outcome c.write_answer.ensures.all c.write_answer.ensures.prefix
 
 pub returns-in_err-feed-clause-stops : goal.returns-in_err-feed-clause-stops
 returns-in_err-feed-clause-stops g c =
@@ -42,33 +39,29 @@ returns-in_err-answered-clause-stops g c =
 
 pub returns-clause-stops : goal.returns-clause-stops
 returns-clause-stops g c =
-    yes_promised HasRightStops yes_has_right_stops (g.R.Source.left c.args.reader.now)
-    (g.R.Source.left c.read_text.new.reader)
+    yes_promised HasRightStops (g.R.Source.left c.args.reader.now) (g.R.Source.left c.read_text.new.reader)
     (g.W.Sink.written_bytes c.args.writer.now) (g.W.Sink.written_bytes c.write_answer.new.writer)
     c.in_ok-feed.feed.text c.in_ok-answered.answered.output.items c.in_ok-answered.answered.outcome
-    c.in_ok-feed.ensures.read_all c.in_ok-answered.ensures.answered c.write_answer.result
-    c.write_answer.ensures.outcome c.write_answer.ensures.all c.write_answer.ensures.prefix
+    c.in_ok-answered.ensures.fourth_line c.in_ok-answered.ensures.stops c.in_ok-feed.ensures.read_all
+    c.write_answer.result c.write_answer.ensures.outcome c.write_answer.ensures.all c.write_answer.ensures.prefix
 
 pub returns-clause-wrong : goal.returns-clause-wrong
 returns-clause-wrong g c is =
-    outcome_means IsWrongIfPlain No no_is_wrong (g.R.Source.left c.args.reader.now)
-    (g.R.Source.left c.read_text.new.reader) c.in_ok-feed.feed.text c.in_ok-answered.answered.output.items
-    c.in_ok-answered.answered.outcome
-    c.in_ok-feed.ensures.read_all c.in_ok-answered.ensures.answered c.write_answer.result is
-    c.write_answer.ensures.outcome
+    outcome_means IsWrongIfPlain No (g.R.Source.left c.args.reader.now) (g.R.Source.left c.read_text.new.reader)
+    c.in_ok-feed.feed.text c.in_ok-answered.answered.outcome c.in_ok-answered.ensures.wrong
+    c.in_ok-feed.ensures.read_all c.write_answer.result is c.write_answer.ensures.outcome
 
 pub returns-clause-lines : goal.returns-clause-lines
 returns-clause-lines g c is =
-    outcome_tells LinesTell No no_lines_tell (g.R.Source.left c.args.reader.now)
-    (g.R.Source.left c.read_text.new.reader)
+    outcome_tells LinesTell No (g.R.Source.left c.args.reader.now) (g.R.Source.left c.read_text.new.reader)
     (g.W.Sink.written_bytes c.args.writer.now) (g.W.Sink.written_bytes c.write_answer.new.writer)
     c.in_ok-feed.feed.text c.in_ok-answered.answered.output.items c.in_ok-answered.answered.outcome
-    c.in_ok-feed.ensures.read_all c.in_ok-answered.ensures.answered c.write_answer.result is
+    c.in_ok-answered.ensures.lines c.in_ok-feed.ensures.read_all c.write_answer.result is
     c.write_answer.ensures.outcome c.write_answer.ensures.all
 
 pub returns-clause-small : goal.returns-clause-small
 returns-clause-small g c is =
-    outcome_means IsNoSmallDesign Refused refused_is_none (g.R.Source.left c.args.reader.now)
-    (g.R.Source.left c.read_text.new.reader) c.in_ok-feed.feed.text c.in_ok-answered.answered.output.items
-    c.in_ok-answered.answered.outcome c.in_ok-feed.ensures.read_all c.in_ok-answered.ensures.answered
-    c.write_answer.result is c.write_answer.ensures.outcome
+    outcome_means IsNoSmallDesign Refused (g.R.Source.left c.args.reader.now)
+    (g.R.Source.left c.read_text.new.reader) c.in_ok-feed.feed.text c.in_ok-answered.answered.outcome
+    c.in_ok-answered.ensures.small c.in_ok-feed.ensures.read_all c.write_answer.result is
+    c.write_answer.ensures.outcome
