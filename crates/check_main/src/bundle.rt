@@ -5,6 +5,7 @@ ghost use Rattle.meaning.specs.Headline.{IsRight, SaysYes};
 ghost use Rattle.headline.specs.Stops.{HasRightStops};
 ghost use Rattle.headline.specs.Plain.{IsWrongIfPlain};
 ghost use Rattle.headline.specs.ReportLines.{LinesTell};
+ghost use Rattle.headline.specs.RightInFull.{IsRightInFull};
 ghost use Rattle.headline.specs.SmallDesigns.{IsNoSmallDesign};
 
 use crate::check::report_on;
@@ -28,7 +29,10 @@ use std::thread::Threads;
 ///
 /// - the text begins with a circuit and a layout, and the whole layout computes the circuit
 ///   (`meaning/specs/Headline.antt`);
-/// - it goes on with a certificate whose stops hold on the whole layout (`headline/specs/Stops.antt`).
+/// - it goes on with a certificate whose stops hold on the whole layout (`headline/specs/Stops.antt`);
+/// - the circuit has one valuation for all values of its inputs;
+/// - no cell of the rim is live at an odd time below the steps;
+/// - each line of the design is as the grammar asks (`headline/specs/RightInFull.antt` has all of this).
 ///
 /// If it is `No`, and the certificate is one plain module, the whole rectangle, the text is wrong
 /// (`headline/specs/Plain.antt`). `headline/specs/ReportLines.antt` says what the lines of the report mean. The plain
@@ -55,10 +59,12 @@ pub fn check_text<G: Gate + Sync, R: Threads + Wait + Sync>(
     ensures fourth_line { IfOk result (λ answered. SaysYes answered.output.items
         ↔ (answered.outcome ≡ Outcome.Yes)) }
 
-    // A yes: the layout computes the circuit, and the stops hold.
+    // A yes: the layout computes the circuit, and the stops hold. `IsRightInFull` has both, and more.
     ensures right { IfOk result (λ answered. answered.outcome ≡ Outcome.Yes → IsRight feed.text) }
     ensures stops { IfOk result (λ answered. answered.outcome ≡ Outcome.Yes →
         HasRightStops feed.text) }
+    ensures in_full { IfOk result (λ answered. answered.outcome ≡ Outcome.Yes →
+        IsRightInFull feed.text) }
 
     // A no: if the certificate is plain, the text is wrong. The lines of the report have a meaning.
     ensures wrong { IfOk result (λ answered. answered.outcome ≡ Outcome.No →

@@ -11,6 +11,7 @@ mod AcceptedTexts
 pub mod FourthLines
 pub mod YesIsRight
 pub mod PlainTexts
+pub mod YesIsRightInFull
 mod PlainLines
 pub mod SmallDesigns
 pub mod Migrations

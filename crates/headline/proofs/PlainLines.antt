@@ -30,7 +30,7 @@ use Rattle.certificate_lines.proofs.Lists.{any_at}
 use Rattle.audit_core.specs.HeadlineLaws.{IsInputName}
 use Rattle.audit_core.specs.PlainCertificates.{IsPlain}
 use Rattle.audit_core.proofs.InputRuns.{IsPlaced, placed}
-use Rattle.headline.specs.Laws.{IsGoodDesign}
+use Rattle.headline.specs.RightInFull.{IsGoodDesign}
 use Rattle.headline.specs.Plain.{SaysPlain}
 use Rattle.headline.specs.SmallDesigns.{gate_numbers, plain_lines}
 use Rattle.headline.specs.PlainLaws.{PlainLinesDecide}

@@ -61,8 +61,9 @@ use Rattle.answers.specs.BundleText.{Bundle, bundle_of}
 use Rattle.answers.specs.CheckText.{IsReportOf, SaysReport, verdict_outcome}
 use Rattle.meaning.specs.Design.{SaysDesign}
 use Rattle.meaning.specs.Headline.{IsRight, SaysYes}
-use Rattle.headline.specs.Laws.{FourthLineTells, IsGoodDesign, ReportsOnGoodDesigns, YesHasOneValuation, YesMeansRight}
+use Rattle.headline.specs.Laws.{FourthLineTells, ReportsOnGoodDesigns, YesHasOneValuation, YesMeansRight}
 use Rattle.headline.specs.Laws.{YesMeansRightStops}
+use Rattle.headline.specs.RightInFull.{IsGoodDesign}
 use Rattle.headline.proofs.OneAnswer.{layout_from}
 use Rattle.headline.proofs.Designs.{bundle_said, design_said, one_design}
 use Rattle.headline.specs.Stops.{HasRightStops, SaysBundle}

@@ -1,13 +1,10 @@
 -- Laws of the answers.
-use Rattle.std.specs.Prelude.{◌≡◌, ◌≢◌, ◌<◌, ℕ, List, [], ◌++◌, None}
-use Rattle.circuit.specs.Bridge.{AreGood, netlist_of}
+use Rattle.std.specs.Prelude.{◌≡◌, ◌≢◌, ◌<◌, ℕ, List}
+use Rattle.circuit.specs.Bridge.{netlist_of}
 use Rattle.circuit.specs.Meaning.{Satisfies, Valuation, wires}
-use Rattle.circuit.specs.Text.{circuit_text}
 use Rattle.circuit.specs.declared.circuit_line.CircuitLine.{CircuitLine}
 use Rattle.certificate_lines.specs.declared.certificate_line.CertificateLine.{CertificateLine}
-use Rattle.pattern.specs.Layout.{Pattern, parts_of}
-use Rattle.pattern.specs.Lines.{AreGoodAfter, size_fault}
-use Rattle.pattern.specs.Text.{layout_text}
+use Rattle.pattern.specs.Layout.{Pattern}
 use Rattle.answers.specs.declared.outcome.Outcome.{Outcome}
 use Rattle.answers.specs.declared.outcome.Outcome.TheVariants.{Yes, Refused}
 use Rattle.answers.specs.CheckText.{IsReportOf}
@@ -16,6 +13,7 @@ use Rattle.headline.specs.ThereAndBack.{there_and_back}
 use Rattle.headline.specs.TimedModules.{timed_modules}
 use Rattle.meaning.specs.Headline.{IsRight, SaysYes}
 use Rattle.headline.specs.Stops.{HasRightStops, SaysBundle}
+use Rattle.headline.specs.RightInFull.{IsGoodDesign, IsRightInFull}
 
 -- a command has at most one answer to each text
 abbrev pub HasOneAnswer : (List ℕ → List ℕ → Outcome → Type 0) → Type 0
@@ -34,7 +32,11 @@ YesMeansRight = (text output : List ℕ) → IsReportOf text output Yes → IsRi
 abbrev pub YesMeansRightStops : Type 0
 YesMeansRightStops = (text output : List ℕ) → IsReportOf text output Yes → HasRightStops text
 
--- and its circuit has one valuation for each choice of values of the inputs: two of them agree on each wire
+-- and all of this and more holds of one circuit and one layout
+abbrev pub YesMeansRightInFull : Type 0
+YesMeansRightInFull = (text output : List ℕ) → IsReportOf text output Yes → IsRightInFull text
+
+-- The circuit has one valuation for each choice of values of the inputs: two of them agree on each wire
 abbrev pub YesHasOneValuation : Type 0
 YesHasOneValuation = (text output : List ℕ) (circuit : List CircuitLine) (layout : Pattern) (inputs u v : Valuation) →
     IsReportOf text output Yes → SaysDesign text circuit layout →
@@ -58,15 +60,6 @@ SaysOneCertificate = (text : List ℕ) (circuit circuit' : List CircuitLine) (la
     (certificate certificate' : List CertificateLine) →
     SaysBundle text circuit layout certificate → SaysBundle text circuit' layout' certificate' →
     certificate ≡ certificate'
-
--- The design of a text that is not refused is good: each of its lines is good after those before it, by names, limits
--- and cells. The text begins with the lines of both sections in their one spelling.
-pub record IsGoodDesign (text : List ℕ) (circuit : List CircuitLine) (layout : Pattern) : Type 0 where
-  pub circuit_lines : AreGood circuit
-  pub size : size_fault layout.size ≡ None
-  pub layout_lines : AreGoodAfter layout.size [] (parts_of layout)
-  pub rest : List ℕ
-  pub begins : text ≡ circuit_text circuit ++ (layout_text layout ++ rest)
 
 -- In a text that is not refused, each line of the circuit and of the layout is good after those before it, and has its
 -- one spelling.

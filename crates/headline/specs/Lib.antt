@@ -4,6 +4,7 @@ pub mod TimedModules
 pub mod Plain
 pub mod SmallDesigns
 pub mod ReportLines
+pub mod RightInFull
 pub mod PlainLaws
 pub mod Laws
 pub mod Migration

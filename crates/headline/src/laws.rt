@@ -1,6 +1,6 @@
 //! Laws of the definitions, each the contract of a function without a body.
 ghost use Rattle.answers.specs.CheckText.{IsReportOf};
-ghost use Rattle.headline.specs.Laws.{FourthLineTells, HasAnAnswer, HasOneAnswer, ReportsOnGoodDesigns, SaysOneCertificate, SaysOneDesign, ThereAndBackIsAccepted, TimedModulesAreAccepted, YesHasOneValuation, YesMeansRight, YesMeansRightStops};
+ghost use Rattle.headline.specs.Laws.{FourthLineTells, HasAnAnswer, HasOneAnswer, ReportsOnGoodDesigns, SaysOneCertificate, SaysOneDesign, ThereAndBackIsAccepted, TimedModulesAreAccepted, YesHasOneValuation, YesMeansRight, YesMeansRightInFull, YesMeansRightStops};
 ghost use Rattle.headline.specs.PlainLaws.{PlainIsDecided, PlainLinesDecide, PlainNoMeansWrong, RefusedIsNoSmallDesign, SmallDesignIsDecided, ThereAndBackIsPlain, ThereAndBackIsSmall, YesKeepsOffRim, NoLinesTell};
 ghost use Rattle.headline.specs.Migration.{KeepsVersionTwo, MigratesOnce, MigrationIsAccepted, MigrationSaysTheSame};
 ghost use Rattle.answers.specs.MigrateText.{IsMigrationOf};
@@ -56,10 +56,12 @@ pub fn migration_keeps_what_is_accepted()
 ///
 /// A text for which the report says yes begins with a circuit and a layout that computes it, and goes on with a
 /// certificate whose stops hold. The circuit has exactly one valuation for each choice of values of its inputs. The
-/// fourth line of a report is `verdict yes` exactly if the verdict is yes.
+/// record `IsRightInFull` has these facts, and more, of one circuit and one layout. The fourth line of a report is
+/// `verdict yes` exactly if the verdict is yes.
 pub fn yes_means_right()
     ensures right { YesMeansRight }
     ensures stops { YesMeansRightStops }
+    ensures in_full { YesMeansRightInFull }
     ensures one_valuation { YesHasOneValuation }
     ensures told { FourthLineTells }
 {}

@@ -5,6 +5,7 @@ use Rattle.answers.specs.CheckText.{IsReportOf}
 use Rattle.headline.proofs.PlainTexts.{no_is_wrong, no_lines_tell}
 use Rattle.headline.proofs.SmallDesigns.{refused_is_none}
 use Rattle.headline.proofs.YesIsRight.{fourth_line-tells, yes_has_right_stops, yes_is_right}
+use Rattle.headline.proofs.YesIsRightInFull.{yes_is_right_in_full}
 use Rattle.check_main.proofs.bundle.check_text.Goals as goal
 
 pub returns : goal.returns
@@ -17,6 +18,9 @@ returns g c = record {
       (subst (IsReportOf c.args.feed.text a.output.items) yes says)) c.report_of_text.ensures.answered;
   stops = IfOk-weaker c.report_of_text.result _ _
       (λ a says yes. yes_has_right_stops c.args.feed.text a.output.items
+      (subst (IsReportOf c.args.feed.text a.output.items) yes says)) c.report_of_text.ensures.answered;
+  in_full = IfOk-weaker c.report_of_text.result _ _
+      (λ a says yes. yes_is_right_in_full c.args.feed.text a.output.items
       (subst (IsReportOf c.args.feed.text a.output.items) yes says)) c.report_of_text.ensures.answered;
   wrong = IfOk-weaker c.report_of_text.result _ _
       (λ a says no. no_is_wrong c.args.feed.text a.output.items

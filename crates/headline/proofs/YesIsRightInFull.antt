@@ -1,0 +1,52 @@
+-- A text that is reported with a yes is right in full.
+use Rattle.std.proofs.Common.{◌≡◌, ℕ, List, Option, Some, sym, ◌∙◌}
+use Rattle.circuit.specs.Bridge.{AreGood}
+use Rattle.circuit.specs.declared.circuit_line.CircuitLine.{CircuitLine}
+use Rattle.circuit.proofs.Naming.{inputs_are_first, names_are_own}
+use Rattle.answers.specs.CheckText.{IsReportOf}
+use Rattle.answers.specs.declared.outcome.Outcome.TheVariants.{Yes, Refused}
+use Rattle.meaning.specs.Headline.{IsRight}
+use Rattle.headline.specs.Laws.{YesMeansRightInFull}
+use Rattle.headline.specs.RightInFull.{HasDistinctNames, IsRightInFull}
+use Rattle.headline.specs.Stops.{HasRightStops}
+use Rattle.headline.proofs.Designs.{one_design}
+use Rattle.headline.proofs.PlainTexts.{yes_off_rim}
+use Rattle.headline.proofs.YesIsRight.{good_designs, one_valuation, yes_has_right_stops, yes_is_right}
+
+not_refused : Yes ≡ Refused → ⊥
+not_refused e = cc
+
+-- a name is that of one wire
+distinct : (circuit : List CircuitLine) → AreGood circuit → HasDistinctNames circuit
+distinct circuit good u w name at at' =
+    let same : ◌≡◌ {A = Option ℕ} (Some u) (Some w) =
+    sym (names_are_own circuit u name good at) ∙ names_are_own circuit w name good at' in
+    cc
+
+-- what is known of a report with a yes is of one design
+in_full : (text output : List ℕ) → IsReportOf text output Yes → (right : IsRight text) → HasRightStops text →
+    IsRightInFull text
+in_full text output says right stops =
+    let same = one_design text stops.circuit right.circuit stops.layout right.layout stops.says.design right.says in
+    let good = good_designs text output Yes right.circuit right.layout says not_refused right.says in
+    record {
+      right = right;
+      stops = stops;
+      same_circuit = same.0;
+      same_layout = same.1;
+      one_valuation = λ inputs. let all = right.correct.implements inputs in record {
+        values = all.values;
+        satisfied = all.satisfied;
+        only = λ v fits. one_valuation text output right.circuit right.layout inputs v all.values says right.says fits
+            all.satisfied;
+      };
+      off_rim = λ touches. yes_off_rim text output says
+          (record { circuit = right.circuit; layout = right.layout; says = right.says; touches = touches });
+      good = good;
+      distinct_names = distinct right.circuit good.circuit_lines;
+      inputs_first = inputs_are_first right.circuit good.circuit_lines;
+    }
+
+pub yes_is_right_in_full : YesMeansRightInFull
+yes_is_right_in_full text output says =
+    in_full text output says (yes_is_right text output says) (yes_has_right_stops text output says)
