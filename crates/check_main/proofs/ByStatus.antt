@@ -10,6 +10,7 @@ use Rattle.command_line.specs.declared.Request.TheVariants.{Check}
 use Rattle.answers.specs.declared.outcome.Outcome.{Outcome}
 use Rattle.answers.specs.declared.outcome.Outcome.TheVariants.{Yes, No, Refused}
 use Rattle.meaning.specs.Headline.{Gives, IsRight, YesMeans}
+use Rattle.headline.specs.RightInFull.{IsRightInFull}
 use Rattle.headline.specs.Stops.{HasRightStops}
 use Rattle.headline.specs.Plain.{IsWrongIfPlain}
 use Rattle.headline.specs.SmallDesigns.{IsNoSmallDesign}
@@ -203,31 +204,46 @@ module _ {R W E : Type 0} {source : Source R} {sink : Sink W} {messages : Sink E
 
   -- ---- the answer of `check`, by the clauses on it
 
-  -- 0 of `check`: the layout computes the circuit
-  pub correct : (AsksForCheck words → YesPromises IsRight (status ≡ 0) (source.left old.reader)
+  -- 0 of `check`: the text is right in full
+  pub right_in_full : (AsksForCheck words → YesPromises IsRightInFull (status ≡ 0) (source.left old.reader)
       (sink.written_bytes old.writer) (sink.written_bytes new.writer)) →
-      IsAccepted words → asked_by words ≡ Check → status ≡ 0 → Gives IsRight (source.left old.reader)
-  correct right a asked zero = (right (record { accepted = a; asked = asked })).by_end zero
+      IsAccepted words → asked_by words ≡ Check → status ≡ 0 → Gives IsRightInFull (source.left old.reader)
+  right_in_full full a asked zero = (full (record { accepted = a; asked = asked })).by_end zero
 
   -- a fourth line `verdict yes` of `check`, whatever the status: the same
-  pub says_yes : (AsksForCheck words → YesPromises IsRight (status ≡ 0) (source.left old.reader)
+  pub says_yes_in_full : (AsksForCheck words → YesPromises IsRightInFull (status ≡ 0) (source.left old.reader)
+      (sink.written_bytes old.writer) (sink.written_bytes new.writer)) →
+      IsAccepted words → asked_by words ≡ Check → YesMeans IsRightInFull (source.left old.reader)
+      (sink.written_bytes old.writer) (sink.written_bytes new.writer)
+  says_yes_in_full full a asked = (full (record { accepted = a; asked = asked })).by_line
+
+  -- so the layout computes the circuit, at 0 of `check`
+  pub correct : (AsksForCheck words → YesPromises IsRightInFull (status ≡ 0) (source.left old.reader)
+      (sink.written_bytes old.writer) (sink.written_bytes new.writer)) →
+      IsAccepted words → asked_by words ≡ Check → status ≡ 0 → Gives IsRight (source.left old.reader)
+  correct full a asked zero text known = (right_in_full full a asked zero text known).right
+
+  -- and at a fourth line `verdict yes`
+  pub says_yes : (AsksForCheck words → YesPromises IsRightInFull (status ≡ 0) (source.left old.reader)
       (sink.written_bytes old.writer) (sink.written_bytes new.writer)) →
       IsAccepted words → asked_by words ≡ Check → YesMeans IsRight (source.left old.reader)
       (sink.written_bytes old.writer) (sink.written_bytes new.writer)
-  says_yes right a asked = (right (record { accepted = a; asked = asked })).by_line
+  says_yes full a asked before output f g line text known =
+      (says_yes_in_full full a asked before output f g line text known).right
 
-  -- 0 of `check`: the stops hold
-  pub stops : (AsksForCheck words → YesPromises HasRightStops (status ≡ 0) (source.left old.reader)
+  -- and the stops hold, at 0 of `check`
+  pub stops : (AsksForCheck words → YesPromises IsRightInFull (status ≡ 0) (source.left old.reader)
       (sink.written_bytes old.writer) (sink.written_bytes new.writer)) →
       IsAccepted words → asked_by words ≡ Check → status ≡ 0 → Gives HasRightStops (source.left old.reader)
-  stops right a asked zero = (right (record { accepted = a; asked = asked })).by_end zero
+  stops full a asked zero text known = (right_in_full full a asked zero text known).stops
 
-  -- a fourth line `verdict yes` of `check`, whatever the status: the same
-  pub says_yes_of_stops : (AsksForCheck words → YesPromises HasRightStops (status ≡ 0) (source.left old.reader)
+  -- and at a fourth line `verdict yes`
+  pub says_yes_of_stops : (AsksForCheck words → YesPromises IsRightInFull (status ≡ 0) (source.left old.reader)
       (sink.written_bytes old.writer) (sink.written_bytes new.writer)) →
       IsAccepted words → asked_by words ≡ Check → YesMeans HasRightStops (source.left old.reader)
       (sink.written_bytes old.writer) (sink.written_bytes new.writer)
-  says_yes_of_stops right a asked = (right (record { accepted = a; asked = asked })).by_line
+  says_yes_of_stops full a asked before output f g line text known =
+      (says_yes_in_full full a asked before output f g line text known).stops
 
   -- 1 of `check`: the text is wrong, if its certificate is plain
   pub wrong : (AsksForCheck words → status ≡ 1 → Gives IsWrongIfPlain (source.left old.reader)) →

@@ -3,8 +3,8 @@ ghost use Rattle.std.specs.Prelude.{◌≡◌, ◌<◌, ◌≤◌, ◌⊎◌, fa
 ghost use Rattle.clap.specs.Walk.{texts};
 ghost use Rattle.clap.specs.Words.{kind_of};
 ghost use Rattle.command_line.specs.CommandLine.{IsAccepted, asked_by};
-ghost use Rattle.meaning.specs.Headline.{Gives, IsRight};
-ghost use Rattle.headline.specs.Stops.{HasRightStops};
+ghost use Rattle.meaning.specs.Headline.{Gives};
+ghost use Rattle.headline.specs.RightInFull.{IsRightInFull};
 ghost use Rattle.headline.specs.Plain.{IsWrongIfPlain};
 ghost use Rattle.headline.specs.SmallDesigns.{IsNoSmallDesign};
 ghost use Rattle.headline.specs.ReportLines.{LinesTell, Relates};
@@ -85,11 +85,8 @@ where
     ensures explained { ¬ IsAccepted (texts words.entry.now) → Explained W.Sink E.Sink
         (texts words.entry.now) streams.old streams.new result }
 
-    // A yes of `check`: the layout computes the circuit, and the stops hold.
-    ensures right { AsksForCheck (texts words.entry.now) → YesPromises IsRight (result ≡ 0)
-        (R.left streams.old.reader) (W.written_bytes streams.old.writer)
-        (W.written_bytes streams.new.writer) }
-    ensures stops { AsksForCheck (texts words.entry.now) → YesPromises HasRightStops (result ≡ 0)
+    // A yes of `check`: the layout computes the circuit (field `right`), the stops hold (`stops`), and more.
+    ensures in_full { AsksForCheck (texts words.entry.now) → YesPromises IsRightInFull (result ≡ 0)
         (R.left streams.old.reader) (W.written_bytes streams.old.writer)
         (W.written_bytes streams.new.writer) }
 
@@ -134,11 +131,8 @@ fn serve<T: Threads + Wait + Sync, R: Source, W: Sink, G: Gate + Sync>(
     requires writer_works { W.has_failed writer.old ≡ false }
     ensures serves { Serves (IsAnswerTo asked.request) R.Source W.Sink reader.old reader.new
         writer.old writer.new result }
-    ensures right { asked.request ≡ Request.Check →
-        YesPromises IsRight (result ≡ Ok Outcome.Yes) (R.left reader.old)
-        (W.written_bytes writer.old) (W.written_bytes writer.new) }
-    ensures stops { asked.request ≡ Request.Check →
-        YesPromises HasRightStops (result ≡ Ok Outcome.Yes) (R.left reader.old)
+    ensures in_full { asked.request ≡ Request.Check →
+        YesPromises IsRightInFull (result ≡ Ok Outcome.Yes) (R.left reader.old)
         (W.written_bytes writer.old) (W.written_bytes writer.new) }
     ensures wrong { asked.request ≡ Request.Check → result ≡ Ok Outcome.No →
         Gives IsWrongIfPlain (R.left reader.old) }

@@ -2,8 +2,8 @@
 ghost use Rattle.std.specs.Prelude.{◌≡◌, ◌≢◌, ◌<◌, ◌≤◌, true, false, Ok, IfOk, IfErr, IsErrOf, OnOk, length};
 ghost use Rattle.std.specs.Io.KnownBytes.{Appends};
 ghost use Rattle.answers.specs.CheckText.{IsReportOf};
-ghost use Rattle.meaning.specs.Headline.{Gives, IsRight};
-ghost use Rattle.headline.specs.Stops.{HasRightStops};
+ghost use Rattle.meaning.specs.Headline.{Gives};
+ghost use Rattle.headline.specs.RightInFull.{IsRightInFull};
 ghost use Rattle.headline.specs.Plain.{IsWrongIfPlain};
 ghost use Rattle.headline.specs.SmallDesigns.{IsNoSmallDesign};
 ghost use Rattle.headline.specs.ReportLines.{LinesTell, Relates};
@@ -37,7 +37,10 @@ const MAX_READ_BYTES: usize = 65_536;
 ///
 /// - the text begins with a circuit and a layout, and the whole layout computes the circuit
 ///   (`meaning/specs/Headline.antt`);
-/// - it goes on with a certificate whose stops hold on the whole layout (`headline/specs/Stops.antt`).
+/// - it goes on with a certificate whose stops hold on the whole layout (`headline/specs/Stops.antt`);
+/// - the circuit has one valuation for all values of its inputs;
+/// - no cell of the rim is live at an odd time below the steps;
+/// - each line of the design is as the grammar asks (`headline/specs/RightInFull.antt` has all of this).
 ///
 /// If it is `No`, and the certificate is one plain module, the whole rectangle, the text is wrong
 /// (`headline/specs/Plain.antt`). `headline/specs/ReportLines.antt` says what the lines of the report mean. The plain
@@ -60,9 +63,7 @@ where
     requires writer_works { W.has_failed writer.old ≡ false }
     ensures serves { Serves IsReportOf R.Source W.Sink reader.old reader.new writer.old writer.new
         result }
-    ensures right { YesPromises IsRight (result ≡ Ok Outcome.Yes) (R.left reader.old)
-        (W.written_bytes writer.old) (W.written_bytes writer.new) }
-    ensures stops { YesPromises HasRightStops (result ≡ Ok Outcome.Yes) (R.left reader.old)
+    ensures in_full { YesPromises IsRightInFull (result ≡ Ok Outcome.Yes) (R.left reader.old)
         (W.written_bytes writer.old) (W.written_bytes writer.new) }
     ensures wrong { result ≡ Ok Outcome.No → Gives IsWrongIfPlain (R.left reader.old) }
     ensures lines { result ≡ Ok Outcome.No →

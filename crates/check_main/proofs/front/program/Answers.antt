@@ -7,8 +7,7 @@ use Rattle.clap.specs.declared.error.kind.ErrorKind.TheVariants.{DisplayHelp, Di
 use Rattle.device.specs.declared.streams.Source.{Ghosts as Source}
 use Rattle.device.specs.declared.streams.Sink.{Ghosts as Sink}
 use Rattle.command_line.specs.declared.Request.{Request}
-use Rattle.meaning.specs.Headline.{IsRight}
-use Rattle.headline.specs.Stops.{HasRightStops}
+use Rattle.headline.specs.RightInFull.{IsRightInFull}
 use Rattle.answers.specs.declared.outcome.Outcome.{Outcome}
 use Rattle.answers.specs.declared.outcome.Outcome.TheVariants.{Yes, No, Refused}
 use Rattle.check_main.specs.declared.fault.CheckFault.{CheckFault}
@@ -58,13 +57,9 @@ promised ended status is promise = record {
   by_line = promise.by_line;
 }
 
-pub returns-in-Ok-clause-right : goal.returns-in-Ok-clause-right
-returns-in-Ok-clause-right g c check = promised c.serve-ended.result c.status_of.result c.status_of.ensures.status
-    (c.serve-ended.ensures.right (c.in-Ok.ensures.request ∙ check.asked))
-
-pub returns-in-Ok-clause-stops : goal.returns-in-Ok-clause-stops
-returns-in-Ok-clause-stops g c check = promised c.serve-ended.result c.status_of.result c.status_of.ensures.status
-    (c.serve-ended.ensures.stops (c.in-Ok.ensures.request ∙ check.asked))
+pub returns-in-Ok-clause-in_full : goal.returns-in-Ok-clause-in_full
+returns-in-Ok-clause-in_full g c check = promised c.serve-ended.result c.status_of.result c.status_of.ensures.status
+    (c.serve-ended.ensures.in_full (c.in-Ok.ensures.request ∙ check.asked))
 
 pub returns-in-Ok-clause-wrong : goal.returns-in-Ok-clause-wrong
 returns-in-Ok-clause-wrong g c check one =
@@ -124,18 +119,10 @@ returns-in-Err-clause-explained g c refused =
       };
     }
 
-pub returns-in-Err-clause-right : goal.returns-in-Err-clause-right
-returns-in-Err-clause-right g c check =
+pub returns-in-Err-clause-in_full : goal.returns-in-Err-clause-in_full
+returns-in-Err-clause-in_full g c check =
     let five = c.explain.ensures.memory (of_memory _ c.in-Err.error check.accepted c.in-Err.ensures.fails) in
-    nothing_promised IsRight _ (g.R.Source.left c.args.streams.now.reader)
-    (g.W.Sink.written_bytes c.args.streams.now.writer) (g.W.Sink.written_bytes c.explain.new.writer)
-    (λ zero. absurd (omega (arith, five, zero)))
-    (ap g.W.Sink.written_bytes (c.explain.ensures.explains.out_of_memory five).0)
-
-pub returns-in-Err-clause-stops : goal.returns-in-Err-clause-stops
-returns-in-Err-clause-stops g c check =
-    let five = c.explain.ensures.memory (of_memory _ c.in-Err.error check.accepted c.in-Err.ensures.fails) in
-    nothing_promised HasRightStops _ (g.R.Source.left c.args.streams.now.reader)
+    nothing_promised IsRightInFull _ (g.R.Source.left c.args.streams.now.reader)
     (g.W.Sink.written_bytes c.args.streams.now.writer) (g.W.Sink.written_bytes c.explain.new.writer)
     (λ zero. absurd (omega (arith, five, zero)))
     (ap g.W.Sink.written_bytes (c.explain.ensures.explains.out_of_memory five).0)

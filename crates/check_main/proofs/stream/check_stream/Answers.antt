@@ -1,7 +1,6 @@
 -- What was written is the report on what was read, or its first bytes, or nothing. `check_text` says what it means.
 use Rattle.std.proofs.Common.{refl}
-use Rattle.meaning.specs.Headline.{IsRight}
-use Rattle.headline.specs.Stops.{HasRightStops}
+use Rattle.headline.specs.RightInFull.{IsRightInFull}
 use Rattle.headline.specs.Plain.{IsWrongIfPlain}
 use Rattle.headline.specs.SmallDesigns.{IsNoSmallDesign}
 use Rattle.headline.specs.ReportLines.{LinesTell}
@@ -9,40 +8,22 @@ use Rattle.answers.specs.declared.outcome.Outcome.TheVariants.{No, Refused}
 use Rattle.check_main.proofs.RightStreams.{nothing_promised, outcome_means, outcome_tells, yes_promised}
 use Rattle.check_main.proofs.stream.check_stream.Goals as goal
 
-pub returns-in_err-feed-clause-right : goal.returns-in_err-feed-clause-right
-returns-in_err-feed-clause-right g c =
-    nothing_promised IsRight _ (g.R.Source.left c.args.reader.now) (g.W.Sink.written_bytes c.args.writer.now)
+pub returns-in_err-feed-clause-in_full : goal.returns-in_err-feed-clause-in_full
+returns-in_err-feed-clause-in_full g c =
+    nothing_promised IsRightInFull _ (g.R.Source.left c.args.reader.now) (g.W.Sink.written_bytes c.args.writer.now)
     (g.W.Sink.written_bytes c.args.writer.now) (λ is. rw is at c.from_residual.ensures.1) refl
 
-pub returns-in_err-answered-clause-right : goal.returns-in_err-answered-clause-right
-returns-in_err-answered-clause-right g c =
-    nothing_promised IsRight _ (g.R.Source.left c.args.reader.now) (g.W.Sink.written_bytes c.args.writer.now)
+pub returns-in_err-answered-clause-in_full : goal.returns-in_err-answered-clause-in_full
+returns-in_err-answered-clause-in_full g c =
+    nothing_promised IsRightInFull _ (g.R.Source.left c.args.reader.now) (g.W.Sink.written_bytes c.args.writer.now)
     (g.W.Sink.written_bytes c.args.writer.now) (λ is. rw is at c.from_residual-in_err-answered.ensures.1) refl
 
-pub returns-clause-right : goal.returns-clause-right
-returns-clause-right g c =
-    yes_promised IsRight (g.R.Source.left c.args.reader.now) (g.R.Source.left c.read_text.new.reader)
+pub returns-clause-in_full : goal.returns-clause-in_full
+returns-clause-in_full g c =
+    yes_promised IsRightInFull (g.R.Source.left c.args.reader.now) (g.R.Source.left c.read_text.new.reader)
     (g.W.Sink.written_bytes c.args.writer.now) (g.W.Sink.written_bytes c.write_answer.new.writer)
     c.in_ok-feed.feed.text c.in_ok-answered.answered.output.items c.in_ok-answered.answered.outcome
-    c.in_ok-answered.ensures.fourth_line c.in_ok-answered.ensures.right c.in_ok-feed.ensures.read_all
-    c.write_answer.result c.write_answer.ensures.outcome c.write_answer.ensures.all c.write_answer.ensures.prefix
-
-pub returns-in_err-feed-clause-stops : goal.returns-in_err-feed-clause-stops
-returns-in_err-feed-clause-stops g c =
-    nothing_promised HasRightStops _ (g.R.Source.left c.args.reader.now) (g.W.Sink.written_bytes c.args.writer.now)
-    (g.W.Sink.written_bytes c.args.writer.now) (λ is. rw is at c.from_residual.ensures.1) refl
-
-pub returns-in_err-answered-clause-stops : goal.returns-in_err-answered-clause-stops
-returns-in_err-answered-clause-stops g c =
-    nothing_promised HasRightStops _ (g.R.Source.left c.args.reader.now) (g.W.Sink.written_bytes c.args.writer.now)
-    (g.W.Sink.written_bytes c.args.writer.now) (λ is. rw is at c.from_residual-in_err-answered.ensures.1) refl
-
-pub returns-clause-stops : goal.returns-clause-stops
-returns-clause-stops g c =
-    yes_promised HasRightStops (g.R.Source.left c.args.reader.now) (g.R.Source.left c.read_text.new.reader)
-    (g.W.Sink.written_bytes c.args.writer.now) (g.W.Sink.written_bytes c.write_answer.new.writer)
-    c.in_ok-feed.feed.text c.in_ok-answered.answered.output.items c.in_ok-answered.answered.outcome
-    c.in_ok-answered.ensures.fourth_line c.in_ok-answered.ensures.stops c.in_ok-feed.ensures.read_all
+    c.in_ok-answered.ensures.fourth_line c.in_ok-answered.ensures.in_full c.in_ok-feed.ensures.read_all
     c.write_answer.result c.write_answer.ensures.outcome c.write_answer.ensures.all c.write_answer.ensures.prefix
 
 pub returns-clause-wrong : goal.returns-clause-wrong
