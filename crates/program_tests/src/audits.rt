@@ -6,7 +6,7 @@ use crate::bundles::{NO, YES};
 use crate::gates::{Hold, Holding};
 use audit_core::{Filing, LogEntry, Reply};
 use certificate::read_certificate;
-use check_main::{Audited, Outcome, Over, audit, check_stream};
+use check_main::{Audited, Feed, Outcome, Over, audit, check_stream, check_text};
 use job_pool::{Gate, OpenGate};
 use std::alloc::Global;
 use std::process::Abort;
@@ -45,6 +45,33 @@ fn writes_the_same_for_each_number_of_workers(rt: HostRuntime) {
             );
         }
     }
+}
+
+/// Returns whether `check` has this answer to a text in memory.
+fn is_answered<T: Threads + Wait + Sync>(
+    rt: &T,
+    alloc: Global,
+    text: &str,
+    outcome: Outcome,
+    output: &str,
+) -> bool {
+    let mut feed = Feed::new(alloc);
+    if feed.push(text.as_bytes()).is_err() {
+        return false;
+    }
+    feed.close();
+    match check_text(rt, alloc, feed, 2, &OpenGate) {
+        Ok(answered) => {
+            answered.outcome == outcome && answered.output.as_slice() == output.as_bytes()
+        }
+        Err(_) => false,
+    }
+}
+
+#[test]
+fn answers_to_texts_in_memory(rt: HostRuntime) {
+    assert!(rt; is_answered(&rt, rt.alloc(), GOOD, Outcome::Yes, YES));
+    assert!(rt; is_answered(&rt, rt.alloc(), ALONE, Outcome::No, NO));
 }
 
 /// The ways to hold workers back, each with the number of workers.
