@@ -37,6 +37,7 @@ use Rattle.certificate_lines.specs.declared.certificate_line.StopLine.{StopLine}
 use Rattle.certificate_lines.proofs.Lists.{kept}
 use Rattle.certificate.specs.Jobs.{IsJobOf, line_signals}
 use Rattle.certificate.specs.Arrivals.{AreOnTime, IsFirstTime, IsLastTime, TakesSteps, Tells, TellsOfDelay}
+use Rattle.certificate.specs.Arrivals.{TellsOfMeeting}
 use Rattle.certificate.specs.Times.{all_stops, are_all_obeyed, is_obeyed, time_lines, times_of}
 use Rattle.certificate.specs.declared.times.StopGap.{StopGap}
 use Rattle.certificate.specs.declared.times.StopGap.TheVariants.{Steps, NoStop, Before}
@@ -65,7 +66,7 @@ use Rattle.meaning.specs.Implements.{IsCorrect, run_under}
 use Rattle.audit_core.specs.FirstFaults.{HasGoodBorders, IsAsCertified, IsAssignmentOf, IsFirstFault, HasAssignment}
 use Rattle.audit_core.specs.PlainCertificates.{IsPlain, IsWrongDesign, PlainCertificateDecides, PlainNoMeansWrong}
 use Rattle.audit_core.specs.PlainCertificates.{TouchesRim, UntimedIsOnTime, IsLiveOnRim, LacksValues, LineMeans}
-use Rattle.audit_core.specs.PlainCertificates.{PlainLinesMean, Shows}
+use Rattle.audit_core.specs.PlainCertificates.{DelayLineMeans, MeetLineMeans, PlainLinesMean, Shows}
 use Rattle.audit_core.specs.OnTime.{StopHolds}
 use Rattle.audit_core.specs.Verdicts.{Accepts, IsToldOf, IsVerdict, AreReportLines, border_line, keep_line, lines_from}
 use Rattle.audit_core.specs.Verdicts.{local_line, renumber_keep, timing, unkept_lines}
@@ -600,21 +601,47 @@ module _ (lines : List CircuitLine) (p : Pattern) (m : ModuleLines) (jobs : List
   abbrev Means : ReportLine → Type 0
   Means l = LineMeans lines p m l
 
-  timed_by : AreOnTime c (stops m) → AreOnTime c (all_stops (m ∷ []))
-  timed_by timed = subst (AreOnTime c) (sym (append-nil (stops m))) timed
-
   gap_is : (k n : ℕ) (gap : StopGap) → is_obeyed (times.Delay k n gap) ≡ true → gap ≡ Steps n
   gap_is k n (Steps s) e = ap Steps (eqb-true s n e)
   gap_is k n NoStop e = absurd (false≢true e)
   gap_is k n Before e = absurd (false≢true e)
 
+  delay_means : (ss : List StopLine) (k n : ℕ) (gap : StopGap) → Tells c ss (times.Delay k n gap) →
+      DelayLineMeans lines ss k n gap
+  delay_means ss k n gap (g, at, is, tells) =
+      let w = delay_wires (netlist_of lines).given n (netlist_of lines).gates k g b.ordered at is in
+      let same : g ≡ record { kind = Delay n; ins = w.used ∷ []; outs = w.made ∷ [] } = λ i. record {
+        kind = is i;
+        ins = w.ins i;
+        outs = w.outs i;
+      } in
+      let takes : TellsOfDelay c ss gap w.used w.made = tells w.used w.made w.ins w.outs in
+      let kept : TakesSteps c ss n w.used w.made → gap ≡ Steps n =
+      λ steps. gap_is k n gap (kept_gap c ss k n w.used w.made gap steps takes) in
+      record {
+        used = w.used;
+        made = w.made;
+        is_delay = at ∙ ap Some same;
+        takes = takes;
+        wrong = λ other steps. other (kept steps);
+        late = λ other timed. other (kept (timed.delays k n w.used w.made (at ∙ ap Some same)));
+      }
+
+  meet_means : (ss : List StopLine) (k : ℕ) (o : Option ℕ) → Tells c ss (times.Meet k o) → MeetLineMeans lines ss k o
+  meet_means ss k o (g, at, tells) = record {
+    gate = g;
+    numbered = at;
+    meets = tells;
+    late = λ none timed.
+        let met = timed.meetings k g at in
+        subst (λ (o : Option ℕ). TellsOfMeeting c ss o g.ins) none tells met.0 met.1;
+  }
+
   time_means : (l : TimeLine) → Tells c (all_stops (m ∷ [])) l → Means (timing l)
-  time_means (times.Delay k n gap) tells = λ other timed.
-      other (gap_is k n gap (kept_line lines (all_stops (m ∷ [])) (times.Delay k n gap) b.ordered
-      (timed_by timed) tells))
-  time_means (times.Meet k (Some t)) tells = tt
-  time_means (times.Meet k None) tells = λ timed.
-      false≢true (kept_line lines (all_stops (m ∷ [])) (times.Meet k None) b.ordered (timed_by timed) tells)
+  time_means (times.Delay k n gap) tells = subst (λ (ss : List StopLine). DelayLineMeans lines ss k n gap)
+      (append-nil (stops m)) (delay_means (all_stops (m ∷ [])) k n gap tells)
+  time_means (times.Meet k o) tells = subst (λ (ss : List StopLine). MeetLineMeans lines ss k o)
+      (append-nil (stops m)) (meet_means (all_stops (m ∷ [])) k o tells)
 
   keep_means : (n : ℕ) (j : JobView) (o : Option KeepFault) (f : KeepFault) → IsJobOf c p m j → IsLeastKeepFault j o →
       option_map (renumber_keep j) o ≡ Some f → Means (line.Keep n f)

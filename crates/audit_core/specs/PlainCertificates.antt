@@ -1,7 +1,8 @@
 -- The meaning of a no under a plain certificate, of one module that is the whole rectangle: `check` decides the layout.
 --
 -- Read before: meaning/specs/Implements.antt, OnTime.antt, FirstFaults.antt.
-use Rattle.std.specs.Prelude.{◌≡◌, ◌≢◌, ℕ, ℤ, ◌<◌, ◌%◌, ◌↔◌, ◌⊎◌, List, [], ◌∷◌, Some, None, slice_get, IsTrue}
+use Rattle.std.specs.Prelude.{◌≡◌, ◌≢◌, ℕ, ℤ, ◌<◌, ◌%◌, ◌↔◌, ◌⊎◌, List, [], ◌∷◌, Option, Some, None, slice_get}
+use Rattle.std.specs.Prelude.{IsTrue}
 use Rattle.std.specs.List.{All}
 use Rattle.std.specs.declared.vec.Vec.{Vec}
 use Rattle.std.specs.declared.alloc.Global.{Global}
@@ -17,7 +18,9 @@ use Rattle.certificate_lines.specs.Entries.{ModuleLines, cuts, edges, keeps, sto
 use Rattle.certificate_lines.specs.Rules.{whole}
 use Rattle.certificate_lines.specs.Settings.{setting_of}
 use Rattle.module_job.specs.Jobs.{JobView}
-use Rattle.certificate.specs.Arrivals.{AreOnTime}
+use Rattle.certificate_lines.specs.declared.certificate_line.StopLine.{StopLine}
+use Rattle.certificate.specs.Arrivals.{AreOnTime, IsDelay, TakesSteps, TellsOfDelay, TellsOfMeeting}
+use Rattle.certificate.specs.declared.times.StopGap.{StopGap}
 use Rattle.certificate.specs.declared.times.StopGap.TheVariants.{Steps}
 use Rattle.local_run.specs.declared.fault.Fault.{Fault}
 use Rattle.local_run.specs.declared.fault.Kind.TheVariants.{Edge, Stop}
@@ -105,16 +108,35 @@ pub record LacksValues (lines : List CircuitLine) (p : Pattern) (m : ModuleLines
   pub lacks : (v : Valuation) → ¬ Satisfies (netlist_of lines) inputs v
   pub incorrect : ¬ IsCorrect lines p
 
--- The meaning of each line of a report. No `border` and no `unkept` line occurs. If a `delay` line has another number
--- of steps than it must have, or a `meet` line has no time, the stops are not on time.
+-- The meaning of a `delay` line by these stops. Gate `number` is a delay that must take `wanted` steps, and the line is
+-- right about this gate. If the line has another number of steps, or none, the gate does not take the steps that it
+-- must take, and the stops are not on time.
+pub record DelayLineMeans (lines : List CircuitLine) (ss : List StopLine) (number wanted : ℕ)
+    (gap : StopGap) : Type 0 where
+  pub used : ℕ
+  pub made : ℕ
+  pub is_delay : IsDelay (circuit_of lines) number wanted used made
+  pub takes : TellsOfDelay (circuit_of lines) ss gap used made
+  pub wrong : gap ≢ Steps wanted → ¬ TakesSteps (circuit_of lines) ss wanted used made
+  pub late : gap ≢ Steps wanted → ¬ AreOnTime (circuit_of lines) ss
+
+-- The meaning of a `meet` line by these stops. The inputs of gate `number` meet at the time of the line. If it has no
+-- time, they meet at no time, and the stops are not on time.
+pub record MeetLineMeans (lines : List CircuitLine) (ss : List StopLine) (number : ℕ) (at : Option ℕ) : Type 0 where
+  pub gate : Gate
+  pub numbered : slice_get (netlist_of lines).gates number ≡ Some gate
+  pub meets : TellsOfMeeting (circuit_of lines) ss at gate.ins
+  pub late : at ≡ None → ¬ AreOnTime (circuit_of lines) ss
+
+-- The meaning of each line of a report. No `border` and no `unkept` line occurs. A `delay` line and a `meet` line are
+-- about their own gate, by the stops of the module.
 abbrev pub LineMeans : List CircuitLine → Pattern → ModuleLines → ReportLine → Type 0
 LineMeans lines p m (Local i f) = Shows lines p m f
 LineMeans lines p m (Keep i f) = LacksValues lines p m f.assignment
 LineMeans lines p m (Border i f) = ⊥
 LineMeans lines p m (Unkept gate) = ⊥
-LineMeans lines p m (DelayLine gate wanted gap) = gap ≢ Steps wanted → ¬ AreOnTime (circuit_of lines) (stops m)
-LineMeans lines p m (Meet gate (Some t)) = Unit {0}
-LineMeans lines p m (Meet gate None) = ¬ AreOnTime (circuit_of lines) (stops m)
+LineMeans lines p m (DelayLine gate wanted gap) = DelayLineMeans lines (stops m) gate wanted gap
+LineMeans lines p m (Meet gate at) = MeetLineMeans lines (stops m) gate at
 
 -- It means so in every report on a plain certificate.
 abbrev pub PlainLinesMean : Type 0

@@ -1,6 +1,6 @@
 -- The report on a plain text
 use Rattle.std.proofs.Common.{◌≡◌, ℕ, List, [], ◌∷◌, map, Result, Ok, Err, Vec, Global, refl, sym, ap, subst, ◌∙◌, inl}
-use Rattle.std.proofs.Common.{inr, ℤ, length, Some, None, option_map}
+use Rattle.std.proofs.Common.{inr, ℤ, length, Some, option_map}
 use Rattle.std.specs.List.{All, flat_map}
 use Rattle.std.proofs.lemmas.Bool.{cases_Bool}
 use Rattle.section_text.specs.declared.fault.Refusal.{Refusal}
@@ -13,6 +13,7 @@ use Rattle.certificate_lines.specs.Entries.{edges, stops}
 use Rattle.certificate_lines.specs.Settings.{setting_of}
 use Rattle.certificate_lines.specs.Versions.{beside, in_order, is_haloless, meant, with_halos}
 use Rattle.certificate_lines.specs.declared.certificate_line.CertificateLine.{CertificateLine}
+use Rattle.certificate_lines.specs.declared.certificate_line.StopLine.{StopLine}
 use Rattle.certificate.specs.Arrivals.{AreOnTime}
 use Rattle.certificate.specs.Grammars.{CertView, modules_in}
 use Rattle.certificate.specs.Times.{all_stops}
@@ -39,7 +40,8 @@ use Rattle.audit_core.specs.declared.verdict.ReportLine.TheVariants.{Local, Keep
 use Rattle.audit_core.specs.FirstFaults.{HasAssignment, IsAsCertified, IsEarliestLine, IsReal}
 use Rattle.audit_core.specs.HeadlineLaws.{BelongTogether, HasInputNames, IsInputName}
 use Rattle.meaning.specs.Implements.{IsCorrect}
-use Rattle.audit_core.specs.PlainCertificates.{IsPlain, IsWrongDesign, TouchesRim, LineMeans}
+use Rattle.audit_core.specs.PlainCertificates.{DelayLineMeans, IsPlain, IsWrongDesign, LineMeans, MeetLineMeans}
+use Rattle.audit_core.specs.PlainCertificates.{TouchesRim}
 use Rattle.audit_core.specs.OnTime.{IsOnTime, StopHolds}
 use Rattle.audit_core.specs.Verdicts.{Accepts, IsVerdict}
 use Rattle.audit_core.specs.declared.verdict.ReportLine.{ReportLine}
@@ -161,10 +163,9 @@ line_same lines p full m (Keep i f) same lacks = record {
 line_same lines p full m (Border i f) same h = h
 line_same lines p full m (Unkept gate) same h = h
 line_same lines p full m (Delay gate wanted gap) same h =
-    λ other timed. h other (subst (AreOnTime (circuit_of lines)) (sym same.stops_same) timed)
-line_same lines p full m (Meet gate (Some t)) same h = tt
-line_same lines p full m (Meet gate None) same h =
-    λ timed. h (subst (AreOnTime (circuit_of lines)) (sym same.stops_same) timed)
+    subst (λ (ss : List StopLine). DelayLineMeans lines ss gate wanted gap) same.stops_same h
+line_same lines p full m (Meet gate at) same h =
+    subst (λ (ss : List StopLine). MeetLineMeans lines ss gate at) same.stops_same h
 
 all_same : (lines : List CircuitLine) (p : Pattern) (full m : ModuleLines) (ls : List ReportLine) →
     HaveSameLines full m → All (LineMeans lines p full) ls → All (LineMeans lines p m) ls

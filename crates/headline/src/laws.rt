@@ -98,7 +98,7 @@ pub fn small_designs_are_decided()
 /// - `edge`: the layout touches its rim;
 /// - `stop`: a stop is wrong;
 /// - `end` and `keep`: the layout does not compute the circuit, for the inputs in the line;
-/// - `delay` and `meet`: the times are wrong.
+/// - `delay` and `meet`: the line is right about the times of its own gate, and they are wrong if the line says so.
 pub fn lines_of_a_no_tell()
     ensures { NoLinesTell }
 {}
