@@ -1,20 +1,29 @@
--- Two texts are accepted, by computation: they are read, and their modules pass tests.
+-- Three texts are accepted and one is refuted, by computation: they are read, and their modules pass tests.
 --
--- One is of four modules around a gate, with stops and a delay, and one of a switch and its inverse gate.
-use Rattle.std.proofs.Common.{◌≡◌, List, [], ◌∷◌, Ok, refl, arith}
-use Rattle.std.specs.Prelude.{codes}
+-- One is of four modules around a gate, with stops and a delay, and one of a switch and its inverse gate. Two are plain
+-- texts of two balls that meet, the second of them with a wrong layout.
+use Rattle.std.proofs.Common.{◌≡◌, ℕ, zero, suc, true, List, [], ◌∷◌, Ok, Some, option_map, refl, sym, ap, ◌∙◌}
+use Rattle.std.proofs.Common.{arith}
+use Rattle.std.specs.Prelude.{codes, slice_get, unwrap_or}
+use Rattle.std.specs.List.{All}
+use Rattle.std.proofs.lemmas.Bool.{true≢false}
+use Rattle.std.proofs.lemmas.List.Elements.{All-nil, All-cons}
 use Rattle.bbm_rule.specs.Bits.{bit}
 use Rattle.bbm_rule.specs.Plane.{partner, step, turned}
 use Rattle.bbm_rule.specs.Spans.{in_span}
+use Rattle.bbm_rule.specs.declared.block.Cell.{Cell}
 use Rattle.section_text.specs.Words as words
 use Rattle.section_text.specs.Section as section
 use Rattle.circuit.specs.Evaluate.{evaluate}
 use Rattle.circuit.specs.Forms as circuit_forms
-use Rattle.circuit.specs.Gates.{row}
+use Rattle.circuit.specs.Bridge.{netlist_of}
+use Rattle.circuit.specs.Gates.{is_inverse, row}
 use Rattle.circuit.specs.Meaning as meaning
+use Rattle.circuit.specs.Meaning.{Gate as Meant}
 use Rattle.circuit.specs.Rules as circuit_rules
 use Rattle.circuit.specs.declared.circuit_line.CircuitLine.{CircuitLine}
-use Rattle.circuit.specs.declared.circuit_line.GateKind.TheVariants.{Switch, Unswitch}
+use Rattle.circuit.specs.declared.circuit_line.GateKind.{GateKind}
+use Rattle.circuit.specs.declared.circuit_line.GateKind.TheVariants.{Interact, Switch, Unswitch}
 use Rattle.circuit.specs.declared.circuit_line.Kind.TheVariants.{Input, Gate, Output}
 use Rattle.pattern.specs.Forms as layout_forms
 use Rattle.pattern.specs.Layout as layouts
@@ -25,24 +34,37 @@ use Rattle.module_box.specs.Moments.{cell_cmp}
 use Rattle.module_box.specs.Schedules.{all_times_at, event_at, signal_at}
 use Rattle.module_job.specs.Jobs.{job_demand, job_start}
 use Rattle.certificate_lines.specs.Entries as entries
+use Rattle.certificate_lines.specs.Entries.{ModuleLines, cuts, modules_of}
 use Rattle.certificate_lines.specs.Forms as forms
 use Rattle.certificate_lines.specs.Orders as orders
 use Rattle.certificate_lines.specs.PortTables.{port_at}
 use Rattle.certificate_lines.specs.Rules as rules
-use Rattle.certificate_lines.specs.Versions.{meant}
+use Rattle.certificate_lines.specs.Rules.{whole}
+use Rattle.certificate_lines.specs.declared.certificate_line.CertificateLine.TheVariants.{Module, Cut, Use, Stop}
+use Rattle.certificate_lines.specs.Versions as versions
 use Rattle.certificate.specs.Jobs.{end_demand, start_signal}
+use Rattle.certificate.specs.Keeps as keeps
 use Rattle.certificate.specs.Times as times
+use Rattle.local_run.specs.Order.{fault_cmp}
 use Rattle.local_run.specs.Runs.{local_run, local_step, with_halo}
 use Rattle.audit_core.proofs.NumberedSignals.{numbered, numbered_all_times, numbered_event, numbered_signals}
 use Rattle.audit_core.proofs.NumberedSignals.{place_among}
 use Rattle.audit_core.proofs.SomeJobs.{demanded, placed_gate, placed_gates, placed_stop, places}
+use Rattle.audit_core.specs.HeadlineLaws.{IsInputName}
+use Rattle.audit_core.specs.PlainCertificates.{IsPlain}
+use Rattle.audit_core.specs.declared.verdict.ReportLine.TheVariants.{Meet}
 use Rattle.answers.specs.BundleText.{Bundle, bundle_of}
+use Rattle.answers.specs.CheckText.{IsReportOf}
 use Rattle.answers.specs.declared.outcome.Outcome.TheVariants.{Yes}
 use Rattle.headline.specs.Laws.{ThereAndBackIsAccepted, TimedModulesAreAccepted}
 use Rattle.headline.specs.PlainLaws.{ThereAndBackIsPlain, ThereAndBackIsSmall}
+use Rattle.headline.specs.PlainNo.{plain_no}
+use Rattle.headline.specs.PlainYes.{plain_yes}
 use Rattle.headline.specs.SmallDesigns.{plain_lines}
 use Rattle.headline.specs.ThereAndBack.{there_and_back}
 use Rattle.headline.specs.TimedModules.{timed_modules}
+use Rattle.headline.specs.Witnesses.{PlainNoIsRefuted, PlainYesIsAccepted}
+use Rattle.headline.proofs.FailingTexts.{Fails, is_refuted}
 use Rattle.headline.proofs.PassingTexts.{PassesIfRead, accepted_if}
 use Rattle.headline.proofs.PlainLines.{plain_lines_decide}
 use Rattle.headline.proofs.SmallDesigns.{is_plain_text}
@@ -78,15 +100,105 @@ bundle = record {
   entries = plain_lines circuit layout;
 }
 
--- ---- both texts are read, and pass
+-- ---- the two balls that meet
+
+abbrev meeting : List CircuitLine
+meeting =
+    record { kind = Input; ins = []; outs = codes "p" ∷ [] }
+    ∷ record { kind = Input; ins = []; outs = codes "q" ∷ [] }
+    ∷ record {
+      kind = Gate Interact;
+      ins = codes "p" ∷ codes "q" ∷ [];
+      outs = codes "a" ∷ codes "b" ∷ codes "c" ∷ codes "d" ∷ [];
+    }
+    ∷ record { kind = Output; ins = codes "a" ∷ []; outs = [] }
+    ∷ record { kind = Output; ins = codes "b" ∷ []; outs = [] }
+    ∷ record { kind = Output; ins = codes "c" ∷ []; outs = [] }
+    ∷ record { kind = Output; ins = codes "d" ∷ []; outs = [] } ∷ []
+
+-- where the outputs b and c are
+abbrev meeting_in : Cell → Cell → Pattern
+meeting_in b c = record {
+  size = record { w = 8; h = 8; steps = 3 };
+  mirrors = [];
+  balls = [];
+  ins = record { name = codes "p"; cell = cell 2 2 } ∷ record { name = codes "q"; cell = cell 5 5 } ∷ [];
+  outs =
+      record { name = codes "a"; cell = cell 5 2 } ∷ record { name = codes "b"; cell = b }
+      ∷ record { name = codes "c"; cell = c } ∷ record { name = codes "d"; cell = cell 2 5 } ∷ [];
+  wastes = [];
+}
+
+abbrev right_layout : Pattern
+right_layout = meeting_in (cell 2 2) (cell 5 5)
+
+abbrev wrong_layout : Pattern
+wrong_layout = meeting_in (cell 5 5) (cell 2 2)
+
+abbrev one : ModuleLines
+one = record {
+  area = record { x = 0; y = 0; w = 8; h = 8 };
+  lines =
+      Cut (codes "p") ∷ Cut (codes "q") ∷ Use 0
+      ∷ Stop (record { time = 1; wire = codes "p"; cell = cell 3 3 })
+      ∷ Stop (record { time = 1; wire = codes "q"; cell = cell 4 4 }) ∷ [];
+}
+
+abbrev meeting_bundle : Pattern → Bundle
+meeting_bundle p = record {
+  circuit = meeting;
+  size = p.size;
+  parts = parts_of p;
+  version = 2;
+  entries = Module one.area ∷ one.lines;
+}
+
+-- each cut is an input, and no gate is an inverse one
+record IsMeeting (p : Pattern) : Type 0 where
+  inputs : All (IsInputName meeting) (cuts one)
+  modules : modules_of (meeting_bundle p).entries ≡ one ∷ []
+  box : one.area ≡ whole p.size
+
+is_meeting : (b c : Cell) → IsMeeting (meeting_in b c)
+unfolding entries.change_last entries.add_line entries.modules_of meaning.number meaning.place_of
+is_meeting b c = record {
+  inputs = All-cons (IsInputName meeting) (codes "p") (codes "q" ∷ [])
+      (record { wire = 0; named = refl; is_given = omega arith })
+      (All-cons (IsInputName meeting) (codes "q") [] (record { wire = 1; named = refl; is_given = omega arith })
+      (All-nil (IsInputName meeting)));
+  modules = refl;
+  box = refl;
+}
+
+no_inverse : (k : ℕ) (gate : Meant) → slice_get (netlist_of meeting).gates k ≡ Some gate →
+    is_inverse gate.kind ≡ true → ⊥
+no_inverse zero gate at inverse =
+    let kind : ◌≡◌ {A = GateKind} Interact gate.kind =
+    ap (λ o. unwrap_or (option_map (λ (h : Meant). h.kind) o) Interact) at in
+    true≢false (sym inverse ∙ ap is_inverse (sym kind))
+no_inverse (suc k) gate at inverse = absurd cc
+
+meeting_plain : (b c : Cell) → IsPlain meeting (meeting_in b c) one
+meeting_plain b c = record {
+  box = (is_meeting b c).box;
+  inputs = (is_meeting b c).inputs;
+  inverses = λ k gate at inverse. absurd (no_inverse k gate at inverse);
+  no_edge = refl;
+}
+
+-- ---- the texts are read, and pass
 
 record AreRead : Type 0 where
   pub timed : PassesIfRead (bundle_of timed_modules)
   pub inverse : PassesIfRead (bundle_of there_and_back)
   pub reads : bundle_of there_and_back ≡ Ok bundle
+  pub yes : PassesIfRead (bundle_of plain_yes)
+  pub yes_reads : bundle_of plain_yes ≡ Ok (meeting_bundle right_layout)
+  pub no_reads : bundle_of plain_no ≡ Ok (meeting_bundle wrong_layout)
+  pub no_fails : Fails (meeting_bundle wrong_layout) wrong_layout one (cell 2 2) 1 (Meet 0 (Some 1) ∷ [])
 
 are_read : AreRead
-unfolding timed_modules there_and_back bundle_of words.lines_of words.rest_of words.number_of words.name_of
+unfolding timed_modules there_and_back plain_yes plain_no bundle_of words.lines_of words.rest_of words.number_of words.name_of
     words.number_at words.name_at words.names_at words.is_word_at words.lone words.lone_number words.lone_name
     section.section_of section.body_of circuit_forms.form_of circuit_forms.gate_entry circuit_forms.gate_names
     circuit_forms.gate_kind circuit_forms.bit_at circuit_rules.add_fault meaning.number meaning.place_of
@@ -101,14 +213,28 @@ unfolding timed_modules there_and_back bundle_of words.lines_of words.rest_of wo
     forms.form_of orders.rank_of orders.number_of orders.cell_of orders.line_cmp orders.is_cut orders.may_precede
     orders.may_follow rules.lacks_port rules.box_fault rules.module_fault rules.cut_fault rules.are_new rules.gate_fault
     rules.use_fault rules.keep_fault rules.is_time rules.is_edge_place rules.is_halo_place rules.is_stop_place
-    rules.signal_fault rules.border_fault rules.entry_fault rules.end_fault cell_cmp meant start_signal end_demand
+    rules.signal_fault rules.border_fault rules.entry_fault rules.end_fault cell_cmp versions.meant start_signal end_demand
     port_at places placed_gate placed_gates place_among numbered numbered_all_times numbered_event numbered_signals
     demanded placed_stop bit row evaluate job_start job_demand local_run local_step with_halo step partner turned
-    signal_at all_times_at event_at times.numbered
+    signal_at all_times_at event_at times.numbered versions.beside versions.in_order versions.is_early
+    versions.with_halos versions.is_halo versions.lacks_wire fault_cmp keeps.unkept_from
 are_read = record {
   timed = record { layout = refl; tests = record { jobs = refl; kept = refl; borders = refl; on_time = refl } };
   inverse = record { layout = refl; tests = record { jobs = refl; kept = refl; borders = refl; on_time = refl } };
   reads = refl;
+  yes = record { layout = refl; tests = record { jobs = refl; kept = refl; borders = refl; on_time = refl } };
+  yes_reads = refl;
+  no_reads = refl;
+  no_fails = record {
+    layout = refl;
+    alone = refl;
+    plain = meeting_plain (cell 5 5) (cell 2 2);
+    none_kept = refl;
+    first = record { small = omega arith; missed = refl; before = refl };
+    unkept = refl;
+    on_times = refl;
+    few = omega arith;
+  };
 }
 
 pub timed_accepted : TimedModulesAreAccepted
@@ -130,3 +256,45 @@ small = record {
   plain = is_plain_text there_and_back bundle layout are_read.reads refl refl refl;
   small = record { wide = omega arith; high = omega arith; inputs = omega arith; gates = omega arith };
 }
+
+-- ---- two balls that meet, with the right layout and with a wrong one
+
+yes_accepted : (output : List ℕ) × IsReportOf plain_yes output Yes
+yes_accepted = accepted_if plain_yes are_read.yes
+
+pub plain_yes_accepted : PlainYesIsAccepted
+plain_yes_accepted = record {
+  plain = record {
+    circuit = meeting;
+    layout = right_layout;
+    certificate = (meeting_bundle right_layout).entries;
+    says = (bundle_good plain_yes (meeting_bundle right_layout) are_read.yes_reads).says_all right_layout refl;
+    one = one;
+    modules = (is_meeting (cell 2 2) (cell 5 5)).modules;
+    plain = meeting_plain (cell 2 2) (cell 5 5);
+  };
+  steps = omega arith;
+  output = yes_accepted.0;
+  reported = yes_accepted.1;
+}
+
+pub plain_no_refuted : PlainNoIsRefuted
+plain_no_refuted =
+    let is = is_refuted plain_no (meeting_bundle wrong_layout) are_read.no_reads wrong_layout one (cell 2 2) 1
+    (Meet 0 (Some 1) ∷ []) are_read.no_fails in
+    record {
+      plain = record {
+        circuit = meeting;
+        layout = wrong_layout;
+        certificate = (meeting_bundle wrong_layout).entries;
+        says = (bundle_good plain_no (meeting_bundle wrong_layout) are_read.no_reads).says_all wrong_layout refl;
+        one = one;
+        modules = (is_meeting (cell 5 5) (cell 2 2)).modules;
+        plain = meeting_plain (cell 5 5) (cell 2 2);
+      };
+      steps = omega arith;
+      output = is.output;
+      reported = is.reported;
+      says = is.says;
+      shows = is.shows;
+    }

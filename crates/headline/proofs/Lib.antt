@@ -5,6 +5,7 @@ mod OneReport
 mod SomeAnswer
 mod SomeReport
 mod PassingTexts
+mod FailingTexts
 mod SomeRun
 mod Designs
 mod AcceptedTexts

@@ -1,10 +1,13 @@
 pub mod Stops
 pub mod ThereAndBack
 pub mod TimedModules
+pub mod PlainYes
+pub mod PlainNo
 pub mod Plain
 pub mod SmallDesigns
 pub mod ReportLines
 pub mod RightInFull
 pub mod PlainLaws
+pub mod Witnesses
 pub mod Laws
 pub mod Migration

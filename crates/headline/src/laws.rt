@@ -2,6 +2,7 @@
 ghost use Rattle.answers.specs.CheckText.{IsReportOf};
 ghost use Rattle.headline.specs.Laws.{FourthLineTells, HasAnAnswer, HasOneAnswer, ReportsOnGoodDesigns, SaysOneCertificate, SaysOneDesign, ThereAndBackIsAccepted, TimedModulesAreAccepted, YesHasOneValuation, YesMeansRight, YesMeansRightInFull, YesMeansRightStops};
 ghost use Rattle.headline.specs.PlainLaws.{PlainIsDecided, PlainLinesDecide, PlainNoMeansWrong, RefusedIsNoSmallDesign, SmallDesignIsDecided, ThereAndBackIsPlain, ThereAndBackIsSmall, YesKeepsOffRim, NoLinesTell};
+ghost use Rattle.headline.specs.Witnesses.{PlainNoIsRefuted, PlainYesIsAccepted};
 ghost use Rattle.headline.specs.Migration.{KeepsVersionTwo, MigratesOnce, MigrationIsAccepted, MigrationSaysTheSame};
 ghost use Rattle.answers.specs.MigrateText.{IsMigrationOf};
 ghost use Rattle.answers.specs.ModulesText.{IsModulesOf};
@@ -113,13 +114,22 @@ pub fn says_one_design()
     ensures good { ReportsOnGoodDesigns }
 {}
 
-/// States that two texts are reported with a yes, so the theorems are not vacuous.
+/// States that three texts are reported with a yes, so the theorems are not vacuous.
 ///
-/// One is of four modules with a gate, a delay and stops. The other is of a switch and its inverse gate, and its
-/// certificate is plain.
+/// - One is of four modules with a gate, a delay and stops.
+/// - One is of a switch and its inverse gate, and its certificate is plain.
+/// - One is plain and has three steps, in which two balls meet.
 pub fn something_is_accepted()
     ensures timed { TimedModulesAreAccepted }
     ensures inverse { ThereAndBackIsAccepted }
     ensures plain { ThereAndBackIsPlain }
     ensures small { ThereAndBackIsSmall }
+    ensures meeting { PlainYesIsAccepted }
+{}
+
+/// States that a plain text of three steps, in which two balls meet, is reported with a no.
+///
+/// Two outputs have changed places in its layout. The report has a `local` line, and its fault is one of the plane.
+pub fn something_is_refuted()
+    ensures { PlainNoIsRefuted }
 {}

@@ -12,3 +12,6 @@ returns-clause-plain c = texts.plain
 
 pub returns-clause-small : goal.returns-clause-small
 returns-clause-small c = texts.small
+
+pub returns-clause-meeting : goal.returns-clause-meeting
+returns-clause-meeting c = texts.plain_yes_accepted

@@ -1,0 +1,411 @@
+-- A text is reported with a no that has one `local` line, if its one module passes tests, which a proof by computation
+-- can run: a cell is not as asked at the end, and nothing before that fault, in the order of faults, is wrong.
+use Rattle.std.proofs.Common.{◌≡◌, ℕ, zero, suc, ◌+◌, ◌*◌, ◌/◌, ◌%◌, ◌<◌, Bool, true, false, not, ◌||◌, ◌&&◌, refl}
+use Rattle.std.proofs.Common.{sym, ap, ap₂, subst, ◌∙◌, arith, map, length, List, [], ◌∷◌, ◌++◌, Option, Some, None, Ok}
+use Rattle.std.proofs.Common.{Ordering, Less, Equal, Greater}
+use Rattle.std.specs.Prelude.{ℤ, ◌≢◌, codes, slice_get}
+use Rattle.std.specs.Cmp.{booleans_Decides}
+use Rattle.std.specs.List.{All, flat_map, list_all, range_with_len}
+use Rattle.std.specs.Bool.{beq}
+use Rattle.std.proofs.lemmas.Bool.{and_parts, false≢true, true≢false}
+use Rattle.std.proofs.lemmas.List.{length-map}
+use Rattle.std.proofs.lemmas.List.Elements.{All-head}
+use Rattle.std.proofs.lemmas.List.FromFn.{get_or-map-range_with_len, length-range_with_len}
+use Rattle.std.proofs.lemmas.Option.{slice_get-get_or}
+use Rattle.sha2.specs.Sha256.{sha256}
+use Rattle.bbm_rule.specs.Bits.{bit}
+use Rattle.bbm_rule.specs.declared.block.Cell.{Cell}
+use Rattle.circuit.specs.Bridge.{circuit_of, netlist_of, read}
+use Rattle.circuit.specs.Evaluate.{evaluate}
+use Rattle.circuit.specs.Meaning.{AreOrdered, Valuation}
+use Rattle.circuit.proofs.Bridging.{gates_are_ordered}
+use Rattle.circuit.proofs.Valuations.{evaluated}
+use Rattle.circuit.specs.declared.circuit_line.CircuitLine.{CircuitLine}
+use Rattle.section_text.specs.Spelling.{line_text}
+use Rattle.pattern.specs.Grammars.{layout_value}
+use Rattle.pattern.specs.Layout.{Pattern}
+use Rattle.module_box.specs.Locals.{is_among}
+use Rattle.module_box.specs.Boxes.{in_box, in_ring}
+use Rattle.module_box.specs.LocalValues.{IsLocalValuation}
+use Rattle.module_box.specs.Places.{place_in}
+use Rattle.module_box.specs.declared.boxes.Box2.{Box2}
+use Rattle.module_box.proofs.Neighbours.{halo_parts}
+use Rattle.certificate_lines.specs.Entries.{ModuleLines, Setting, modules_of}
+use Rattle.certificate_lines.specs.Modules.{AreModules}
+use Rattle.certificate_lines.specs.Rules.{box_cells, whole}
+use Rattle.certificate_lines.specs.Settings.{setting_of}
+use Rattle.certificate_lines.proofs.BoxPlaces.{box_place}
+use Rattle.certificate.specs.Grammars.{CertView, modules_in}
+use Rattle.certificate.specs.Jobs.{AreJobsOf}
+use Rattle.certificate.specs.Text.{certificate_text}
+use Rattle.certificate.specs.Times.{time_lines}
+use Rattle.module_job.specs.Jobs.{IsJob, JobView, job_demand}
+use Rattle.module_job.specs.Signals.{Meets}
+use Rattle.module_job.specs.declared.job.Demand.{Demand}
+use Rattle.module_job.specs.declared.job.Demand.TheVariants as Demanded
+use Rattle.local_run.specs.Faults.{IsFaultUnder, IsLeastFault, assignments}
+use Rattle.local_run.specs.Order.{fault_cmp}
+use Rattle.local_run.specs.Runs.{local_run}
+use Rattle.local_run.specs.declared.fault.Fault.{Fault}
+use Rattle.local_run.specs.declared.fault.Kind.{Kind}
+use Rattle.local_run.specs.declared.fault.Kind.TheVariants.{Edge, Stop, End}
+use Rattle.local_run.proofs.Decided.{decided}
+use Rattle.border_match.specs.BorderFaults.{IsBorderFault, IsLeastBorderFault}
+use Rattle.border_match.specs.declared.fault.BorderFault.{BorderFault}
+use Rattle.audit_core.specs.HeadlineLaws.{BelongTogether}
+use Rattle.audit_core.specs.PlainCertificates.{IsPlain, LineMeans, Shows}
+use Rattle.audit_core.specs.Verdicts.{IsToldOf, IsVerdict, lines_from, timing, unkept_lines}
+use Rattle.audit_core.specs.declared.verdict.Reasons.{Reasons}
+use Rattle.audit_core.specs.declared.verdict.ReportLine.{ReportLine}
+use Rattle.audit_core.specs.declared.verdict.ReportLine.TheVariants.{Local}
+use Rattle.audit_core.specs.declared.verdict.Verdict.{Verdict}
+use Rattle.audit_core.specs.declared.verdict.Verdict.TheVariants as verdict
+use Rattle.audit_core.proofs.InputRuns.{read_layout-names}
+use Rattle.audit_core.proofs.PlainCertificates.{plain_lines}
+use Rattle.audit_core.proofs.SomeJobs.{are_jobs_of, job_of}
+use Rattle.audit_core.proofs.SomeVerdict.{IsVecOf, jobs_good, vec_of}
+use Rattle.audit_core.proofs.Trials.{at_odd_times, edge_test, every_cell, given_of, meets, range_at, stop_test}
+use Rattle.audit_core.proofs.YesMeansCorrect.{IsRead}
+use Rattle.report.specs.ReportText.{fault_line, opening_lines, report_lines}
+use Rattle.answers.specs.Answers.{Answered}
+use Rattle.answers.specs.BundleText.{Bundle, bundle_of}
+use Rattle.answers.specs.CheckText.{IsReportOf, SaysReport}
+use Rattle.answers.specs.declared.outcome.Outcome.TheVariants.{No}
+use Rattle.headline.specs.ReportLines.{SaysNoWith}
+use Rattle.headline.proofs.SomeReport.{certificate_by, limits, modules_good}
+use Rattle.headline.proofs.YesIsRight.{bundle_good, known}
+
+-- ---- tests of all elements
+
+implied : (a b : Bool) → (not a || b) ≡ true → a ≡ true → b ≡ true
+implied true b e h = e
+implied false b e h = absurd (false≢true h)
+
+one_of : (a b : Bool) → (a || b) ≡ true → a ≡ false → b ≡ true
+one_of true b e h = absurd (true≢false h)
+one_of false b e h = e
+
+all_at : {A : Type 0} (test : A → Bool) (xs : List A) (i : ℕ) (a : A) → list_all test xs ≡ true →
+    slice_get xs i ≡ Some a → test a ≡ true
+all_at test [] i a all e = absurd cc
+all_at test (x ∷ xs) zero a all e = let own : x ≡ a = cc in
+    subst (λ x. test x ≡ true) own (and_parts (test x) (list_all test xs) all).0
+all_at test (x ∷ xs) (suc i) a all e = all_at test xs i a (and_parts (test x) (list_all test xs) all).1 e
+
+all_below : (test : ℕ → Bool) (n k : ℕ) → list_all test (range_with_len 0 n) ≡ true → k < n → test k ≡ true
+all_below test n k all lt = all_at test (range_with_len 0 n) k k all (range_at n 0 k lt ∙ ap Some (omega arith))
+
+at_odd : (steps : ℕ) (test : ℕ → Bool) → at_odd_times steps test ≡ true → (t : ℕ) → t % 2 ≡ 1 → t < steps →
+    test t ≡ true
+at_odd steps test all t odd early =
+    let is : 2 * (t / 2) + 1 ≡ t = omega (arith, odd) in
+    subst (λ t. test t ≡ true) is
+    (all_below (λ k. test (2 * k + 1)) (steps / 2) (t / 2) all (omega (arith, odd, early)))
+
+at_every : (b : Box2) (test : ℤ → ℤ → Bool) → every_cell b test ≡ true → (x y : ℤ) → in_box b x y ≡ true →
+    test x y ≡ true
+at_every b test all x y h = all_at (λ (c : Cell). test c.x c.y) (box_cells b) (place_in b x y)
+    (record { x = x; y = y }) all (box_place b x y h)
+
+-- ---- what is demanded
+
+met : (v : Valuation) (d : Demand) (live : Bool) → Meets v d live → meets v d live ≡ true
+met v Demanded.Dead live h = ap not h
+met v Demanded.Live live h = h
+met v (Demanded.Wire w) live h = (booleans_Decides live (v w)).1 h
+met v Demanded.Any live h = refl
+
+is_met : (v : Valuation) (d : Demand) (live : Bool) → meets v d live ≡ true → Meets v d live
+is_met v Demanded.Dead true e = absurd (false≢true e)
+is_met v Demanded.Dead false e = refl
+is_met v Demanded.Live live e = e
+is_met v (Demanded.Wire w) live e = (booleans_Decides live (v w)).0 e
+is_met v Demanded.Any live e = tt
+
+-- ---- the first fault
+
+-- a fault at the end
+abbrev pub end_fault_at : JobView → Cell → ℕ → Fault
+end_fault_at j d a = record { time = j.steps; kind = End; cell = d; assignment = a }
+
+abbrev pub is_no_later : Ordering → Bool
+is_no_later Greater = false
+is_no_later Equal = true
+is_no_later Less = true
+
+-- no fault under the assignment a comes before f, if the wires have these values
+abbrev pub none_before : JobView → Fault → ℕ → Valuation → Bool
+none_before j f a u = at_odd_times j.steps (edge_test j u) && (stop_test j u
+    && every_cell j.area (λ x y. meets u (job_demand j x y) (local_run j u j.steps x y)
+    || is_no_later (fault_cmp f (end_fault_at j (record { x = x; y = y }) a))))
+
+-- the cell is not as asked at the end
+abbrev pub is_missed : JobView → Cell → Valuation → Bool
+is_missed j d u = in_box j.area d.x d.y && not (meets u (job_demand j d.x d.y) (local_run j u j.steps d.x d.y))
+
+-- the same for the values that `evaluate` finds
+abbrev pub found_by : (Valuation → Bool) → Option (List Bool) → Bool
+found_by test None = false
+found_by test (Some vs) = test (read vs)
+
+-- this is the least fault, by tests under each assignment
+pub record IsFirstByTests (j : JobView) (d : Cell) (a : ℕ) : Type 0 where
+  pub small : a < assignments j
+  pub missed : found_by (is_missed j d) (evaluate (given_of j a) j.locals.netlist.gates) ≡ true
+  pub before : list_all (λ b. found_by (none_before j (end_fault_at j d a) b)
+      (evaluate (given_of j b) j.locals.netlist.gates)) (range_with_len 0 (assignments j)) ≡ true
+
+record IsFound (j : JobView) (a : ℕ) (test : Valuation → Bool) : Type 0 where
+  values : Valuation
+  local : IsLocalValuation j.locals a values
+  passes : test values ≡ true
+
+found : (j : JobView) (a : ℕ) (test : Valuation → Bool) → AreOrdered j.locals.netlist.given j.locals.netlist.gates →
+    found_by test (evaluate (given_of j a) j.locals.netlist.gates) ≡ true → IsFound j a test
+found j a test ordered = by (evaluate (given_of j a) j.locals.netlist.gates) refl
+  where
+    by : (o : Option (List Bool)) → evaluate (given_of j a) j.locals.netlist.gates ≡ o → found_by test o ≡ true →
+        IsFound j a test
+    by None e h = absurd (false≢true h)
+    by (Some vs) e h =
+        let n = j.locals.netlist.given in
+        record {
+          values = read vs;
+          local = (evaluated j.locals.netlist (bit a) (given_of j a) vs ordered
+              (length-map (range_with_len 0 n) (bit a) ∙ length-range_with_len 0 n)
+              (λ i lt. get_or-map-range_with_len (bit a) 0 n i i false lt (omega arith)) e).satisfies;
+          passes = h;
+        }
+
+ring_inside : (b : Box2) (x y : ℤ) → in_ring b x y ≡ true → in_box b x y ≡ true
+unfolding in_ring
+ring_inside b x y h = (and_parts (in_box b x y) _ h).0
+
+no_later : (o : Ordering) → is_no_later o ≡ true → o ≢ Greater
+no_later Greater e h = false≢true e
+no_later Equal e h = cc
+no_later Less e h = cc
+
+module _ (j : JobView) (is : IsJob j) (ordered : AreOrdered j.locals.netlist.given j.locals.netlist.gates) where
+  after : (f : Fault) (a : ℕ) (u : Valuation) (t : ℕ) (kind : Kind) (x y : ℤ) → none_before j f a u ≡ true →
+      IsFaultUnder j u t kind x y →
+      fault_cmp f (record { time = t; kind = kind; cell = record { x = x; y = y }; assignment = a }) ≢ Greater
+  after f a u t Edge x y pass g =
+      let all = (and_parts (at_odd_times j.steps (edge_test j u)) _ pass).0 in
+      absurd (g.differs ((booleans_Decides _ _).0 (implied (in_ring j.area x y) _
+      (at_every j.area _ (at_odd j.steps (edge_test j u) all t g.odd g.early) x y (ring_inside j.area x y g.ring))
+      g.ring)))
+  after f a u t Stop x y pass g =
+      let all = (and_parts (stop_test j u) _ (and_parts (at_odd_times j.steps (edge_test j u)) _ pass).1).0 in
+      let listed = slice_get-get_or j.stops g.is_listed.0 g.stop g.is_listed.1 ∙ ap Some g.is_listed.2 in
+      let own = (booleans_Decides _ _).0 (all_at
+      (λ s. beq (local_run j u s.at.time s.at.cell.x s.at.cell.y) (u s.wire)) j.stops g.is_listed.0 g.stop all
+      listed) in
+      absurd (g.differs (sym (λ i. local_run j u (g.time i) (g.column i) (g.row i)) ∙ own))
+  after f a u t End x y pass g =
+      let all = (and_parts (stop_test j u) _ (and_parts (at_odd_times j.steps (edge_test j u)) _ pass).1).1 in
+      let either = at_every j.area _ all x y g.inside in
+      let missed : meets u (job_demand j x y) (local_run j u j.steps x y) ≡ false =
+      by (meets u (job_demand j x y) (local_run j u j.steps x y)) refl in
+      subst (λ n. fault_cmp f (record { time = n; kind = End; cell = record { x = x; y = y }; assignment = a }) ≢ Greater)
+      (sym g.last) (no_later _ (one_of _ _ either missed))
+    where
+      by : (b : Bool) → meets u (job_demand j x y) (local_run j u j.steps x y) ≡ b → b ≡ false
+      by false e = refl
+      by true e = absurd (g.differs (subst (λ n. Meets u (job_demand j x y) (local_run j u n x y)) (sym g.last)
+          (is_met u _ _ e)))
+
+  first_is_least : (d : Cell) (a : ℕ) → IsFirstByTests j d a → IsLeastFault j (Some (end_fault_at j d a))
+  first_is_least d a tests = (
+    (let v = found j a (is_missed j d) ordered tests.missed in
+        let both = and_parts (in_box j.area d.x d.y) _ v.passes in
+        (decided j (end_fault_at j d a) v.values is ordered tests.small v.local).1 (record {
+          last = refl;
+          inside = both.0;
+          differs = λ h. true≢false (sym both.1 ∙ ap not (met v.values _ _ h));
+        })),
+    (λ g fault.
+        let v = found j g.assignment (none_before j (end_fault_at j d a) g.assignment) ordered
+        (all_below (λ b. found_by (none_before j (end_fault_at j d a) b)
+        (evaluate (given_of j b) j.locals.netlist.gates)) (assignments j) g.assignment tests.before fault.in_range) in
+        after (end_fault_at j d a) g.assignment v.values g.time g.kind g.cell.x g.cell.y v.passes
+        ((decided j g v.values is ordered fault.in_range v.local).0 fault)),
+  )
+
+-- ---- one module that is the whole rectangle
+
+only_module : (m k : ModuleLines) (n : ℕ) → slice_get (m ∷ []) n ≡ Some k → m ≡ k
+only_module m k zero e = cc
+only_module m k (suc n) e = absurd cc
+
+no_border : (g : Setting) (m : ModuleLines) → m.area ≡ whole g.size → (n : ℕ) (f : BorderFault) →
+    ¬ IsBorderFault g (m ∷ []) n f
+no_border g m is n f fault =
+    let box : fault.lines.area ≡ whole g.size = ap (λ (k : ModuleLines). k.area)
+    (sym (only_module m fault.lines n fault.numbered)) ∙ is in
+    true≢false (sym fault.inside ∙ ap (λ a. in_box a f.cell.x f.cell.y) (sym box) ∙
+    (halo_parts fault.lines.area f.cell.x f.cell.y fault.halo).0)
+
+-- ---- a text with one such module
+
+-- the lines of a bundle with this layout
+abbrev pub its_lines : Bundle → Pattern → CertView
+its_lines b p = record { circuit = b.circuit; layout = p; version = b.version; entries = b.entries }
+
+abbrev pub its_job : Bundle → Pattern → ModuleLines → JobView
+its_job b p m = job_of (circuit_of b.circuit) p m
+
+-- The one module of a bundle with this layout is plain and keeps no gate. Its job passes the tests for a first fault at
+-- the end, of this cell and under this assignment. The lines on delays and meetings are these.
+pub record Fails (b : Bundle) (p : Pattern) (m : ModuleLines) (d : Cell) (a : ℕ)
+    (times : List ReportLine) : Type 0 where
+  pub layout : layout_value p ≡ (b.size, b.parts)
+  pub alone : modules_in (its_lines b p) ≡ m ∷ []
+  pub plain : IsPlain b.circuit p m
+  pub none_kept : (its_job b p m).kept ≡ []
+  pub first : IsFirstByTests (its_job b p m) d a
+  pub unkept : unkept_lines (setting_of b.circuit p) (m ∷ []) ≡ []
+  pub on_times : map timing (time_lines (circuit_of b.circuit) (m ∷ [])) ≡ times
+  pub few : length times < 1024
+
+-- it is reported with a no, whose lines are one on the fault, and then these
+pub record IsRefuted (text : List ℕ) (b : Bundle) (p : Pattern) (m : ModuleLines) (d : Cell) (a : ℕ)
+    (times : List ReportLine) : Type 0 where
+  pub output : List ℕ
+  pub reported : IsReportOf text output No
+  pub says : SaysNoWith output (Local 0 (end_fault_at (its_job b p m) d a) ∷ times)
+  pub shows : Shows b.circuit p m (end_fault_at (its_job b p m) d a)
+
+-- a verdict on modules
+record IsJudged (lines : List CircuitLine) (p : Pattern) (v : Verdict) (ms : List ModuleLines) : Type 0 where
+  good : AreModules (setting_of lines p) ms
+  jobs : List JobView
+  are_jobs : AreJobsOf (circuit_of lines) p ms jobs
+  judged : IsVerdict (setting_of lines p) ms jobs v
+
+module _ (text : List ℕ) (b : Bundle) (e : bundle_of text ≡ Ok b) (p : Pattern) (m : ModuleLines) (d : Cell) (a : ℕ)
+    (times : List ReportLine) (fails : Fails b p m d a times) where
+  abbrev c : CertView
+  c = certificate_by text b e p fails.layout
+
+  abbrev g : Setting
+  g = setting_of b.circuit p
+
+  abbrev j : JobView
+  j = its_job b p m
+
+  abbrev f : Fault
+  f = end_fault_at j d a
+
+  abbrev lines : List ReportLine
+  lines = Local 0 f ∷ times
+
+  ordered : AreOrdered (netlist_of b.circuit).given (netlist_of b.circuit).gates
+  ordered = gates_are_ordered b.circuit (bundle_good text b e).circuit
+
+  good : AreModules g (m ∷ [])
+  good = subst (AreModules g) fails.alone (modules_good text b e p fails.layout)
+
+  are_jobs : AreJobsOf (circuit_of b.circuit) p (m ∷ []) (j ∷ [])
+  are_jobs = are_jobs_of b.circuit p (m ∷ []) ordered (λ k n at. (good.each k n at, good.ports k n at))
+
+  job_is : IsJob j × AreOrdered j.locals.netlist.given j.locals.netlist.gates
+  job_is = jobs_good b.circuit p (m ∷ []) (j ∷ []) (limits text b e p fails.layout) good are_jobs 0 j refl
+
+  least : IsLeastFault j (Some f)
+  least = first_is_least j job_is.0 job_is.1 d a fails.first
+
+  reasons : Reasons
+  reasons = record { fault = Some f; keep = None }
+
+  told : IsToldOf j reasons
+  unfolding reasons
+  told = record {
+    fault = least;
+    keep = None;
+    least_keep = λ k is. true≢false (sym is.is_kept ∙ ap (λ ks. is_among ks k.gate) fails.none_kept);
+    same = refl;
+  }
+
+  told_at : (k : ℕ) (i : JobView) (r : Reasons) → slice_get (j ∷ []) k ≡ Some i →
+      slice_get (reasons ∷ []) k ≡ Some r → IsToldOf i r
+  told_at zero i r at there =
+      let same : j ≡ i = cc in
+      let alike : reasons ≡ r = cc in
+      subst (λ i. IsToldOf i r) same (subst (IsToldOf j) alike told)
+  told_at (suc k) i r at there = absurd cc
+
+  none_at : (k : ℕ) (o : Option BorderFault) → slice_get (None ∷ []) k ≡ Some o → IsLeastBorderFault g (m ∷ []) k o
+  none_at zero o at = let same : None ≡ o = cc in
+      subst (IsLeastBorderFault g (m ∷ []) 0) same (λ f. no_border g m fails.plain.box 0 f)
+  none_at (suc k) o at = absurd cc
+
+  vec : IsVecOf lines
+  vec = vec_of lines (let few = fails.few in omega (arith, few))
+
+  judged : IsVerdict g (m ∷ []) (j ∷ []) (verdict.No vec.vec)
+  unfolding IsVerdict lines_from reasons
+  judged = (
+    (λ is. is.no_fault 0 j f refl least.0),
+    record {
+      faults = reasons ∷ [];
+      are_least = record { count = refl; each = told_at };
+      borders = None ∷ [];
+      are_border_faults = record { count = refl; each = none_at };
+      lines_are = vec.items
+          ∙ ap₂ (λ u t. (Local 0 f ∷ []) ++ u ++ t) (sym fails.unkept) (sym fails.on_times);
+    },
+  )
+
+  on_modules : IsJudged b.circuit p (verdict.No vec.vec) (modules_in c)
+  on_modules = subst (IsJudged b.circuit p (verdict.No vec.vec)) (sym fails.alone)
+      (record { good = good; jobs = j ∷ []; are_jobs = are_jobs; judged = judged })
+
+  abbrev says_no : SaysReport b (report_lines c (verdict.No vec.vec)) No
+  says_no = record {
+    certificate = c;
+    its_own = record { circuit = refl; layout = fails.layout; version = refl; entries = refl };
+    verdict = verdict.No vec.vec;
+    is_verdict = record {
+      good = on_modules.good;
+      jobs = on_modules.jobs;
+      are_jobs = on_modules.are_jobs;
+      judged = on_modules.judged;
+    };
+    says = refl;
+    ends = refl;
+  }
+
+  spelled : SaysNoWith (report_lines c (verdict.No vec.vec)) lines
+  unfolding report_lines
+  spelled = record {
+    digest = sha256 (certificate_text c);
+    modules = length (modules_of c.entries);
+    spelled = ap (λ ls. opening_lines (sha256 (certificate_text c)) (length (modules_of c.entries))
+        ++ (line_text (codes "verdict") (codes "no" ∷ []) ++ flat_map fault_line ls)) vec.items;
+  }
+
+  read_so : IsRead c c.layout.size
+  read_so = known text b (report_lines c (verdict.No vec.vec)) No e says_no
+
+  together : BelongTogether b.circuit p (m ∷ []) (j ∷ [])
+  together = record {
+    ordered = ordered;
+    limits = limits text b e p fails.layout;
+    laid_out = read_so.laid_out;
+    are_modules = good;
+    are_jobs = are_jobs;
+  }
+
+  means : All (LineMeans b.circuit p m) lines
+  means = subst (All (LineMeans b.circuit p m)) vec.items
+      (plain_lines b.circuit p m (j ∷ []) vec.vec
+      (read_layout-names b.circuit p read_so.inputs read_so.named) together fails.plain judged)
+
+  pub is_refuted : IsRefuted text b p m d a times
+  is_refuted = record {
+    output = report_lines c (verdict.No vec.vec);
+    reported = subst (λ r. Answered SaysReport r (report_lines c (verdict.No vec.vec)) No) (sym e) says_no;
+    says = spelled;
+    shows = All-head (LineMeans b.circuit p m) (Local 0 f) times means;
+  }

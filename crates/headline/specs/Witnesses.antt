@@ -1,0 +1,39 @@
+-- Plain texts with a run that is worth the name: one is reported with a yes, and one with a no.
+--
+-- Both are of three steps and of one gate, `interact`, in which two balls meet after the first step. Read before:
+-- Plain.antt and ReportLines.antt.
+use Rattle.std.specs.Prelude.{◌≤◌, ℕ, List, [], ◌∷◌, Some}
+use Rattle.pattern.specs.Layout.{cell}
+use Rattle.local_run.specs.declared.fault.Fault.{Fault}
+use Rattle.local_run.specs.declared.fault.Kind.TheVariants.{End}
+use Rattle.audit_core.specs.PlainCertificates.{Shows}
+use Rattle.audit_core.specs.declared.verdict.ReportLine.TheVariants.{Local, Meet}
+use Rattle.answers.specs.CheckText.{IsReportOf}
+use Rattle.answers.specs.declared.outcome.Outcome.TheVariants.{Yes, No}
+use Rattle.headline.specs.Plain.{SaysPlain}
+use Rattle.headline.specs.PlainNo.{plain_no}
+use Rattle.headline.specs.PlainYes.{plain_yes}
+use Rattle.headline.specs.ReportLines.{SaysNoWith}
+
+-- `plain_yes` is plain, has at least two steps, and is reported with the outcome yes.
+pub record PlainYesIsAccepted : Type 0 where
+  pub plain : SaysPlain plain_yes
+  pub steps : 2 ≤ plain.layout.size.steps
+  pub output : List ℕ
+  pub reported : IsReportOf plain_yes output Yes
+
+-- The fault of `plain_no`: at the end, of the cell (2, 2), where cut 0 is on and cut 1 is off. So p has a ball and q
+-- has none.
+abbrev pub swapped_end : Fault
+swapped_end = record { time = 3; kind = End; cell = cell 2 2; assignment = 1 }
+
+-- `plain_no` is plain, has at least two steps, and is reported with the outcome no. Its report has a `local` line on
+-- this fault, and the line that says that p and q meet at time 1. The `local` line means what `Shows` says: the plane
+-- has this fault, and so the layout does not compute the circuit.
+pub record PlainNoIsRefuted : Type 0 where
+  pub plain : SaysPlain plain_no
+  pub steps : 2 ≤ plain.layout.size.steps
+  pub output : List ℕ
+  pub reported : IsReportOf plain_no output No
+  pub says : SaysNoWith output (Local 0 swapped_end ∷ Meet 0 (Some 1) ∷ [])
+  pub shows : Shows plain.circuit plain.layout plain.one swapped_end
