@@ -17,4 +17,8 @@ mod PlainLines
 pub mod SmallDesigns
 pub mod Migrations
 mod FullJobs
+mod Written
+mod WrittenCircuits
+mod WrittenLayouts
+mod WrittenDesigns
 mod AcceptedMigrations

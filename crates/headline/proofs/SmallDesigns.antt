@@ -547,7 +547,7 @@ have_if : (d ns : List (List ℕ)) (b : Bool) → Have d ns → Have d (if b the
 have_if d ns true h = h
 have_if d ns false h = tt
 
-outs_have : (before rest : List CircuitLine) → AreGoodAfter before rest → Have (defined (before ++ rest))
+pub outs_have : (before rest : List CircuitLine) → AreGoodAfter before rest → Have (defined (before ++ rest))
     (output_names rest)
 unfolding AreGoodAfter
 outs_have before [] good = tt

@@ -5,11 +5,14 @@ use Rattle.pattern.specs.Layout.{Pattern}
 use Rattle.answers.specs.CheckText.{IsReportOf}
 use Rattle.answers.specs.declared.outcome.Outcome.{Outcome}
 use Rattle.answers.specs.declared.outcome.Outcome.TheVariants.{Yes, No, Refused}
+use Rattle.audit_core.specs.PlainCertificates.{TouchesRim}
 use Rattle.meaning.specs.Headline.{IsRight}
+use Rattle.meaning.specs.Implements.{IsCorrect}
 use Rattle.headline.specs.Stops.{HasRightStops, SaysBundle}
 use Rattle.headline.specs.ThereAndBack.{there_and_back}
 use Rattle.headline.specs.Plain.{SaysPlain, HasRimTouch, IsWrongIfPlain}
-use Rattle.headline.specs.SmallDesigns.{plain_lines, IsPlainText, IsSmall, IsNoSmallDesign}
+use Rattle.headline.specs.SmallDesigns.{plain_lines, plain_text, HasNoDelay, IsDesign, IsNoSmallDesign}
+use Rattle.headline.specs.SmallDesigns.{IsPlainText, IsSmall}
 use Rattle.headline.specs.ReportLines.{LinesTell}
 
 -- A text that is reported with the outcome no is wrong if it is plain.
@@ -41,6 +44,19 @@ SmallDesignIsDecided = (text output : List ℕ) (outcome : Outcome) (circuit : L
 -- So no such text is refused.
 abbrev pub RefusedIsNoSmallDesign : Type 0
 RefusedIsNoSmallDesign = (text output : List ℕ) → IsReportOf text output Refused → IsNoSmallDesign text
+
+-- Each small design has a plain text: its lines and the plain lines, each in its one spelling.
+abbrev pub EachSmallDesignHasText : Type 0
+EachSmallDesignHasText = (circuit : List CircuitLine) (layout : Pattern) → IsDesign circuit layout →
+    IsSmall circuit layout → IsPlainText (plain_text circuit layout) circuit layout
+
+-- So `check` decides each small design, by this text. It does not refuse the text. It says yes exactly if the layout
+-- computes the circuit and keeps off its rim, and the circuit has no delay.
+abbrev pub EachSmallDesignIsDecided : Type 0
+EachSmallDesignIsDecided = (circuit : List CircuitLine) (layout : Pattern) (output : List ℕ) (outcome : Outcome) →
+    IsDesign circuit layout → IsSmall circuit layout → IsReportOf (plain_text circuit layout) output outcome →
+    (outcome ≢ Refused)
+    × ((outcome ≡ Yes) ↔ (IsCorrect circuit layout × HasNoDelay circuit × ¬ TouchesRim circuit layout))
 
 -- Some plain text is reported with the outcome yes (`ThereAndBackIsAccepted`), so the laws are not vacuous.
 abbrev pub ThereAndBackIsPlain : Type 0

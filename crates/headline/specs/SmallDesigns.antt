@@ -1,18 +1,28 @@
 -- The plain certificate of a design, and the text of a small design.
 --
--- Read before: Plain.antt; the grammars of sections (section_text/specs/Section.antt, circuit/specs/Grammars.antt and
--- pattern/specs/Grammars.antt).
-use Rattle.std.specs.Prelude.{◌≡◌, ℕ, List, [], ◌∷◌, ◌++◌, ◌≤◌, length, map, filter, slice_get, Ok, Some}
-use Rattle.std.specs.List.{range_with_len}
+-- Read before: Plain.antt; the rules of a design (RightInFull.antt names them); the grammars of sections
+-- (section_text/specs/Section.antt, circuit/specs/Grammars.antt and pattern/specs/Grammars.antt), and how their lines
+-- are spelled (circuit/specs/Text.antt, pattern/specs/Text.antt and certificate/specs/Text.antt).
+use Rattle.std.specs.Prelude.{◌≡◌, ℕ, List, [], ◌∷◌, ◌++◌, ◌≤◌, length, map, filter, slice_get, Ok, Some, None}
+use Rattle.std.specs.Prelude.{IsTrue}
+use Rattle.std.specs.List.{All, range_with_len}
 use Rattle.section_text.specs.SaidSection.{IsSection}
 use Rattle.section_text.specs.Section.{section_of}
-use Rattle.section_text.specs.Words.{lines_of, rest_of}
-use Rattle.circuit.specs.Bridge.{input_names, netlist_of}
+use Rattle.section_text.specs.Words.{is_name, lines_of, rest_of}
+use Rattle.circuit.specs.Bridge.{AreGood, circuit_of, input_names, netlist_of}
+use Rattle.circuit.specs.Entries.{defined}
 use Rattle.circuit.specs.Forms.{form_of as circuit_form}
 use Rattle.circuit.specs.Grammars.{circuit_grammar}
+use Rattle.circuit.specs.Rules.{consumed, order_fault, unused}
+use Rattle.circuit.specs.Text.{circuit_text}
 use Rattle.pattern.specs.Forms.{form_of as layout_form}
 use Rattle.pattern.specs.Grammars.{layout_grammar, layout_value}
+use Rattle.pattern.specs.Lines.{AreGoodAfter, size_fault}
+use Rattle.pattern.specs.Text.{layout_text}
 use Rattle.certificate_lines.specs.Forms.{form_of as certificate_form}
+use Rattle.certificate.specs.Arrivals.{IsDelay}
+use Rattle.certificate.specs.Text.{certificate_text}
+use Rattle.meaning.specs.Implements.{IsNamed}
 use Rattle.audit_core.specs.Concluding.{port_names_of}
 use Rattle.circuit.specs.declared.circuit_line.CircuitLine.{CircuitLine}
 use Rattle.pattern.specs.Layout.{Pattern, parts_of}
@@ -54,6 +64,37 @@ pub record IsSmall (circuit : List CircuitLine) (layout : Pattern) : Type 0 wher
   pub high : layout.size.h ≤ 64
   pub inputs : length (input_names circuit) ≤ 12
   pub gates : length (netlist_of circuit).gates ≤ 64
+
+-- ---- the rules of a design
+
+-- no line of the circuit is of an earlier kind than the line before it
+abbrev pub AreInOrder : List CircuitLine → List CircuitLine → Type 0
+AreInOrder before [] = Unit {0}
+AreInOrder before (r ∷ rest) = (order_fault before r ≡ None) × AreInOrder (before ++ r ∷ []) rest
+
+-- The circuit and the layout keep the rules of their sections. Each line of the circuit is good after those before it,
+-- and of no earlier kind. Each wire's name is a name, and some line consumes the wire. The size of the layout is within
+-- its limits, and each line is good after those before it. The ports are named as the inputs and the outputs.
+pub record IsDesign (circuit : List CircuitLine) (layout : Pattern) : Type 0 where
+  pub circuit_lines : AreGood circuit
+  pub in_order : AreInOrder [] circuit
+  pub names : All (λ n. IsTrue (is_name n)) (defined circuit)
+  pub all_consumed : unused (consumed circuit) (defined circuit) ≡ None
+  pub size : size_fault layout.size ≡ None
+  pub layout_lines : AreGoodAfter layout.size [] (parts_of layout)
+  pub ports : IsNamed circuit layout
+
+-- The text of a design with its plain certificate: the circuit, the layout and the plain lines in version 1, each line
+-- in its one spelling.
+abbrev pub plain_text : List CircuitLine → Pattern → List ℕ
+plain_text circuit layout = circuit_text circuit ++ (layout_text layout ++ certificate_text
+    (record { circuit = circuit; layout = layout; version = 1; entries = plain_lines circuit layout }))
+
+-- no gate of the circuit is a delay
+abbrev pub HasNoDelay : List CircuitLine → Type 0
+HasNoDelay circuit = (k steps a b : ℕ) → ¬ IsDelay (circuit_of circuit) k steps a b
+
+-- ---- other texts
 
 -- the text is not the plain text of a small design
 abbrev pub IsNoSmallDesign : List ℕ → Type 0

@@ -1,7 +1,7 @@
 //! Laws of the definitions, each the contract of a function without a body.
 ghost use Rattle.answers.specs.CheckText.{IsReportOf};
 ghost use Rattle.headline.specs.Laws.{FourthLineTells, HasAnAnswer, HasOneAnswer, ReportsOnGoodDesigns, SaysOneCertificate, SaysOneDesign, ThereAndBackIsAccepted, TimedModulesAreAccepted, YesHasOneValuation, YesMeansRight, YesMeansRightInFull, YesMeansRightStops};
-ghost use Rattle.headline.specs.PlainLaws.{PlainIsDecided, PlainLinesDecide, PlainNoMeansWrong, RefusedIsNoSmallDesign, SmallDesignIsDecided, ThereAndBackIsPlain, ThereAndBackIsSmall, YesKeepsOffRim, NoLinesTell};
+ghost use Rattle.headline.specs.PlainLaws.{EachSmallDesignHasText, EachSmallDesignIsDecided, PlainIsDecided, PlainLinesDecide, PlainNoMeansWrong, RefusedIsNoSmallDesign, SmallDesignIsDecided, ThereAndBackIsPlain, ThereAndBackIsSmall, YesKeepsOffRim, NoLinesTell};
 ghost use Rattle.headline.specs.Witnesses.{PlainNoIsRefuted, PlainYesIsAccepted};
 ghost use Rattle.headline.specs.Migration.{KeepsVersionTwo, MigratesOnce, MigrationIsAccepted, MigrationSaysTheSame};
 ghost use Rattle.answers.specs.MigrateText.{IsMigrationOf};
@@ -82,10 +82,13 @@ pub fn no_means_wrong()
 ///
 /// A text that says a design of at most 64 by 64 cells, 12 inputs and 64 gates, and then `plain_lines`, is not refused.
 /// `check` says yes to it exactly if the layout computes the circuit, the stops are right, and the layout keeps off its
-/// rim. It is not proved that each such design has a text.
+/// rim. Each such design that keeps the rules of both sections has a text, `plain_text`. So `check` says yes to this text
+/// exactly if the layout computes the circuit and keeps off its rim, and the circuit has no delay.
 pub fn small_designs_are_decided()
     ensures decided { SmallDesignIsDecided }
     ensures refused { RefusedIsNoSmallDesign }
+    ensures text { EachSmallDesignHasText }
+    ensures each { EachSmallDesignIsDecided }
 {}
 
 /// States what the lines of a no mean.

@@ -1,0 +1,128 @@
+-- Words make a line, lines make a section, and sections make a text, which have these words, lines and sections
+use Rattle.std.proofs.Common.{◌≡◌, ℕ, Bool, true, false, eqb, List, [], ◌∷◌, ◌++◌, map, Option, Some, refl, sym, ap}
+use Rattle.std.proofs.Common.{ap₂, ◌∙◌, inl, inr, arith}
+use Rattle.std.specs.Prelude.{◌&&◌, ◌||◌, ◌==◌, length, nat_lt}
+use Rattle.std.specs.List.{AllByRecursion, flat_map, list_all}
+use Rattle.std.proofs.lemmas.Bool.{and_parts, cases_Bool, eqb-true, false≢true}
+use Rattle.std.proofs.lemmas.Bool.Decides.{nat_tests}
+use Rattle.std.proofs.lemmas.List.{append-nil}
+use Rattle.std.proofs.lemmas.List.Elements.{All-from_recursion}
+use Rattle.std.proofs.lemmas.List.Splits.{slice_split_at, slice_split_none}
+use Rattle.section_text.specs.SaidSection.{IsSection}
+use Rattle.section_text.specs.Spelling.{spaced}
+use Rattle.section_text.specs.Words.{is_digit, is_lower, is_name, is_name_byte, is_space, words_of}
+use Rattle.section_text.specs.declared.section.Form.{Form}
+use Rattle.section_text.specs.declared.section.Form.TheVariants.{Header, Item, End}
+use Rattle.section_text.proofs.Again.{AreLines, IsOneLine}
+
+-- ---- words
+
+-- a byte that is neither a space nor a line feed
+abbrev pub is_word_byte : ℕ → Bool
+is_word_byte b = nat_lt 32 b
+
+abbrev pub IsWord : List ℕ → Type 0
+IsWord w = list_all is_word_byte w ≡ true
+
+other_byte : (b k : ℕ) → is_word_byte b ≡ true → nat_lt 32 k ≡ false → eqb b k ≡ false
+other_byte b k h low = elim (cases_Bool (eqb b k)) [
+  | inl same ↦ absurd (false≢true (sym low ∙ ap (nat_lt 32) (sym (eqb-true b k same)) ∙ h))
+  | inr other ↦ other
+]
+
+without : (k : ℕ) → nat_lt 32 k ≡ false → (w : List ℕ) → IsWord w → AllByRecursion (λ b. eqb b k ≡ false) w
+without k low [] h = tt
+without k low (b ∷ w) h =
+    let both = and_parts (is_word_byte b) (list_all is_word_byte w) h in
+    (other_byte b k both.0 low, without k low w both.1)
+
+words_again : (w : List ℕ) (ws : List (List ℕ)) → IsWord w → AllByRecursion IsWord ws →
+    words_of (w ++ flat_map spaced ws) ≡ w ∷ ws
+words_again w [] h k = ap words_of (append-nil w)
+    ∙ slice_split_none is_space w (All-from_recursion (λ b. is_space b ≡ false) w (without 32 refl w h))
+words_again w (x ∷ xs) h k =
+    slice_split_at is_space w 32 (x ++ flat_map spaced xs)
+    (All-from_recursion (λ b. is_space b ≡ false) w (without 32 refl w h)) refl
+    ∙ ap (λ l. w ∷ l) (words_again x xs k.0 k.1)
+
+both_clean : (xs ys : List ℕ) → IsOneLine xs → IsOneLine ys → IsOneLine (xs ++ ys)
+both_clean [] ys h k = k
+both_clean (x ∷ xs) ys h k = (h.0, both_clean xs ys h.1 k)
+
+spaced_clean : (ws : List (List ℕ)) → AllByRecursion IsWord ws → IsOneLine (flat_map spaced ws)
+spaced_clean [] h = tt
+spaced_clean (w ∷ ws) h = (refl, both_clean w (flat_map spaced ws) (without 10 refl w h.0) (spaced_clean ws h.1))
+
+-- names and digits make words
+all_more : (p q : ℕ → Bool) → ((b : ℕ) → p b ≡ true → q b ≡ true) → (w : List ℕ) → list_all p w ≡ true →
+    list_all q w ≡ true
+all_more p q more [] h = refl
+all_more p q more (b ∷ w) h =
+    let both = and_parts (p b) (list_all p w) h in
+    ap₂ (λ x y. x && y) (more b both.0) (all_more p q more w both.1)
+
+digit_byte : (b : ℕ) → is_digit b ≡ true → is_word_byte b ≡ true
+digit_byte b h = grind (arith, nat_tests, h)
+
+name_byte : (b : ℕ) → is_name_byte b ≡ true → is_word_byte b ≡ true
+name_byte b h = grind (arith, nat_tests, h)
+
+pub digits_word : (w : List ℕ) → list_all is_digit w ≡ true → IsWord w
+digits_word w h = all_more is_digit is_word_byte digit_byte w h
+
+pub name_word : (w : List ℕ) → is_name w ≡ true → IsWord w
+name_word [] h = absurd (false≢true h)
+name_word (b ∷ bs) h =
+    let first = and_parts (is_lower b && nat_lt (length bs) 32) (list_all is_name_byte bs) h in
+    let low = and_parts (is_lower b) (nat_lt (length bs) 32) first.0 in
+    ap₂ (λ x y. x && y) (name_byte b (ap (λ c. c || (is_digit b || b == 95)) low.0))
+    (all_more is_name_byte is_word_byte name_byte bs first.1)
+
+-- ---- lines
+
+module _ {H I : Type 0} (form : List (List ℕ) → Option (Form H I)) where
+  -- a line of this form
+  pub record HasLine (f : Form H I) : Type 0 where
+    pub line : List ℕ
+    pub is : form (words_of line) ≡ Some f
+    pub clean : IsOneLine line
+
+  pub line_by : (f : Form H I) (w : List ℕ) (ws : List (List ℕ)) → IsWord w → AllByRecursion IsWord ws →
+      form (w ∷ ws) ≡ Some f → HasLine f
+  line_by f w ws h k e = record {
+    line = w ++ flat_map spaced ws;
+    is = ap form (words_again w ws h k) ∙ e;
+    clean = both_clean w (flat_map spaced ws) (without 10 refl w h) (spaced_clean ws k);
+  }
+
+  -- ---- sections
+
+  record HasItems (items : List I) : Type 0 where
+    lines : List (List ℕ)
+    are : map (λ l. form (words_of l)) lines ≡ map (λ i. Some (Item i)) items ++ Some End ∷ []
+    clean : AreLines lines
+
+  has_items : (items : List I) → HasLine End → AllByRecursion (λ i. HasLine (Item i)) items → HasItems items
+  has_items [] end all = record { lines = end.line ∷ []; are = ap (λ o. o ∷ []) end.is; clean = (end.clean, tt) }
+  has_items (i ∷ items) end all =
+      let more = has_items items end all.1 in
+      record {
+        lines = all.0.line ∷ more.lines;
+        are = ap₂ (λ o os. o ∷ os) all.0.is more.are;
+        clean = (all.0.clean, more.clean);
+      }
+
+  pub record HasSection (h : H) (items : List I) : Type 0 where
+    pub lines : List (List ℕ)
+    pub is : IsSection form lines h items
+    pub clean : AreLines lines
+
+  pub has_section : (h : H) (items : List I) → HasLine (Header h) → HasLine End →
+      AllByRecursion (λ i. HasLine (Item i)) items → HasSection h items
+  has_section h items first end all =
+      let more = has_items items end all in
+      record {
+        lines = first.line ∷ more.lines;
+        is = ap₂ (λ o os. o ∷ os) first.is more.are;
+        clean = (first.clean, more.clean);
+      }

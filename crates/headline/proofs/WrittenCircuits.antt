@@ -1,0 +1,309 @@
+-- The lines of a good circuit can be written, if its wires have names
+use Rattle.std.proofs.Common.{◌≡◌, ℕ, ◌+◌, ◌<◌, ◌^◌, Bool, true, false, cond, List, [], ◌∷◌, ◌++◌, ◌&&◌}
+use Rattle.std.proofs.Common.{◌||◌, length, Option, Some, None, refl, sym, ap, ap₂, subst, ◌∙◌, inl, inr, arith}
+use Rattle.std.proofs.Common.{append_assoc}
+use Rattle.std.specs.Prelude.{◌==◌, codes, nat_lt, slice_get}
+use Rattle.std.specs.Fmt.{decimal}
+use Rattle.std.specs.List.{AllByRecursion, list_all}
+use Rattle.std.specs.Str.{bytes_eq}
+use Rattle.std.proofs.lemmas.Bool.{and_parts, cases_Bool, eq-eqb, false≢true}
+use Rattle.std.proofs.lemmas.Bool.Decides.{nat_tests}
+use Rattle.std.proofs.lemmas.List.{append-nil, length-append}
+use Rattle.std.proofs.lemmas.Option.{cond_some}
+use Rattle.std.proofs.lemmas.Slice.Eq.{bytes_eq-Decides}
+use Rattle.section_text.specs.Codes.{code_where, or_else}
+use Rattle.section_text.specs.Words.{◌>>=◌, has, is_digit, is_name, is_number, is_word, is_word_at, lone, lone_name}
+use Rattle.section_text.specs.Words.{name_at, name_of, names_at, number_at, number_of}
+use Rattle.section_text.specs.declared.code.RefusalCode.{RefusalCode}
+use Rattle.section_text.specs.declared.code.RefusalCode.TheVariants.{PastLimit}
+use Rattle.section_text.specs.declared.section.Form.TheVariants.{Header, Item, End}
+use Rattle.section_text.proofs.Numbers.{number_written}
+use Rattle.circuit.specs.Bridge.{AreGoodAfter, FitsKind}
+use Rattle.circuit.specs.Entries.{defined, entry}
+use Rattle.circuit.specs.Forms.{bit_at, form_of, gate_entry, gate_kind, gate_names, words_before}
+use Rattle.circuit.specs.Gates.{defines, uses}
+use Rattle.circuit.specs.Rules.{add_fault, consumed, is_wrong_delay, limit_fault, passes_limit}
+use Rattle.circuit.specs.Text.{gate_number, gate_word}
+use Rattle.circuit.specs.declared.circuit_line.CircuitLine.{CircuitLine}
+use Rattle.circuit.specs.declared.circuit_line.GateKind.{GateKind}
+use Rattle.circuit.specs.declared.circuit_line.GateKind.TheVariants.{Source, Fredkin, Cswap, Interact, Switch, Delay}
+use Rattle.circuit.specs.declared.circuit_line.GateKind.TheVariants.{Unswitch, Uninteract}
+use Rattle.circuit.specs.declared.circuit_line.Kind.{Kind}
+use Rattle.circuit.specs.declared.circuit_line.Kind.TheVariants.{Input, Gate, Output, Spill}
+use Rattle.circuit.proofs.Bridging.{names_pass}
+use Rattle.circuit.proofs.Places.{Have, consume_have}
+use Rattle.headline.proofs.Written.{HasLine, HasSection, IsWord, digits_word, has_section, line_by, name_word}
+
+-- ---- names and numbers
+
+abbrev pub AreNames : List (List ℕ) → Type 0
+AreNames ns = list_all is_name ns ≡ true
+
+pub named : (n : List ℕ) → is_name n ≡ true → name_of n ≡ Some n
+unfolding name_of
+named n h = ap (λ b. cond b (Some n) None) h
+
+pub names_words : (ns : List (List ℕ)) → AreNames ns → AllByRecursion IsWord ns
+names_words [] h = tt
+names_words (n ∷ ns) h = let both = and_parts (is_name n) (list_all is_name ns) h in
+    (name_word n both.0, names_words ns both.1)
+
+number_word : (w : List ℕ) → is_number w ≡ true → IsWord w
+number_word [] h = absurd (false≢true h)
+number_word (b ∷ bs) h =
+    let first = and_parts (list_all is_digit (b ∷ bs) && nat_lt (length bs) 9) _ h in
+    digits_word (b ∷ bs) (and_parts (list_all is_digit (b ∷ bs)) (nat_lt (length bs) 9) first.0).0
+
+pub decimal_word : (n : ℕ) → n < 10 ^ 9 → IsWord (decimal n)
+unfolding number_of
+decimal_word n small = number_word (decimal n) (cond_some (is_number (decimal n)) _ n (number_written n small)).0
+
+pub names_left : (xs ys : List (List ℕ)) → AreNames (xs ++ ys) → AreNames xs
+names_left [] ys h = refl
+names_left (x ∷ xs) ys h = let both = and_parts (is_name x) (list_all is_name (xs ++ ys)) h in
+    ap₂ (λ a b. a && b) both.0 (names_left xs ys both.1)
+
+pub names_right : (xs ys : List (List ℕ)) → AreNames (xs ++ ys) → AreNames ys
+names_right [] ys h = h
+names_right (x ∷ xs) ys h = names_right xs ys (and_parts (is_name x) (list_all is_name (xs ++ ys)) h).1
+
+pub names_both : (xs ys : List (List ℕ)) → AreNames xs → AreNames ys → AreNames (xs ++ ys)
+names_both [] ys h k = k
+names_both (x ∷ xs) ys h k = let both = and_parts (is_name x) (list_all is_name xs) h in
+    ap₂ (λ a b. a && b) both.0 (names_both xs ys both.1 k)
+
+pub has_name : (d : List (List ℕ)) (n : List ℕ) → AreNames d → has d n ≡ true → is_name n ≡ true
+has_name [] n all h = absurd (false≢true h)
+has_name (m ∷ d) n all h =
+    let both = and_parts (is_name m) (list_all is_name d) all in
+    elim (cases_Bool (bytes_eq n m)) [
+      | inl same ↦ subst (λ k. is_name k ≡ true) (sym ((bytes_eq-Decides n m).0 same)) both.0
+      | inr other ↦ has_name d n both.1 (sym (ap (λ b. b || has d n) other) ∙ h)
+    ]
+
+have_names : (d ns : List (List ℕ)) → AreNames d → Have d ns → AreNames ns
+have_names d [] all h = refl
+have_names d (n ∷ ns) all h = ap₂ (λ a b. a && b) (has_name d n all h.0) (have_names d ns all h.1)
+
+-- ---- words at places
+
+at_seam : (pre post : List (List ℕ)) (w : List ℕ) → slice_get (pre ++ w ∷ post) (length pre) ≡ Some w
+at_seam [] post w = refl
+at_seam (x ∷ pre) post w = at_seam pre post w
+
+names_here : (pre ns post : List (List ℕ)) → AreNames ns → names_at (pre ++ (ns ++ post)) (length pre) (length ns)
+    ≡ Some ns
+unfolding names_at name_at
+names_here pre [] post h = refl
+names_here pre (n ∷ ns) post h =
+    let both = and_parts (is_name n) (list_all is_name ns) h in
+    let ws = pre ++ (n ∷ (ns ++ post)) in
+    let first : name_at ws (length pre) ≡ Some n =
+    ap (λ o. o >>= name_of) (at_seam pre (ns ++ post) n) ∙ named n both.0 in
+    let rest : names_at ws (length pre + 1) (length ns) ≡ Some ns =
+    sym (ap₂ (λ l k. names_at l k (length ns)) (append_assoc pre (n ∷ []) (ns ++ post)) (length-append pre (n ∷ [])))
+    ∙ names_here (pre ++ n ∷ []) ns post both.1 in
+    ap₂ (λ o p. o >>= λ x. p >>= λ others. Some (x ∷ others)) first rest
+
+-- ---- gates
+
+delay_small : (k : GateKind) (n : ℕ) → is_wrong_delay (Gate (Delay n)) ≡ false → n < 10 ^ 9
+delay_small k n h = grind (arith, nat_tests, h)
+
+kind_read : (k : GateKind) (rest : List (List ℕ)) → is_wrong_delay (Gate k) ≡ false →
+    gate_kind (gate_word k ∷ (gate_number k ++ rest)) ≡ Some k
+unfolding gate_kind bit_at is_word_at number_at
+kind_read (Source true) rest h = refl
+kind_read (Source false) rest h = refl
+kind_read Fredkin rest h = refl
+kind_read Cswap rest h = refl
+kind_read Interact rest h = refl
+kind_read Switch rest h = refl
+kind_read (Delay n) rest h = ap (λ o. o >>= λ m. Some (Delay m)) (number_written n (delay_small (Delay n) n h))
+kind_read Unswitch rest h = refl
+kind_read Uninteract rest h = refl
+
+head_length : (k : GateKind) → length (gate_word k ∷ gate_number k) ≡ words_before k
+head_length (Source b) = refl
+head_length Fredkin = refl
+head_length Cswap = refl
+head_length Interact = refl
+head_length Switch = refl
+head_length (Delay n) = refl
+head_length Unswitch = refl
+head_length Uninteract = refl
+
+gate_form : (k : GateKind) (rest : List (List ℕ)) →
+    form_of (gate_word k ∷ rest) ≡ (gate_entry (gate_word k ∷ rest) >>= λ r. Some (Item r))
+unfolding form_of is_word_at
+gate_form (Source b) rest = refl
+gate_form Fredkin rest = refl
+gate_form Cswap rest = refl
+gate_form Interact rest = refl
+gate_form Switch rest = refl
+gate_form (Delay n) rest = refl
+gate_form Unswitch rest = refl
+gate_form Uninteract rest = refl
+
+head_words : (k : GateKind) → is_wrong_delay (Gate k) ≡ false →
+    IsWord (gate_word k) × AllByRecursion IsWord (gate_number k)
+head_words (Source true) h = (refl, (refl, tt))
+head_words (Source false) h = (refl, (refl, tt))
+head_words Fredkin h = (refl, tt)
+head_words Cswap h = (refl, tt)
+head_words Interact h = (refl, tt)
+head_words Switch h = (refl, tt)
+head_words (Delay n) h = (refl, (decimal_word n (delay_small (Delay n) n h), tt))
+head_words Unswitch h = (refl, tt)
+head_words Uninteract h = (refl, tt)
+
+words_both : (xs ys : List (List ℕ)) → AllByRecursion IsWord xs → AllByRecursion IsWord ys →
+    AllByRecursion IsWord (xs ++ ys)
+words_both [] ys h k = k
+words_both (x ∷ xs) ys h k = (h.0, words_both xs ys h.1 k)
+
+module _ (k : GateKind) (ins outs : List (List ℕ)) (fits : FitsKind (entry (Gate k) ins outs)) (in_names : AreNames ins)
+    (out_names : AreNames outs) (right : is_wrong_delay (Gate k) ≡ false) where
+  abbrev head : List (List ℕ)
+  head = gate_word k ∷ gate_number k
+
+  abbrev arrow : List ℕ
+  arrow = codes "->"
+
+  abbrev ws : List (List ℕ)
+  ws = gate_word k ∷ (gate_number k ++ (ins ++ arrow ∷ outs))
+
+  count : (length ws == words_before k + uses k + 1 + defines k) ≡ true
+  count =
+      let all = length-append head (ins ++ arrow ∷ outs) in
+      let some = length-append ins (arrow ∷ outs) in
+      let h = head_length k in
+      let i = fits.0 in
+      let o = fits.1 in
+      eq-eqb (length ws) (words_before k + uses k + 1 + defines k) (omega (arith, all, some, h, i, o))
+
+  arrow_at : is_word_at ws (words_before k + uses k) arrow ≡ true
+  unfolding is_word_at
+  arrow_at =
+      let place : length (head ++ ins) ≡ words_before k + uses k =
+      (let all = length-append head ins in let h = head_length k in let i = fits.0 in omega (arith, all, h, i)) in
+      ap₂ (λ l n. is_word (slice_get l n) arrow) (sym (append_assoc head ins (arrow ∷ outs))) (sym place)
+      ∙ ap (λ o. is_word o arrow) (at_seam (head ++ ins) outs arrow)
+
+  ins_read : names_at ws (words_before k) (uses k) ≡ Some ins
+  ins_read = ap₂ (names_at ws) (sym (head_length k)) (sym fits.0) ∙ names_here head ins (arrow ∷ outs) in_names
+
+  outs_read : names_at ws (words_before k + uses k + 1) (defines k) ≡ Some outs
+  outs_read =
+      let pre = head ++ (ins ++ arrow ∷ []) in
+      let same : pre ++ (outs ++ []) ≡ ws =
+      append_assoc head (ins ++ arrow ∷ []) (outs ++ [])
+      ∙ ap (λ l. head ++ l) (append_assoc ins (arrow ∷ []) (outs ++ []) ∙ ap (λ l. ins ++ arrow ∷ l) (append-nil outs))
+      in
+      let place : length pre ≡ words_before k + uses k + 1 =
+      (let all = length-append head (ins ++ arrow ∷ []) in
+      let some = length-append ins (arrow ∷ []) in
+      let h = head_length k in
+      let i = fits.0 in
+      omega (arith, all, some, h, i)) in
+      ap₂ (λ l n. names_at l n (defines k)) (sym same) (sym place) ∙ ap (names_at (pre ++ (outs ++ [])) (length pre))
+      (sym fits.1)
+      ∙ names_here pre outs [] out_names
+
+  entry_read : gate_entry ws ≡ Some (entry (Gate k) ins outs)
+  unfolding gate_entry gate_names
+  entry_read =
+      ap (λ o. o >>= λ kind. cond (length ws == words_before kind + uses kind + 1 + defines kind)
+      (cond (is_word_at ws (words_before kind + uses kind) arrow) (gate_names ws kind) None) None)
+      (kind_read k (ins ++ arrow ∷ outs) right)
+      ∙ ap (λ b. cond b (cond (is_word_at ws (words_before k + uses k) arrow) (gate_names ws k) None) None) count
+      ∙ ap (λ b. cond b (gate_names ws k) None) arrow_at
+      ∙ ap₂ (λ o p. o >>= λ is. p >>= λ os. Some (entry (Gate k) is os)) ins_read outs_read
+
+  gate_line : HasLine form_of (Item (entry (Gate k) ins outs))
+  gate_line =
+      let words = head_words k right in
+      line_by form_of (Item (entry (Gate k) ins outs)) (gate_word k) (gate_number k ++ (ins ++ arrow ∷ outs)) words.0
+      (words_both (gate_number k) (ins ++ arrow ∷ outs) words.1
+      (words_both ins (arrow ∷ outs) (names_words ins in_names) (refl, names_words outs out_names)))
+      (gate_form k _ ∙ ap (λ o. o >>= λ r. Some (Item r)) entry_read)
+
+-- ---- the other lines
+
+lone_line : (w n : List ℕ) (r : CircuitLine) → IsWord w → is_name n ≡ true →
+    form_of (w ∷ n ∷ []) ≡ Some (Item r) → HasLine form_of (Item r)
+lone_line w n r h k e = line_by form_of (Item r) w (n ∷ []) h (name_word n k, tt) e
+
+first_of : (n : List ℕ) (ns : List (List ℕ)) → AreNames (n ∷ ns) → is_name n ≡ true
+first_of n ns h = (and_parts (is_name n) (list_all is_name ns) h).0
+
+line_of : (kind : Kind) (ins outs : List (List ℕ)) → FitsKind (entry kind ins outs) → AreNames ins → AreNames outs →
+    is_wrong_delay kind ≡ false → HasLine form_of (Item (entry kind ins outs))
+unfolding form_of is_word_at lone_name name_at
+line_of (Gate k) ins outs fits i o right = gate_line k ins outs fits i o right
+line_of Input [] (n ∷ []) fits i o right = lone_line (codes "input") n _ refl (first_of n [] o)
+    (ap (λ o. o >>= λ m. Some (Item (entry Input [] (m ∷ [])))) (named n (first_of n [] o)))
+line_of Input (x ∷ ins) outs fits i o right = absurd (let e = fits.0 in omega (arith, e))
+line_of Input [] [] fits i o right = absurd (let e = fits.1 in omega (arith, e))
+line_of Input [] (n ∷ m ∷ outs) fits i o right = absurd (let e = fits.1 in omega (arith, e))
+line_of Output (n ∷ []) [] fits i o right = lone_line (codes "output") n _ refl (first_of n [] i)
+    (ap (λ o. o >>= λ m. Some (Item (entry Output (m ∷ []) []))) (named n (first_of n [] i)))
+line_of Output [] outs fits i o right = absurd (let e = fits.0 in omega (arith, e))
+line_of Output (n ∷ m ∷ ins) outs fits i o right = absurd (let e = fits.0 in omega (arith, e))
+line_of Output (n ∷ []) (x ∷ outs) fits i o right = absurd (let e = fits.1 in omega (arith, e))
+line_of Spill (n ∷ []) [] fits i o right = lone_line (codes "spill") n _ refl (first_of n [] i)
+    (ap (λ o. o >>= λ m. Some (Item (entry Spill (m ∷ []) []))) (named n (first_of n [] i)))
+line_of Spill [] outs fits i o right = absurd (let e = fits.0 in omega (arith, e))
+line_of Spill (n ∷ m ∷ ins) outs fits i o right = absurd (let e = fits.0 in omega (arith, e))
+line_of Spill (n ∷ []) (x ∷ outs) fits i o right = absurd (let e = fits.1 in omega (arith, e))
+
+-- ---- the section
+
+first_none : (a b : Option RefusalCode) → or_else a b ≡ None → a ≡ None
+first_none None b e = refl
+first_none (Some code) b e = absurd cc
+
+no_code : (b : Bool) (code : RefusalCode) → code_where b code ≡ None → b ≡ false
+no_code true code e = absurd cc
+no_code false code e = refl
+
+either_false : (a b : Bool) → (a || b) ≡ false → a ≡ false
+either_false true b e = e
+either_false false b e = refl
+
+right_delay : (before : List CircuitLine) (r : CircuitLine) → add_fault before r ≡ None → is_wrong_delay r.kind ≡ false
+unfolding add_fault
+right_delay before r e = either_false (is_wrong_delay r.kind) _
+    (no_code (passes_limit before r) PastLimit (first_none (limit_fault before r) _ e))
+
+defined_more : (before : List CircuitLine) (r : CircuitLine) → AreNames (defined before) → AreNames r.outs →
+    AreNames (defined (before ++ r ∷ []))
+defined_more [] r h k = names_both r.outs [] k refl
+defined_more (b ∷ before) r h k =
+    names_both b.outs (defined (before ++ r ∷ [])) (names_left b.outs (defined before) h)
+    (defined_more before r (names_right b.outs (defined before) h) k)
+
+lines_of : (before rest : List CircuitLine) → AreGoodAfter before rest → AreNames (defined before) →
+    AreNames (defined rest) → AllByRecursion (λ r. HasLine form_of (Item r)) rest
+unfolding AreGoodAfter
+lines_of before [] good h k = tt
+lines_of before (r ∷ rest) good h k =
+    let outs = names_left r.outs (defined rest) k in
+    let ins : AreNames r.ins = have_names (defined before) r.ins h
+    (consume_have (defined before) (consumed before) r.ins (names_pass before r good.0.adds).0) in (
+      line_of r.kind r.ins r.outs good.0.fits ins outs (right_delay before r good.0.adds),
+      lines_of (before ++ r ∷ []) rest good.1 (defined_more before r h outs) (names_right r.outs (defined rest) k),
+    )
+
+first_line : HasLine form_of (Header tt)
+unfolding form_of lone is_word_at
+first_line = line_by form_of (Header tt) (codes "circuit") [] refl tt refl
+
+last_line : HasLine form_of End
+unfolding form_of lone is_word_at
+last_line = line_by form_of End (codes "end") [] refl tt refl
+
+pub circuit_written : (circuit : List CircuitLine) → AreGoodAfter [] circuit → AreNames (defined circuit) →
+    HasSection form_of tt circuit
+circuit_written circuit good h =
+    has_section form_of tt circuit first_line last_line (lines_of [] circuit good refl h)

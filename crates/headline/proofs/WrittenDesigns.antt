@@ -1,0 +1,359 @@
+-- Each small design has a plain text, and `check` decides the design by it
+use Rattle.std.proofs.Common.{◌≡◌, ℕ, zero, suc, ◌+◌, ◌<◌, ◌≤◌, ◌^◌, Bool, true, false, cond, List, [], ◌∷◌, ◌++◌, ◌&&◌}
+use Rattle.std.proofs.Common.{length, map, filter, Some, Ok, refl, sym, ap, ap₂, subst, ◌∙◌, arith}
+use Rattle.std.proofs.Common.{append-nil, append_assoc}
+use Rattle.std.specs.Prelude.{IsTrue, codes, slice_get}
+use Rattle.std.specs.Fmt.{decimal}
+use Rattle.std.specs.List.{All, AllByRecursion, flat_map, list_all, range_with_len}
+use Rattle.std.proofs.lemmas.Bool.{and_parts}
+use Rattle.std.proofs.lemmas.Grind.{flat_map-append}
+use Rattle.std.proofs.lemmas.List.Elements.{All-head, All-nil, All-tail}
+use Rattle.section_text.specs.Codes.{or_else}
+use Rattle.section_text.specs.SaidSection.{IsSection}
+use Rattle.section_text.specs.Section.{Grammar, ended_line, section_of}
+use Rattle.section_text.specs.Words.{◌>>=◌, is_name, is_word_at, lone, lone_name, lone_number, name_at}
+use Rattle.section_text.specs.Words.{number_at}
+use Rattle.section_text.specs.declared.section.Form.TheVariants.{Header, Item, End}
+use Rattle.section_text.proofs.Again.{AreLines, lines_again}
+use Rattle.section_text.proofs.Good.{AreFaultless, IsFaultless}
+use Rattle.section_text.proofs.MadeSections.{clean_both, nothing_follows, section_made}
+use Rattle.section_text.proofs.Numbers.{number_written}
+use Rattle.circuit.specs.Bridge.{AreGoodAfter, circuit_of, input_names, is_input, netlist_of, output_names}
+use Rattle.circuit.specs.Entries.{defined}
+use Rattle.circuit.specs.Forms.{form_of as circuit_form}
+use Rattle.circuit.specs.Grammars.{circuit_grammar, missing_code}
+use Rattle.circuit.specs.Text.{circuit_text}
+use Rattle.circuit.specs.declared.circuit_line.CircuitLine.{CircuitLine}
+use Rattle.circuit.proofs.Places.{Have}
+use Rattle.pattern.specs.Forms.{form_of as layout_form}
+use Rattle.pattern.specs.Grammars.{layout_grammar}
+use Rattle.pattern.specs.Layout.{Pattern, parts_of}
+use Rattle.pattern.specs.Text.{layout_text}
+use Rattle.certificate_lines.specs.Entries.{stop_in}
+use Rattle.certificate_lines.specs.Forms.{area_of, corner_and_sides, form_of}
+use Rattle.certificate_lines.specs.Rules.{is_inverse_gate}
+use Rattle.certificate_lines.specs.declared.certificate_line.CertificateLine.{CertificateLine}
+use Rattle.certificate_lines.specs.declared.certificate_line.CertificateLine.TheVariants.{Module, Cut, Use, Keep}
+use Rattle.certificate.specs.Arrivals.{AreOnTime}
+use Rattle.certificate.specs.Text.{certificate_text}
+use Rattle.audit_core.specs.Concluding.{port_names_of}
+use Rattle.audit_core.specs.OnTime.{StopHolds}
+use Rattle.audit_core.specs.PlainCertificates.{TouchesRim}
+use Rattle.answers.specs.BundleText.{Bundle}
+use Rattle.answers.specs.MigrateText.{bundle_text, certificate_lines, layout_lines}
+use Rattle.meaning.specs.Design.{SaysDesign}
+use Rattle.meaning.specs.Headline.{IsRight}
+use Rattle.meaning.specs.Implements.{IsCorrect}
+use Rattle.headline.specs.Plain.{HasRimTouch}
+use Rattle.headline.specs.PlainLaws.{EachSmallDesignHasText, EachSmallDesignIsDecided}
+use Rattle.headline.specs.SmallDesigns.{AreInOrder, HasNoDelay, IsDesign, IsPlainText, IsSmall, gate_numbers}
+use Rattle.headline.specs.SmallDesigns.{inverse_numbers, plain_lines, plain_text}
+use Rattle.headline.specs.Stops.{HasRightStops, SaysBundle}
+use Rattle.headline.proofs.Designs.{one_certificate, one_design}
+use Rattle.headline.proofs.Migrations.{HasSections, text_is}
+use Rattle.headline.proofs.PlainLines.{none_of}
+use Rattle.headline.proofs.SmallDesigns.{outs_have, small_is_decided}
+use Rattle.headline.proofs.Written.{HasLine, HasSection, has_section, line_by, name_word}
+use Rattle.headline.proofs.WrittenCircuits.{AreNames, circuit_written, decimal_word, has_name, named, names_both}
+use Rattle.headline.proofs.WrittenCircuits.{names_left, names_right}
+use Rattle.headline.proofs.WrittenLayouts.{layout_faultless, layout_written}
+
+-- ---- the names of the ports
+
+all_names : (ns : List (List ℕ)) → All (λ n. IsTrue (is_name n)) ns → AreNames ns
+all_names [] h = refl
+all_names (n ∷ ns) h = ap₂ (λ a b. a && b) (All-head (λ n. IsTrue (is_name n)) n ns h)
+    (all_names ns (All-tail (λ n. IsTrue (is_name n)) n ns h))
+
+if_names : (b : Bool) (ns : List (List ℕ)) → AreNames ns → AreNames (cond b ns [])
+if_names true ns h = h
+if_names false ns h = refl
+
+input_named : (circuit : List CircuitLine) → AreNames (defined circuit) → AreNames (input_names circuit)
+input_named [] h = refl
+input_named (r ∷ circuit) h =
+    names_both (cond (is_input r.kind) r.outs []) (input_names circuit)
+    (if_names (is_input r.kind) r.outs (names_left r.outs (defined circuit) h))
+    (input_named circuit (names_right r.outs (defined circuit) h))
+
+have_names : (d ns : List (List ℕ)) → AreNames d → Have d ns → AreNames ns
+have_names d [] all h = refl
+have_names d (n ∷ ns) all h = ap₂ (λ a b. a && b) (has_name d n all h.0) (have_names d ns all h.1)
+
+-- ---- the circuit has no fault
+
+circuit_on : (before rest : List CircuitLine) → AreInOrder before rest → AreGoodAfter before rest →
+    AreFaultless circuit_grammar tt before rest
+unfolding AreGoodAfter
+circuit_on before [] order good = tt
+circuit_on before (r ∷ rest) order good =
+    (ap₂ or_else order.0 good.0.adds, circuit_on (before ++ r ∷ []) rest order.1 good.1)
+
+-- ---- the plain lines can be written
+
+cut_line : (n : List ℕ) → is_name n ≡ true → HasLine form_of (Item (Cut n))
+unfolding form_of is_word_at lone_name name_at
+cut_line n h = line_by form_of (Item (Cut n)) (codes "cut") (n ∷ []) refl (name_word n h, tt)
+    (ap (λ o. o >>= λ m. Some (Item (Cut m))) (named n h))
+
+use_line : (k : ℕ) → k < 10 ^ 9 → HasLine form_of (Item (Use k))
+unfolding form_of is_word_at lone_number number_at
+use_line k h = line_by form_of (Item (Use k)) (codes "use") (decimal k ∷ []) refl (decimal_word k h, tt)
+    (ap (λ o. o >>= λ m. Some (Item (Use m))) (number_written k h))
+
+keep_line : (k : ℕ) → k < 10 ^ 9 → HasLine form_of (Item (Keep k))
+unfolding form_of is_word_at lone_number number_at
+keep_line k h = line_by form_of (Item (Keep k)) (codes "keep") (decimal k ∷ []) refl (decimal_word k h, tt)
+    (ap (λ o. o >>= λ m. Some (Item (Keep m))) (number_written k h))
+
+module_line : (w h : ℕ) → w < 10 ^ 9 → h < 10 ^ 9 →
+    HasLine form_of (Item (Module (record { x = 0; y = 0; w = w; h = h })))
+unfolding form_of is_word_at area_of corner_and_sides number_at
+module_line w h wide high =
+    let none : 0 < 10 ^ 9 = omega arith in
+    line_by form_of (Item (Module (record { x = 0; y = 0; w = w; h = h }))) (codes "module")
+    (decimal 0 ∷ decimal 0 ∷ decimal w ∷ decimal h ∷ []) refl
+    (decimal_word 0 none, (decimal_word 0 none, (decimal_word w wide, (decimal_word h high, tt))))
+    (λ i. (number_written 0 none i >>= λ x. number_written 0 none i >>= λ y. number_written w wide i >>= λ w.
+    number_written h high i >>= λ h. Some (record { x = x; y = y; w = w; h = h })) >>= λ b. Some (Item (Module b)))
+
+header_line : HasLine form_of (Header 1)
+unfolding form_of is_word_at lone_number number_at
+header_line =
+    let one : 1 < 10 ^ 9 = omega arith in
+    line_by form_of (Header 1) (codes "certificate") (decimal 1 ∷ []) refl (decimal_word 1 one, tt)
+    (ap (λ o. o >>= λ m. Some (Header m)) (number_written 1 one))
+
+end_line : HasLine form_of End
+unfolding form_of lone is_word_at
+end_line = line_by form_of End (codes "end") [] refl tt refl
+
+abbrev Lines : List CertificateLine → Type 0
+Lines items = AllByRecursion (λ i. HasLine form_of (Item i)) items
+
+lines_both : (xs ys : List CertificateLine) → Lines xs → Lines ys → Lines (xs ++ ys)
+lines_both [] ys h k = k
+lines_both (x ∷ xs) ys h k = (h.0, lines_both xs ys h.1 k)
+
+cut_lines : (ns : List (List ℕ)) → AreNames ns → Lines (map Cut ns)
+cut_lines [] h = tt
+cut_lines (n ∷ ns) h = let both = and_parts (is_name n) (list_all is_name ns) h in
+    (cut_line n both.0, cut_lines ns both.1)
+
+AreBelow : ℕ → List ℕ → Type 0
+AreBelow m ks = AllByRecursion (λ k. k < m) ks
+
+range_below : (n a m : ℕ) → a + n ≤ m → AreBelow m (range_with_len a n)
+unfolding AreBelow
+range_below zero a m h = tt
+range_below (suc n) a m h = (omega (arith, h), range_below n (a + 1) m (omega (arith, h)))
+
+filter_below : (test : ℕ → Bool) (m : ℕ) (ks : List ℕ) → AreBelow m ks → AreBelow m (filter test ks)
+unfolding AreBelow
+filter_below test m [] h = tt
+filter_below test m (k ∷ ks) h = one (test k) (filter_below test m ks h.1)
+  where
+    one : (b : Bool) → AllByRecursion (λ k. k < m) (filter test ks) →
+        AllByRecursion (λ k. k < m) (cond b (k ∷ filter test ks) (filter test ks))
+    one true more = (h.0, more)
+    one false more = more
+
+number_lines : (mk : ℕ → CertificateLine) → ((k : ℕ) → k < 10 ^ 9 → HasLine form_of (Item (mk k))) → (ks : List ℕ) →
+    AreBelow 64 ks → Lines (map mk ks)
+unfolding AreBelow
+number_lines mk line [] h = tt
+number_lines mk line (k ∷ ks) h =
+    (line k (let low = h.0 in omega (arith, low)), number_lines mk line ks h.1)
+
+-- ---- the text
+
+module _ (circuit : List CircuitLine) (p : Pattern) (design : IsDesign circuit p) (small : IsSmall circuit p) where
+  names : AreNames (defined circuit)
+  names = all_names (defined circuit) design.names
+
+  ins : AreNames (input_names circuit)
+  ins = input_named circuit names
+
+  outs : AreNames (output_names circuit)
+  outs = have_names (defined circuit) (output_names circuit) names (outs_have [] circuit design.circuit_lines)
+
+  circuit_faultless : IsFaultless circuit_grammar tt circuit
+  circuit_faultless = record {
+    header = refl;
+    each = circuit_on [] circuit design.in_order design.circuit_lines;
+    end = ap missing_code design.all_consumed;
+  }
+
+  first : HasSection circuit_form tt circuit
+  first = circuit_written circuit design.circuit_lines names
+
+  second : HasSection layout_form p.size (parts_of p)
+  second = layout_written circuit p design.size design.layout_lines design.ports ins outs
+
+  all_lines : Lines (plain_lines circuit p)
+  all_lines =
+      let few = small.gates in
+      let wide = small.wide in
+      let high = small.high in
+      let numbers : AreBelow 64 (gate_numbers circuit) =
+      range_below (length (netlist_of circuit).gates) 0 64 (omega (arith, few)) in (
+        module_line p.size.w p.size.h (omega (arith, wide)) (omega (arith, high)),
+        lines_both (map Cut (input_names circuit) ++ map Use (gate_numbers circuit)) _
+            (lines_both (map Cut (input_names circuit)) (map Use (gate_numbers circuit))
+            (cut_lines (input_names circuit) ins) (number_lines Use use_line (gate_numbers circuit) numbers))
+            (number_lines Keep keep_line _
+            (filter_below (λ k. is_inverse_gate (slice_get (netlist_of circuit).gates k)) 64 (gate_numbers circuit)
+            numbers)),
+      )
+
+  third : HasSection form_of 1 (plain_lines circuit p)
+  third = has_section form_of 1 (plain_lines circuit p) header_line end_line all_lines
+
+  abbrev lines : List (List ℕ)
+  lines = first.lines ++ (second.lines ++ third.lines)
+
+  clean : AreLines lines
+  clean = clean_both first.lines (second.lines ++ third.lines) first.clean
+      (clean_both second.lines third.lines second.clean third.clean)
+
+  read_alone : {H I : Type 0} (g : Grammar H I) (ls : List (List ℕ)) (h : H) (items : List I) →
+      IsSection g.form ls h items → IsFaultless g h items → section_of g 0 ls ≡ Ok (h, items)
+  read_alone g ls h items is good = ap (section_of g 0) (sym (append-nil ls)) ∙ section_made g 0 ls [] h items is good
+
+  its_text : IsPlainText (flat_map ended_line lines) circuit p
+  its_text = record {
+    first = first.lines;
+    second = second.lines;
+    third = third.lines;
+    lines = lines_again lines clean;
+    ended = nothing_follows lines clean;
+    circuit_is = first.is;
+    circuit_read = read_alone circuit_grammar first.lines tt circuit first.is circuit_faultless;
+    layout_is = second.is;
+    layout_read = read_alone (layout_grammar (Some (port_names_of circuit))) second.lines p.size (parts_of p) second.is
+        (layout_faultless circuit p design.size design.layout_lines design.ports ins outs);
+    certificate_is = third.is;
+  }
+
+  spelled : flat_map ended_line lines ≡ plain_text circuit p
+  unfolding bundle_text layout_lines certificate_lines layout_text certificate_text
+  spelled =
+      let b : Bundle = record {
+        circuit = circuit;
+        size = p.size;
+        parts = parts_of p;
+        version = 1;
+        entries = plain_lines circuit p;
+      } in
+      let sections : HasSections (flat_map ended_line lines) b = record {
+        first = first.lines;
+        second = second.lines;
+        third = third.lines;
+        lines = lines_again lines clean;
+        rest = nothing_follows lines clean;
+        circuit_is = first.is;
+        layout_is = second.is;
+        certificate_is = third.is;
+      } in
+      text_is (flat_map ended_line lines) b sections
+      ∙ append_assoc (circuit_text circuit) (layout_text p) (certificate_text
+      (record { circuit = circuit; layout = p; version = 1; entries = plain_lines circuit p }))
+
+  pub has_text : IsPlainText (plain_text circuit p) circuit p
+  has_text = subst (λ text. IsPlainText text circuit p) spelled its_text
+
+pub each_has_text : EachSmallDesignHasText
+each_has_text = has_text
+
+-- ---- what is decided
+
+module _ (text : List ℕ) (circuit : List CircuitLine) (p : Pattern) (t : IsPlainText text circuit p) where
+  design_said : SaysDesign text circuit p
+  design_said = record {
+    first = t.first;
+    second = t.second;
+    others = t.third;
+    lines = t.lines;
+    circuit_is = t.circuit_is;
+    layout_is = t.layout_is;
+  }
+
+  said : SaysBundle text circuit p (plain_lines circuit p)
+  unfolding design_said
+  said = record {
+    design = design_said;
+    version = 1;
+    third = t.third;
+    rest = [];
+    lines = sym (append-nil t.third);
+    certificate_is = t.certificate_is;
+  }
+
+  correct_of : IsRight text → IsCorrect circuit p
+  correct_of r =
+      let same = one_design text r.circuit circuit r.layout p r.says design_said in
+      subst (λ cs. IsCorrect cs p) same.0 (subst (IsCorrect r.circuit) same.1 r.correct)
+
+  touch_of : HasRimTouch text → TouchesRim circuit p
+  touch_of r =
+      let same = one_design text r.circuit circuit r.layout p r.says design_said in
+      subst (λ cs. TouchesRim cs p) same.0 (subst (TouchesRim r.circuit) same.1 r.touches)
+
+  no_stops : flat_map stop_in (plain_lines circuit p) ≡ []
+  no_stops =
+      let cuts = map Cut (input_names circuit) in
+      let uses = map Use (gate_numbers circuit) in
+      flat_map-append stop_in (cuts ++ uses) _
+      ∙ ap₂ (λ a b. a ++ b)
+      (flat_map-append stop_in cuts uses
+      ∙ ap₂ (λ a b. a ++ b) (none_of Cut stop_in (λ n. refl) (input_names circuit))
+      (none_of Use stop_in (λ k. refl) (gate_numbers circuit)))
+      (none_of Keep stop_in (λ k. refl) (inverse_numbers circuit))
+
+  no_delay : HasRightStops text → HasNoDelay circuit
+  no_delay r k steps a b is =
+      let same = one_design text r.circuit circuit r.layout p r.says.design design_said in
+      let own = one_certificate text r.circuit circuit r.layout p r.certificate (plain_lines circuit p) r.says said in
+      let times : AreOnTime (circuit_of circuit) [] =
+      subst (λ cs. AreOnTime (circuit_of cs) []) same.0
+      (subst (AreOnTime (circuit_of r.circuit)) (ap (flat_map stop_in) own ∙ no_stops) r.on_time) in
+      let lt = (times.delays k steps a b is).last.seen.1 in
+      omega (arith, lt)
+
+  stops_of : HasNoDelay circuit → HasRightStops text
+  stops_of none = record {
+    circuit = circuit;
+    layout = p;
+    certificate = plain_lines circuit p;
+    says = said;
+    stops = subst (All (StopHolds (circuit_of circuit) p)) (sym no_stops) (All-nil (StopHolds (circuit_of circuit) p));
+    on_time = subst (AreOnTime (circuit_of circuit)) (sym no_stops) (record {
+      delays = λ k steps a b is. absurd (none k steps a b is);
+      meetings = λ k g at. (0, λ w s has last. absurd (let lt = last.seen.1 in omega (arith, lt)));
+    });
+  }
+
+pub each_is_decided : EachSmallDesignIsDecided
+each_is_decided circuit p output outcome design small reports =
+    let text = plain_text circuit p in
+    let t = has_text circuit p design small in
+    let d = small_is_decided text output outcome circuit p t small reports in (
+      d.0,
+      (
+        (λ e. let all = d.1.0 e in (
+          correct_of text circuit p t all.0,
+          no_delay text circuit p t all.1,
+          λ touch. all.2 (record {
+            circuit = circuit;
+            layout = p;
+            says = design_said text circuit p t;
+            touches = touch;
+          }),
+        )),
+        (λ all. d.1.1 (
+          record { circuit = circuit; layout = p; says = design_said text circuit p t; correct = all.0 },
+          stops_of text circuit p t all.1,
+          λ touch. all.2 (touch_of text circuit p t touch),
+        )),
+      ),
+    )

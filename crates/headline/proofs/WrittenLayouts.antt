@@ -1,0 +1,408 @@
+-- The lines of a good layout can be written, if its ports have names, and no line has a fault after those before it
+use Rattle.std.proofs.Common.{◌≡◌, ℕ, suc, ◌+◌, ◌<◌, ◌≤◌, ◌^◌, Bool, true, false, not, List, [], ◌∷◌, ◌++◌, ◌&&◌}
+use Rattle.std.proofs.Common.{◌||◌, map, Option, Some, None, refl, sym, ap, ap₂, subst, ◌∙◌, arith}
+use Rattle.std.proofs.Common.{append-nil}
+use Rattle.std.specs.Prelude.{codes, nat_le, nat_lt, option_map, slice_get}
+use Rattle.std.specs.Fmt.{decimal}
+use Rattle.std.specs.List.{AllByRecursion, list_all, list_any}
+use Rattle.std.specs.Str.{bytes_eq}
+use Rattle.std.proofs.lemmas.Bool.{and_parts}
+use Rattle.std.proofs.lemmas.Bool.Decides.{nat_tests}
+use Rattle.std.proofs.lemmas.List.Folds.{list_any-append}
+use Rattle.std.proofs.lemmas.Option.{slice_get-map}
+use Rattle.section_text.specs.Codes.{code_where, or_else}
+use Rattle.section_text.specs.Ports.{Named}
+use Rattle.section_text.specs.Words.{◌>>=◌, has, is_name, is_word_at, lone, name_at, number_at}
+use Rattle.section_text.specs.declared.code.RefusalCode.{RefusalCode}
+use Rattle.section_text.specs.declared.code.RefusalCode.TheVariants.{OutOfOrder, PastLimit, SomethingMissing}
+use Rattle.section_text.specs.declared.code.RefusalCode.TheVariants.{TakenCell, UnknownName}
+use Rattle.section_text.specs.declared.section.Form.TheVariants.{Header, Item, End}
+use Rattle.section_text.proofs.Good.{AreFaultless, IsFaultless}
+use Rattle.section_text.proofs.Numbers.{number_written}
+use Rattle.bbm_rule.specs.declared.block.Cell.{Cell}
+use Rattle.circuit.specs.Bridge.{input_names, output_names}
+use Rattle.circuit.specs.declared.circuit_line.CircuitLine.{CircuitLine}
+use Rattle.circuit.proofs.Places.{bytes_same}
+use Rattle.module_box.specs.Boxes.{in_box}
+use Rattle.module_box.proofs.BoxCells.{in_box_nats}
+use Rattle.pattern.specs.Forms.{cell_from, corner_and_sides, form_of, lone_cell, named_cell, port_of, rectangle_of}
+use Rattle.pattern.specs.Forms.{sides_and_steps, size_of}
+use Rattle.pattern.specs.Grammars.{layout_grammar}
+use Rattle.pattern.specs.Layout.{Pattern, cell, in_layout, parts_of}
+use Rattle.pattern.specs.Lines.{AreGoodAfter, cell_fault, is_in, is_inside, is_late, is_out, is_side}
+use Rattle.pattern.specs.Lines.{is_taken, limit_fault, line_fault, missing_fault, name_fault, order_fault, part_fault}
+use Rattle.pattern.specs.Lines.{rank_of, size_fault}
+use Rattle.pattern.specs.declared.layout_line.LayoutHeader.{LayoutHeader}
+use Rattle.pattern.specs.declared.layout_line.LayoutLine.{LayoutLine}
+use Rattle.pattern.specs.declared.layout_line.LayoutLine.TheVariants.{Mirror, Ball, In, Out, Waste}
+use Rattle.pattern.specs.declared.layout_line.Port.{Port}
+use Rattle.pattern.specs.declared.layout_line.Rectangle.{Rectangle}
+use Rattle.certificate_lines.specs.Rules.{whole}
+use Rattle.certificate_lines.proofs.Lists.{any_at}
+use Rattle.audit_core.specs.Concluding.{port_names_of}
+use Rattle.meaning.specs.Implements.{HaveNames, IsNamed}
+use Rattle.headline.proofs.Written.{HasLine, HasSection, has_section, line_by, name_word}
+use Rattle.headline.proofs.WrittenCircuits.{AreNames, decimal_word, has_name, named}
+
+no_code : (b : Bool) (code : RefusalCode) → code_where b code ≡ None → b ≡ false
+no_code true code e = absurd cc
+no_code false code e = refl
+
+no_not : (b : Bool) (code : RefusalCode) → code_where (not b) code ≡ None → b ≡ true
+no_not true code e = refl
+no_not false code e = absurd cc
+
+-- ---- sizes
+
+pub record HasLimits (s : LayoutHeader) : Type 0 where
+  pub wide : s.w ≤ 512
+  pub high : s.h ≤ 512
+  pub long : s.steps ≤ 65536
+
+below : (n k : ℕ) → nat_le n k ≡ true → n ≤ k
+below n k h = grind (arith, nat_tests, h)
+
+side_below : (n : ℕ) → is_side n ≡ true → n ≤ 512
+side_below n h = grind (arith, nat_tests, h)
+
+pub has_limits : (s : LayoutHeader) → size_fault s ≡ None → HasLimits s
+unfolding size_fault
+has_limits s e =
+    let all = no_not (is_side s.w && is_side s.h && nat_le s.steps 65536) PastLimit e in
+    let both = and_parts (is_side s.w && is_side s.h) (nat_le s.steps 65536) all in
+    let sides = and_parts (is_side s.w) (is_side s.h) both.0 in
+    record {
+      wide = side_below s.w sides.0;
+      high = side_below s.h sides.1;
+      long = below s.steps 65536 both.1;
+    }
+
+-- ---- lines
+
+number : (n k : ℕ) → n ≤ k → k ≤ 65536 → n < 10 ^ 9
+number n k h g = omega (arith, h, g)
+
+size_line : (s : LayoutHeader) → HasLimits s → HasLine form_of (Header s)
+unfolding form_of is_word_at size_of sides_and_steps number_at
+size_line s l =
+    let w = number s.w 512 l.wide (omega arith) in
+    let h = number s.h 512 l.high (omega arith) in
+    let t = number s.steps 65536 l.long (omega arith) in
+    line_by form_of (Header s) (codes "layout") (decimal s.w ∷ decimal s.h ∷ decimal s.steps ∷ []) refl
+    (decimal_word s.w w, (decimal_word s.h h, (decimal_word s.steps t, tt)))
+    (λ i. (number_written s.w w i >>= λ w. number_written s.h h i >>= λ h. number_written s.steps t i >>= λ t.
+    Some (record { w = w; h = h; steps = t })) >>= λ s. Some (Header s))
+
+module _ (s : LayoutHeader) (l : HasLimits s) where
+  -- a cell by its numbers
+  record IsNumbered (c : Cell) : Type 0 where
+    x : ℕ
+    y : ℕ
+    is : c ≡ cell x y
+    x_small : x < 10 ^ 9
+    y_small : y < 10 ^ 9
+
+  numbered : (c : Cell) → in_layout s c.x c.y ≡ true → IsNumbered c
+  unfolding in_box
+  numbered c h =
+      let p = in_box_nats (whole s) c.x c.y h in
+      let px = p.0 in let py = p.1 in
+      let x_low = px.3 in
+      let y_low = py.3 in
+      let wide = l.wide in
+      let high = l.high in
+      record {
+        x = px.0;
+        y = py.0;
+        is = ap₂ (λ x y. record { x = x; y = y }) px.1 py.1;
+        x_small = omega (arith, x_low, wide);
+        y_small = omega (arith, y_low, high);
+      }
+
+  ball_line : (c : Cell) → in_layout s c.x c.y ≡ true → HasLine form_of (Item (Ball c))
+  unfolding form_of is_word_at lone_cell cell_from number_at
+  ball_line c h =
+      let n = numbered c h in
+      subst (λ (d : Cell). HasLine form_of (Item (Ball d))) (sym n.is)
+      (line_by form_of (Item (Ball (cell n.x n.y))) (codes "ball") (decimal n.x ∷ decimal n.y ∷ []) refl
+      (decimal_word n.x n.x_small, (decimal_word n.y n.y_small, tt))
+      (λ i. (number_written n.x n.x_small i >>= λ x. number_written n.y n.y_small i >>= λ y. Some (cell x y)) >>= λ c.
+      Some (Item (Ball c))))
+
+  waste_line : (c : Cell) → in_layout s c.x c.y ≡ true → HasLine form_of (Item (Waste c))
+  unfolding form_of is_word_at lone_cell cell_from number_at
+  waste_line c h =
+      let n = numbered c h in
+      subst (λ (d : Cell). HasLine form_of (Item (Waste d))) (sym n.is)
+      (line_by form_of (Item (Waste (cell n.x n.y))) (codes "waste") (decimal n.x ∷ decimal n.y ∷ []) refl
+      (decimal_word n.x n.x_small, (decimal_word n.y n.y_small, tt))
+      (λ i. (number_written n.x n.x_small i >>= λ x. number_written n.y n.y_small i >>= λ y. Some (cell x y)) >>= λ c.
+      Some (Item (Waste c))))
+
+  in_line : (n : List ℕ) (c : Cell) → is_name n ≡ true → in_layout s c.x c.y ≡ true →
+      HasLine form_of (Item (In (record { name = n; cell = c })))
+  unfolding form_of is_word_at port_of named_cell name_at cell_from number_at
+  in_line n c e h =
+      let k = numbered c h in
+      subst (λ (d : Cell). HasLine form_of (Item (In (record { name = n; cell = d })))) (sym k.is)
+      (line_by form_of (Item (In (record { name = n; cell = cell k.x k.y }))) (codes "in")
+      (n ∷ decimal k.x ∷ decimal k.y ∷ []) refl
+      (name_word n e, (decimal_word k.x k.x_small, (decimal_word k.y k.y_small, tt)))
+      (λ i. (named n e i >>= λ m. (number_written k.x k.x_small i >>= λ x. number_written k.y k.y_small i >>= λ y.
+      Some (cell x y)) >>= λ c. Some (record { name = m; cell = c })) >>= λ q. Some (Item (In q))))
+
+  out_line : (n : List ℕ) (c : Cell) → is_name n ≡ true → in_layout s c.x c.y ≡ true →
+      HasLine form_of (Item (Out (record { name = n; cell = c })))
+  unfolding form_of is_word_at port_of named_cell name_at cell_from number_at
+  out_line n c e h =
+      let k = numbered c h in
+      subst (λ (d : Cell). HasLine form_of (Item (Out (record { name = n; cell = d })))) (sym k.is)
+      (line_by form_of (Item (Out (record { name = n; cell = cell k.x k.y }))) (codes "out")
+      (n ∷ decimal k.x ∷ decimal k.y ∷ []) refl
+      (name_word n e, (decimal_word k.x k.x_small, (decimal_word k.y k.y_small, tt)))
+      (λ i. (named n e i >>= λ m. (number_written k.x k.x_small i >>= λ x. number_written k.y k.y_small i >>= λ y.
+      Some (cell x y)) >>= λ c. Some (record { name = m; cell = c })) >>= λ q. Some (Item (Out q))))
+
+  mirror_line : (r : Rectangle) → limit_fault (Mirror r) ≡ None → is_inside s (Mirror r) ≡ true →
+      HasLine form_of (Item (Mirror r))
+  unfolding form_of is_word_at rectangle_of corner_and_sides number_at limit_fault is_inside
+  mirror_line r e h =
+      let inside = and_parts (nat_le (r.x + r.w) s.w) (nat_le (r.y + r.h) s.h) h in
+      let across = below (r.x + r.w) s.w inside.0 in
+      let down = below (r.y + r.h) s.h inside.1 in
+      let wide = l.wide in
+      let high = l.high in
+      let x : r.x < 10 ^ 9 = omega (arith, across, wide) in
+      let y : r.y < 10 ^ 9 = omega (arith, down, high) in
+      let w : r.w < 10 ^ 9 = omega (arith, across, wide) in
+      let k : r.h < 10 ^ 9 = omega (arith, down, high) in
+      line_by form_of (Item (Mirror r)) (codes "mirror") (decimal r.x ∷ decimal r.y ∷ decimal r.w ∷ decimal r.h ∷ [])
+      refl
+      (decimal_word r.x x, (decimal_word r.y y, (decimal_word r.w w, (decimal_word r.h k, tt))))
+      (λ i. (number_written r.x x i >>= λ x. number_written r.y y i >>= λ y. number_written r.w w i >>= λ w.
+      number_written r.h k i >>= λ h. Some (record { x = x; y = y; w = w; h = h })) >>= λ r. Some (Item (Mirror r)))
+
+  -- ---- lines that are good
+
+  -- the name of a port is a name, and one that a port may have
+  abbrev pub IsPortName : Named → LayoutLine → Type 0
+  IsPortName names (In q) = (is_name q.name ≡ true) × (has names.ins q.name ≡ true)
+  IsPortName names (Out q) = (is_name q.name ≡ true) × (has names.outs q.name ≡ true)
+  IsPortName names _ = Unit {0}
+
+  first_holds : (a b : Bool) → code_where (not a || b) TakenCell ≡ None → a ≡ true
+  first_holds true b e = refl
+  first_holds false b e = absurd cc
+
+  inside : (before : List LayoutLine) (part : LayoutLine) → cell_fault s before part ≡ None → is_inside s part ≡ true
+  unfolding cell_fault
+  inside before part e = first_holds (is_inside s part) (is_taken before part) e
+
+  line_of : (names : Named) (part : LayoutLine) → IsPortName names part → limit_fault part ≡ None →
+      is_inside s part ≡ true → HasLine form_of (Item part)
+  unfolding is_inside
+  line_of names (Mirror r) n e h = mirror_line r e h
+  line_of names (Ball c) n e h = ball_line c h
+  line_of names (In q) n e h = in_line q.name q.cell n.0 h
+  line_of names (Out q) n e h = out_line q.name q.cell n.0 h
+  line_of names (Waste c) n e h = waste_line c h
+
+  lines_of : (names : Named) (before parts : List LayoutLine) → AreGoodAfter s before parts →
+      AllByRecursion (IsPortName names) parts → AllByRecursion (λ part. HasLine form_of (Item part)) parts
+  lines_of names before [] good n = tt
+  lines_of names before (part ∷ parts) good n = (
+    line_of names part n.0 good.0 (inside before part good.1),
+    lines_of names (before ++ part ∷ []) parts good.2 n.1,
+  )
+
+-- ---- lines that are in order
+
+abbrev InOrder : List LayoutLine → List LayoutLine → Type 0
+InOrder before [] = Unit {0}
+InOrder before (part ∷ parts) = (order_fault before part ≡ None) × InOrder (before ++ part ∷ []) parts
+
+abbrev AreUpTo : ℕ → List LayoutLine → Type 0
+AreUpTo k parts = AllByRecursion (λ b. rank_of b ≤ k) parts
+
+none_late : (k : ℕ) (part : LayoutLine) (before : List LayoutLine) → rank_of part ≡ k → AreUpTo k before →
+    is_late before part ≡ false
+unfolding is_late
+none_late k part [] e h = refl
+none_late k part (b ∷ before) e h = ap₂ (λ x y. x || y) (not_less (rank_of part) (rank_of b) (omega (arith, e, h.0)))
+    (none_late k part before e h.1)
+  where
+    not_less : (n m : ℕ) → m ≤ n → nat_lt n m ≡ false
+    not_less n m h = grind (arith, nat_tests, h)
+
+up_more : (k : ℕ) (before : List LayoutLine) (part : LayoutLine) → rank_of part ≤ k → AreUpTo k before →
+    AreUpTo k (before ++ part ∷ [])
+up_more k [] part e h = (e, tt)
+up_more k (b ∷ before) part e h = (h.0, up_more k before part e h.1)
+
+up_next : (k : ℕ) (before : List LayoutLine) → AreUpTo k before → AreUpTo (k + 1) before
+up_next k [] h = tt
+up_next k (b ∷ before) h = (let low = h.0 in omega (arith, low), up_next k before h.1)
+
+run_of : {X : Type 0} (mk : X → LayoutLine) (k : ℕ) → ((x : X) → rank_of (mk x) ≡ k) → (xs : List X)
+    (before rest : List LayoutLine) → AreUpTo k before →
+    ((longer : List LayoutLine) → AreUpTo k longer → InOrder longer rest) → InOrder before (map mk xs ++ rest)
+unfolding order_fault
+run_of mk k rank [] before rest h next = next before h
+run_of mk k rank (x ∷ xs) before rest h next = (
+  ap (λ b. code_where b OutOfOrder) (none_late k (mk x) before (rank x) h),
+  run_of mk k rank xs (before ++ mk x ∷ []) rest
+      (up_more k before (mk x) (let e = rank x in omega (arith, e)) h) next,
+)
+
+last_run : {X : Type 0} (mk : X → LayoutLine) (k : ℕ) → ((x : X) → rank_of (mk x) ≡ k) → (xs : List X)
+    (before : List LayoutLine) → AreUpTo k before → InOrder before (map mk xs)
+last_run mk k rank xs before h = subst (InOrder before) (append-nil (map mk xs))
+    (run_of mk k rank xs before [] h (λ longer more. tt))
+
+in_order : (p : Pattern) → InOrder [] (parts_of p)
+unfolding rank_of
+in_order p =
+    run_of Mirror 0 (λ r. refl) p.mirrors [] _ tt (λ a ha.
+    run_of Ball 1 (λ c. refl) p.balls a _ (up_next 0 a ha) (λ b hb.
+    run_of In 2 (λ q. refl) p.ins b _ (up_next 1 b hb) (λ c hc.
+    run_of Out 3 (λ q. refl) p.outs c _ (up_next 2 c hc) (λ d hd.
+    last_run Waste 4 (λ c. refl) p.wastes d (up_next 3 d hd)))))
+
+-- ---- no line has a fault
+
+name_ok : (s : LayoutHeader) (l : HasLimits s) (names : Named) (part : LayoutLine) → IsPortName s l names part →
+    name_fault (Some names) part ≡ None
+unfolding name_fault
+name_ok s l names (Mirror r) n = refl
+name_ok s l names (Ball c) n = refl
+name_ok s l names (In q) n = ap (λ b. code_where (not b) UnknownName) n.1
+name_ok s l names (Out q) n = ap (λ b. code_where (not b) UnknownName) n.1
+name_ok s l names (Waste c) n = refl
+
+all_none : (a b c d : Option RefusalCode) → a ≡ None → b ≡ None → c ≡ None → d ≡ None →
+    or_else (or_else a (or_else b c)) d ≡ None
+all_none a b c d e f g h = ap₂ or_else (ap₂ or_else e (ap₂ or_else f g)) h
+
+faultless_on : (s : LayoutHeader) (l : HasLimits s) (names : Named) (before parts : List LayoutLine) →
+    InOrder before parts → AreGoodAfter s before parts → AllByRecursion (IsPortName s l names) parts →
+    AreFaultless (layout_grammar (Some names)) s before parts
+unfolding part_fault line_fault
+faultless_on s l names before [] order good n = tt
+faultless_on s l names before (part ∷ parts) order good n = (
+  all_none (order_fault before part) (limit_fault part) (name_fault (Some names) part) (cell_fault s before part)
+      order.0 good.0 (name_ok s l names part n.0) good.1,
+  faultless_on s l names (before ++ part ∷ []) parts order.1 good.2 n.1,
+)
+
+-- ---- the names of the ports
+
+none_in : {X : Type 0} (f : LayoutLine → Bool) (mk : X → LayoutLine) → ((x : X) → f (mk x) ≡ false) → (xs : List X) →
+    list_any f (map mk xs) ≡ false
+none_in f mk never [] = refl
+none_in f mk never (x ∷ xs) = ap₂ (λ a b. a || b) (never x) (none_in f mk never xs)
+
+all_in : (f : LayoutLine → Bool) (mk : Port → LayoutLine) (n : List ℕ) →
+    ((q : Port) → f (mk q) ≡ bytes_eq n q.name) → (ports : List Port) →
+    list_any f (map mk ports) ≡ has (map (λ q. q.name) ports) n
+all_in f mk n same [] = refl
+all_in f mk n same (q ∷ ports) = ap₂ (λ a b. a || b) (same q) (all_in f mk n same ports)
+
+five_parts : (f : LayoutLine → Bool) (a b c d e : List LayoutLine) →
+    list_any f (a ++ (b ++ (c ++ (d ++ e))))
+    ≡ (list_any f a || (list_any f b || (list_any f c || (list_any f d || list_any f e))))
+five_parts f a b c d e =
+    list_any-append f a _ ∙ ap (λ r. list_any f a || r)
+    (list_any-append f b _ ∙ ap (λ r. list_any f b || r)
+    (list_any-append f c _ ∙ ap (λ r. list_any f c || r) (list_any-append f d e)))
+
+or-false : (b : Bool) → (b || false) ≡ b
+or-false true = refl
+or-false false = refl
+
+in_parts : (p : Pattern) (n : List ℕ) → list_any (is_in n) (parts_of p) ≡ has (map (λ q. q.name) p.ins) n
+in_parts p n =
+    five_parts (is_in n) (map Mirror p.mirrors) (map Ball p.balls) (map In p.ins) (map Out p.outs) (map Waste p.wastes)
+    ∙ ap₂ (λ a b. a || b) (none_in (is_in n) Mirror (λ r. refl) p.mirrors)
+    (ap₂ (λ a b. a || b) (none_in (is_in n) Ball (λ c. refl) p.balls)
+    (ap₂ (λ a b. a || b) (all_in (is_in n) In n (λ q. refl) p.ins)
+    (ap₂ (λ a b. a || b) (none_in (is_in n) Out (λ q. refl) p.outs) (none_in (is_in n) Waste (λ c. refl) p.wastes))))
+    ∙ or-false (has (map (λ q. q.name) p.ins) n)
+
+out_parts : (p : Pattern) (n : List ℕ) → list_any (is_out n) (parts_of p) ≡ has (map (λ q. q.name) p.outs) n
+out_parts p n =
+    five_parts (is_out n) (map Mirror p.mirrors) (map Ball p.balls) (map In p.ins) (map Out p.outs) (map Waste p.wastes)
+    ∙ ap₂ (λ a b. a || b) (none_in (is_out n) Mirror (λ r. refl) p.mirrors)
+    (ap₂ (λ a b. a || b) (none_in (is_out n) Ball (λ c. refl) p.balls)
+    (ap₂ (λ a b. a || b) (none_in (is_out n) In (λ q. refl) p.ins)
+    (ap₂ (λ a b. a || b) (all_in (is_out n) Out n (λ q. refl) p.outs) (none_in (is_out n) Waste (λ c. refl) p.wastes))))
+    ∙ or-false (has (map (λ q. q.name) p.outs) n)
+
+all_have : (test : List ℕ → Bool) (names : List (List ℕ)) →
+    ((k : ℕ) (n : List ℕ) → slice_get names k ≡ Some n → test n ≡ true) → list_all test names ≡ true
+all_have test [] h = refl
+all_have test (n ∷ names) h = ap₂ (λ a b. a && b) (h 0 n refl) (all_have test names (λ k. h (suc k)))
+
+-- each name of the list has a port
+each_port : (names : List (List ℕ)) (ports : List Port) → HaveNames ports names → (k : ℕ) (n : List ℕ) →
+    slice_get names k ≡ Some n → has (map (λ q. q.name) ports) n ≡ true
+each_port names ports same k n at = same n ∙ any_at _ names k n at (bytes_same n)
+
+-- each port has a name of the list
+port_named : (names : List (List ℕ)) (ports : List Port) → HaveNames ports names → (k : ℕ) (q : Port) →
+    slice_get ports k ≡ Some q → has names q.name ≡ true
+port_named names ports same k q at =
+    sym (same q.name) ∙ any_at _ (map (λ (q : Port). q.name) ports) k q.name
+    (slice_get-map (λ (q : Port). q.name) ports k ∙ ap (option_map (λ (q : Port). q.name)) at) (bytes_same q.name)
+
+all_mapped : {X : Type 0} (P : LayoutLine → Type 0) (mk : X → LayoutLine) (xs : List X) (rest : List LayoutLine) →
+    ((k : ℕ) (x : X) → slice_get xs k ≡ Some x → P (mk x)) → AllByRecursion P rest →
+    AllByRecursion P (map mk xs ++ rest)
+all_mapped P mk [] rest h r = r
+all_mapped P mk (x ∷ xs) rest h r = (h 0 x refl, all_mapped P mk xs rest (λ k. h (suc k)) r)
+
+all_last : {X : Type 0} (P : LayoutLine → Type 0) (mk : X → LayoutLine) (xs : List X) →
+    ((k : ℕ) (x : X) → slice_get xs k ≡ Some x → P (mk x)) → AllByRecursion P (map mk xs)
+all_last P mk xs h = subst (AllByRecursion P) (append-nil (map mk xs)) (all_mapped P mk xs [] h tt)
+
+-- ---- the section
+
+module _ (circuit : List CircuitLine) (p : Pattern) (limits : size_fault p.size ≡ None)
+    (good : AreGoodAfter p.size [] (parts_of p)) (are : IsNamed circuit p) (ins : AreNames (input_names circuit))
+    (outs : AreNames (output_names circuit)) where
+  abbrev s : LayoutHeader
+  s = p.size
+
+  l : HasLimits s
+  l = has_limits s limits
+
+  abbrev names : Named
+  names = port_names_of circuit
+
+  ports_named : AllByRecursion (IsPortName s l names) (parts_of p)
+  ports_named =
+      all_mapped (IsPortName s l names) Mirror p.mirrors _ (λ k r at. tt)
+      (all_mapped (IsPortName s l names) Ball p.balls _ (λ k c at. tt)
+      (all_mapped (IsPortName s l names) In p.ins _ (λ k q at.
+      let known = port_named (input_names circuit) p.ins are.ins k q at in
+      (has_name (input_names circuit) q.name ins known, known))
+      (all_mapped (IsPortName s l names) Out p.outs _ (λ k q at.
+      let known = port_named (output_names circuit) p.outs are.outs k q at in
+      (has_name (output_names circuit) q.name outs known, known))
+      (all_last (IsPortName s l names) Waste p.wastes (λ k c at. tt)))))
+
+  pub layout_written : HasSection form_of s (parts_of p)
+  unfolding form_of lone is_word_at
+  layout_written = has_section form_of s (parts_of p) (size_line s l)
+      (line_by form_of End (codes "end") [] refl tt refl) (lines_of s l names [] (parts_of p) good ports_named)
+
+  pub layout_faultless : IsFaultless (layout_grammar (Some names)) s (parts_of p)
+  unfolding missing_fault
+  layout_faultless = record {
+    header = limits;
+    each = faultless_on s l names [] (parts_of p) (in_order p) good ports_named;
+    end = ap₂ (λ a b. code_where (not (a && b)) SomethingMissing)
+        (all_have (λ n. list_any (is_in n) (parts_of p)) names.ins (λ k n at.
+        in_parts p n ∙ each_port names.ins p.ins are.ins k n at))
+        (all_have (λ n. list_any (is_out n) (parts_of p)) names.outs (λ k n at.
+        out_parts p n ∙ each_port names.outs p.outs are.outs k n at));
+  }
