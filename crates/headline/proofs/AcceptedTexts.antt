@@ -2,9 +2,9 @@
 --
 -- One is of four modules around a gate, with stops and a delay, and one of a switch and its inverse gate. Two are plain
 -- texts of two balls that meet, the second of them with a wrong layout.
-use Rattle.std.proofs.Common.{◌≡◌, ℕ, zero, suc, true, List, [], ◌∷◌, Ok, Some, option_map, refl, sym, ap, ◌∙◌}
+use Rattle.std.proofs.Common.{◌≡◌, ℕ, zero, suc, true, List, [], ◌∷◌, Ok, Some, option_map, refl, sym, ap, subst, ◌∙◌}
 use Rattle.std.proofs.Common.{arith}
-use Rattle.std.specs.Prelude.{codes, slice_get, unwrap_or}
+use Rattle.std.specs.Prelude.{◌≢◌, codes, slice_get, unwrap_or}
 use Rattle.std.specs.List.{All}
 use Rattle.std.proofs.lemmas.Bool.{true≢false}
 use Rattle.std.proofs.lemmas.List.Elements.{All-nil, All-cons}
@@ -23,7 +23,7 @@ use Rattle.circuit.specs.Meaning.{Gate as Meant}
 use Rattle.circuit.specs.Rules as circuit_rules
 use Rattle.circuit.specs.declared.circuit_line.CircuitLine.{CircuitLine}
 use Rattle.circuit.specs.declared.circuit_line.GateKind.{GateKind}
-use Rattle.circuit.specs.declared.circuit_line.GateKind.TheVariants.{Interact, Switch, Unswitch}
+use Rattle.circuit.specs.declared.circuit_line.GateKind.TheVariants.{Delay, Interact, Switch, Unswitch}
 use Rattle.circuit.specs.declared.circuit_line.Kind.TheVariants.{Input, Gate, Output}
 use Rattle.pattern.specs.Forms as layout_forms
 use Rattle.pattern.specs.Layout as layouts
@@ -51,24 +51,31 @@ use Rattle.audit_core.proofs.NumberedSignals.{numbered, numbered_all_times, numb
 use Rattle.audit_core.proofs.NumberedSignals.{place_among}
 use Rattle.audit_core.proofs.SomeJobs.{demanded, placed_gate, placed_gates, placed_stop, places}
 use Rattle.audit_core.specs.HeadlineLaws.{IsInputName}
-use Rattle.audit_core.specs.PlainCertificates.{IsPlain}
+use Rattle.audit_core.specs.PlainCertificates.{IsPlain, TouchesRim}
 use Rattle.audit_core.specs.declared.verdict.ReportLine.TheVariants.{Meet}
 use Rattle.answers.specs.BundleText.{Bundle, bundle_of}
 use Rattle.answers.specs.CheckText.{IsReportOf}
-use Rattle.answers.specs.declared.outcome.Outcome.TheVariants.{Yes}
+use Rattle.answers.specs.declared.outcome.Outcome.{Outcome}
+use Rattle.answers.specs.declared.outcome.Outcome.TheVariants.{Yes, No, Refused}
+use Rattle.meaning.specs.Implements.{IsCorrect}
 use Rattle.headline.specs.Laws.{ThereAndBackIsAccepted, TimedModulesAreAccepted}
 use Rattle.headline.specs.PlainLaws.{ThereAndBackIsPlain, ThereAndBackIsSmall}
 use Rattle.headline.specs.PlainNo.{plain_no}
 use Rattle.headline.specs.PlainYes.{plain_yes}
-use Rattle.headline.specs.SmallDesigns.{plain_lines}
+use Rattle.headline.specs.SmallDesigns.{HasNoDelay, IsDesign, IsSmall, plain_lines, plain_text}
 use Rattle.headline.specs.ThereAndBack.{there_and_back}
 use Rattle.headline.specs.TimedModules.{timed_modules}
-use Rattle.headline.specs.Witnesses.{PlainNoIsRefuted, PlainYesIsAccepted}
+use Rattle.headline.specs.Witnesses.{PlainNoIsRefuted, PlainYesIsAccepted, SmallDesignIsAccepted, SmallDesignIsRefuted}
 use Rattle.headline.proofs.FailingTexts.{Fails, is_refuted}
 use Rattle.headline.proofs.PassingTexts.{PassesIfRead, accepted_if}
 use Rattle.headline.proofs.PlainLines.{plain_lines_decide}
 use Rattle.headline.proofs.SmallDesigns.{is_plain_text}
-use Rattle.headline.proofs.YesIsRight.{bundle_good}
+use Rattle.headline.proofs.Designs.{one_design}
+use Rattle.headline.proofs.PlainTexts.{yes_off_rim}
+use Rattle.headline.proofs.ReadDesigns.{design_read}
+use Rattle.headline.proofs.SomeReport.{some_report}
+use Rattle.headline.proofs.WrittenDesigns.{each_is_decided}
+use Rattle.headline.proofs.YesIsRight.{bundle_good, yes_is_right}
 
 -- ---- the switch and its inverse gate
 
@@ -297,4 +304,74 @@ plain_no_refuted =
       reported = is.reported;
       says = is.says;
       shows = is.shows;
+    }
+
+-- ---- so the plain texts of both designs are reported with the same outcomes
+
+no_delay : HasNoDelay meeting
+no_delay zero steps a b is =
+    let kind : ◌≡◌ {A = GateKind} Interact (Delay steps) =
+    ap (λ o. unwrap_or (option_map (λ (h : Meant). h.kind) o) Interact) is in
+    cc
+no_delay (suc k) steps a b is = absurd cc
+
+few : (b c : Cell) → IsSmall meeting (meeting_in b c)
+few b c = record { wide = omega arith; high = omega arith; inputs = omega arith; gates = omega arith }
+
+right_design : IsDesign meeting right_layout
+right_design = design_read plain_yes (meeting_bundle right_layout) right_layout are_read.yes_reads refl
+
+wrong_design : IsDesign meeting wrong_layout
+wrong_design = design_read plain_no (meeting_bundle wrong_layout) wrong_layout are_read.no_reads refl
+
+right_correct : IsCorrect meeting right_layout
+right_correct =
+    let r = yes_is_right plain_yes yes_accepted.0 yes_accepted.1 in
+    let says = (bundle_good plain_yes (meeting_bundle right_layout) are_read.yes_reads).says right_layout refl in
+    let same = one_design plain_yes r.circuit meeting r.layout right_layout r.says says in
+    subst (λ cs. IsCorrect cs right_layout) same.0 (subst (IsCorrect r.circuit) same.1 r.correct)
+
+right_off : ¬ TouchesRim meeting right_layout
+right_off touch = yes_off_rim plain_yes yes_accepted.0 yes_accepted.1 (record {
+  circuit = meeting;
+  layout = right_layout;
+  says = (bundle_good plain_yes (meeting_bundle right_layout) are_read.yes_reads).says right_layout refl;
+  touches = touch;
+})
+
+pub design_accepted : SmallDesignIsAccepted
+design_accepted =
+    let r = some_report (plain_text meeting right_layout) in
+    let d = each_is_decided meeting right_layout r.0 r.1 right_design (few (cell 2 2) (cell 5 5)) r.2 in
+    let yes : r.1 ≡ Yes = d.1.1 (right_correct, no_delay, right_off) in
+    record {
+      circuit = meeting;
+      layout = right_layout;
+      design = right_design;
+      small = few (cell 2 2) (cell 5 5);
+      steps = omega arith;
+      output = r.0;
+      reported = subst (IsReportOf (plain_text meeting right_layout) r.0) yes r.2;
+    }
+
+no_of : (outcome : Outcome) → outcome ≢ Yes → outcome ≢ Refused → outcome ≡ No
+no_of Yes a b = absurd (a refl)
+no_of No a b = refl
+no_of Refused a b = absurd (b refl)
+
+pub design_refuted : SmallDesignIsRefuted
+design_refuted =
+    let r = some_report (plain_text meeting wrong_layout) in
+    let d = each_is_decided meeting wrong_layout r.0 r.1 wrong_design (few (cell 5 5) (cell 2 2)) r.2 in
+    let is = is_refuted plain_no (meeting_bundle wrong_layout) are_read.no_reads wrong_layout one (cell 2 2) 1
+    (Meet 0 (Some 1) ∷ []) are_read.no_fails in
+    let no : r.1 ≡ No = no_of r.1 (λ e. is.shows.real.incorrect refl (d.1.0 e).0) d.0 in
+    record {
+      circuit = meeting;
+      layout = wrong_layout;
+      design = wrong_design;
+      small = few (cell 5 5) (cell 2 2);
+      steps = omega arith;
+      output = r.0;
+      reported = subst (IsReportOf (plain_text meeting wrong_layout) r.0) no r.2;
     }

@@ -21,4 +21,5 @@ mod Written
 mod WrittenCircuits
 mod WrittenLayouts
 mod WrittenDesigns
+mod ReadDesigns
 mod AcceptedMigrations

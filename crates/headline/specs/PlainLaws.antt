@@ -6,6 +6,7 @@ use Rattle.answers.specs.CheckText.{IsReportOf}
 use Rattle.answers.specs.declared.outcome.Outcome.{Outcome}
 use Rattle.answers.specs.declared.outcome.Outcome.TheVariants.{Yes, No, Refused}
 use Rattle.audit_core.specs.PlainCertificates.{TouchesRim}
+use Rattle.meaning.specs.Design.{SaysDesign}
 use Rattle.meaning.specs.Headline.{IsRight}
 use Rattle.meaning.specs.Implements.{IsCorrect}
 use Rattle.headline.specs.Stops.{HasRightStops, SaysBundle}
@@ -57,6 +58,11 @@ EachSmallDesignIsDecided = (circuit : List CircuitLine) (layout : Pattern) (outp
     IsDesign circuit layout → IsSmall circuit layout → IsReportOf (plain_text circuit layout) output outcome →
     (outcome ≢ Refused)
     × ((outcome ≡ Yes) ↔ (IsCorrect circuit layout × HasNoDelay circuit × ¬ TouchesRim circuit layout))
+
+-- The rules of a design are not too many: each text that is not refused says a circuit and a layout that keep them.
+abbrev pub DesignsAreRead : Type 0
+DesignsAreRead = (text output : List ℕ) (outcome : Outcome) (circuit : List CircuitLine) (layout : Pattern) →
+    IsReportOf text output outcome → outcome ≢ Refused → SaysDesign text circuit layout → IsDesign circuit layout
 
 -- Some plain text is reported with the outcome yes (`ThereAndBackIsAccepted`), so the laws are not vacuous.
 abbrev pub ThereAndBackIsPlain : Type 0

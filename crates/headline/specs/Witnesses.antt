@@ -1,19 +1,22 @@
 -- Plain texts with a run that is worth the name: one is reported with a yes, and one with a no.
 --
 -- Both are of three steps and of one gate, `interact`, in which two balls meet after the first step. Read before:
--- Plain.antt and ReportLines.antt.
+-- Plain.antt, ReportLines.antt and SmallDesigns.antt.
 use Rattle.std.specs.Prelude.{◌≤◌, ℕ, List, [], ◌∷◌, Some}
-use Rattle.pattern.specs.Layout.{cell}
+use Rattle.circuit.specs.declared.circuit_line.CircuitLine.{CircuitLine}
+use Rattle.pattern.specs.Layout.{Pattern, cell}
 use Rattle.local_run.specs.declared.fault.Fault.{Fault}
 use Rattle.local_run.specs.declared.fault.Kind.TheVariants.{End}
 use Rattle.audit_core.specs.PlainCertificates.{Shows}
 use Rattle.audit_core.specs.declared.verdict.ReportLine.TheVariants.{Local, Meet}
 use Rattle.answers.specs.CheckText.{IsReportOf}
+use Rattle.answers.specs.declared.outcome.Outcome.{Outcome}
 use Rattle.answers.specs.declared.outcome.Outcome.TheVariants.{Yes, No}
 use Rattle.headline.specs.Plain.{SaysPlain}
 use Rattle.headline.specs.PlainNo.{plain_no}
 use Rattle.headline.specs.PlainYes.{plain_yes}
 use Rattle.headline.specs.ReportLines.{SaysNoWith}
+use Rattle.headline.specs.SmallDesigns.{IsDesign, IsSmall, plain_text}
 
 -- `plain_yes` is plain, has at least two steps, and is reported with the outcome yes.
 pub record PlainYesIsAccepted : Type 0 where
@@ -37,3 +40,21 @@ pub record PlainNoIsRefuted : Type 0 where
   pub reported : IsReportOf plain_no output No
   pub says : SaysNoWith output (Local 0 swapped_end ∷ Meet 0 (Some 1) ∷ [])
   pub shows : Shows plain.circuit plain.layout plain.one swapped_end
+
+-- A small design of at least two steps, whose plain text is reported with this outcome.
+pub record HasSmallDesign (outcome : Outcome) : Type 0 where
+  pub circuit : List CircuitLine
+  pub layout : Pattern
+  pub design : IsDesign circuit layout
+  pub small : IsSmall circuit layout
+  pub steps : 2 ≤ layout.size.steps
+  pub output : List ℕ
+  pub reported : IsReportOf (plain_text circuit layout) output outcome
+
+-- there is one with the outcome yes
+abbrev pub SmallDesignIsAccepted : Type 0
+SmallDesignIsAccepted = HasSmallDesign Yes
+
+-- and one with the outcome no
+abbrev pub SmallDesignIsRefuted : Type 0
+SmallDesignIsRefuted = HasSmallDesign No

@@ -1,8 +1,8 @@
 //! Laws of the definitions, each the contract of a function without a body.
 ghost use Rattle.answers.specs.CheckText.{IsReportOf};
 ghost use Rattle.headline.specs.Laws.{FourthLineTells, HasAnAnswer, HasOneAnswer, ReportsOnGoodDesigns, SaysOneCertificate, SaysOneDesign, ThereAndBackIsAccepted, TimedModulesAreAccepted, YesHasOneValuation, YesMeansRight, YesMeansRightInFull, YesMeansRightStops};
-ghost use Rattle.headline.specs.PlainLaws.{EachSmallDesignHasText, EachSmallDesignIsDecided, PlainIsDecided, PlainLinesDecide, PlainNoMeansWrong, RefusedIsNoSmallDesign, SmallDesignIsDecided, ThereAndBackIsPlain, ThereAndBackIsSmall, YesKeepsOffRim, NoLinesTell};
-ghost use Rattle.headline.specs.Witnesses.{PlainNoIsRefuted, PlainYesIsAccepted};
+ghost use Rattle.headline.specs.PlainLaws.{DesignsAreRead, EachSmallDesignHasText, EachSmallDesignIsDecided, PlainIsDecided, PlainLinesDecide, PlainNoMeansWrong, RefusedIsNoSmallDesign, SmallDesignIsDecided, ThereAndBackIsPlain, ThereAndBackIsSmall, YesKeepsOffRim, NoLinesTell};
+ghost use Rattle.headline.specs.Witnesses.{PlainNoIsRefuted, PlainYesIsAccepted, SmallDesignIsAccepted, SmallDesignIsRefuted};
 ghost use Rattle.headline.specs.Migration.{KeepsVersionTwo, MigratesOnce, MigrationIsAccepted, MigrationSaysTheSame};
 ghost use Rattle.answers.specs.MigrateText.{IsMigrationOf};
 ghost use Rattle.answers.specs.ModulesText.{IsModulesOf};
@@ -83,12 +83,14 @@ pub fn no_means_wrong()
 /// A text that says a design of at most 64 by 64 cells, 12 inputs and 64 gates, and then `plain_lines`, is not refused.
 /// `check` says yes to it exactly if the layout computes the circuit, the stops are right, and the layout keeps off its
 /// rim. Each such design that keeps the rules of both sections has a text, `plain_text`. So `check` says yes to this text
-/// exactly if the layout computes the circuit and keeps off its rim, and the circuit has no delay.
+/// exactly if the layout computes the circuit and keeps off its rim, and the circuit has no delay. Each text that is not
+/// refused says a design that keeps these rules.
 pub fn small_designs_are_decided()
     ensures decided { SmallDesignIsDecided }
     ensures refused { RefusedIsNoSmallDesign }
     ensures text { EachSmallDesignHasText }
     ensures each { EachSmallDesignIsDecided }
+    ensures read { DesignsAreRead }
 {}
 
 /// States what the lines of a no mean.
@@ -121,18 +123,22 @@ pub fn says_one_design()
 ///
 /// - One is of four modules with a gate, a delay and stops.
 /// - One is of a switch and its inverse gate, and its certificate is plain.
-/// - One is plain and has three steps, in which two balls meet.
+/// - One is plain and has three steps, in which two balls meet. The same design has a plain text without stops, which is
+///   reported with a yes too.
 pub fn something_is_accepted()
     ensures timed { TimedModulesAreAccepted }
     ensures inverse { ThereAndBackIsAccepted }
     ensures plain { ThereAndBackIsPlain }
     ensures small { ThereAndBackIsSmall }
     ensures meeting { PlainYesIsAccepted }
+    ensures design { SmallDesignIsAccepted }
 {}
 
 /// States that a plain text of three steps, in which two balls meet, is reported with a no.
 ///
-/// Two outputs have changed places in its layout. The report has a `local` line, and its fault is one of the plane.
+/// Two outputs have changed places in its layout. The report has a `local` line, and its fault is one of the plane. A
+/// small design of three steps gets a no too.
 pub fn something_is_refuted()
-    ensures { PlainNoIsRefuted }
+    ensures meeting { PlainNoIsRefuted }
+    ensures design { SmallDesignIsRefuted }
 {}

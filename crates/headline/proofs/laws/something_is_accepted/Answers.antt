@@ -15,3 +15,6 @@ returns-clause-small c = texts.small
 
 pub returns-clause-meeting : goal.returns-clause-meeting
 returns-clause-meeting c = texts.plain_yes_accepted
+
+pub returns-clause-design : goal.returns-clause-design
+returns-clause-design c = texts.design_accepted

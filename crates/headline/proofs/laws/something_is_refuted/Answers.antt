@@ -1,5 +1,5 @@
-use Rattle.headline.proofs.AcceptedTexts.{plain_no_refuted}
+use Rattle.headline.proofs.AcceptedTexts as texts
 use Rattle.headline.proofs.laws.something_is_refuted.Goals as goal
 
 pub returns : goal.returns
-returns c = plain_no_refuted
+returns c = record { meeting = texts.plain_no_refuted; design = texts.design_refuted }

@@ -1,0 +1,198 @@
+-- What a text says that is not refused keeps the rules of a design
+use Rattle.std.proofs.Common.{◌≡◌, ℕ, zero, suc, ◌+◌, Bool, true, cond, eqb, List, [], ◌∷◌, ◌++◌, ◌&&◌, length, Option, Some, None}
+use Rattle.std.proofs.Common.{Result, Ok, Err, refl, sym, ap, ap₂, subst, inl, inr, map}
+use Rattle.std.specs.Prelude.{IsTrue, codes, slice_get}
+use Rattle.std.specs.List.{AllByRecursion, list_all}
+use Rattle.std.proofs.lemmas.Bool.{and_parts}
+use Rattle.std.proofs.lemmas.List.Elements.{All-from_recursion}
+use Rattle.std.proofs.lemmas.Option.{cond_some, option_and_then_some, same_Some}
+use Rattle.section_text.specs.Codes.{or_else}
+use Rattle.section_text.specs.SaidSection.{IsSection}
+use Rattle.section_text.specs.Words.{◌>>=◌, is_name, is_word_at, lone, lone_name, name_at, name_of, names_at, words_of}
+use Rattle.section_text.specs.declared.code.RefusalCode.{RefusalCode}
+use Rattle.section_text.specs.declared.fault.Refusal.{Refusal}
+use Rattle.section_text.specs.declared.section.Form.{Form}
+use Rattle.section_text.specs.declared.section.Form.TheVariants.{Header, Item, End}
+use Rattle.section_text.proofs.Good.{AreFaultless, IsFaultless}
+use Rattle.section_text.proofs.MadeSections.{one_line, section_made}
+use Rattle.section_text.proofs.Spellings.{chosen, passed}
+use Rattle.circuit.specs.Entries.{defined, entry}
+use Rattle.circuit.specs.Forms.{form_of, gate_entry, gate_kind, gate_names, words_before}
+use Rattle.circuit.specs.Gates.{defines, uses}
+use Rattle.circuit.specs.Grammars.{circuit_grammar, missing_code}
+use Rattle.circuit.specs.Rules.{add_fault, consumed, order_fault, unused}
+use Rattle.circuit.specs.declared.circuit_line.CircuitLine.{CircuitLine}
+use Rattle.circuit.specs.declared.circuit_line.Kind.TheVariants.{Input, Gate, Output, Spill}
+use Rattle.pattern.specs.Grammars.{layout_grammar, layout_value}
+use Rattle.pattern.specs.Layout.{Pattern, parts_of}
+use Rattle.pattern.specs.declared.layout_line.LayoutHeader.{LayoutHeader}
+use Rattle.pattern.specs.declared.layout_line.LayoutLine.{LayoutLine}
+use Rattle.pattern.proofs.Named.{faultless_named}
+use Rattle.audit_core.specs.Concluding.{port_names_of}
+use Rattle.audit_core.proofs.PortNames.{read_layout-is_named}
+use Rattle.answers.specs.Answers.{Answered}
+use Rattle.answers.specs.BundleText.{Bundle, bundle_of}
+use Rattle.answers.specs.CheckText.{SaysReport}
+use Rattle.headline.specs.PlainLaws.{DesignsAreRead}
+use Rattle.headline.specs.SmallDesigns.{AreInOrder, IsDesign}
+use Rattle.headline.proofs.Designs.{one_design}
+use Rattle.headline.proofs.Migrations.{good_read, sections_read}
+use Rattle.headline.proofs.WrittenCircuits.{AreNames, names_both}
+use Rattle.headline.proofs.YesIsRight.{bundle_good, circuit_good, laid_out}
+
+-- ---- names that are read are names
+
+name_is : (w n : List ℕ) → name_of w ≡ Some n → is_name n ≡ true
+unfolding name_of
+name_is w n e = let found = cond_some (is_name w) w n e in subst (λ k. is_name k ≡ true) found.1 found.0
+
+named_at : (ws : List (List ℕ)) (i : ℕ) (n : List ℕ) → name_at ws i ≡ Some n → is_name n ≡ true
+unfolding name_at
+named_at ws i n e = option_and_then_some name_of (slice_get ws i) n e (λ w found named. name_is w n named)
+
+lone_named : (ws : List (List ℕ)) (n : List ℕ) → lone_name ws ≡ Some n → is_name n ≡ true
+unfolding lone_name
+lone_named ws n e = named_at ws 1 n (passed (eqb (length ws) 2) (name_at ws 1) n e).1
+
+are_named : (ws : List (List ℕ)) (i n : ℕ) (ns : List (List ℕ)) → names_at ws i n ≡ Some ns → AreNames ns
+unfolding names_at
+are_named ws i zero ns e = subst AreNames (same_Some [] ns e) refl
+are_named ws i (suc n) ns e =
+    option_and_then_some (λ first. names_at ws (i + 1) n >>= λ others. Some (first ∷ others)) (name_at ws i) ns e
+    (λ first named rest.
+    option_and_then_some (λ others. Some (first ∷ others)) (names_at ws (i + 1) n) ns rest (λ others more made.
+    subst AreNames (same_Some (first ∷ others) ns made)
+    (ap₂ (λ a b. a && b) (named_at ws i first named) (are_named ws (i + 1) n others more))))
+
+-- ---- the wires that a line defines
+
+Names : CircuitLine → Type 0
+Names r = AreNames r.outs
+
+gate_named : (ws : List (List ℕ)) (r : CircuitLine) → gate_entry ws ≡ Some r → Names r
+unfolding gate_entry gate_names Names
+gate_named ws r e =
+    option_and_then_some (λ kind.
+    cond (eqb (length ws) (words_before kind + uses kind + 1 + defines kind))
+    (cond (is_word_at ws (words_before kind + uses kind) (codes "->")) (gate_names ws kind) None) None)
+    (gate_kind ws) r e (λ kind known rest.
+    let count = passed (eqb (length ws) (words_before kind + uses kind + 1 + defines kind))
+    (cond (is_word_at ws (words_before kind + uses kind) (codes "->")) (gate_names ws kind) None) r rest in
+    let arrow = passed (is_word_at ws (words_before kind + uses kind) (codes "->"))
+    (gate_names ws kind) r count.1 in
+    option_and_then_some (λ ins. names_at ws (words_before kind + uses kind + 1)
+    (defines kind) >>= λ outs. Some (entry (Gate kind) ins outs))
+    (names_at ws (words_before kind) (uses kind)) r arrow.1 (λ ins some_ins rest_ins.
+    option_and_then_some (λ outs. Some (entry (Gate kind) ins outs))
+    (names_at ws (words_before kind + uses kind + 1) (defines kind)) r rest_ins
+    (λ outs some_outs made.
+    subst (λ (x : CircuitLine). AreNames x.outs) (same_Some (entry (Gate kind) ins outs) r made)
+    (are_named ws _ _ outs some_outs))))
+
+-- the names of a form
+IfItem : Form (Unit {0}) CircuitLine → Type 0
+IfItem (Header h) = Unit {0}
+IfItem (Item r) = Names r
+IfItem End = Unit {0}
+
+form_named : (ws : List (List ℕ)) (f : Form (Unit {0}) CircuitLine) → form_of ws ≡ Some f → IfItem f
+unfolding form_of lone IfItem Names
+form_named ws f e =
+    elim (chosen (is_word_at ws 0 (codes "circuit")) _ _ (Some f) e) [
+      | inl p ↦ subst IfItem (passed_one (eqb (length ws) 1) (Header tt) f p.1) tt
+      | inr p ↦ elim (chosen (is_word_at ws 0 (codes "end")) _ _ (Some f) p.1) [
+        | inl q ↦ subst IfItem (passed_one (eqb (length ws) 1) End f q.1) tt
+        | inr q ↦ elim (chosen (is_word_at ws 0 (codes "input")) _ _ (Some f) q.1) [
+          | inl r ↦ option_and_then_some (λ n. Some (Item (entry Input [] (n ∷ [])))) (lone_name ws) f r.1
+              (λ n named made. subst IfItem (same_Some (Item (entry Input [] (n ∷ []))) f made)
+              (ap (λ b. b && true) (lone_named ws n named)))
+          | inr r ↦ elim (chosen (is_word_at ws 0 (codes "output")) _ _ (Some f) r.1) [
+            | inl s ↦ option_and_then_some (λ n. Some (Item (entry Output (n ∷ []) []))) (lone_name ws) f s.1
+                (λ n named made. subst IfItem (same_Some (Item (entry Output (n ∷ []) [])) f made) refl)
+            | inr s ↦ elim (chosen (is_word_at ws 0 (codes "spill")) _ _ (Some f) s.1) [
+              | inl t ↦ option_and_then_some (λ n. Some (Item (entry Spill (n ∷ []) []))) (lone_name ws) f t.1
+                  (λ n named made. subst IfItem (same_Some (Item (entry Spill (n ∷ []) [])) f made) refl)
+              | inr t ↦ option_and_then_some (λ r. Some (Item r)) (gate_entry ws) f t.1
+                  (λ r known made. subst IfItem (same_Some (Item r) f made) (gate_named ws r known))
+            ]
+          ]
+        ]
+      ]
+    ]
+  where
+    passed_one : (b : Bool) (x y : Form (Unit {0}) CircuitLine) → cond b (Some x) None ≡ Some y → x ≡ y
+    passed_one b x y e = (cond_some b x y e).1
+
+line_named : (l : List ℕ) (r : CircuitLine) → form_of (words_of l) ≡ Some (Item r) → AreNames r.outs
+unfolding IfItem Names
+line_named l r e = form_named (words_of l) (Item r) e
+
+items_named : (items : List CircuitLine) (ls : List (List ℕ)) →
+    map (λ l. form_of (words_of l)) ls ≡ map (λ i. Some (Item i)) items ++ Some End ∷ [] → AreNames (defined items)
+items_named [] ls e = refl
+items_named (r ∷ items) ls e =
+    let one = one_line form_of (Some (Item r)) (map (λ i. Some (Item i)) items ++ Some End ∷ []) ls e in
+    names_both r.outs (defined items) (line_named one.line r one.first_form) (items_named items one.rest one.other_forms)
+
+wires_named : (circuit : List CircuitLine) (ls : List (List ℕ)) → IsSection form_of ls tt circuit →
+    AreNames (defined circuit)
+wires_named circuit ls is =
+    let one = one_line form_of (Some (Header tt)) (map (λ i. Some (Item i)) circuit ++ Some End ∷ []) ls is in
+    items_named circuit one.rest one.other_forms
+
+-- ---- the rules
+
+each_name : (ns : List (List ℕ)) → AreNames ns → AllByRecursion (λ n. IsTrue (is_name n)) ns
+each_name [] h = tt
+each_name (n ∷ ns) h = let both = and_parts (is_name n) (list_all is_name ns) h in (both.0, each_name ns both.1)
+
+first_none : (a b : Option RefusalCode) → or_else a b ≡ None → a ≡ None
+first_none None b e = refl
+first_none (Some code) b e = absurd cc
+
+in_order : (before rest : List CircuitLine) → AreFaultless circuit_grammar tt before rest → AreInOrder before rest
+in_order before [] good = tt
+in_order before (r ∷ rest) good =
+    (first_none (order_fault before r) (add_fault before r) good.0, in_order (before ++ r ∷ []) rest good.1)
+
+no_missing : (o : Option (List ℕ)) → missing_code o ≡ None → o ≡ None
+no_missing None e = refl
+no_missing (Some n) e = absurd cc
+
+pub design_by : (circuit : List CircuitLine) (p : Pattern) (ls : List (List ℕ)) → IsSection form_of ls tt circuit →
+    IsFaultless circuit_grammar tt circuit →
+    IsFaultless (layout_grammar (Some (port_names_of circuit))) p.size (parts_of p) → IsDesign circuit p
+design_by circuit p ls is good layout =
+    let ports = Some (port_names_of circuit) in
+    record {
+      circuit_lines = circuit_good 0 (ls ++ []) tt circuit (section_made circuit_grammar 0 ls [] tt circuit is good);
+      in_order = in_order [] circuit good.each;
+      names = All-from_recursion (λ n. IsTrue (is_name n)) (defined circuit)
+          (each_name (defined circuit) (wires_named circuit ls is));
+      all_consumed = no_missing (unused (consumed circuit) (defined circuit)) good.end;
+      size = layout.header;
+      layout_lines = laid_out ports p.size [] (parts_of p) layout.each;
+      ports = read_layout-is_named circuit p (faultless_named ports p.size (parts_of p) layout);
+    }
+
+-- what is read is a design
+pub design_read : (text : List ℕ) (b : Bundle) (p : Pattern) → bundle_of text ≡ Ok b →
+    layout_value p ≡ (b.size, b.parts) → IsDesign b.circuit p
+design_read text b p e same =
+    let s = sections_read text b e in
+    let good = good_read text b e in
+    design_by b.circuit p s.first s.circuit_is good.circuit
+    (subst (λ (q : LayoutHeader × List LayoutLine).
+    IsFaultless (layout_grammar (Some (port_names_of b.circuit))) q.0 q.1) (sym same) good.layout)
+
+pub designs_are_read : DesignsAreRead
+designs_are_read text output outcome circuit layout reports some d = by (bundle_of text) refl reports
+  where
+    by : (read : Result Bundle Refusal) → bundle_of text ≡ read → Answered SaysReport read output outcome →
+        IsDesign circuit layout
+    by (Err refusal) e told = absurd (some told.1)
+    by (Ok b) e says =
+        let p = says.certificate.layout in
+        let own = design_read text b p e says.its_own.layout in
+        let same = one_design text circuit b.circuit layout p d ((bundle_good text b e).says p says.its_own.layout) in
+        subst (λ cs. IsDesign cs layout) (sym same.0) (subst (IsDesign b.circuit) (sym same.1) own)
