@@ -1,5 +1,6 @@
--- A text is reported with a no that has one `local` line, if its one module passes tests, which a proof by computation
--- can run: a cell is not as asked at the end, and nothing before that fault, in the order of faults, is wrong.
+-- A text is refuted by one `local` line if its one module passes tests, which a proof by computation can run.
+--
+-- By the tests a cell is not as asked at the end, and no fault comes before this one in the order of faults.
 use Rattle.std.proofs.Common.{◌≡◌, ℕ, zero, suc, ◌+◌, ◌*◌, ◌/◌, ◌%◌, ◌<◌, Bool, true, false, not, ◌||◌, ◌&&◌, refl}
 use Rattle.std.proofs.Common.{sym, ap, ap₂, subst, ◌∙◌, arith, map, length, List, [], ◌∷◌, ◌++◌, Option, Some, None, Ok}
 use Rattle.std.proofs.Common.{Ordering, Less, Equal, Greater}
