@@ -5,9 +5,9 @@
 use Rattle.std.proofs.Common.{◌≡◌, ℕ, zero, suc, true, List, [], ◌∷◌, Ok, Some, option_map, refl, sym, ap, subst, ◌∙◌}
 use Rattle.std.proofs.Common.{arith}
 use Rattle.std.specs.Prelude.{◌≢◌, codes, slice_get, unwrap_or}
-use Rattle.std.specs.List.{All}
+use Rattle.std.specs.List.{All, flat_map}
 use Rattle.std.proofs.lemmas.Bool.{true≢false}
-use Rattle.std.proofs.lemmas.List.Elements.{All-nil, All-cons}
+use Rattle.std.proofs.lemmas.List.Elements.{All-cons, All-head, All-nil, All-tail}
 use Rattle.bbm_rule.specs.Bits.{bit}
 use Rattle.bbm_rule.specs.Plane.{partner, step, turned}
 use Rattle.bbm_rule.specs.Spans.{in_span}
@@ -16,7 +16,7 @@ use Rattle.section_text.specs.Words as words
 use Rattle.section_text.specs.Section as section
 use Rattle.circuit.specs.Evaluate.{evaluate}
 use Rattle.circuit.specs.Forms as circuit_forms
-use Rattle.circuit.specs.Bridge.{netlist_of}
+use Rattle.circuit.specs.Bridge.{circuit_of, netlist_of}
 use Rattle.circuit.specs.Gates.{is_inverse, row}
 use Rattle.circuit.specs.Meaning as meaning
 use Rattle.circuit.specs.Meaning.{Gate as Meant}
@@ -51,7 +51,9 @@ use Rattle.audit_core.proofs.NumberedSignals.{numbered, numbered_all_times, numb
 use Rattle.audit_core.proofs.NumberedSignals.{place_among}
 use Rattle.audit_core.proofs.SomeJobs.{demanded, placed_gate, placed_gates, placed_stop, places}
 use Rattle.audit_core.specs.HeadlineLaws.{IsInputName}
+use Rattle.audit_core.specs.OnTime.{StopHolds}
 use Rattle.audit_core.specs.PlainCertificates.{IsPlain, TouchesRim}
+use Rattle.certificate_lines.specs.declared.certificate_line.StopLine.{StopLine}
 use Rattle.audit_core.specs.declared.verdict.ReportLine.TheVariants.{Meet}
 use Rattle.answers.specs.BundleText.{Bundle, bundle_of}
 use Rattle.answers.specs.CheckText.{IsReportOf}
@@ -70,12 +72,12 @@ use Rattle.headline.proofs.FailingTexts.{Fails, is_refuted}
 use Rattle.headline.proofs.PassingTexts.{PassesIfRead, accepted_if}
 use Rattle.headline.proofs.PlainLines.{plain_lines_decide}
 use Rattle.headline.proofs.SmallDesigns.{is_plain_text}
-use Rattle.headline.proofs.Designs.{one_design}
+use Rattle.headline.proofs.Designs.{one_certificate, one_design}
 use Rattle.headline.proofs.PlainTexts.{yes_off_rim}
 use Rattle.headline.proofs.ReadDesigns.{design_read}
 use Rattle.headline.proofs.SomeReport.{some_report}
 use Rattle.headline.proofs.WrittenDesigns.{each_is_decided}
-use Rattle.headline.proofs.YesIsRight.{bundle_good, yes_is_right}
+use Rattle.headline.proofs.YesIsRight.{bundle_good, yes_has_right_stops, yes_is_right}
 
 -- ---- the switch and its inverse gate
 
@@ -269,8 +271,31 @@ small = record {
 yes_accepted : (output : List ℕ) × IsReportOf plain_yes output Yes
 yes_accepted = accepted_if plain_yes are_read.yes
 
+-- where the balls are after the first step
+abbrev ball : List ℕ → Cell → StopLine
+ball wire c = record { time = 1; wire = wire; cell = c }
+
+yes_stops : All (StopHolds (circuit_of meeting) right_layout)
+    (ball (codes "p") (cell 3 3) ∷ ball (codes "q") (cell 4 4) ∷ [])
+yes_stops =
+    let r = yes_has_right_stops plain_yes yes_accepted.0 yes_accepted.1 in
+    let said = (bundle_good plain_yes (meeting_bundle right_layout) are_read.yes_reads).says_all right_layout refl in
+    let same = one_design plain_yes r.circuit meeting r.layout right_layout r.says.design said.design in
+    let own = one_certificate plain_yes r.circuit meeting r.layout right_layout r.certificate
+    (meeting_bundle right_layout).entries r.says said in
+    subst (λ cs. All (StopHolds (circuit_of cs) right_layout) (ball (codes "p") (cell 3 3)
+    ∷ ball (codes "q") (cell 4 4) ∷ [])) same.0
+    (subst (λ p. All (StopHolds (circuit_of r.circuit) p) (ball (codes "p") (cell 3 3)
+    ∷ ball (codes "q") (cell 4 4) ∷ [])) same.1
+    (subst (λ es. All (StopHolds (circuit_of r.circuit) r.layout) (flat_map entries.stop_in es)) own r.stops))
+
 pub plain_yes_accepted : PlainYesIsAccepted
 plain_yes_accepted = record {
+  first_ball = All-head (StopHolds (circuit_of meeting) right_layout) (ball (codes "p") (cell 3 3))
+      (ball (codes "q") (cell 4 4) ∷ []) yes_stops;
+  second_ball = All-head (StopHolds (circuit_of meeting) right_layout) (ball (codes "q") (cell 4 4)) []
+      (All-tail (StopHolds (circuit_of meeting) right_layout) (ball (codes "p") (cell 3 3))
+      (ball (codes "q") (cell 4 4) ∷ []) yes_stops);
   plain = record {
     circuit = meeting;
     layout = right_layout;

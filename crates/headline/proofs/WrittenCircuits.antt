@@ -81,7 +81,7 @@ has_name (m ∷ d) n all h =
       | inr other ↦ has_name d n both.1 (sym (ap (λ b. b || has d n) other) ∙ h)
     ]
 
-have_names : (d ns : List (List ℕ)) → AreNames d → Have d ns → AreNames ns
+pub have_names : (d ns : List (List ℕ)) → AreNames d → Have d ns → AreNames ns
 have_names d [] all h = refl
 have_names d (n ∷ ns) all h = ap₂ (λ a b. a && b) (has_name d n all h.0) (have_names d ns all h.1)
 

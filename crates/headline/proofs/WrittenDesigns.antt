@@ -24,7 +24,6 @@ use Rattle.circuit.specs.Forms.{form_of as circuit_form}
 use Rattle.circuit.specs.Grammars.{circuit_grammar, missing_code}
 use Rattle.circuit.specs.Text.{circuit_text}
 use Rattle.circuit.specs.declared.circuit_line.CircuitLine.{CircuitLine}
-use Rattle.circuit.proofs.Places.{Have}
 use Rattle.pattern.specs.Forms.{form_of as layout_form}
 use Rattle.pattern.specs.Grammars.{layout_grammar}
 use Rattle.pattern.specs.Layout.{Pattern, parts_of}
@@ -54,8 +53,8 @@ use Rattle.headline.proofs.Migrations.{HasSections, text_is}
 use Rattle.headline.proofs.PlainLines.{none_of}
 use Rattle.headline.proofs.SmallDesigns.{outs_have, small_is_decided}
 use Rattle.headline.proofs.Written.{HasLine, HasSection, has_section, line_by, name_word}
-use Rattle.headline.proofs.WrittenCircuits.{AreNames, circuit_written, decimal_word, has_name, named, names_both}
-use Rattle.headline.proofs.WrittenCircuits.{names_left, names_right}
+use Rattle.headline.proofs.WrittenCircuits.{AreNames, circuit_written, decimal_word, named, names_both}
+use Rattle.headline.proofs.WrittenCircuits.{have_names, names_left, names_right}
 use Rattle.headline.proofs.WrittenLayouts.{layout_faultless, layout_written}
 
 -- ---- the names of the ports
@@ -75,10 +74,6 @@ input_named (r ∷ circuit) h =
     names_both (cond (is_input r.kind) r.outs []) (input_names circuit)
     (if_names (is_input r.kind) r.outs (names_left r.outs (defined circuit) h))
     (input_named circuit (names_right r.outs (defined circuit) h))
-
-have_names : (d ns : List (List ℕ)) → AreNames d → Have d ns → AreNames ns
-have_names d [] all h = refl
-have_names d (n ∷ ns) all h = ap₂ (λ a b. a && b) (has_name d n all h.0) (have_names d ns all h.1)
 
 -- ---- the circuit has no fault
 

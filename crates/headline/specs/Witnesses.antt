@@ -2,11 +2,13 @@
 --
 -- Both are of three steps and of one gate, `interact`, in which two balls meet after the first step. Read before:
 -- Plain.antt, ReportLines.antt and SmallDesigns.antt.
-use Rattle.std.specs.Prelude.{◌≤◌, ℕ, List, [], ◌∷◌, Some}
+use Rattle.std.specs.Prelude.{◌≤◌, ℕ, List, [], ◌∷◌, Some, codes}
+use Rattle.circuit.specs.Bridge.{circuit_of}
 use Rattle.circuit.specs.declared.circuit_line.CircuitLine.{CircuitLine}
 use Rattle.pattern.specs.Layout.{Pattern, cell}
 use Rattle.local_run.specs.declared.fault.Fault.{Fault}
 use Rattle.local_run.specs.declared.fault.Kind.TheVariants.{End}
+use Rattle.audit_core.specs.OnTime.{StopHolds}
 use Rattle.audit_core.specs.PlainCertificates.{Shows}
 use Rattle.audit_core.specs.declared.verdict.ReportLine.TheVariants.{Local, Meet}
 use Rattle.answers.specs.CheckText.{IsReportOf}
@@ -18,10 +20,16 @@ use Rattle.headline.specs.PlainYes.{plain_yes}
 use Rattle.headline.specs.ReportLines.{SaysNoWith}
 use Rattle.headline.specs.SmallDesigns.{IsDesign, IsSmall, plain_text}
 
--- `plain_yes` is plain, has at least two steps, and is reported with the outcome yes.
+-- `plain_yes` is plain, has at least two steps, and is reported with the outcome yes. After the first step, whatever the
+-- inputs, the ball of p is at (3, 3) if p has one, and that of q at (4, 4) if q has one. Both cells are of one block of
+-- the next step, so the balls meet there if both are on.
 pub record PlainYesIsAccepted : Type 0 where
   pub plain : SaysPlain plain_yes
   pub steps : 2 ≤ plain.layout.size.steps
+  pub first_ball : StopHolds (circuit_of plain.circuit) plain.layout
+      (record { time = 1; wire = codes "p"; cell = cell 3 3 })
+  pub second_ball : StopHolds (circuit_of plain.circuit) plain.layout
+      (record { time = 1; wire = codes "q"; cell = cell 4 4 })
   pub output : List ℕ
   pub reported : IsReportOf plain_yes output Yes
 
