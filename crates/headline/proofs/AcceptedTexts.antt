@@ -77,7 +77,7 @@ use Rattle.headline.proofs.PlainTexts.{yes_off_rim}
 use Rattle.headline.proofs.ReadDesigns.{design_read}
 use Rattle.headline.proofs.SomeReport.{some_report}
 use Rattle.headline.proofs.WrittenDesigns.{each_is_decided}
-use Rattle.headline.proofs.YesIsRight.{bundle_good, yes_has_right_stops, yes_is_right}
+use Rattle.headline.proofs.YesIsRight.{bundle_good, yes_has_right_stops, yes_is_right_as_read}
 
 -- ---- the switch and its inverse gate
 
@@ -351,7 +351,7 @@ wrong_design = design_read plain_no (meeting_bundle wrong_layout) wrong_layout a
 
 right_correct : IsCorrect meeting right_layout
 right_correct =
-    let r = yes_is_right plain_yes yes_accepted.0 yes_accepted.1 in
+    let r = yes_is_right_as_read plain_yes yes_accepted.0 yes_accepted.1 in
     let says = (bundle_good plain_yes (meeting_bundle right_layout) are_read.yes_reads).says right_layout refl in
     let same = one_design plain_yes r.circuit meeting r.layout right_layout r.says says in
     subst (λ cs. IsCorrect cs right_layout) same.0 (subst (IsCorrect r.circuit) same.1 r.correct)

@@ -21,5 +21,8 @@ mod Written
 mod WrittenCircuits
 mod WrittenLayouts
 mod WrittenDesigns
+mod WrittenNames
 mod ReadDesigns
+mod Printed
+pub mod YesIsPrinted
 mod AcceptedMigrations

@@ -61,7 +61,8 @@ use Rattle.meaning.specs.Headline.{IsRight}
 use Rattle.headline.specs.Stops.{HasRightStops, SaysBundle}
 use Rattle.headline.proofs.Designs.{one_certificate, one_design}
 use Rattle.headline.proofs.YesIsRight.{bundle_good, by_outcome, certificate_faultless, known, yes_has_right_stops}
-use Rattle.headline.proofs.YesIsRight.{yes_is_right}
+use Rattle.headline.proofs.Printed.{printed_is_read}
+use Rattle.headline.proofs.YesIsPrinted.{yes_is_right}
 
 -- ---- a plain module is plain in either version
 
@@ -231,7 +232,7 @@ module _ (text : List ℕ) (b : Bundle) (output : List ℕ) (outcome : Outcome) 
 
   right_correct : IsRight text → IsCorrect c.circuit c.layout
   right_correct r =
-      let same = same_design r.circuit r.layout r.says in
+      let same = same_design r.circuit r.layout (printed_is_read text r.circuit r.layout r.begins) in
       subst (λ cs. IsCorrect cs c.layout) same.0 (subst (λ p. IsCorrect r.circuit p) same.1 r.correct)
 
   touch_of : HasRimTouch text → TouchesRim c.circuit c.layout

@@ -75,6 +75,7 @@ use Rattle.headline.specs.SmallDesigns.{IsPlainText, IsSmall, gate_numbers, plai
 use Rattle.headline.specs.PlainLaws.{RefusedIsNoSmallDesign, SmallDesignIsDecided}
 use Rattle.headline.specs.Stops.{SaysBundle}
 use Rattle.headline.proofs.Migrations.{HasSections, IsGoodBundle, bundle_made, good_read, sections_read}
+use Rattle.headline.proofs.WrittenNames.{outs_have}
 use Rattle.headline.proofs.YesIsRight.{bundle_good, circuit_good}
 use Rattle.audit_core.specs.declared.verdict.Verdict.TheVariants as verdict
 use Rattle.headline.proofs.PlainLines.{all_inner, among_range, none_of, own_of, is_one, plain_lines_decide}
@@ -538,29 +539,6 @@ module _ (circuit : List CircuitLine) (good : AreGood circuit) (p : Pattern) (b 
       (append-nil (range_with_len 0 (length ins)) ∙ ap (range_with_len 0) given)
 
 -- ---- names that are defined
-
-have_append : (d xs ys : List (List ℕ)) → Have d xs → Have d ys → Have d (xs ++ ys)
-have_append d [] ys h k = k
-have_append d (x ∷ xs) ys h k = (h.0, have_append d xs ys h.1 k)
-
-have_if : (d ns : List (List ℕ)) (b : Bool) → Have d ns → Have d (if b then ns else [])
-have_if d ns true h = h
-have_if d ns false h = tt
-
-pub outs_have : (before rest : List CircuitLine) → AreGoodAfter before rest → Have (defined (before ++ rest))
-    (output_names rest)
-unfolding AreGoodAfter
-outs_have before [] good = tt
-outs_have before (r ∷ rest) good =
-    let D = defined (before ++ r ∷ rest) in
-    let own : Have (defined before) r.ins =
-    consume_have (defined before) (consumed before) r.ins (names_pass before r good.0.adds).0 in
-    let here : Have D r.ins =
-    subst (λ d. Have d r.ins) (sym (flat_map-append (λ (r : CircuitLine). r.outs) before (r ∷ rest)))
-    (have_left (defined before) (defined (r ∷ rest)) r.ins own) in
-    have_append D (if is_output r.kind then r.ins else []) (output_names rest) (have_if D r.ins (is_output r.kind) here)
-    (subst (λ (es : List CircuitLine). Have (defined es) (output_names rest)) (push_cons before r rest)
-    (outs_have (before ++ r ∷ []) rest good.1))
 
 has_member : (d ns : List (List ℕ)) (n : List ℕ) → Have d ns → has ns n ≡ true → has d n ≡ true
 has_member d [] n h e = absurd (true≢false (sym e))

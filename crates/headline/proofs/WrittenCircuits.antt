@@ -107,10 +107,17 @@ names_here pre (n ∷ ns) post h =
 
 -- ---- gates
 
-delay_small : (k : GateKind) (n : ℕ) → is_wrong_delay (Gate (Delay n)) ≡ false → n < 10 ^ 9
-delay_small k n h = grind (arith, nat_tests, h)
+delay_small : (n : ℕ) → is_wrong_delay (Gate (Delay n)) ≡ false → n < 10 ^ 9
+delay_small n h = grind (arith, nat_tests, h)
 
-kind_read : (k : GateKind) (rest : List (List ℕ)) → is_wrong_delay (Gate k) ≡ false →
+-- a number of the kind has at most nine digits
+abbrev pub IsShort : Kind → Type 0
+IsShort kind = (n : ℕ) → kind ≡ Gate (Delay n) → n < 10 ^ 9
+
+pub is_short : (kind : Kind) → is_wrong_delay kind ≡ false → IsShort kind
+is_short kind h n e = delay_small n (subst (λ k. is_wrong_delay k ≡ false) e h)
+
+kind_read : (k : GateKind) (rest : List (List ℕ)) → IsShort (Gate k) →
     gate_kind (gate_word k ∷ (gate_number k ++ rest)) ≡ Some k
 unfolding gate_kind bit_at is_word_at number_at
 kind_read (Source true) rest h = refl
@@ -119,7 +126,7 @@ kind_read Fredkin rest h = refl
 kind_read Cswap rest h = refl
 kind_read Interact rest h = refl
 kind_read Switch rest h = refl
-kind_read (Delay n) rest h = ap (λ o. o >>= λ m. Some (Delay m)) (number_written n (delay_small (Delay n) n h))
+kind_read (Delay n) rest h = ap (λ o. o >>= λ m. Some (Delay m)) (number_written n (h n refl))
 kind_read Unswitch rest h = refl
 kind_read Uninteract rest h = refl
 
@@ -145,7 +152,7 @@ gate_form (Delay n) rest = refl
 gate_form Unswitch rest = refl
 gate_form Uninteract rest = refl
 
-head_words : (k : GateKind) → is_wrong_delay (Gate k) ≡ false →
+head_words : (k : GateKind) → IsShort (Gate k) →
     IsWord (gate_word k) × AllByRecursion IsWord (gate_number k)
 head_words (Source true) h = (refl, (refl, tt))
 head_words (Source false) h = (refl, (refl, tt))
@@ -153,7 +160,7 @@ head_words Fredkin h = (refl, tt)
 head_words Cswap h = (refl, tt)
 head_words Interact h = (refl, tt)
 head_words Switch h = (refl, tt)
-head_words (Delay n) h = (refl, (decimal_word n (delay_small (Delay n) n h), tt))
+head_words (Delay n) h = (refl, (decimal_word n (h n refl), tt))
 head_words Unswitch h = (refl, tt)
 head_words Uninteract h = (refl, tt)
 
@@ -163,7 +170,7 @@ words_both [] ys h k = k
 words_both (x ∷ xs) ys h k = (h.0, words_both xs ys h.1 k)
 
 module _ (k : GateKind) (ins outs : List (List ℕ)) (fits : FitsKind (entry (Gate k) ins outs)) (in_names : AreNames ins)
-    (out_names : AreNames outs) (right : is_wrong_delay (Gate k) ≡ false) where
+    (out_names : AreNames outs) (right : IsShort (Gate k)) where
   abbrev head : List (List ℕ)
   head = gate_word k ∷ gate_number k
 
@@ -237,8 +244,8 @@ lone_line w n r h k e = line_by form_of (Item r) w (n ∷ []) h (name_word n k, 
 first_of : (n : List ℕ) (ns : List (List ℕ)) → AreNames (n ∷ ns) → is_name n ≡ true
 first_of n ns h = (and_parts (is_name n) (list_all is_name ns) h).0
 
-line_of : (kind : Kind) (ins outs : List (List ℕ)) → FitsKind (entry kind ins outs) → AreNames ins → AreNames outs →
-    is_wrong_delay kind ≡ false → HasLine form_of (Item (entry kind ins outs))
+pub line_of : (kind : Kind) (ins outs : List (List ℕ)) → FitsKind (entry kind ins outs) → AreNames ins → AreNames outs →
+    IsShort kind → HasLine form_of (Item (entry kind ins outs))
 unfolding form_of is_word_at lone_name name_at
 line_of (Gate k) ins outs fits i o right = gate_line k ins outs fits i o right
 line_of Input [] (n ∷ []) fits i o right = lone_line (codes "input") n _ refl (first_of n [] o)
@@ -271,12 +278,12 @@ either_false : (a b : Bool) → (a || b) ≡ false → a ≡ false
 either_false true b e = e
 either_false false b e = refl
 
-right_delay : (before : List CircuitLine) (r : CircuitLine) → add_fault before r ≡ None → is_wrong_delay r.kind ≡ false
+pub right_delay : (before : List CircuitLine) (r : CircuitLine) → add_fault before r ≡ None → is_wrong_delay r.kind ≡ false
 unfolding add_fault
 right_delay before r e = either_false (is_wrong_delay r.kind) _
     (no_code (passes_limit before r) PastLimit (first_none (limit_fault before r) _ e))
 
-defined_more : (before : List CircuitLine) (r : CircuitLine) → AreNames (defined before) → AreNames r.outs →
+pub defined_more : (before : List CircuitLine) (r : CircuitLine) → AreNames (defined before) → AreNames r.outs →
     AreNames (defined (before ++ r ∷ []))
 defined_more [] r h k = names_both r.outs [] k refl
 defined_more (b ∷ before) r h k =
@@ -291,15 +298,15 @@ lines_of before (r ∷ rest) good h k =
     let outs = names_left r.outs (defined rest) k in
     let ins : AreNames r.ins = have_names (defined before) r.ins h
     (consume_have (defined before) (consumed before) r.ins (names_pass before r good.0.adds).0) in (
-      line_of r.kind r.ins r.outs good.0.fits ins outs (right_delay before r good.0.adds),
+      line_of r.kind r.ins r.outs good.0.fits ins outs (is_short r.kind (right_delay before r good.0.adds)),
       lines_of (before ++ r ∷ []) rest good.1 (defined_more before r h outs) (names_right r.outs (defined rest) k),
     )
 
-first_line : HasLine form_of (Header tt)
+pub first_line : HasLine form_of (Header tt)
 unfolding form_of lone is_word_at
 first_line = line_by form_of (Header tt) (codes "circuit") [] refl tt refl
 
-last_line : HasLine form_of End
+pub last_line : HasLine form_of End
 unfolding form_of lone is_word_at
 last_line = line_by form_of End (codes "end") [] refl tt refl
 

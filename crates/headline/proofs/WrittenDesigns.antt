@@ -51,7 +51,10 @@ use Rattle.headline.specs.Stops.{HasRightStops, SaysBundle}
 use Rattle.headline.proofs.Designs.{one_certificate, one_design}
 use Rattle.headline.proofs.Migrations.{HasSections, text_is}
 use Rattle.headline.proofs.PlainLines.{none_of}
-use Rattle.headline.proofs.SmallDesigns.{outs_have, small_is_decided}
+use Rattle.headline.proofs.Printed.{printed_is_read}
+use Rattle.headline.proofs.SmallDesigns.{small_is_decided}
+use Rattle.headline.proofs.WrittenNames.{input_named, outs_named}
+use Rattle.headline.proofs.YesIsPrinted.{design_printed}
 use Rattle.headline.proofs.Written.{HasLine, HasSection, has_section, line_by, name_word}
 use Rattle.headline.proofs.WrittenCircuits.{AreNames, circuit_written, decimal_word, named, names_both}
 use Rattle.headline.proofs.WrittenCircuits.{have_names, names_left, names_right}
@@ -63,17 +66,6 @@ all_names : (ns : List (List ℕ)) → All (λ n. IsTrue (is_name n)) ns → Are
 all_names [] h = refl
 all_names (n ∷ ns) h = ap₂ (λ a b. a && b) (All-head (λ n. IsTrue (is_name n)) n ns h)
     (all_names ns (All-tail (λ n. IsTrue (is_name n)) n ns h))
-
-if_names : (b : Bool) (ns : List (List ℕ)) → AreNames ns → AreNames (cond b ns [])
-if_names true ns h = h
-if_names false ns h = refl
-
-input_named : (circuit : List CircuitLine) → AreNames (defined circuit) → AreNames (input_names circuit)
-input_named [] h = refl
-input_named (r ∷ circuit) h =
-    names_both (cond (is_input r.kind) r.outs []) (input_names circuit)
-    (if_names (is_input r.kind) r.outs (names_left r.outs (defined circuit) h))
-    (input_named circuit (names_right r.outs (defined circuit) h))
 
 -- ---- the circuit has no fault
 
@@ -170,7 +162,7 @@ module _ (circuit : List CircuitLine) (p : Pattern) (design : IsDesign circuit p
   ins = input_named circuit names
 
   outs : AreNames (output_names circuit)
-  outs = have_names (defined circuit) (output_names circuit) names (outs_have [] circuit design.circuit_lines)
+  outs = outs_named circuit design.circuit_lines names
 
   circuit_faultless : IsFaultless circuit_grammar tt circuit
   circuit_faultless = record {
@@ -286,7 +278,8 @@ module _ (text : List ℕ) (circuit : List CircuitLine) (p : Pattern) (t : IsPla
 
   correct_of : IsRight text → IsCorrect circuit p
   correct_of r =
-      let same = one_design text r.circuit circuit r.layout p r.says design_said in
+      let same = one_design text r.circuit circuit r.layout p (printed_is_read text r.circuit r.layout r.begins)
+      design_said in
       subst (λ cs. IsCorrect cs p) same.0 (subst (IsCorrect r.circuit) same.1 r.correct)
 
   touch_of : HasRimTouch text → TouchesRim circuit p
@@ -346,7 +339,17 @@ each_is_decided circuit p output outcome design small reports =
           }),
         )),
         (λ all. d.1.1 (
-          record { circuit = circuit; layout = p; says = design_said text circuit p t; correct = all.0 },
+          record {
+            circuit = circuit;
+            layout = p;
+            begins = design_printed text (certificate_text (record {
+              circuit = circuit;
+              layout = p;
+              version = 1;
+              entries = plain_lines circuit p;
+            })) circuit p design refl;
+            correct = all.0;
+          },
           stops_of text circuit p t all.1,
           λ touch. all.2 (touch_of text circuit p t touch),
         )),

@@ -79,30 +79,88 @@ has_limits s e =
 
 -- ---- lines
 
-number : (n k : ℕ) → n ≤ k → k ≤ 65536 → n < 10 ^ 9
+pub number : (n k : ℕ) → n ≤ k → k ≤ 65536 → n < 10 ^ 9
 number n k h g = omega (arith, h, g)
 
-size_line : (s : LayoutHeader) → HasLimits s → HasLine form_of (Header s)
+pub size_line : (s : LayoutHeader) → s.w < 10 ^ 9 → s.h < 10 ^ 9 → s.steps < 10 ^ 9 → HasLine form_of (Header s)
 unfolding form_of is_word_at size_of sides_and_steps number_at
-size_line s l =
-    let w = number s.w 512 l.wide (omega arith) in
-    let h = number s.h 512 l.high (omega arith) in
-    let t = number s.steps 65536 l.long (omega arith) in
+size_line s w h t =
     line_by form_of (Header s) (codes "layout") (decimal s.w ∷ decimal s.h ∷ decimal s.steps ∷ []) refl
     (decimal_word s.w w, (decimal_word s.h h, (decimal_word s.steps t, tt)))
     (λ i. (number_written s.w w i >>= λ w. number_written s.h h i >>= λ h. number_written s.steps t i >>= λ t.
     Some (record { w = w; h = h; steps = t })) >>= λ s. Some (Header s))
 
-module _ (s : LayoutHeader) (l : HasLimits s) where
-  -- a cell by its numbers
-  record IsNumbered (c : Cell) : Type 0 where
-    x : ℕ
-    y : ℕ
-    is : c ≡ cell x y
-    x_small : x < 10 ^ 9
-    y_small : y < 10 ^ 9
+pub end_line : HasLine form_of End
+unfolding form_of lone is_word_at
+end_line = line_by form_of End (codes "end") [] refl tt refl
 
-  numbered : (c : Cell) → in_layout s c.x c.y ≡ true → IsNumbered c
+-- a cell by its numbers
+pub record IsNumbered (c : Cell) : Type 0 where
+  pub x : ℕ
+  pub y : ℕ
+  pub is : c ≡ cell x y
+  pub x_small : x < 10 ^ 9
+  pub y_small : y < 10 ^ 9
+
+pub ball_line : (c : Cell) → IsNumbered c → HasLine form_of (Item (Ball c))
+unfolding form_of is_word_at lone_cell cell_from number_at
+ball_line c n =
+    subst (λ (d : Cell). HasLine form_of (Item (Ball d))) (sym n.is)
+    (line_by form_of (Item (Ball (cell n.x n.y))) (codes "ball") (decimal n.x ∷ decimal n.y ∷ []) refl
+    (decimal_word n.x n.x_small, (decimal_word n.y n.y_small, tt))
+    (λ i. (number_written n.x n.x_small i >>= λ x. number_written n.y n.y_small i >>= λ y. Some (cell x y)) >>= λ c.
+    Some (Item (Ball c))))
+
+pub waste_line : (c : Cell) → IsNumbered c → HasLine form_of (Item (Waste c))
+unfolding form_of is_word_at lone_cell cell_from number_at
+waste_line c n =
+    subst (λ (d : Cell). HasLine form_of (Item (Waste d))) (sym n.is)
+    (line_by form_of (Item (Waste (cell n.x n.y))) (codes "waste") (decimal n.x ∷ decimal n.y ∷ []) refl
+    (decimal_word n.x n.x_small, (decimal_word n.y n.y_small, tt))
+    (λ i. (number_written n.x n.x_small i >>= λ x. number_written n.y n.y_small i >>= λ y. Some (cell x y)) >>= λ c.
+    Some (Item (Waste c))))
+
+pub in_line : (n : List ℕ) (c : Cell) → is_name n ≡ true → IsNumbered c →
+    HasLine form_of (Item (In (record { name = n; cell = c })))
+unfolding form_of is_word_at port_of named_cell name_at cell_from number_at
+in_line n c e k =
+    subst (λ (d : Cell). HasLine form_of (Item (In (record { name = n; cell = d })))) (sym k.is)
+    (line_by form_of (Item (In (record { name = n; cell = cell k.x k.y }))) (codes "in")
+    (n ∷ decimal k.x ∷ decimal k.y ∷ []) refl
+    (name_word n e, (decimal_word k.x k.x_small, (decimal_word k.y k.y_small, tt)))
+    (λ i. (named n e i >>= λ m. (number_written k.x k.x_small i >>= λ x. number_written k.y k.y_small i >>= λ y.
+    Some (cell x y)) >>= λ c. Some (record { name = m; cell = c })) >>= λ q. Some (Item (In q))))
+
+pub out_line : (n : List ℕ) (c : Cell) → is_name n ≡ true → IsNumbered c →
+    HasLine form_of (Item (Out (record { name = n; cell = c })))
+unfolding form_of is_word_at port_of named_cell name_at cell_from number_at
+out_line n c e k =
+    subst (λ (d : Cell). HasLine form_of (Item (Out (record { name = n; cell = d })))) (sym k.is)
+    (line_by form_of (Item (Out (record { name = n; cell = cell k.x k.y }))) (codes "out")
+    (n ∷ decimal k.x ∷ decimal k.y ∷ []) refl
+    (name_word n e, (decimal_word k.x k.x_small, (decimal_word k.y k.y_small, tt)))
+    (λ i. (named n e i >>= λ m. (number_written k.x k.x_small i >>= λ x. number_written k.y k.y_small i >>= λ y.
+    Some (cell x y)) >>= λ c. Some (record { name = m; cell = c })) >>= λ q. Some (Item (Out q))))
+
+pub mirror_line : (r : Rectangle) → r.x < 10 ^ 9 → r.y < 10 ^ 9 → r.w < 10 ^ 9 → r.h < 10 ^ 9 →
+    HasLine form_of (Item (Mirror r))
+unfolding form_of is_word_at rectangle_of corner_and_sides number_at
+mirror_line r x y w k =
+    line_by form_of (Item (Mirror r)) (codes "mirror") (decimal r.x ∷ decimal r.y ∷ decimal r.w ∷ decimal r.h ∷ [])
+    refl
+    (decimal_word r.x x, (decimal_word r.y y, (decimal_word r.w w, (decimal_word r.h k, tt))))
+    (λ i. (number_written r.x x i >>= λ x. number_written r.y y i >>= λ y. number_written r.w w i >>= λ w.
+    number_written r.h k i >>= λ h. Some (record { x = x; y = y; w = w; h = h })) >>= λ r. Some (Item (Mirror r)))
+
+-- the numbers of a mirror are small
+pub record HasSmallNumbers (r : Rectangle) : Type 0 where
+  pub x : r.x < 10 ^ 9
+  pub y : r.y < 10 ^ 9
+  pub w : r.w < 10 ^ 9
+  pub h : r.h < 10 ^ 9
+
+module _ (s : LayoutHeader) (l : HasLimits s) where
+  pub numbered : (c : Cell) → in_layout s c.x c.y ≡ true → IsNumbered c
   unfolding in_box
   numbered c h =
       let p = in_box_nats (whole s) c.x c.y h in
@@ -119,68 +177,20 @@ module _ (s : LayoutHeader) (l : HasLimits s) where
         y_small = omega (arith, y_low, high);
       }
 
-  ball_line : (c : Cell) → in_layout s c.x c.y ≡ true → HasLine form_of (Item (Ball c))
-  unfolding form_of is_word_at lone_cell cell_from number_at
-  ball_line c h =
-      let n = numbered c h in
-      subst (λ (d : Cell). HasLine form_of (Item (Ball d))) (sym n.is)
-      (line_by form_of (Item (Ball (cell n.x n.y))) (codes "ball") (decimal n.x ∷ decimal n.y ∷ []) refl
-      (decimal_word n.x n.x_small, (decimal_word n.y n.y_small, tt))
-      (λ i. (number_written n.x n.x_small i >>= λ x. number_written n.y n.y_small i >>= λ y. Some (cell x y)) >>= λ c.
-      Some (Item (Ball c))))
-
-  waste_line : (c : Cell) → in_layout s c.x c.y ≡ true → HasLine form_of (Item (Waste c))
-  unfolding form_of is_word_at lone_cell cell_from number_at
-  waste_line c h =
-      let n = numbered c h in
-      subst (λ (d : Cell). HasLine form_of (Item (Waste d))) (sym n.is)
-      (line_by form_of (Item (Waste (cell n.x n.y))) (codes "waste") (decimal n.x ∷ decimal n.y ∷ []) refl
-      (decimal_word n.x n.x_small, (decimal_word n.y n.y_small, tt))
-      (λ i. (number_written n.x n.x_small i >>= λ x. number_written n.y n.y_small i >>= λ y. Some (cell x y)) >>= λ c.
-      Some (Item (Waste c))))
-
-  in_line : (n : List ℕ) (c : Cell) → is_name n ≡ true → in_layout s c.x c.y ≡ true →
-      HasLine form_of (Item (In (record { name = n; cell = c })))
-  unfolding form_of is_word_at port_of named_cell name_at cell_from number_at
-  in_line n c e h =
-      let k = numbered c h in
-      subst (λ (d : Cell). HasLine form_of (Item (In (record { name = n; cell = d })))) (sym k.is)
-      (line_by form_of (Item (In (record { name = n; cell = cell k.x k.y }))) (codes "in")
-      (n ∷ decimal k.x ∷ decimal k.y ∷ []) refl
-      (name_word n e, (decimal_word k.x k.x_small, (decimal_word k.y k.y_small, tt)))
-      (λ i. (named n e i >>= λ m. (number_written k.x k.x_small i >>= λ x. number_written k.y k.y_small i >>= λ y.
-      Some (cell x y)) >>= λ c. Some (record { name = m; cell = c })) >>= λ q. Some (Item (In q))))
-
-  out_line : (n : List ℕ) (c : Cell) → is_name n ≡ true → in_layout s c.x c.y ≡ true →
-      HasLine form_of (Item (Out (record { name = n; cell = c })))
-  unfolding form_of is_word_at port_of named_cell name_at cell_from number_at
-  out_line n c e h =
-      let k = numbered c h in
-      subst (λ (d : Cell). HasLine form_of (Item (Out (record { name = n; cell = d })))) (sym k.is)
-      (line_by form_of (Item (Out (record { name = n; cell = cell k.x k.y }))) (codes "out")
-      (n ∷ decimal k.x ∷ decimal k.y ∷ []) refl
-      (name_word n e, (decimal_word k.x k.x_small, (decimal_word k.y k.y_small, tt)))
-      (λ i. (named n e i >>= λ m. (number_written k.x k.x_small i >>= λ x. number_written k.y k.y_small i >>= λ y.
-      Some (cell x y)) >>= λ c. Some (record { name = m; cell = c })) >>= λ q. Some (Item (Out q))))
-
-  mirror_line : (r : Rectangle) → limit_fault (Mirror r) ≡ None → is_inside s (Mirror r) ≡ true →
-      HasLine form_of (Item (Mirror r))
-  unfolding form_of is_word_at rectangle_of corner_and_sides number_at limit_fault is_inside
-  mirror_line r e h =
+  pub small_mirror : (r : Rectangle) → is_inside s (Mirror r) ≡ true → HasSmallNumbers r
+  unfolding is_inside
+  small_mirror r h =
       let inside = and_parts (nat_le (r.x + r.w) s.w) (nat_le (r.y + r.h) s.h) h in
       let across = below (r.x + r.w) s.w inside.0 in
       let down = below (r.y + r.h) s.h inside.1 in
       let wide = l.wide in
       let high = l.high in
-      let x : r.x < 10 ^ 9 = omega (arith, across, wide) in
-      let y : r.y < 10 ^ 9 = omega (arith, down, high) in
-      let w : r.w < 10 ^ 9 = omega (arith, across, wide) in
-      let k : r.h < 10 ^ 9 = omega (arith, down, high) in
-      line_by form_of (Item (Mirror r)) (codes "mirror") (decimal r.x ∷ decimal r.y ∷ decimal r.w ∷ decimal r.h ∷ [])
-      refl
-      (decimal_word r.x x, (decimal_word r.y y, (decimal_word r.w w, (decimal_word r.h k, tt))))
-      (λ i. (number_written r.x x i >>= λ x. number_written r.y y i >>= λ y. number_written r.w w i >>= λ w.
-      number_written r.h k i >>= λ h. Some (record { x = x; y = y; w = w; h = h })) >>= λ r. Some (Item (Mirror r)))
+      record {
+        x = omega (arith, across, wide);
+        y = omega (arith, down, high);
+        w = omega (arith, across, wide);
+        h = omega (arith, down, high);
+      }
 
   -- ---- lines that are good
 
@@ -194,18 +204,18 @@ module _ (s : LayoutHeader) (l : HasLimits s) where
   first_holds true b e = refl
   first_holds false b e = absurd cc
 
-  inside : (before : List LayoutLine) (part : LayoutLine) → cell_fault s before part ≡ None → is_inside s part ≡ true
+  pub inside : (before : List LayoutLine) (part : LayoutLine) → cell_fault s before part ≡ None → is_inside s part ≡ true
   unfolding cell_fault
   inside before part e = first_holds (is_inside s part) (is_taken before part) e
 
   line_of : (names : Named) (part : LayoutLine) → IsPortName names part → limit_fault part ≡ None →
       is_inside s part ≡ true → HasLine form_of (Item part)
   unfolding is_inside
-  line_of names (Mirror r) n e h = mirror_line r e h
-  line_of names (Ball c) n e h = ball_line c h
-  line_of names (In q) n e h = in_line q.name q.cell n.0 h
-  line_of names (Out q) n e h = out_line q.name q.cell n.0 h
-  line_of names (Waste c) n e h = waste_line c h
+  line_of names (Mirror r) n e h = let k = small_mirror r h in mirror_line r k.x k.y k.w k.h
+  line_of names (Ball c) n e h = ball_line c (numbered c h)
+  line_of names (In q) n e h = in_line q.name q.cell n.0 (numbered q.cell h)
+  line_of names (Out q) n e h = out_line q.name q.cell n.0 (numbered q.cell h)
+  line_of names (Waste c) n e h = waste_line c (numbered c h)
 
   lines_of : (names : Named) (before parts : List LayoutLine) → AreGoodAfter s before parts →
       AllByRecursion (IsPortName names) parts → AllByRecursion (λ part. HasLine form_of (Item part)) parts
@@ -369,16 +379,16 @@ all_last P mk xs h = subst (AllByRecursion P) (append-nil (map mk xs)) (all_mapp
 module _ (circuit : List CircuitLine) (p : Pattern) (limits : size_fault p.size ≡ None)
     (good : AreGoodAfter p.size [] (parts_of p)) (are : IsNamed circuit p) (ins : AreNames (input_names circuit))
     (outs : AreNames (output_names circuit)) where
-  abbrev s : LayoutHeader
+  abbrev pub s : LayoutHeader
   s = p.size
 
-  l : HasLimits s
+  pub l : HasLimits s
   l = has_limits s limits
 
-  abbrev names : Named
+  abbrev pub names : Named
   names = port_names_of circuit
 
-  ports_named : AllByRecursion (IsPortName s l names) (parts_of p)
+  pub ports_named : AllByRecursion (IsPortName s l names) (parts_of p)
   ports_named =
       all_mapped (IsPortName s l names) Mirror p.mirrors _ (λ k r at. tt)
       (all_mapped (IsPortName s l names) Ball p.balls _ (λ k c at. tt)
@@ -391,9 +401,9 @@ module _ (circuit : List CircuitLine) (p : Pattern) (limits : size_fault p.size 
       (all_last (IsPortName s l names) Waste p.wastes (λ k c at. tt)))))
 
   pub layout_written : HasSection form_of s (parts_of p)
-  unfolding form_of lone is_word_at
-  layout_written = has_section form_of s (parts_of p) (size_line s l)
-      (line_by form_of End (codes "end") [] refl tt refl) (lines_of s l names [] (parts_of p) good ports_named)
+  layout_written = has_section form_of s (parts_of p) (size_line s (number s.w 512 l.wide (omega arith)) (number s.h 512 l.high (omega arith))
+      (number s.steps 65536 l.long (omega arith)))
+      end_line (lines_of s l names [] (parts_of p) good ports_named)
 
   pub layout_faultless : IsFaultless (layout_grammar (Some names)) s (parts_of p)
   unfolding missing_fault

@@ -11,7 +11,9 @@ use Rattle.headline.specs.RightInFull.{HasDistinctNames, IsRightInFull}
 use Rattle.headline.specs.Stops.{HasRightStops}
 use Rattle.headline.proofs.Designs.{one_design}
 use Rattle.headline.proofs.PlainTexts.{yes_off_rim}
-use Rattle.headline.proofs.YesIsRight.{good_designs, one_valuation, yes_has_right_stops, yes_is_right}
+use Rattle.headline.proofs.Printed.{printed_is_read}
+use Rattle.headline.proofs.YesIsPrinted.{yes_is_right}
+use Rattle.headline.proofs.YesIsRight.{good_designs, one_valuation, yes_has_right_stops}
 
 not_refused : Yes ≡ Refused → ⊥
 not_refused e = cc
@@ -27,8 +29,9 @@ distinct circuit good u w name at at' =
 in_full : (text output : List ℕ) → IsReportOf text output Yes → (right : IsRight text) → HasRightStops text →
     IsRightInFull text
 in_full text output says right stops =
-    let same = one_design text stops.circuit right.circuit stops.layout right.layout stops.says.design right.says in
-    let good = good_designs text output Yes right.circuit right.layout says not_refused right.says in
+    let said = printed_is_read text right.circuit right.layout right.begins in
+    let same = one_design text stops.circuit right.circuit stops.layout right.layout stops.says.design said in
+    let good = good_designs text output Yes right.circuit right.layout says not_refused said in
     record {
       right = right;
       stops = stops;
@@ -37,11 +40,11 @@ in_full text output says right stops =
       one_valuation = λ inputs. let all = right.correct.implements inputs in record {
         values = all.values;
         satisfied = all.satisfied;
-        only = λ v fits. one_valuation text output right.circuit right.layout inputs v all.values says right.says fits
+        only = λ v fits. one_valuation text output right.circuit right.layout inputs v all.values says said fits
             all.satisfied;
       };
       off_rim = λ touches. yes_off_rim text output says
-          (record { circuit = right.circuit; layout = right.layout; says = right.says; touches = touches });
+          (record { circuit = right.circuit; layout = right.layout; says = said; touches = touches });
       good = good;
       distinct_names = distinct right.circuit good.circuit_lines;
       inputs_first = inputs_are_first right.circuit good.circuit_lines;

@@ -12,6 +12,8 @@ use Rattle.meaning.specs.Design.{SaysDesign}
 use Rattle.headline.specs.ThereAndBack.{there_and_back}
 use Rattle.headline.specs.TimedModules.{timed_modules}
 use Rattle.meaning.specs.Headline.{IsRight, SaysYes}
+use Rattle.meaning.specs.Implements.{IsCorrect}
+use Rattle.meaning.specs.Printed.{BeginsWithDesign}
 use Rattle.headline.specs.Stops.{HasRightStops, SaysBundle}
 use Rattle.headline.specs.RightInFull.{IsGoodDesign, IsRightInFull}
 
@@ -27,6 +29,34 @@ HasAnAnswer R = (text : List ℕ) → (output : List ℕ) × (outcome : Outcome)
 -- what is reported with the outcome yes is right
 abbrev pub YesMeansRight : Type 0
 YesMeansRight = (text output : List ℕ) → IsReportOf text output Yes → IsRight text
+
+-- The same by the words of the lines: the text says a circuit and then a layout, and the layout computes the circuit.
+pub record IsRightAsRead (text : List ℕ) : Type 0 where
+  pub circuit : List CircuitLine
+  pub layout : Pattern
+  pub says : SaysDesign text circuit layout
+  pub correct : IsCorrect circuit layout
+
+-- a text that is right is right as it is read
+abbrev pub RightIsRightAsRead : Type 0
+RightIsRightAsRead = (text : List ℕ) → IsRight text → IsRightAsRead text
+
+-- a text that begins with a circuit and a layout says them
+abbrev pub PrintedIsRead : Type 0
+PrintedIsRead = (text : List ℕ) (circuit : List CircuitLine) (layout : Pattern) →
+    BeginsWithDesign text circuit layout → SaysDesign text circuit layout
+
+-- and a text that is not refused begins with the circuit and the layout that it says
+abbrev pub ReadIsPrinted : Type 0
+ReadIsPrinted = (text output : List ℕ) (outcome : Outcome) (circuit : List CircuitLine) (layout : Pattern) →
+    IsReportOf text output outcome → outcome ≢ Refused →
+    SaysDesign text circuit layout → BeginsWithDesign text circuit layout
+
+-- a text begins with one circuit and one layout at most
+abbrev pub BeginsWithOneDesign : Type 0
+BeginsWithOneDesign = (text : List ℕ) (circuit circuit' : List CircuitLine) (layout layout' : Pattern) →
+    BeginsWithDesign text circuit layout → BeginsWithDesign text circuit' layout' →
+    (circuit ≡ circuit') × (layout ≡ layout')
 
 -- and its stops are right
 abbrev pub YesMeansRightStops : Type 0

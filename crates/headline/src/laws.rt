@@ -1,6 +1,6 @@
 //! Laws of the definitions, each the contract of a function without a body.
 ghost use Rattle.answers.specs.CheckText.{IsReportOf};
-ghost use Rattle.headline.specs.Laws.{FourthLineTells, HasAnAnswer, HasOneAnswer, ReportsOnGoodDesigns, SaysOneCertificate, SaysOneDesign, ThereAndBackIsAccepted, TimedModulesAreAccepted, YesHasOneValuation, YesMeansRight, YesMeansRightInFull, YesMeansRightStops};
+ghost use Rattle.headline.specs.Laws.{BeginsWithOneDesign, FourthLineTells, HasAnAnswer, HasOneAnswer, PrintedIsRead, ReadIsPrinted, ReportsOnGoodDesigns, RightIsRightAsRead, SaysOneCertificate, SaysOneDesign, ThereAndBackIsAccepted, TimedModulesAreAccepted, YesHasOneValuation, YesMeansRight, YesMeansRightInFull, YesMeansRightStops};
 ghost use Rattle.headline.specs.PlainLaws.{DesignsAreRead, EachSmallDesignHasText, EachSmallDesignIsDecided, PlainIsDecided, PlainLinesDecide, PlainNoMeansWrong, RefusedIsNoSmallDesign, SmallDesignIsDecided, ThereAndBackIsPlain, ThereAndBackIsSmall, YesKeepsOffRim, NoLinesTell};
 ghost use Rattle.headline.specs.Witnesses.{PlainNoIsRefuted, PlainYesIsAccepted, SmallDesignIsAccepted, SmallDesignIsRefuted};
 ghost use Rattle.headline.specs.Migration.{KeepsVersionTwo, MigratesOnce, MigrationIsAccepted, MigrationSaysTheSame};
@@ -61,6 +61,7 @@ pub fn migration_keeps_what_is_accepted()
 /// `verdict yes` exactly if the verdict is yes.
 pub fn yes_means_right()
     ensures right { YesMeansRight }
+    ensures as_read { RightIsRightAsRead }
     ensures stops { YesMeansRightStops }
     ensures in_full { YesMeansRightInFull }
     ensures one_valuation { YesHasOneValuation }
@@ -117,6 +118,9 @@ pub fn says_one_design()
     ensures one { SaysOneDesign }
     ensures certificate { SaysOneCertificate }
     ensures good { ReportsOnGoodDesigns }
+    ensures printed { PrintedIsRead }
+    ensures read { ReadIsPrinted }
+    ensures begins { BeginsWithOneDesign }
 {}
 
 /// States that three texts are reported with a yes, so the theorems are not vacuous.

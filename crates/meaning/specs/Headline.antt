@@ -12,13 +12,13 @@ use Rattle.section_text.specs.Words.{lines_of}
 use Rattle.circuit.specs.declared.circuit_line.CircuitLine.{CircuitLine}
 use Rattle.pattern.specs.Layout.{Pattern}
 use Rattle.meaning.specs.Implements.{IsCorrect}
-use Rattle.meaning.specs.Design.{SaysDesign}
+use Rattle.meaning.specs.Printed.{BeginsWithDesign}
 
--- the text says a circuit and then a layout, and the layout computes the circuit
+-- the text begins with a circuit and then a layout, and the layout computes the circuit
 pub record IsRight (text : List ℕ) : Type 0 where
   pub circuit : List CircuitLine
   pub layout : Pattern
-  pub says : SaysDesign text circuit layout
+  pub begins : BeginsWithDesign text circuit layout
   pub correct : IsCorrect circuit layout
 
 -- the fourth line of an output

@@ -1,3 +1,4 @@
 pub mod Implements
 pub mod Design
+pub mod Printed
 pub mod Headline

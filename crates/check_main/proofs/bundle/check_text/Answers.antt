@@ -4,7 +4,8 @@ use Rattle.std.proofs.lemmas.Result.{IfOk-weaker}
 use Rattle.answers.specs.CheckText.{IsReportOf}
 use Rattle.headline.proofs.PlainTexts.{no_is_wrong, no_lines_tell}
 use Rattle.headline.proofs.SmallDesigns.{refused_is_none}
-use Rattle.headline.proofs.YesIsRight.{fourth_line-tells, yes_has_right_stops, yes_is_right}
+use Rattle.headline.proofs.YesIsPrinted.{yes_is_right}
+use Rattle.headline.proofs.YesIsRight.{fourth_line-tells, yes_has_right_stops}
 use Rattle.headline.proofs.YesIsRightInFull.{yes_is_right_in_full}
 use Rattle.check_main.proofs.bundle.check_text.Goals as goal
 

@@ -1,0 +1,298 @@
+-- A text that begins with a design says it, and the printing is the text of the sections.
+use Rattle.std.proofs.Common.{◌≡◌, ℕ, ℤ, pos, ◌<◌, ◌^◌, Bool, true, false, List, [], ◌∷◌, ◌++◌, length, map, Some}
+use Rattle.std.proofs.Common.{None, refl, sym, ap, ap₂, subst, ◌∙◌, append_assoc, arith}
+use Rattle.std.specs.Prelude.{IsTrue, codes, ◌&&◌}
+use Rattle.std.specs.Fmt.{signed_decimal}
+use Rattle.std.specs.List.{All, AllByRecursion, flat_map, list_all, slice_split}
+use Rattle.std.proofs.lemmas.Grind.{flat_map-append}
+use Rattle.std.proofs.lemmas.List.{append-nil}
+use Rattle.std.proofs.lemmas.List.Elements.{All-from_recursion, All-head, All-tail}
+use Rattle.std.proofs.lemmas.List.Splits.{slice_split_at}
+use Rattle.section_text.specs.Section.{ended_line}
+use Rattle.section_text.specs.Spelling.{line_text}
+use Rattle.section_text.specs.Words.{ended, is_line_feed, is_name, lines_of}
+use Rattle.section_text.specs.declared.section.Form.TheVariants.{Header, Item, End}
+use Rattle.section_text.proofs.Again.{AreLines}
+use Rattle.section_text.proofs.Lines.{ended-cons, some_part}
+use Rattle.section_text.proofs.MadeSections.{clean_both, text_said}
+use Rattle.bbm_rule.specs.declared.block.Cell.{Cell}
+use Rattle.circuit.specs.Bridge.{FitsKind, kind_ins, kind_outs}
+use Rattle.circuit.specs.Entries.{entry}
+use Rattle.circuit.specs.Forms.{form_of as circuit_form}
+use Rattle.circuit.specs.Grammars.{circuit_grammar}
+use Rattle.circuit.specs.Text.{circuit_text, entry_text, first_word, form_text as circuit_line, more_words}
+use Rattle.circuit.specs.declared.circuit_line.CircuitLine.{CircuitLine}
+use Rattle.circuit.specs.declared.circuit_line.GateKind.TheVariants.{Source, Fredkin, Cswap, Interact, Switch, Delay}
+use Rattle.circuit.specs.declared.circuit_line.GateKind.TheVariants.{Unswitch, Uninteract}
+use Rattle.circuit.specs.declared.circuit_line.Kind.{Kind}
+use Rattle.circuit.specs.declared.circuit_line.Kind.TheVariants.{Input, Gate, Output, Spill}
+use Rattle.circuit.proofs.Spelling.{form_line as circuit_spelled}
+use Rattle.pattern.specs.Forms.{form_of as layout_form}
+use Rattle.pattern.specs.Grammars.{layout_grammar}
+use Rattle.pattern.specs.Layout.{Pattern, cell, parts_of}
+use Rattle.pattern.specs.Text.{form_text as layout_line, layout_text, part_text}
+use Rattle.pattern.specs.declared.layout_line.LayoutLine.{LayoutLine}
+use Rattle.pattern.specs.declared.layout_line.LayoutLine.TheVariants.{Mirror, Ball, In, Out, Waste}
+use Rattle.pattern.proofs.Spelling.{form_line as layout_spelled}
+use Rattle.meaning.specs.Design.{SaysDesign}
+use Rattle.meaning.specs.Printed.{BeginsWithDesign, IsForm, IsLine, circuit_printed, form, layout_forms, layout_printed}
+use Rattle.meaning.specs.Printed.{line_words, part_form, printed}
+use Rattle.headline.specs.Laws.{BeginsWithOneDesign, PrintedIsRead}
+use Rattle.headline.proofs.Designs.{one_design}
+use Rattle.headline.proofs.Written.{HasLine, HasSection, has_section}
+use Rattle.headline.proofs.WrittenCircuits.{AreNames, first_line, last_line, line_of, names_left, names_right}
+use Rattle.headline.proofs.WrittenLayouts.{IsNumbered, ball_line, end_line, in_line, mirror_line, out_line, size_line}
+use Rattle.headline.proofs.WrittenLayouts.{waste_line}
+
+-- ---- lines at the head of a text
+
+pub lines_more : (ls : List (List ℕ)) (rest : List ℕ) → AreLines ls →
+    lines_of (flat_map ended_line ls ++ rest) ≡ ls ++ lines_of rest
+unfolding lines_of
+lines_more [] rest clean = refl
+lines_more (l ∷ ls) rest clean =
+    let more = flat_map ended_line ls ++ rest in
+    let regroup : (ended_line l ++ flat_map ended_line ls) ++ rest ≡ l ++ 10 ∷ more =
+    append_assoc (ended_line l) (flat_map ended_line ls) rest ∙ append_assoc l (10 ∷ []) more in
+    let split : slice_split is_line_feed (l ++ 10 ∷ more) ≡ l ∷ slice_split is_line_feed more =
+    slice_split_at is_line_feed l 10 more (All-from_recursion (λ b. is_line_feed b ≡ false) l clean.0) refl in
+    ap (λ (t : List ℕ). ended (slice_split is_line_feed t)) regroup ∙ ap ended split
+    ∙ ended-cons l (slice_split is_line_feed more) (some_part more)
+    ∙ ap (λ (ks : List (List ℕ)). l ∷ ks) (lines_more ls rest clean.1)
+
+-- ---- a line of a circuit
+
+kind_counts : (kind : Kind) → ((form kind).1 ≡ kind_ins kind) × ((form kind).2 ≡ kind_outs kind)
+kind_counts Input = (refl, refl)
+kind_counts (Gate (Source b)) = (refl, refl)
+kind_counts (Gate Fredkin) = (refl, refl)
+kind_counts (Gate Cswap) = (refl, refl)
+kind_counts (Gate Interact) = (refl, refl)
+kind_counts (Gate Switch) = (refl, refl)
+kind_counts (Gate (Delay n)) = (refl, refl)
+kind_counts (Gate Unswitch) = (refl, refl)
+kind_counts (Gate Uninteract) = (refl, refl)
+kind_counts Output = (refl, refl)
+kind_counts Spill = (refl, refl)
+
+pub fits_of : (r : CircuitLine) → IsLine r → FitsKind r
+fits_of r is = (is.consumes ∙ (kind_counts r.kind).0, is.defines ∙ (kind_counts r.kind).1)
+
+pub counts_of : (r : CircuitLine) → FitsKind r → (length r.ins ≡ (form r.kind).1) × (length r.outs ≡ (form r.kind).2)
+counts_of r fits = (fits.0 ∙ sym (kind_counts r.kind).0, fits.1 ∙ sym (kind_counts r.kind).1)
+
+pub are_names : (ns : List (List ℕ)) → All (λ n. IsTrue (is_name n)) ns → AreNames ns
+are_names [] h = refl
+are_names (n ∷ ns) h = ap₂ (λ a b. a && b) (All-head (λ n. IsTrue (is_name n)) n ns h)
+    (are_names ns (All-tail (λ n. IsTrue (is_name n)) n ns h))
+
+line_printed : (kind : Kind) (ins outs : List (List ℕ)) → FitsKind (entry kind ins outs) →
+    printed (line_words (entry kind ins outs)) ≡ entry_text (entry kind ins outs)
+unfolding entry_text first_word more_words
+line_printed (Gate (Source true)) ins outs fits = refl
+line_printed (Gate (Source false)) ins outs fits = refl
+line_printed (Gate Fredkin) ins outs fits = refl
+line_printed (Gate Cswap) ins outs fits = refl
+line_printed (Gate Interact) ins outs fits = refl
+line_printed (Gate Switch) ins outs fits = refl
+line_printed (Gate (Delay n)) ins outs fits = refl
+line_printed (Gate Unswitch) ins outs fits = refl
+line_printed (Gate Uninteract) ins outs fits = refl
+line_printed Input [] outs fits = refl
+line_printed Input (x ∷ ins) outs fits = absurd (let e = fits.0 in omega (arith, e))
+line_printed Output ins [] fits = ap (line_text (codes "output")) (append-nil ins)
+line_printed Output ins (x ∷ outs) fits = absurd (let e = fits.1 in omega (arith, e))
+line_printed Spill ins [] fits = ap (line_text (codes "spill")) (append-nil ins)
+line_printed Spill ins (x ∷ outs) fits = absurd (let e = fits.1 in omega (arith, e))
+
+abbrev pub Fit : List CircuitLine → Type 0
+Fit circuit = AllByRecursion FitsKind circuit
+
+items_printed : (circuit : List CircuitLine) → Fit circuit →
+    flat_map printed (map line_words circuit ++ (codes "end" ∷ []) ∷ [])
+    ≡ flat_map entry_text circuit ++ line_text (codes "end") []
+items_printed [] fit = refl
+items_printed (r ∷ circuit) fit =
+    ap₂ (λ a b. a ++ b) (line_printed r.kind r.ins r.outs fit.0) (items_printed circuit fit.1)
+    ∙ sym (append_assoc (entry_text r) (flat_map entry_text circuit) (line_text (codes "end") []))
+
+-- the printing of a circuit is the text of its section
+pub circuit_same : (circuit : List CircuitLine) → Fit circuit → circuit_printed circuit ≡ circuit_text circuit
+unfolding circuit_text
+circuit_same circuit fit =
+    ap (λ t. line_text (codes "circuit") [] ++ t) (items_printed circuit fit)
+    ∙ sym (append_assoc (line_text (codes "circuit") []) (flat_map entry_text circuit) (line_text (codes "end") []))
+
+-- ---- a line of a layout
+
+abbrev form_printed : List ℕ × List (List ℕ) × List ℤ → List ℕ
+form_printed l = printed (l.0 ∷ l.1 ++ map signed_decimal l.2)
+
+-- the first line of a layout, and the others
+abbrev pub size_form : Pattern → List ℕ × List (List ℕ) × List ℤ
+size_form p = (codes "layout", [], pos p.size.w ∷ pos p.size.h ∷ pos p.size.steps ∷ [])
+
+abbrev pub other_forms : Pattern → List (List ℕ × List (List ℕ) × List ℤ)
+other_forms p = map part_form (parts_of p) ++ (codes "end", [], []) ∷ []
+
+abbrev pub IsNumber : ℤ → Type 0
+IsNumber z = (n : ℕ) × (z ≡ pos n) × (n < 10 ^ 9)
+
+small : (n : ℕ) → IsNumber (pos n) → n < 10 ^ 9
+small n h = let same : n ≡ h.0 = pos_same n h.0 h.1 in let low = h.2 in omega (arith, same, low)
+  where
+    pos_same : (a b : ℕ) → ◌≡◌ {A = ℤ} (pos a) (pos b) → a ≡ b
+    pos_same a b e = cc
+
+cell_numbered : (c : Cell) → IsNumber c.x → IsNumber c.y → IsNumbered c
+cell_numbered c h k = record {
+  x = h.0;
+  y = k.0;
+  is = ap₂ (λ x y. record { x = x; y = y }) h.1 k.1;
+  x_small = h.2;
+  y_small = k.2;
+}
+
+-- the cells of a part have numbers
+abbrev pub IsPart : LayoutLine → Type 0
+IsPart (Mirror r) = Unit {0}
+IsPart (Ball c) = IsNumbered c
+IsPart (In q) = IsNumbered q.cell
+IsPart (Out q) = IsNumbered q.cell
+IsPart (Waste c) = IsNumbered c
+
+part_printed : (part : LayoutLine) → IsPart part → form_printed (part_form part) ≡ part_text part
+part_printed (Mirror r) h = refl
+part_printed (Ball c) h = subst (λ (d : Cell). form_printed (part_form (Ball d)) ≡ part_text (Ball d)) (sym h.is) refl
+part_printed (In q) h =
+    subst (λ (d : Cell). form_printed (part_form (In (record { name = q.name; cell = d })))
+    ≡ part_text (In (record { name = q.name; cell = d }))) (sym h.is) refl
+part_printed (Out q) h =
+    subst (λ (d : Cell). form_printed (part_form (Out (record { name = q.name; cell = d })))
+    ≡ part_text (Out (record { name = q.name; cell = d }))) (sym h.is) refl
+part_printed (Waste c) h =
+    subst (λ (d : Cell). form_printed (part_form (Waste d)) ≡ part_text (Waste d)) (sym h.is) refl
+
+parts_printed : (parts : List LayoutLine) → AllByRecursion IsPart parts →
+    flat_map form_printed (map part_form parts ++ (codes "end", [], []) ∷ [])
+    ≡ flat_map part_text parts ++ line_text (codes "end") []
+parts_printed [] h = refl
+parts_printed (part ∷ parts) h =
+    ap₂ (λ a b. a ++ b) (part_printed part h.0) (parts_printed parts h.1)
+    ∙ sym (append_assoc (part_text part) (flat_map part_text parts) (line_text (codes "end") []))
+
+-- the printing of a layout is the text of its section
+pub layout_same : (p : Pattern) → AllByRecursion IsPart (parts_of p) → layout_printed p ≡ layout_text p
+unfolding layout_text
+layout_same p h =
+    let first = form_printed (size_form p) in
+    ap (λ t. first ++ t) (parts_printed (parts_of p) h)
+    ∙ sym (append_assoc first (flat_map part_text (parts_of p)) (line_text (codes "end") []))
+
+-- ---- the sections that are printed can be read
+
+pub circuit_lines : (circuit : List CircuitLine) → All IsLine circuit →
+    AllByRecursion (λ r. HasLine circuit_form (Item r)) circuit × Fit circuit
+circuit_lines [] h = (tt, tt)
+circuit_lines (r ∷ circuit) h =
+    let is = All-head IsLine r circuit h in
+    let more = circuit_lines circuit (All-tail IsLine r circuit h) in
+    let names = are_names (r.ins ++ r.outs) is.names in
+    let fits = fits_of r is in
+    ((line_of r.kind r.ins r.outs fits (names_left r.ins r.outs names) (names_right r.ins r.outs names) is.number,
+    more.0), (fits, more.1))
+
+first_number : (z : ℤ) (zs : List ℤ) → All IsNumber (z ∷ zs) → IsNumber z
+first_number z zs h = All-head IsNumber z zs h
+
+other_numbers : (z : ℤ) (zs : List ℤ) → All IsNumber (z ∷ zs) → All IsNumber zs
+other_numbers z zs h = All-tail IsNumber z zs h
+
+numbered_by : (c : Cell) → All IsNumber (c.x ∷ c.y ∷ []) → IsNumbered c
+numbered_by c h = cell_numbered c (first_number c.x (c.y ∷ []) h)
+    (first_number c.y [] (other_numbers c.x (c.y ∷ []) h))
+
+one_name : (n : List ℕ) → All (λ n. IsTrue (is_name n)) (n ∷ []) → is_name n ≡ true
+one_name n h = All-head (λ n. IsTrue (is_name n)) n [] h
+
+part_read : (part : LayoutLine) → IsForm (part_form part) → HasLine layout_form (Item part) × IsPart part
+part_read (Mirror r) h =
+    let a = h.numbers in
+    let xs : List ℤ = pos r.y ∷ pos r.w ∷ pos r.h ∷ [] in
+    let ys : List ℤ = pos r.w ∷ pos r.h ∷ [] in
+    let ws : List ℤ = pos r.h ∷ [] in
+    let b = other_numbers (pos r.x) xs a in
+    let c = other_numbers (pos r.y) ys b in
+    let d = other_numbers (pos r.w) ws c in
+    (mirror_line r (small r.x (first_number (pos r.x) xs a)) (small r.y (first_number (pos r.y) ys b))
+    (small r.w (first_number (pos r.w) ws c)) (small r.h (first_number (pos r.h) [] d)), tt)
+part_read (Ball c) h = let n = numbered_by c h.numbers in (ball_line c n, n)
+part_read (In q) h = let n = numbered_by q.cell h.numbers in (in_line q.name q.cell (one_name q.name h.names) n, n)
+part_read (Out q) h = let n = numbered_by q.cell h.numbers in (out_line q.name q.cell (one_name q.name h.names) n, n)
+part_read (Waste c) h = let n = numbered_by c h.numbers in (waste_line c n, n)
+
+pub parts_read : (parts : List LayoutLine) → All IsForm (map part_form parts ++ (codes "end", [], []) ∷ []) →
+    AllByRecursion (λ part. HasLine layout_form (Item part)) parts × AllByRecursion IsPart parts
+parts_read [] h = (tt, tt)
+parts_read (part ∷ parts) h =
+    let one = part_read part (All-head IsForm (part_form part) (map part_form parts ++ (codes "end", [], []) ∷ []) h) in
+    let more = parts_read parts (All-tail IsForm (part_form part) (map part_form parts ++ (codes "end", [], []) ∷ []) h) in
+    ((one.0, more.0), (one.1, more.1))
+
+circuit_whole : (circuit : List CircuitLine) →
+    circuit_line (Header tt) ++ (flat_map (λ i. circuit_line (Item i)) circuit ++ circuit_line End)
+    ≡ circuit_text circuit
+unfolding circuit_text
+circuit_whole circuit = sym (append_assoc (circuit_line (Header tt)) (flat_map (λ i. circuit_line (Item i)) circuit)
+    (circuit_line End))
+
+layout_whole : (p : Pattern) →
+    layout_line (Header p.size) ++ (flat_map (λ i. layout_line (Item i)) (parts_of p) ++ layout_line End)
+    ≡ layout_text p
+unfolding layout_text
+layout_whole p = sym (append_assoc (layout_line (Header p.size)) (flat_map (λ i. layout_line (Item i)) (parts_of p))
+    (layout_line End))
+
+-- a text that begins with a design says it
+pub printed_is_read : PrintedIsRead
+printed_is_read text circuit p b =
+    let c = circuit_lines circuit b.circuit_lines in
+    let size = All-head IsForm (size_form p) (other_forms p) b.layout_lines in
+    let l = parts_read (parts_of p) (All-tail IsForm (size_form p) (other_forms p) b.layout_lines) in
+    let w = size.numbers in
+    let ws : List ℤ = pos p.size.h ∷ pos p.size.steps ∷ [] in
+    let hs : List ℤ = pos p.size.steps ∷ [] in
+    let h = other_numbers (pos p.size.w) ws w in
+    let t = other_numbers (pos p.size.h) hs h in
+    let first : HasSection circuit_form tt circuit = has_section circuit_form tt circuit first_line last_line c.0 in
+    let second : HasSection layout_form p.size (parts_of p) =
+    has_section layout_form p.size (parts_of p)
+    (size_line p.size (small p.size.w (first_number (pos p.size.w) ws w))
+    (small p.size.h (first_number (pos p.size.h) hs h)) (small p.size.steps (first_number (pos p.size.steps) [] t)))
+    end_line l.0 in
+    let one : flat_map ended_line first.lines ≡ circuit_printed circuit =
+    text_said circuit_grammar circuit_line circuit_spelled first.lines tt circuit first.is
+    ∙ circuit_whole circuit ∙ sym (circuit_same circuit c.1) in
+    let two : flat_map ended_line second.lines ≡ layout_printed p =
+    text_said (layout_grammar None) layout_line layout_spelled second.lines p.size (parts_of p) second.is
+    ∙ layout_whole p ∙ sym (layout_same p l.1) in
+    let spelled : flat_map ended_line (first.lines ++ second.lines) ≡ circuit_printed circuit ++ layout_printed p =
+    flat_map-append ended_line first.lines second.lines ∙ ap₂ (λ a b. a ++ b) one two in
+    record {
+      first = first.lines;
+      second = second.lines;
+      others = lines_of b.rest;
+      lines = ap lines_of (b.begins ∙ sym (append_assoc (circuit_printed circuit) (layout_printed p) b.rest)
+          ∙ ap (λ t. t ++ b.rest) (sym spelled))
+          ∙ lines_more (first.lines ++ second.lines) b.rest (clean_both first.lines second.lines first.clean
+          second.clean)
+          ∙ append_assoc first.lines second.lines (lines_of b.rest);
+      circuit_is = first.is;
+      layout_is = second.is;
+    }
+
+-- and no other
+pub begins_with_one : BeginsWithOneDesign
+begins_with_one text circuit circuit' layout layout' b b' =
+    one_design text circuit circuit' layout layout' (printed_is_read text circuit layout b)
+    (printed_is_read text circuit' layout' b')

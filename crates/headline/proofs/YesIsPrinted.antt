@@ -1,0 +1,169 @@
+-- A text that is not refused begins with the design that it says, and one that is reported with a yes is right.
+use Rattle.std.proofs.Common.{◌≡◌, ℕ, ℤ, pos, ◌<◌, ◌^◌, true, List, [], ◌∷◌, ◌++◌, map, refl, sym, ap, ap₂, subst, ◌∙◌, arith}
+use Rattle.std.specs.Prelude.{IsTrue, ◌≢◌, codes}
+use Rattle.std.specs.List.{All, AllByRecursion, list_all}
+use Rattle.std.proofs.lemmas.Bool.{and_parts}
+use Rattle.std.proofs.lemmas.List.Elements.{All-cons, All-from_recursion, All-nil, All-tail}
+use Rattle.section_text.specs.Ports.{Named}
+use Rattle.section_text.specs.Words.{is_name}
+use Rattle.circuit.specs.Bridge.{AreGoodAfter, input_names, output_names}
+use Rattle.circuit.specs.Entries.{defined}
+use Rattle.circuit.specs.Rules.{consumed}
+use Rattle.circuit.specs.Text.{circuit_text}
+use Rattle.circuit.specs.declared.circuit_line.CircuitLine.{CircuitLine}
+use Rattle.circuit.proofs.Bridging.{names_pass}
+use Rattle.circuit.proofs.Places.{consume_have}
+use Rattle.bbm_rule.specs.declared.block.Cell.{Cell}
+use Rattle.pattern.specs.Layout.{Pattern, parts_of}
+use Rattle.pattern.specs.Lines as lines
+use Rattle.pattern.specs.Text.{layout_text}
+use Rattle.pattern.specs.declared.layout_line.LayoutHeader.{LayoutHeader}
+use Rattle.pattern.specs.declared.layout_line.LayoutLine.{LayoutLine}
+use Rattle.pattern.specs.declared.layout_line.LayoutLine.TheVariants.{Mirror, Ball, In, Out, Waste}
+use Rattle.audit_core.specs.Concluding.{port_names_of}
+use Rattle.answers.specs.CheckText.{IsReportOf}
+use Rattle.answers.specs.declared.outcome.Outcome.TheVariants.{Yes, Refused}
+use Rattle.meaning.specs.Printed.{BeginsWithDesign, IsForm, IsLine, layout_forms, part_form}
+use Rattle.headline.specs.Laws.{ReadIsPrinted, RightIsRightAsRead, YesMeansRight}
+use Rattle.headline.specs.SmallDesigns.{IsDesign}
+use Rattle.headline.proofs.Printed.{IsNumber, are_names, circuit_lines, circuit_same, counts_of, layout_same}
+use Rattle.headline.proofs.Printed.{other_forms, parts_read, printed_is_read, size_form}
+use Rattle.headline.proofs.ReadDesigns.{designs_are_read}
+use Rattle.headline.proofs.WrittenCircuits.{AreNames, defined_more, have_names, is_short, names_both, names_left}
+use Rattle.headline.proofs.WrittenCircuits.{names_right, right_delay}
+use Rattle.headline.proofs.WrittenLayouts.{HasLimits, IsNumbered, IsPortName, has_limits, inside, number, numbered, ports_named}
+use Rattle.headline.proofs.WrittenLayouts.{small_mirror}
+use Rattle.headline.proofs.WrittenNames.{input_named, outs_named}
+use Rattle.headline.proofs.YesIsRight.{good_designs, yes_is_right_as_read}
+
+each_name : (ns : List (List ℕ)) → AreNames ns → AllByRecursion (λ n. IsTrue (is_name n)) ns
+each_name [] h = tt
+each_name (n ∷ ns) h = let both = and_parts (is_name n) (list_all is_name ns) h in (both.0, each_name ns both.1)
+
+lines_formed : (before rest : List CircuitLine) → AreGoodAfter before rest → AreNames (defined before) →
+    AreNames (defined rest) → AllByRecursion IsLine rest
+unfolding AreGoodAfter
+lines_formed before [] good h k = tt
+lines_formed before (r ∷ rest) good h k =
+    let outs = names_left r.outs (defined rest) k in
+    let ins : AreNames r.ins = have_names (defined before) r.ins h
+    (consume_have (defined before) (consumed before) r.ins (names_pass before r good.0.adds).0) in
+    let counts = counts_of r good.0.fits in (
+      record {
+        consumes = counts.0;
+        defines = counts.1;
+        names = All-from_recursion (λ n. IsTrue (is_name n)) (r.ins ++ r.outs)
+            (each_name (r.ins ++ r.outs) (names_both r.ins r.outs ins outs));
+        number = is_short r.kind (right_delay before r good.0.adds);
+      },
+      lines_formed (before ++ r ∷ []) rest good.1 (defined_more before r h outs) (names_right r.outs (defined rest) k),
+    )
+
+no_names : All (λ n. IsTrue (is_name n)) []
+no_names = All-nil (λ n. IsTrue (is_name n))
+
+one_name : (n : List ℕ) → is_name n ≡ true → All (λ n. IsTrue (is_name n)) (n ∷ [])
+one_name n h = All-cons (λ n. IsTrue (is_name n)) n [] h no_names
+
+more_numbers : (n : ℕ) (zs : List ℤ) → n < 10 ^ 9 → All IsNumber zs → All IsNumber (pos n ∷ zs)
+more_numbers n zs h k = All-cons IsNumber (pos n) zs (n, refl, h) k
+
+-- a cell has its numbers
+cell_numbers : (c : Cell) → IsNumbered c → All IsNumber (c.x ∷ c.y ∷ [])
+cell_numbers c k =
+    subst (λ (d : Cell). All IsNumber (d.x ∷ d.y ∷ [])) (sym k.is)
+    (more_numbers k.x (pos k.y ∷ []) k.x_small (more_numbers k.y [] k.y_small (All-nil IsNumber)))
+
+module _ (s : LayoutHeader) (l : HasLimits s) (names : Named) where
+
+  part_formed : (part : LayoutLine) → IsPortName s l names part → lines.is_inside s part ≡ true →
+      IsForm (part_form part)
+  unfolding lines.is_inside
+  part_formed (Mirror r) n h =
+      let k = small_mirror s l r h in
+      record {
+        names = no_names;
+        numbers = more_numbers r.x (pos r.y ∷ pos r.w ∷ pos r.h ∷ []) k.x
+            (more_numbers r.y (pos r.w ∷ pos r.h ∷ []) k.y
+            (more_numbers r.w (pos r.h ∷ []) k.w (more_numbers r.h [] k.h (All-nil IsNumber))));
+      }
+  part_formed (Ball c) n h = record { names = no_names; numbers = cell_numbers c (numbered s l c h) }
+  part_formed (In q) n h =
+      record { names = one_name q.name n.0; numbers = cell_numbers q.cell (numbered s l q.cell h) }
+  part_formed (Out q) n h =
+      record { names = one_name q.name n.0; numbers = cell_numbers q.cell (numbered s l q.cell h) }
+  part_formed (Waste c) n h = record { names = no_names; numbers = cell_numbers c (numbered s l c h) }
+
+  parts_formed : (before parts : List LayoutLine) → lines.AreGoodAfter s before parts →
+      AllByRecursion (IsPortName s l names) parts →
+      AllByRecursion IsForm (map part_form parts ++ (codes "end", [], []) ∷ [])
+  parts_formed before [] good n = (record { names = no_names; numbers = All-nil IsNumber }, tt)
+  parts_formed before (part ∷ parts) good n = (
+    part_formed part n.0 (inside s l before part good.1),
+    parts_formed (before ++ part ∷ []) parts good.2 n.1,
+  )
+
+module _ (circuit : List CircuitLine) (p : Pattern) (design : IsDesign circuit p) where
+  wires : AreNames (defined circuit)
+  wires = are_names (defined circuit) design.names
+
+  pub all_lines : All IsLine circuit
+  all_lines = All-from_recursion IsLine circuit (lines_formed [] circuit design.circuit_lines refl wires)
+
+  limits : HasLimits p.size
+  limits = has_limits p.size design.size
+
+  pub all_forms : All IsForm (layout_forms p)
+  all_forms =
+      All-cons IsForm (size_form p) (other_forms p) (record {
+        names = no_names;
+        numbers = more_numbers p.size.w (pos p.size.h ∷ pos p.size.steps ∷ [])
+            (number p.size.w 512 limits.wide (omega arith))
+            (more_numbers p.size.h (pos p.size.steps ∷ []) (number p.size.h 512 limits.high (omega arith))
+            (more_numbers p.size.steps [] (number p.size.steps 65536 limits.long (omega arith)) (All-nil IsNumber)));
+      })
+      (All-from_recursion IsForm (other_forms p) (parts_formed p.size limits (port_names_of circuit) [] (parts_of p)
+      design.layout_lines (ports_named circuit p design.size design.layout_lines design.ports
+      (input_named circuit wires) (outs_named circuit design.circuit_lines wires))))
+
+-- a text that begins with the sections of a design, in their one spelling, begins with the design
+pub design_printed : (text rest : List ℕ) (circuit : List CircuitLine) (p : Pattern) → IsDesign circuit p →
+    text ≡ circuit_text circuit ++ (layout_text p ++ rest) → BeginsWithDesign text circuit p
+design_printed text rest circuit p design e =
+    let ls = all_lines circuit p design in
+    let fs = all_forms circuit p design in
+    let fit = (circuit_lines circuit ls).1 in
+    let parts = (parts_read (parts_of p) (All-tail IsForm (size_form p) (other_forms p) fs)).1 in
+    record {
+      rest = rest;
+      begins = e ∙ ap₂ (λ a b. a ++ (b ++ rest)) (sym (circuit_same circuit fit)) (sym (layout_same p parts));
+      circuit_lines = ls;
+      layout_lines = fs;
+    }
+
+pub read_is_printed : ReadIsPrinted
+read_is_printed text output outcome circuit p reports some says =
+    let good = good_designs text output outcome circuit p reports some says in
+    design_printed text good.rest circuit p (designs_are_read text output outcome circuit p reports some says)
+    good.begins
+
+not_refused : Yes ≡ Refused → ⊥
+not_refused e = cc
+
+pub yes_is_right : YesMeansRight
+yes_is_right text output says =
+    let r = yes_is_right_as_read text output says in
+    record {
+      circuit = r.circuit;
+      layout = r.layout;
+      begins = read_is_printed text output Yes r.circuit r.layout says not_refused r.says;
+      correct = r.correct;
+    }
+
+pub right_as_read : RightIsRightAsRead
+right_as_read text r = record {
+  circuit = r.circuit;
+  layout = r.layout;
+  says = printed_is_read text r.circuit r.layout r.begins;
+  correct = r.correct;
+}
