@@ -1,10 +1,9 @@
 -- What an outcome means for a text, of what a reader had to give and of what a writer holds.
-use Rattle.std.proofs.Common.{◌≡◌, ℕ, List, [], ◌++◌, Option, Some, None, Result, Ok, Err, sym, ap, subst, ◌∙◌}
+use Rattle.std.proofs.Common.{◌≡◌, ℕ, List, [], ◌++◌, Option, Some, None, Result, Ok, Err, sym, ap, subst, ◌∙◌, arith}
 use Rattle.std.proofs.Common.{append-nil}
 use Rattle.std.proofs.lemmas.List.{append_cancel_left}
 use Rattle.std.specs.Prelude.{◌↔◌, IfErr, IfOk, OnOk}
 use Rattle.std.specs.Io.KnownBytes.{Appends, Consumes, IsAtEnd}
-use Rattle.section_text.specs.Words.{lines_of}
 use Rattle.answers.specs.declared.outcome.Outcome.{Outcome}
 use Rattle.answers.specs.declared.outcome.Outcome.TheVariants.{Yes}
 use Rattle.meaning.specs.Headline.{Gives, SaysYes, YesMeans}
@@ -55,8 +54,7 @@ all_said_right P left left' written_bytes written_bytes' text output holds read 
     appended
 
 nothing_says : SaysYes [] → ⊥
-unfolding lines_of
-nothing_says e = cc
+nothing_says e = let more = e.1 in omega (arith, more)
 
 -- nothing was
 nothing_said : (P : List ℕ → Type 0) (left written_bytes written_bytes' : Option (List ℕ)) →

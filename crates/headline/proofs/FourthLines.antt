@@ -26,6 +26,7 @@ use Rattle.audit_core.specs.declared.verdict.Verdict.{Verdict}
 use Rattle.audit_core.specs.declared.verdict.Verdict.TheVariants as verdict
 use Rattle.report.specs.ReportText.{fault_line, refusal_line, report_lines, verdict_lines}
 use Rattle.meaning.specs.Headline.{SaysYes}
+use Rattle.headline.specs.Laws.{FourthLineIsLine}
 
 -- ---- bytes that are no line feed
 
@@ -134,16 +135,48 @@ unfolding report_lines
 fourth_line c v = fourth_by (encode_lower (sha256 (certificate_text c))) (length (modules_of c.entries)) _ v
     (clean_hex (sha256 (certificate_text c)))
 
+-- the fourth line is the fourth part, and more parts follow it
+from_parts : (parts : List (List ℕ)) (w : List ℕ) → (slice_get parts 3 ≡ Some w) × (4 < length parts) →
+    slice_get (ended parts) 3 ≡ Some w
+from_parts [] w h = absurd (let e = h.1 in omega (arith, e))
+from_parts (a ∷ []) w h = absurd (let e = h.1 in omega (arith, e))
+from_parts (a ∷ b ∷ []) w h = absurd (let e = h.1 in omega (arith, e))
+from_parts (a ∷ b ∷ c ∷ []) w h = absurd (let e = h.1 in omega (arith, e))
+from_parts (a ∷ b ∷ c ∷ d ∷ []) w h = absurd (let e = h.1 in omega (arith, e))
+from_parts (a ∷ b ∷ c ∷ d ∷ e ∷ parts) w h = h.0
+
+to_parts : (parts : List (List ℕ)) (w : List ℕ) → slice_get (ended parts) 3 ≡ Some w →
+    (slice_get parts 3 ≡ Some w) × (4 < length parts)
+to_parts [] w h = absurd cc
+to_parts (a ∷ []) w h = absurd cc
+to_parts (a ∷ b ∷ []) w h = absurd cc
+to_parts (a ∷ b ∷ c ∷ []) w h = absurd cc
+to_parts (a ∷ b ∷ c ∷ d ∷ []) w h = absurd cc
+to_parts (a ∷ b ∷ c ∷ d ∷ e ∷ parts) w h = (h, omega arith)
+
+-- the fourth line of an output
+abbrev HasYes : List ℕ → Type 0
+HasYes output = slice_get (lines_of output) 3 ≡ Some (codes "verdict yes")
+
+has_yes : (output : List ℕ) → SaysYes output → HasYes output
+unfolding lines_of
+has_yes output h = from_parts (slice_split is_line_feed output) (codes "verdict yes") h
+
+pub says_yes_by_line : (output : List ℕ) → HasYes output → SaysYes output
+unfolding lines_of
+says_yes_by_line output h = to_parts (slice_split is_line_feed output) (codes "verdict yes") h
+
 yes_is_not_no : ◌≡◌ {A = Option (List ℕ)} (Some (codes "verdict no")) (Some (codes "verdict yes")) → ⊥
 yes_is_not_no e = cc
 
 -- a report that says yes is one of a yes
 pub says_yes : (c : CertView) (v : Verdict) → SaysYes (report_lines c v) → v ≡ verdict.Yes
 says_yes c verdict.Yes e = refl
-says_yes c (verdict.No lines) e = absurd (yes_is_not_no (sym (fourth_line c (verdict.No lines)) ∙ e))
+says_yes c (verdict.No lines) e =
+    absurd (yes_is_not_no (sym (fourth_line c (verdict.No lines)) ∙ has_yes (report_lines c (verdict.No lines)) e))
 
 pub yes_says : (c : CertView) → SaysYes (report_lines c verdict.Yes)
-yes_says c = fourth_line c verdict.Yes
+yes_says c = says_yes_by_line (report_lines c verdict.Yes) (fourth_line c verdict.Yes)
 
 -- and the line for a refusal does not say yes
 abbrev refused : Refusal → List ℕ
@@ -160,7 +193,7 @@ none_is_no_yes l e = cc
 
 pub refusal_says_none : (r : Refusal) → SaysYes (refusal_line r) → ⊥
 refusal_says_none r e = none_is_no_yes (refused r)
-    (sym (ap (λ ls. slice_get ls 3) (line_ahead (refused r) [] (clean_refused r))) ∙ e)
+    (sym (ap (λ ls. slice_get ls 3) (line_ahead (refused r) [] (clean_refused r))) ∙ has_yes (refusal_line r) e)
 
 -- ---- the front of a text
 
@@ -198,8 +231,14 @@ grown (x ∷ front) rest = by_feed (is_line_feed x) (grown front rest)
         (some_part front) g
 
 -- what says yes, says it whatever follows
-pub says_on : (front rest : List ℕ) → SaysYes front → SaysYes (front ++ rest)
+has_on : (front rest : List ℕ) → HasYes front → HasYes (front ++ rest)
 unfolding lines_of
-says_on front rest e =
+has_on front rest e =
     let g = grown front rest in
     ap (λ ls. slice_get ls 3) g.are ∙ kept (ended (slice_split is_line_feed front)) g.others 3 (codes "verdict yes") e
+
+pub says_on : (front rest : List ℕ) → SaysYes front → SaysYes (front ++ rest)
+says_on front rest e = says_yes_by_line (front ++ rest) (has_on front rest (has_yes front e))
+
+pub fourth_line_is_line : FourthLineIsLine
+fourth_line_is_line output = (has_yes output, says_yes_by_line output)

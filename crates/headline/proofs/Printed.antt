@@ -1,9 +1,9 @@
 -- A text that begins with a design says it, and the printing is the text of the sections.
-use Rattle.std.proofs.Common.{◌≡◌, ℕ, ℤ, pos, ◌<◌, ◌^◌, Bool, true, false, List, [], ◌∷◌, ◌++◌, length, map, Some}
+use Rattle.std.proofs.Common.{◌≡◌, ℕ, ℤ, pos, ◌<◌, ◌^◌, true, false, List, [], ◌∷◌, ◌++◌, length, map}
 use Rattle.std.proofs.Common.{None, refl, sym, ap, ap₂, subst, ◌∙◌, append_assoc, arith}
 use Rattle.std.specs.Prelude.{IsTrue, codes, ◌&&◌}
 use Rattle.std.specs.Fmt.{signed_decimal}
-use Rattle.std.specs.List.{All, AllByRecursion, flat_map, list_all, slice_split}
+use Rattle.std.specs.List.{All, AllByRecursion, flat_map, slice_split}
 use Rattle.std.proofs.lemmas.Grind.{flat_map-append}
 use Rattle.std.proofs.lemmas.List.{append-nil}
 use Rattle.std.proofs.lemmas.List.Elements.{All-from_recursion, All-head, All-tail}
@@ -29,13 +29,12 @@ use Rattle.circuit.specs.declared.circuit_line.Kind.TheVariants.{Input, Gate, Ou
 use Rattle.circuit.proofs.Spelling.{form_line as circuit_spelled}
 use Rattle.pattern.specs.Forms.{form_of as layout_form}
 use Rattle.pattern.specs.Grammars.{layout_grammar}
-use Rattle.pattern.specs.Layout.{Pattern, cell, parts_of}
+use Rattle.pattern.specs.Layout.{Pattern, parts_of}
 use Rattle.pattern.specs.Text.{form_text as layout_line, layout_text, part_text}
 use Rattle.pattern.specs.declared.layout_line.LayoutLine.{LayoutLine}
 use Rattle.pattern.specs.declared.layout_line.LayoutLine.TheVariants.{Mirror, Ball, In, Out, Waste}
 use Rattle.pattern.proofs.Spelling.{form_line as layout_spelled}
-use Rattle.meaning.specs.Design.{SaysDesign}
-use Rattle.meaning.specs.Printed.{BeginsWithDesign, IsForm, IsLine, circuit_printed, form, layout_forms, layout_printed}
+use Rattle.meaning.specs.Printed.{IsForm, IsLine, circuit_printed, form, layout_printed}
 use Rattle.meaning.specs.Printed.{line_words, part_form, printed}
 use Rattle.headline.specs.Laws.{BeginsWithOneDesign, PrintedIsRead}
 use Rattle.headline.proofs.Designs.{one_design}
@@ -62,7 +61,7 @@ lines_more (l ∷ ls) rest clean =
 
 -- ---- a line of a circuit
 
-kind_counts : (kind : Kind) → ((form kind).1 ≡ kind_ins kind) × ((form kind).2 ≡ kind_outs kind)
+kind_counts : (kind : Kind) → ((form kind).1 ≡ kind_ins kind) × ((form kind).3 ≡ kind_outs kind)
 kind_counts Input = (refl, refl)
 kind_counts (Gate (Source b)) = (refl, refl)
 kind_counts (Gate Fredkin) = (refl, refl)
@@ -78,7 +77,7 @@ kind_counts Spill = (refl, refl)
 pub fits_of : (r : CircuitLine) → IsLine r → FitsKind r
 fits_of r is = (is.consumes ∙ (kind_counts r.kind).0, is.defines ∙ (kind_counts r.kind).1)
 
-pub counts_of : (r : CircuitLine) → FitsKind r → (length r.ins ≡ (form r.kind).1) × (length r.outs ≡ (form r.kind).2)
+pub counts_of : (r : CircuitLine) → FitsKind r → (length r.ins ≡ (form r.kind).1) × (length r.outs ≡ (form r.kind).3)
 counts_of r fits = (fits.0 ∙ sym (kind_counts r.kind).0, fits.1 ∙ sym (kind_counts r.kind).1)
 
 pub are_names : (ns : List (List ℕ)) → All (λ n. IsTrue (is_name n)) ns → AreNames ns
@@ -198,9 +197,13 @@ circuit_lines (r ∷ circuit) h =
     let is = All-head IsLine r circuit h in
     let more = circuit_lines circuit (All-tail IsLine r circuit h) in
     let names = are_names (r.ins ++ r.outs) is.names in
-    let fits = fits_of r is in
-    ((line_of r.kind r.ins r.outs fits (names_left r.ins r.outs names) (names_right r.ins r.outs names) is.number,
-    more.0), (fits, more.1))
+    let fits = fits_of r is in (
+      (
+        line_of r.kind r.ins r.outs fits (names_left r.ins r.outs names) (names_right r.ins r.outs names) is.number,
+        more.0,
+      ),
+      (fits, more.1),
+    )
 
 first_number : (z : ℤ) (zs : List ℤ) → All IsNumber (z ∷ zs) → IsNumber z
 first_number z zs h = All-head IsNumber z zs h
@@ -223,9 +226,11 @@ part_read (Mirror r) h =
     let ws : List ℤ = pos r.h ∷ [] in
     let b = other_numbers (pos r.x) xs a in
     let c = other_numbers (pos r.y) ys b in
-    let d = other_numbers (pos r.w) ws c in
-    (mirror_line r (small r.x (first_number (pos r.x) xs a)) (small r.y (first_number (pos r.y) ys b))
-    (small r.w (first_number (pos r.w) ws c)) (small r.h (first_number (pos r.h) [] d)), tt)
+    let d = other_numbers (pos r.w) ws c in (
+      mirror_line r (small r.x (first_number (pos r.x) xs a)) (small r.y (first_number (pos r.y) ys b))
+          (small r.w (first_number (pos r.w) ws c)) (small r.h (first_number (pos r.h) [] d)),
+      tt,
+    )
 part_read (Ball c) h = let n = numbered_by c h.numbers in (ball_line c n, n)
 part_read (In q) h = let n = numbered_by q.cell h.numbers in (in_line q.name q.cell (one_name q.name h.names) n, n)
 part_read (Out q) h = let n = numbered_by q.cell h.numbers in (out_line q.name q.cell (one_name q.name h.names) n, n)

@@ -2,7 +2,7 @@
 use Rattle.std.proofs.Common.{◌≡◌, ℕ, zero, suc, ◌+◌, ◌<◌, ◌≤◌, ◌++◌, ◌&&◌, ◌||◌, not, eqb, Bool, true, false, List, []}
 use Rattle.std.proofs.Common.{◌∷◌, length, map, filter, take, drop, Some, None, Less, refl, sym, ap, ap₂, subst, ◌∙◌}
 use Rattle.std.proofs.Common.{append-nil, append_assoc, take-append-drop, cond, option_map, inl, inr, arith, ◌%◌}
-use Rattle.std.proofs.Common.{if◌then◌else◌, Ok}
+use Rattle.std.proofs.Common.{Ok}
 use Rattle.std.proofs.Math.Seq.{take-length}
 use Rattle.std.specs.Prelude.{slice_get, nat_lt, nat_le, ◌==◌, ◌≢◌}
 use Rattle.std.specs.List.{All, flat_map, list_all, list_any, range_with_len}
@@ -14,15 +14,15 @@ use Rattle.std.proofs.lemmas.List.{length-append, map-append}
 use Rattle.std.proofs.lemmas.Option.{same_Some, slice_get-map, slice_get_within}
 use Rattle.section_text.specs.Codes.{code_where, or_else}
 use Rattle.section_text.specs.Words.{has}
-use Rattle.circuit.specs.Bridge.{AreGood, AreGoodAfter, circuit_of, input_names, netlist_of, is_output, output_names}
+use Rattle.circuit.specs.Bridge.{AreGood, AreGoodAfter, circuit_of, input_names, netlist_of, output_names}
 use Rattle.circuit.specs.Entries.{defined}
 use Rattle.circuit.specs.Gates.{defines}
 use Rattle.circuit.specs.Meaning.{AreOrdered, Circuit, Gate, number, place_of, wire_of, wires, wires_after}
-use Rattle.circuit.specs.Rules.{define, consumed}
+use Rattle.circuit.specs.Rules.{define}
 use Rattle.circuit.specs.declared.circuit_line.CircuitLine.{CircuitLine}
 use Rattle.circuit.proofs.Bridging.{define_first, defined_push, gates_are_ordered, names_pass, numbers_new, push_cons}
 use Rattle.circuit.proofs.Naming.{inputs_are_first, wires_are_named}
-use Rattle.circuit.proofs.Places.{bytes_same, Have, consume_have, have_left}
+use Rattle.circuit.proofs.Places.{bytes_same, Have}
 use Rattle.module_box.specs.Locals.{is_among, local_wires}
 use Rattle.pattern.specs.Layout.{Pattern, parts_of}
 use Rattle.module_box.specs.declared.boxes.Box2.{Box2}

@@ -18,7 +18,7 @@ use Rattle.section_text.proofs.Again.{AreLines, lines_again}
 use Rattle.section_text.proofs.Good.{AreFaultless, IsFaultless}
 use Rattle.section_text.proofs.MadeSections.{clean_both, nothing_follows, section_made}
 use Rattle.section_text.proofs.Numbers.{number_written}
-use Rattle.circuit.specs.Bridge.{AreGoodAfter, circuit_of, input_names, is_input, netlist_of, output_names}
+use Rattle.circuit.specs.Bridge.{AreGoodAfter, circuit_of, input_names, netlist_of, output_names}
 use Rattle.circuit.specs.Entries.{defined}
 use Rattle.circuit.specs.Forms.{form_of as circuit_form}
 use Rattle.circuit.specs.Grammars.{circuit_grammar, missing_code}
@@ -56,8 +56,7 @@ use Rattle.headline.proofs.SmallDesigns.{small_is_decided}
 use Rattle.headline.proofs.WrittenNames.{input_named, outs_named}
 use Rattle.headline.proofs.YesIsPrinted.{design_printed}
 use Rattle.headline.proofs.Written.{HasLine, HasSection, has_section, line_by, name_word}
-use Rattle.headline.proofs.WrittenCircuits.{AreNames, circuit_written, decimal_word, named, names_both}
-use Rattle.headline.proofs.WrittenCircuits.{have_names, names_left, names_right}
+use Rattle.headline.proofs.WrittenCircuits.{AreNames, circuit_written, decimal_word, named}
 use Rattle.headline.proofs.WrittenLayouts.{layout_faultless, layout_written}
 
 -- ---- the names of the ports

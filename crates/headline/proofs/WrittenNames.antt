@@ -1,5 +1,5 @@
 -- The inputs and the outputs of a good circuit have names, if its wires do
-use Rattle.std.proofs.Common.{◌≡◌, Bool, true, false, cond, List, [], ◌∷◌, ◌++◌, ℕ, refl, sym, subst}
+use Rattle.std.proofs.Common.{Bool, true, false, cond, List, [], ◌∷◌, ◌++◌, ℕ, refl, sym, subst}
 use Rattle.std.specs.Prelude.{if◌then◌else◌}
 use Rattle.std.proofs.lemmas.Grind.{flat_map-append}
 use Rattle.circuit.specs.Bridge.{AreGoodAfter, input_names, is_input, is_output, output_names}

@@ -1,12 +1,12 @@
 -- A text that is not refused begins with the design that it says, and one that is reported with a yes is right.
-use Rattle.std.proofs.Common.{◌≡◌, ℕ, ℤ, pos, ◌<◌, ◌^◌, true, List, [], ◌∷◌, ◌++◌, map, refl, sym, ap, ap₂, subst, ◌∙◌, arith}
-use Rattle.std.specs.Prelude.{IsTrue, ◌≢◌, codes}
+use Rattle.std.proofs.Common.{◌≡◌, ℕ, ℤ, pos, ◌<◌, ◌^◌, true, List, [], ◌∷◌, ◌++◌, map, refl, sym, ap₂, subst, ◌∙◌, arith}
+use Rattle.std.specs.Prelude.{IsTrue, codes}
 use Rattle.std.specs.List.{All, AllByRecursion, list_all}
 use Rattle.std.proofs.lemmas.Bool.{and_parts}
 use Rattle.std.proofs.lemmas.List.Elements.{All-cons, All-from_recursion, All-nil, All-tail}
 use Rattle.section_text.specs.Ports.{Named}
 use Rattle.section_text.specs.Words.{is_name}
-use Rattle.circuit.specs.Bridge.{AreGoodAfter, input_names, output_names}
+use Rattle.circuit.specs.Bridge.{AreGoodAfter}
 use Rattle.circuit.specs.Entries.{defined}
 use Rattle.circuit.specs.Rules.{consumed}
 use Rattle.circuit.specs.Text.{circuit_text}
@@ -21,7 +21,6 @@ use Rattle.pattern.specs.declared.layout_line.LayoutHeader.{LayoutHeader}
 use Rattle.pattern.specs.declared.layout_line.LayoutLine.{LayoutLine}
 use Rattle.pattern.specs.declared.layout_line.LayoutLine.TheVariants.{Mirror, Ball, In, Out, Waste}
 use Rattle.audit_core.specs.Concluding.{port_names_of}
-use Rattle.answers.specs.CheckText.{IsReportOf}
 use Rattle.answers.specs.declared.outcome.Outcome.TheVariants.{Yes, Refused}
 use Rattle.meaning.specs.Printed.{BeginsWithDesign, IsForm, IsLine, layout_forms, part_form}
 use Rattle.headline.specs.Laws.{ReadIsPrinted, RightIsRightAsRead, YesMeansRight}
@@ -75,7 +74,6 @@ cell_numbers c k =
     (more_numbers k.x (pos k.y ∷ []) k.x_small (more_numbers k.y [] k.y_small (All-nil IsNumber)))
 
 module _ (s : LayoutHeader) (l : HasLimits s) (names : Named) where
-
   part_formed : (part : LayoutLine) → IsPortName s l names part → lines.is_inside s part ≡ true →
       IsForm (part_form part)
   unfolding lines.is_inside

@@ -1,5 +1,6 @@
 -- Laws of the answers.
-use Rattle.std.specs.Prelude.{◌≡◌, ◌≢◌, ◌<◌, ℕ, List}
+use Rattle.std.specs.Prelude.{◌≡◌, ◌≢◌, ◌<◌, ◌↔◌, ℕ, List, Some, slice_get, codes}
+use Rattle.section_text.specs.Words.{lines_of}
 use Rattle.circuit.specs.Bridge.{netlist_of}
 use Rattle.circuit.specs.Meaning.{Satisfies, Valuation, wires}
 use Rattle.circuit.specs.declared.circuit_line.CircuitLine.{CircuitLine}
@@ -77,6 +78,10 @@ YesHasOneValuation = (text output : List ℕ) (circuit : List CircuitLine) (layo
 abbrev pub FourthLineTells : Type 0
 FourthLineTells = (text output : List ℕ) (outcome : Outcome) → IsReportOf text output outcome →
     (SaysYes output → outcome ≡ Yes) × (outcome ≡ Yes → SaysYes output)
+
+-- and the fourth line is that of the lines of the output
+abbrev pub FourthLineIsLine : Type 0
+FourthLineIsLine = (output : List ℕ) → SaysYes output ↔ (slice_get (lines_of output) 3 ≡ Some (codes "verdict yes"))
 
 -- a text says one circuit and one layout at most
 abbrev pub SaysOneDesign : Type 0

@@ -1,6 +1,6 @@
 //! Laws of the definitions, each the contract of a function without a body.
 ghost use Rattle.answers.specs.CheckText.{IsReportOf};
-ghost use Rattle.headline.specs.Laws.{BeginsWithOneDesign, FourthLineTells, HasAnAnswer, HasOneAnswer, PrintedIsRead, ReadIsPrinted, ReportsOnGoodDesigns, RightIsRightAsRead, SaysOneCertificate, SaysOneDesign, ThereAndBackIsAccepted, TimedModulesAreAccepted, YesHasOneValuation, YesMeansRight, YesMeansRightInFull, YesMeansRightStops};
+ghost use Rattle.headline.specs.Laws.{BeginsWithOneDesign, FourthLineIsLine, FourthLineTells, HasAnAnswer, HasOneAnswer, PrintedIsRead, ReadIsPrinted, ReportsOnGoodDesigns, RightIsRightAsRead, SaysOneCertificate, SaysOneDesign, ThereAndBackIsAccepted, TimedModulesAreAccepted, YesHasOneValuation, YesMeansRight, YesMeansRightInFull, YesMeansRightStops};
 ghost use Rattle.headline.specs.PlainLaws.{DesignsAreRead, EachSmallDesignHasText, EachSmallDesignIsDecided, PlainIsDecided, PlainLinesDecide, PlainNoMeansWrong, RefusedIsNoSmallDesign, SmallDesignIsDecided, ThereAndBackIsPlain, ThereAndBackIsSmall, YesKeepsOffRim, NoLinesTell};
 ghost use Rattle.headline.specs.Witnesses.{PlainNoIsRefuted, PlainYesIsAccepted, SmallDesignIsAccepted, SmallDesignIsRefuted};
 ghost use Rattle.headline.specs.Migration.{KeepsVersionTwo, MigratesOnce, MigrationIsAccepted, MigrationSaysTheSame};
@@ -66,6 +66,7 @@ pub fn yes_means_right()
     ensures in_full { YesMeansRightInFull }
     ensures one_valuation { YesHasOneValuation }
     ensures told { FourthLineTells }
+    ensures line { FourthLineIsLine }
 {}
 
 /// States what a no means for a text whose certificate is one plain module, the whole rectangle.
@@ -114,6 +115,9 @@ pub fn lines_of_a_no_tell()
 ///
 /// If it is not refused, each line of the circuit and of the layout is good after those before it, by names, limits and
 /// cells. Each has its one spelling.
+///
+/// A text that begins with the printing of a circuit and a layout says them, and begins with no others. A text that is
+/// not refused begins with the printing of the circuit and the layout that it says.
 pub fn says_one_design()
     ensures one { SaysOneDesign }
     ensures certificate { SaysOneCertificate }

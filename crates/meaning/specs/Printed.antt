@@ -1,4 +1,6 @@
--- How a text writes a design: a circuit, and then a layout. Each line is as docs/FORMATS.md shows it.
+-- How a text prints a design: a circuit, and then a layout. Each line is as docs/FORMATS.md shows it. The laws
+-- `BeginsWithOneDesign`, `PrintedIsRead` and `ReadIsPrinted` of the crate `headline` say that a text begins with one
+-- design at most, and that it is the one that the text is read as (`SaysDesign`, Design.antt).
 use Rattle.std.specs.Prelude.{◌≡◌, ◌<◌, ◌^◌, ℕ, ℤ, pos, List, [], ◌∷◌, ◌++◌, drop, length, map, codes, IsTrue}
 use Rattle.std.specs.Prelude.{if◌then◌else◌}
 use Rattle.std.specs.List.{All, flat_map}
@@ -19,40 +21,34 @@ printed words = drop 1 (flat_map (λ w. 32 ∷ w) words) ++ 10 ∷ []
 
 -- ---- the circuit
 
--- a kind of line: its first words, how many names it consumes, and how many it defines
-abbrev pub form : Kind → List (List ℕ) × ℕ × ℕ
-form Input = (codes "input" ∷ [], 0, 1)
-form (Gate (Source b)) = (codes "source" ∷ (if b then codes "1" else codes "0") ∷ [], 0, 1)
-form (Gate Fredkin) = (codes "fredkin" ∷ [], 3, 3)
-form (Gate Cswap) = (codes "cswap" ∷ [], 3, 3)
-form (Gate Interact) = (codes "interact" ∷ [], 2, 4)
-form (Gate Switch) = (codes "switch" ∷ [], 2, 3)
-form (Gate (Delay n)) = (codes "delay" ∷ decimal n ∷ [], 1, 1)
-form (Gate Unswitch) = (codes "unswitch" ∷ [], 3, 2)
-form (Gate Uninteract) = (codes "uninteract" ∷ [], 4, 2)
-form Output = (codes "output" ∷ [], 1, 0)
-form Spill = (codes "spill" ∷ [], 1, 0)
-
--- the arrow of a gate
-abbrev pub arrow : Kind → List (List ℕ)
-arrow (Gate k) = codes "->" ∷ []
-arrow _ = []
+-- a kind of line: its first words, how many names it consumes, its arrow, and how many names it defines
+abbrev pub form : Kind → List ℕ × ℕ × List (List ℕ) × ℕ
+form Input = (codes "input", 0, [], 1)
+form (Gate (Source b)) = (if b then codes "source 1" else codes "source 0", 0, codes "->" ∷ [], 1)
+form (Gate Fredkin) = (codes "fredkin", 3, codes "->" ∷ [], 3)
+form (Gate Cswap) = (codes "cswap", 3, codes "->" ∷ [], 3)
+form (Gate Interact) = (codes "interact", 2, codes "->" ∷ [], 4)
+form (Gate Switch) = (codes "switch", 2, codes "->" ∷ [], 3)
+form (Gate (Delay n)) = (codes "delay " ++ decimal n, 1, codes "->" ∷ [], 1)
+form (Gate Unswitch) = (codes "unswitch", 3, codes "->" ∷ [], 2)
+form (Gate Uninteract) = (codes "uninteract", 4, codes "->" ∷ [], 2)
+form Output = (codes "output", 1, [], 0)
+form Spill = (codes "spill", 1, [], 0)
 
 -- the words of a line
 abbrev pub line_words : CircuitLine → List (List ℕ)
-line_words r = (form r.kind).0 ++ (r.ins ++ (arrow r.kind ++ r.outs))
+line_words r = (form r.kind).0 ∷ (r.ins ++ ((form r.kind).2 ++ r.outs))
 
 -- the line has as many names as its kind asks for, and its number has at most nine digits
 pub record IsLine (r : CircuitLine) : Type 0 where
   pub consumes : length r.ins ≡ (form r.kind).1
-  pub defines : length r.outs ≡ (form r.kind).2
+  pub defines : length r.outs ≡ (form r.kind).3
   pub names : All (λ n. IsTrue (is_name n)) (r.ins ++ r.outs)
   pub number : (n : ℕ) → r.kind ≡ Gate (Delay n) → n < 10 ^ 9
 
 -- the text of a circuit
 abbrev pub circuit_printed : List CircuitLine → List ℕ
-circuit_printed circuit =
-    flat_map printed ((codes "circuit" ∷ []) ∷ map line_words circuit ++ (codes "end" ∷ []) ∷ [])
+circuit_printed circuit = flat_map printed ((codes "circuit" ∷ []) ∷ map line_words circuit ++ (codes "end" ∷ []) ∷ [])
 
 -- ---- the layout
 
