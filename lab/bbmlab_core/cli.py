@@ -233,6 +233,23 @@ def from_golly_command(options: argparse.Namespace) -> int:
     return 0
 
 
+def cells_command(options: argparse.Namespace) -> int:
+    """Runs `bbmlab cells`."""
+    from . import standard_cells  # Imported late: no other command reads the cells.
+    if options.cell is None:
+        if options.svg or options.bundle:
+            raise LabError("--svg and --bundle need the name of a cell", 2)
+        text = "\n\n".join(standard_cells.read_cell(name).text() for name in standard_cells.cell_names()) + "\n"
+    elif options.svg:
+        text = picture_of(str(standard_cells.cell_path(options.cell)), None, None)
+    elif options.bundle:
+        text = read_text(str(standard_cells.cell_path(options.cell)))
+    else:
+        text = f"{standard_cells.read_cell(options.cell).text()}\n  bundle: {standard_cells.cell_path(options.cell)}\n"
+    write_text(options.output, text)
+    return 0
+
+
 def grid_sides(word: str) -> tuple[int, int]:
     """Returns the sides of boxes, written W,H or WxH."""
     sides = word.lower().replace("x", ",").split(",")
@@ -367,6 +384,17 @@ def add_view(commands: Commands) -> None:
     add_program(parser)
 
 
+def add_cells(commands: Commands) -> None:
+    """Adds `cells`."""
+    parser = commands.add("cells", cells_command, "List the standard cells with their ports, or show one of them.",
+                          "Example: bbmlab cells fredkin --svg -o fredkin.svg")
+    parser.add_argument("cell", nargs="?", metavar="NAME", help="the name of a cell (default: list all)")
+    form = parser.add_mutually_exclusive_group()
+    form.add_argument("--svg", action="store_true", help="draw the ways of its balls")
+    form.add_argument("--bundle", action="store_true", help="write its bundle, which the program checks")
+    parser.add_argument("-o", "--output", metavar="FILE", help="write to this file (default: standard output)")
+
+
 def add_others(commands: Commands) -> None:
     """Adds `json`, `golly` and `from-golly`."""
     parser = commands.add("json", json_command, "Write a text and its report as one JSON document, or the text of such a document.",
@@ -383,7 +411,7 @@ def add_others(commands: Commands) -> None:
     add_file(parser, "an RLE file for Golly's rule BBM-Margolus-emulated")
 
 
-ADDERS = [add_check, add_explain, add_trace, add_draw, add_view, add_certify, add_fmt, add_others]
+ADDERS = [add_check, add_explain, add_trace, add_draw, add_view, add_certify, add_cells, add_fmt, add_others]
 
 
 def main(words: list[str] | None = None) -> int:
