@@ -245,7 +245,7 @@ def cells_command(options: argparse.Namespace) -> int:
     elif options.bundle:
         text = read_text(str(standard_cells.cell_path(options.cell)))
     else:
-        text = f"{standard_cells.read_cell(options.cell).text()}\n  bundle: {standard_cells.cell_path(options.cell)}\n"
+        text = standard_cells.read_cell(options.cell).text() + "\n"
     write_text(options.output, text)
     return 0
 

@@ -17,7 +17,7 @@ FOLDER = Path(__file__).resolve().parent.parent / "cells"
 ABOUT = {
     "turn_left": "turns a ball to its left by one mirror",
     "turn_right": "turns a ball to its right by one mirror",
-    "turn_back": "sends a ball back on a track next to its own by two mirrors",
+    "turn_back": "sends a ball back on its own track by two mirrors",
     "delay_10": "sends a ball on along its own track, 10 steps later than without mirrors",
     "delay_24": "sends a ball on along its own track, 24 steps later than without mirrors",
     "crossing": "lets two balls cross, the second four steps after the first",

@@ -5,7 +5,7 @@ The gates are those of Fredkin and Toffoli 1982. The mirrors of the larger machi
 
 from dataclasses import replace
 
-from bbmlab_core.route.balls import Ball, Leg, Mirror, Turn, follow, mirror_cells
+from bbmlab_core.route.balls import Ball, Leg, Mirror, Turn, follow
 from bbmlab_core.route.cells import GateCell, base_cells
 
 from .bundles import Machine, rectangles
@@ -66,9 +66,14 @@ def renamed(machine: Machine, name: str, names: dict[str, str], gates: list[str]
     return replace(machine, name=name, gates=gates, ins=ins, outs=outs, constants=constants, garbage=garbage)
 
 
+def mirrors_of(sides: list[tuple[int, int, int, int]]) -> list[Mirror]:
+    """Returns mirrors from their corners, widths and heights."""
+    return [Mirror(*side) for side in sides]
+
+
 def found_machine(name: str, gates: list[str], ports: dict[str, dict[str, Ball]], sides: list[tuple[int, int, int, int]]) -> Machine:
     """Returns a machine that a search found: `ports` has the balls of `ins`, `inner` and `outs`, and `sides` the mirrors."""
-    return Machine(name, gates, ports["ins"], ports["outs"], [Mirror(*side) for side in sides], inner=ports["inner"])
+    return Machine(name, gates, ports["ins"], ports["outs"], mirrors_of(sides), inner=ports["inner"])
 
 
 UNSWITCH_MIRRORS = [
@@ -104,6 +109,30 @@ def uninteract_machine() -> Machine:
     return found_machine("uninteract", ["interact p q -> a b c d", "uninteract a b c d -> r s"], ports, UNINTERACT_MIRRORS)
 
 
+HALF_ADDER_MIRRORS = [
+    (-15, -40, 4, 2), (5, -40, 4, 2), (12, -39, 4, 2), (-2, -33, 2, 6), (-23, -32, 2, 4), (-10, -29, 4, 2), (0, -29, 2, 2), (24, -29, 2, 4),
+    (-23, -24, 2, 4), (-9, -24, 2, 4), (-16, -23, 2, 4), (-24, -21, 1, 4), (-23, -20, 1, 3), (-14, -19, 4, 2), (3, -16, 2, 4),
+    (34, -13, 2, 4), (-13, -12, 4, 2), (-5, -12, 2, 4), (-16, -11, 3, 2), (-13, -10, 1, 1), (6, -7, 2, 4), (22, -7, 2, 4), (9, -6, 4, 2),
+    (-22, -1, 2, 4), (-9, 0, 2, 4), (6, 1, 4, 2), (7, 3, 2, 3), (12, 3, 4, 2), (-6, 5, 4, 2), (24, 5, 2, 4), (17, 6, 2, 4), (26, 8, 1, 4),
+    (25, 9, 1, 3), (-13, 10, 4, 2), (13, 10, 4, 2), (12, 17, 4, 2), (16, 18, 3, 2), (15, 19, 1, 1),
+]
+
+
+def half_adder_machine() -> Machine:
+    """Returns a switch that copies a, a collision of a copy with b, and an inverse switch that joins the two lone balls."""
+    gates = ["source 1 -> k", "switch a k -> a1 a2 not_a", "interact a1 b -> carry b_alone a_alone again",
+             "unswitch a2 a_alone b_alone -> a3 sum"]
+    ins = {"a": Ball(6, 6, 1, 1, 0).at(2), "b": Ball(0, -23, 1, -1, 0).at(2)}
+    outs = {"sum": Ball(-21, -31, -1, -1, 98).at(96), "carry": Ball(4, -23, 1, -1, 98).at(96)}
+    return Machine("half_adder", gates, ins, outs, mirrors_of(HALF_ADDER_MIRRORS), [Ball(6, 15, 1, -1, 0)], ["not_a", "again", "a3"])
+
+
+def xor_machine() -> Machine:
+    """Returns the half adder with the carry as garbage."""
+    half = half_adder_machine()
+    return replace(half, name="xor", outs={"sum": half.outs["sum"]}, garbage=["carry", *half.garbage])
+
+
 def switch_machines(switch: Machine) -> list[Machine]:
     """Returns the machines that are a switch with other names: copies, NOT and AND."""
     copying = ["source 1 -> k", "switch a k -> d y z"]
@@ -122,10 +151,10 @@ def all_machines() -> list[Machine]:
     return [
         path_machine("turn_left", [Leg(4, FLAT), Leg(6, None)], [], "a"),
         path_machine("turn_right", [Leg(4, UPRIGHT), Leg(6, None)], [], "a"),
-        path_machine("turn_back", [Leg(4, FLAT), Leg(3, UPRIGHT), Leg(8, None)], [], "a"),
+        path_machine("turn_back", [Leg(4, FLAT), Leg(2, UPRIGHT), Leg(8, None)], [], "a"),
         delay_machine(10), delay_machine(24), crossing_machine(), collision_machine(),
         gate_machine("interact", cells["interact"][0]), uninteract_machine(), switch, unswitch_machine(),
         fredkin, gate_machine("fredkin_inverse", cells["fredkin"][1]),
         gate_machine("cswap", cells["cswap"][0]), gate_machine("cswap_inverse", cells["cswap"][1]),
-        *switch_machines(switch), either,
+        *switch_machines(switch), either, xor_machine(), half_adder_machine(),
     ]
