@@ -8,7 +8,7 @@ from typing import Callable
 
 from ..circuits import Circuit, Gate
 from .balls import Ball
-from .board import Board, Step
+from .board import Board, Step, Waiting
 from .netlist import Netlist
 from .paths import Path
 from .placement import Placer
@@ -92,7 +92,7 @@ class Attempt:
         netlist, waiting = self.netlist, self.board.waiting
 
         def rank(gate: Gate) -> tuple[bool, float, int]:
-            balls = [waiting[netlist.root(wire)] for wire in gate.ins if not netlist.is_zero(wire)]
+            balls = [waiting[netlist.root(wire)].ball for wire in gate.ins if not netlist.is_zero(wire)]
             times = [ball.time for ball in balls if ball is not None]
             return not times, max(times, default=0) - self.weight * netlist.tails[gate.number], gate.number
 
@@ -128,34 +128,36 @@ class Attempt:
     def end_time(self) -> int:
         """Returns the time at which all balls can have come to their last wires."""
         netlist, end = self.netlist, 2
-        for root, ball in self.board.waiting.items():
-            start = ball.time + 1 if ball else 0
+        for root, waiting in self.board.waiting.items():
+            start = waiting.ball.time + 1 if waiting.ball else 0
             end = max(end, start + netlist.least_steps(netlist.chain(root)[-1]))
         return end
 
     def lead_to_the_end(self) -> str | None:
         """Leads all waiting balls on to the last time; returns a sentence if that failed, and then takes the paths back."""
         board, end = self.board, self.end_time()
-        order = sorted(board.waiting.items(), key=lambda entry: (entry[1] is None, entry[1].time if entry[1] else 0))
-        before: list[tuple[str, Ball | None]] = []
+        order = sorted(board.waiting, key=lambda root: self.begin(board.waiting[root]))
+        before: dict[str, Waiting] = {}
         self.placer.blame.clear()
-        for root, ball in order:
+        for root in order:
             self.check_time()
-            board.stop_waiting(root)
-            path = self.last_path(root, ball, end)
+            before[root] = board.stop_waiting(root)
+            path = self.last_path(root, before[root].ball, end)
             if path is None:
-                board.wait(root, ball, None if ball is None else board.reservation(ball))
-                for path in reversed(board.ends):
-                    board.remove_path(path)
+                for other in board.ends:
+                    board.remove_path(other)
                 board.ends.clear()
-                for other, own in before:
-                    board.wait(other, own, None if own is None else board.reservation(own))
+                for other_root, waiting in before.items():
+                    board.wait(other_root, waiting)
                 self.placer.blame[root] += 1
                 return f"the ball of wire {root} could not be led to the last time, {end}"
             board.add_path(path)
             board.ends.append(path)
-            before.append((root, ball))
         return None
+
+    def begin(self, waiting: Waiting) -> tuple[bool, int]:
+        """Returns the key by which balls are led to the end: those that wait since long come first."""
+        return waiting.ball is None, waiting.ball.time if waiting.ball else 0
 
     def last_path(self, root: str, ball: Ball | None, end: int) -> Path | None:
         """Returns a path from a waiting ball, or from any place, to the last time."""

@@ -41,20 +41,28 @@ class PlacedGate:
         return self.cell.ins[name].moved(self.x, self.y, self.time)
 
 
+@dataclass(frozen=True)
+class Waiting:
+    """A ball that waits to be led on, and what is reserved for its next steps. Without a ball, it may begin anywhere at time 0."""
+
+    ball: Ball | None = None
+    item: Item | None = None
+
+
 @dataclass
 class Step:
-    """A gate that was placed, the paths to its inputs, and the balls of its outputs; with its cost."""
+    """A gate that was placed, the paths to its inputs, and its outputs that wait; with its cost, and its inputs before."""
 
     gate: PlacedGate
     paths: list[Path]
-    outs: dict[str, Ball]
-    before: dict[str, Ball | None] = field(default_factory=dict)
+    outs: dict[str, Waiting] = field(default_factory=dict)
+    before: dict[str, Waiting] = field(default_factory=dict)
     cost: float = 0.0
 
 
 def box_of(cell: GateCell, x: int, y: int) -> TileBox:
     """Returns the box of whole tiles whose inside has all cells of a placed gate that carry no wire."""
-    left, top, right, bottom = cell.unnamed_bounds()
+    left, top, right, bottom = cell.unnamed_bounds
     first_column, first_row = (left + x - 1) // TILE, (top + y - 1) // TILE
     return first_column, first_row, (right + x + 1) // TILE - first_column + 1, (bottom + y + 1) // TILE - first_row + 1
 
@@ -97,9 +105,8 @@ class Board:
     def __init__(self, netlist: Netlist, size: int, settings: Settings) -> None:
         self.netlist, self.size, self.settings = netlist, size, settings
         self.world = World(size)
-        # The root wires that wait: with their ball, or with None if they may begin anywhere at time 0.
-        self.waiting: dict[str, Ball | None] = {root: None for root in netlist.free_roots()}
-        self.reserved: dict[str, Item] = {}
+        # The root wires that wait.
+        self.waiting: dict[str, Waiting] = {root: Waiting() for root in netlist.free_roots()}
         self.steps: list[Step] = []
         self.ends: list[Path] = []
         # For each tile the wires that its box needs, with the number of items for which it does; and the gate that owns it.
@@ -147,29 +154,30 @@ class Board:
 
     # --- waiting balls -------------------------------------------------------------------------------------------------
 
-    def reservation(self, ball: Ball) -> Item | None:
-        """Returns what the next steps of a waiting ball take, or None if they leave the layout or meet something."""
-        far = ball.flown(self.settings.reserved_steps)
-        if not self.world.is_inside(far.x, far.y) or not self.world.is_inside(ball.x, ball.y):
-            return None
-        item = path_item(ball, [Leg(self.settings.reserved_steps, None)])
-        return item if item and self.world.fits(item) else None
+    def waiting_ball(self, ball: Ball) -> Waiting | None:
+        """Returns a ball that waits, or None if its next steps leave the layout or meet something."""
+        for steps in self.settings.reserved_steps:
+            far = ball.flown(steps)
+            if self.world.is_inside(far.x, far.y) and self.world.is_inside(ball.x, ball.y):
+                item = path_item(ball, [Leg(steps, None)])
+                if item and self.world.fits(item):
+                    return Waiting(ball, item)
+        return None
 
-    def wait(self, root: str, ball: Ball | None, item: Item | None) -> None:
-        """Makes a root wait, with what is reserved for it."""
-        self.waiting[root] = ball
-        if item is not None:
-            self.reserved[root] = item
-            self.world.add(item)
-            self.count_names(self.wires_of(root), tiles_of(item.touched), 1)
+    def wait(self, root: str, waiting: Waiting) -> None:
+        """Makes a root wait."""
+        self.waiting[root] = waiting
+        if waiting.item is not None:
+            self.world.add(waiting.item)
+            self.count_names(self.wires_of(root), tiles_of(waiting.item.touched), 1)
 
-    def stop_waiting(self, root: str) -> Ball | None:
-        """Ends the waiting of a root, and returns its ball."""
-        item = self.reserved.pop(root, None)
-        if item is not None:
-            self.world.remove(item)
-            self.count_names(self.wires_of(root), tiles_of(item.touched), -1)
-        return self.waiting.pop(root)
+    def stop_waiting(self, root: str) -> Waiting:
+        """Ends the waiting of a root, and returns it."""
+        waiting = self.waiting.pop(root)
+        if waiting.item is not None:
+            self.world.remove(waiting.item)
+            self.count_names(self.wires_of(root), tiles_of(waiting.item.touched), -1)
+        return waiting
 
     # --- paths and gates -----------------------------------------------------------------------------------------------
 
@@ -216,9 +224,8 @@ class Board:
         for path in step.paths:
             step.before[path.wire] = self.stop_waiting(path.wire)
             self.add_path(path)
-        for wire, ball in step.outs.items():
-            item = self.reservation(ball)
-            self.wait(wire, ball, item)
+        for wire, waiting in step.outs.items():
+            self.wait(wire, waiting)
         self.steps.append(step)
 
     def take_back(self) -> Step:
@@ -229,7 +236,7 @@ class Board:
         for path in step.paths:
             self.remove_path(path)
         self.remove_gate(step.gate)
-        for wire, ball in step.before.items():
-            self.wait(wire, ball, None if ball is None else self.reservation(ball))
+        for wire, waiting in step.before.items():
+            self.wait(wire, waiting)
         step.before = {}
         return step

@@ -6,7 +6,7 @@ a path lie on the two kinds of diagonals in turn. The last three legs follow fro
 
 import random
 from dataclasses import dataclass
-from typing import Callable, Iterator, NamedTuple
+from typing import Callable, Iterator, NamedTuple, Sequence
 
 from .balls import BOUNCE_STEPS, Ball, Leg, Mirror, Turn, bounce, bounce_before
 from .settings import Settings
@@ -33,6 +33,14 @@ class Option(NamedTuple):
     cost: float
     steps: int
     turn: Turn
+
+
+class Turned(NamedTuple):
+    """A bounce after or before some steps, with the ball on its other side."""
+
+    steps: int
+    turn: Turn
+    ball: Ball
 
 
 class Trail:
@@ -202,16 +210,14 @@ class PathFinder:
         """Returns a path from a ball to a ball. A long wait wanders first."""
         settings = self.settings
         if goal.time - start.time <= settings.short_path:
-            legs = self.connect_short(start, goal, 0, tries)
+            legs = self.connect_short(start, goal, tries)
             return self.complete(wire, start, goal, legs) if legs else None
-        for _ in range(max(3, tries // 30)):
+        for _ in range(max(3, tries // 60)):
             trail = Trail(self.world, start)
             stop = goal.time - self.chance.randint(*settings.wander_stop)
             legs = None
             if self.wander(trail, stop, goal):
-                before = trail.legs()
-                ball, begun = (trail.ball, 0)
-                rest = self.connect_short(ball, goal, begun, 60)
+                before, rest = trail.legs(), self.connect_short(trail.ball, goal, tries)
                 if rest:
                     legs = [*before[:-1], Leg(before[-1].steps + rest[0].steps, rest[0].turn), *rest[1:]]
             trail.clear()
@@ -220,59 +226,77 @@ class PathFinder:
                 return path
         return None
 
-    def connect_short(self, start: Ball, goal: Ball, begun: int, tries: int) -> list[Leg] | None:
-        """Returns legs from a ball to a ball, after up to `tries` random beginnings."""
+    def connect_short(self, start: Ball, goal: Ball, tries: int) -> list[Leg] | None:
+        """Returns legs from a ball to a ball.
+
+        The first and the last bounce are chosen where mirrors have room. The two bounces between follow from place and time.
+        """
         total = goal.time - start.time
         if total < 0 or not is_in_reach(start, goal):
             return None
         if start.flown(total) == goal:
-            legs = [Leg(total, None)]
-            if self.is_free(start, legs, begun):
-                return legs
+            straight = [Leg(total, None)]
+            if self.is_path(start, straight):
+                return straight
+        first, last = self.departures(start, total), self.approaches(goal, total)
         for _ in range(tries):
-            turns = self.random_turns(start, goal)
-            found = self.random_beginning(start, goal, turns[:-2], begun)
-            if found is None:
-                continue
-            ball, before = found
-            rest = self.last_legs(ball, goal, turns[-2:], BOUNCE_STEPS if before else begun)
-            if rest and self.is_free(ball, rest, BOUNCE_STEPS if before else begun) and self.is_path(start, before + rest):
-                return before + rest
+            before = self.chance.choice(first) if first and self.chance.random() < 0.7 else None
+            after = self.chance.choice(last) if last and self.chance.random() < 0.8 else None
+            legs = self.joined(start, goal, before, after)
+            if legs and self.is_path(start, legs):
+                return legs
         return None
+
+    def departures(self, ball: Ball, total: int) -> list[Turned]:
+        """Returns first bounces of a ball for which a mirror has room, each with the ball after it."""
+        found, room = [], self.world.free_flight(ball, min(self.settings.longest_leg, total))
+        for steps in self.some_steps(0, room):
+            at = ball.flown(steps)
+            for turn in Turn:
+                after, mirror = bounce(at, turn)
+                if self.world.can_hold(mirror):
+                    found.append(Turned(steps, turn, after))
+        return found
+
+    def approaches(self, goal: Ball, total: int) -> list[Turned]:
+        """Returns last bounces before a ball for which a mirror has room, each with the ball before it."""
+        found, back = [], goal.reversed()
+        room = self.world.free_flight(back, min(self.settings.longest_leg, total))
+        for steps in self.some_steps(BOUNCE_STEPS, room):
+            at = goal.flown(-steps)
+            for turn in Turn:
+                before, mirror = bounce_before(at, turn)
+                if self.world.can_hold(mirror):
+                    found.append(Turned(steps, turn, before))
+        return found
+
+    def some_steps(self, least: int, most: int) -> Sequence[int]:
+        """Returns numbers of steps from `least` to `most`: all, or some at random if they are many."""
+        if most - least < 40:
+            return range(least, most + 1)
+        return sorted(self.chance.sample(range(least, most + 1), 40))
+
+    def joined(self, start: Ball, goal: Ball, before: Turned | None, after: Turned | None) -> list[Leg] | None:
+        """Returns legs that begin and end with given bounces, if one or two bounces between them can join them."""
+        ball, begun = (before.ball, BOUNCE_STEPS) if before else (start, 0)
+        target = after.ball if after else goal
+        flat, upright = ball.dy != target.dy, ball.dx != target.dx
+        if flat != upright:
+            turns = [Turn.FLAT if flat else Turn.UPRIGHT]
+        elif flat:
+            turns = [Turn.FLAT, Turn.UPRIGHT] if self.chance.random() < 0.5 else [Turn.UPRIGHT, Turn.FLAT]
+        else:
+            turns = [self.chance.choice((Turn.FLAT, Turn.UPRIGHT))] * 2
+        rest = self.last_legs(ball, target, turns, begun)
+        if rest is None or not self.is_free(ball, rest, begun):
+            return None
+        legs = [Leg(before.steps, before.turn), *rest] if before else rest
+        return [*legs[:-1], Leg(legs[-1].steps, after.turn), Leg(after.steps, None)] if after else legs
 
     def is_path(self, start: Ball, legs: list[Leg]) -> bool:
         """Whether a path meets nothing, itself included."""
         item = path_item(start, legs)
         return item is not None and self.world.fits(item)
-
-    def random_turns(self, start: Ball, goal: Ball) -> list[Turn]:
-        """Returns bounces that lead from the direction of a ball to that of another."""
-        chance = self.chance
-        flat, upright = start.dy != goal.dy, start.dx != goal.dx
-        total = goal.time - start.time
-        most = self.settings.longest_leg
-        count = 2 * chance.choice((0, 1, 1, 2)) + (1 if flat != upright else 2) + 2 * max(0, int((total - 2 * most) // (most * 1.2)))
-        turns = [chance.choice((Turn.FLAT, Turn.UPRIGHT)) for _ in range(count)]
-        if (turns.count(Turn.FLAT) % 2 == 1) != flat:
-            index = chance.randrange(count)
-            turns[index] = turns[index].other
-        return turns
-
-    def random_beginning(self, ball: Ball, goal: Ball, turns: list[Turn], begun: int) -> tuple[Ball, list[Leg]] | None:
-        """Returns legs of random lengths with these bounces, and the ball after them."""
-        world, chance, legs = self.world, self.chance, []
-        for turn in turns:
-            most = min(self.settings.longest_leg, goal.time - ball.time) - begun
-            room = begun + world.free_flight(ball.flown(begun), most) if most > 0 else 0
-            if room < begun:
-                return None
-            steps = chance.randint(begun, room)
-            ball, mirror = bounce(ball.flown(steps), turn)
-            if not world.can_hold(mirror) or not is_in_reach(ball, goal):
-                return None
-            legs.append(Leg(steps, turn))
-            begun = BOUNCE_STEPS
-        return ball, legs
 
     def last_legs(self, ball: Ball, goal: Ball, turns: list[Turn], begun: int) -> list[Leg] | None:
         """Returns the legs with these one or two bounces that lead to the goal in place and time, or None."""

@@ -11,7 +11,7 @@ from typing import Iterator
 
 from ..circuits import Gate
 from .balls import Ball, Leg, Turn, bounce
-from .board import Board, PlacedGate, Step, box_of, tiles_in
+from .board import Board, Step, Waiting, box_of, tiles_in
 from .cells import PORTS, GateCell
 from .paths import PathFinder
 from .settings import Settings
@@ -61,7 +61,7 @@ class Placer:
         for port, wire in zip(PORTS[gate.word][0], gate.ins):
             if not netlist.is_zero(wire):
                 root = netlist.root(wire)
-                found.append(Inlet(port, root, self.board.waiting[root], netlist.least_steps(wire)))
+                found.append(Inlet(port, root, self.board.waiting[root].ball, netlist.least_steps(wire)))
         return found
 
     def place_gate(self, gate: Gate) -> Step | None:
@@ -92,8 +92,8 @@ class Placer:
         cells = self.board.netlist.cells(gate)
         for index in range(tries):
             cell, growth = cells[chance.randrange(len(cells))], index / tries
-            x, y, radius = self.centre(inlets, growth)
-            left, top, right, bottom = cell.bounds()
+            left, top, right, bottom = cell.bounds
+            x, y, radius = self.centre(inlets, growth, (right - left) // 2)
             x, y = x - (left + right) // 2, y - (top + bottom) // 2
             row = y + chance.randint(-radius, radius)
             column = self.free_column(cell, row, x - radius, x + radius)
@@ -106,24 +106,24 @@ class Placer:
             time = self.earliest(cell, column, row, inlets) + chance.randint(2, chance.choice((12, 24, 50)) if growth < 0.5 else 110)
             yield Spot(cell, column, row, time + (time - column) % 2)
 
-    def centre(self, inlets: list[Inlet], growth: float) -> tuple[int, int, int]:
-        """Returns a place near the waiting balls, and how far around it a gate may be."""
+    def centre(self, inlets: list[Inlet], growth: float, half: int) -> tuple[int, int, int]:
+        """Returns a place near the waiting balls for a cell of twice `half` cells, and how far around it the cell may be."""
         chance, size = self.chance, self.board.size
         balls = [inlet.ball for inlet in inlets if inlet.ball]
         if not balls:
-            return chance.randrange(size), chance.randrange(size), 60
-        radius = chance.choice((30, 60, 120, 30 + int(220 * growth)))
+            return chance.randrange(half, size - half), chance.randrange(half, size - half), 60
+        radius = half + chance.choice((20, 40, 80, 30 + int(200 * growth)))
         last = max(balls, key=lambda ball: ball.time)
-        ahead = last.flown(chance.randint(10, 30 + int(60 * growth)))
+        ahead = last.flown(chance.randint(half, half + 20 + int(60 * growth)))
         x, y = ahead.x, ahead.y
         if len(balls) > 1 and chance.random() < 0.4:
             other = balls[chance.randrange(len(balls))]
             x, y = (x + other.x) // 2, (y + other.y) // 2
-        return min(max(x, 20), size - 20), min(max(y, 20), size - 20), radius
+        return min(max(x, half), size - half), min(max(y, half), size - half), radius
 
     def free_column(self, cell: GateCell, row: int, first: int, last: int) -> int | None:
         """Returns a random column from `first` to `last` at which the cell's mirrors have room if it is at this row, or None."""
-        left, top, right, bottom = cell.bounds()
+        left, top, right, bottom = cell.bounds
         far = self.board.size - MARGIN - 1
         first, last = max(first, MARGIN - left), min(last, far - right)
         if row + top < MARGIN or row + bottom > far or first > last:
@@ -174,28 +174,27 @@ class Placer:
             self.reasons["cuts"] += 1
             return None
         board.add_gate(placed)
-        step = Step(placed, [], {wire: placed.out(port) for port, wire in zip(PORTS[gate.word][1], gate.outs)})
-        reserved: dict[str, Item] = {}
-        done = self.reserve_outs(step, reserved) and self.lead_inputs(step, inlets) and self.leaves_escapes(step, reserved)
+        step = Step(placed, [])
+        done = self.reserve_outs(step, gate) and self.lead_inputs(step, inlets) and self.leaves_escapes(step)
         for path in step.paths:
             board.remove_path(path)
-        for item in reserved.values():
-            world.remove(item)
-        for root, ball in step.before.items():
-            board.wait(root, ball, None if ball is None else board.reservation(ball))
+        for own in step.outs.values():
+            world.remove(item_of(own))
+        for root, waiting in step.before.items():
+            board.wait(root, waiting)
         step.before = {}
         board.remove_gate(placed)
         return step if done else None
 
-    def reserve_outs(self, step: Step, reserved: dict[str, Item]) -> bool:
-        """Reserves the ways out of a gate's outputs."""
-        for wire, ball in step.outs.items():
-            item = self.board.reservation(ball)
-            if item is None:
+    def reserve_outs(self, step: Step, gate: Gate) -> bool:
+        """Lets a gate's outputs wait, if their ways out are free."""
+        for port, wire in zip(PORTS[gate.word][1], gate.outs):
+            waiting = self.board.waiting_ball(step.gate.out(port))
+            if waiting is None:
                 self.reasons["ways out"] += 1
                 return False
-            self.board.world.add(item)
-            reserved[wire] = item
+            self.board.world.add(item_of(waiting))
+            step.outs[wire] = waiting
         return True
 
     def way_in(self, ball: Ball) -> Item | None:
@@ -228,50 +227,49 @@ class Placer:
     def lead_input(self, step: Step, inlet: Inlet) -> bool:
         """Leads one input to a gate."""
         board, goal = self.board, step.gate.into(inlet.port)
-        ball = board.stop_waiting(inlet.root)
-        if ball is None:
+        waiting = board.stop_waiting(inlet.root)
+        if waiting.ball is None:
             path = self.finder.lead_here(inlet.root, goal)
         else:
-            path = self.finder.connect(inlet.root, ball, goal, self.settings.path_tries)
+            path = self.finder.connect(inlet.root, waiting.ball, goal, self.settings.path_tries)
         if path and not board.has_room_for(inlet.root, tiles_of(path.item.touched | path.item.mirrors)):
             self.reasons["cuts of a path"] += 1
             path = None
         if path is None:
-            board.wait(inlet.root, ball, None if ball is None else board.reservation(ball))
+            board.wait(inlet.root, waiting)
             self.reasons["no path"] += 1
             self.blame[inlet.root] += 1
             return False
         step.cost += self.finder.cost(path)
         board.add_path(path)
-        step.before[inlet.root] = ball
+        step.before[inlet.root] = waiting
         step.paths.append(path)
         return True
 
-    def leaves_escapes(self, step: Step, reserved: dict[str, Item]) -> bool:
+    def leaves_escapes(self, step: Step) -> bool:
         """Whether each waiting ball can still turn. Adds the cost of time to the step."""
         board = self.board
-        for root, ball in board.waiting.items():
-            if ball is not None and not self.can_turn(ball, board.reserved[root]):
-                self.reasons["encloses another"] += 1
-                return False
-        if not all(self.can_turn(ball, reserved[wire]) for wire, ball in step.outs.items()):
+        if not all(own.ball is None or self.can_turn(own) for own in board.waiting.values()):
+            self.reasons["encloses another"] += 1
+            return False
+        if not all(self.can_turn(own) for own in step.outs.values()):
             self.reasons["enclosed"] += 1
             return False
         late = max(0, self.done(step) - self.horizon)
-        step.cost += 3 * len(board.waiting) * late + 0.3 * max(ball.time for ball in step.outs.values())
+        step.cost += 3 * len(board.waiting) * late + 0.3 * max(ball_of(own).time for own in step.outs.values())
         return True
 
     def done(self, step: Step) -> int:
         """Returns an estimate of the time at which all that follows a step is done."""
         netlist, times = self.board.netlist, []
-        for wire, ball in step.outs.items():
+        for wire, waiting in step.outs.items():
             consumer = netlist.consumer.get(wire)
-            times.append(ball.time + (netlist.tails[consumer.number] if consumer else 0))
+            times.append(ball_of(waiting).time + (netlist.tails[consumer.number] if consumer else 0))
         return max(times)
 
-    def can_turn(self, ball: Ball, reserved: Item) -> bool:
+    def can_turn(self, waiting: Waiting) -> bool:
         """Whether a waiting ball has enough places ahead at which it can turn."""
-        world = self.board.world
+        world, ball, reserved = self.board.world, ball_of(waiting), item_of(waiting)
         world.remove(reserved)
         room, found = world.free_flight(ball, 70), 0
         for steps in range(0, room + 1, 2 if room < 24 else 3):
@@ -284,3 +282,17 @@ class Placer:
                 break
         world.add(reserved)
         return found >= self.settings.escapes
+
+
+def ball_of(waiting: Waiting) -> Ball:
+    """Returns the ball that waits; raises ValueError if it may begin anywhere."""
+    if waiting.ball is None:
+        raise ValueError("the ball may begin anywhere")
+    return waiting.ball
+
+
+def item_of(waiting: Waiting) -> Item:
+    """Returns what is reserved for a waiting ball; raises ValueError if nothing is."""
+    if waiting.item is None:
+        raise ValueError("nothing is reserved for the ball")
+    return waiting.item

@@ -23,8 +23,8 @@ class Settings:
     # The cost of a mirror, and of each step by which the last output of a gate is later.
     mirror_cost: float = 12.0
     step_cost: float = 40.0
-    # The steps for which the way on of a waiting ball is kept free, and the mirrors that must have room beside it.
-    reserved_steps: int = 14
+    # The steps for which the way on of a waiting ball is kept free, the first that fit, and the mirrors that must have room there.
+    reserved_steps: tuple[int, ...] = (14, 11, 8)
     escapes: int = 3
     # Failures after which an attempt with a seed and a size is given up.
     failures: int = 12

@@ -129,7 +129,7 @@ def cell_shape(cell: GateCell) -> Item:
     shape = _shapes.get(id(cell))
     if shape is None:
         claims = {time * STEP + cell_number(corner) for time, corners in enumerate(cell.blocks) for corner in corners}
-        shape = Item({cell_number(own) for own in cell.mirrors}, {cell_number(own) for own in cell.touched()}, claims)
+        shape = Item({cell_number(own) for own in cell.mirrors}, {cell_number(own) for own in cell.touched}, claims)
         _shapes[id(cell)] = shape
     return shape
 
