@@ -8,7 +8,7 @@ from bbmlab_core.circuits import Gate
 from bbmlab_core.gates import gate_row, input_tables
 from bbmlab_core.route.balls import (BOUNCE_STEPS, Ball, Leg, Turn, bounce, bounce_before, follow, mirror_cells, path_run, run_exactly,
                                      start_state)
-from bbmlab_core.route.cells import PORTS, GateCell, library
+from bbmlab_core.route.cells import PORTS, GateCell, base_cells, library
 
 EACH_DIRECTION = [Ball(40 + (dx < 0), 40 + (dy < 0), dx, dy, 0) for dx in (1, -1) for dy in (1, -1)]
 
@@ -65,7 +65,7 @@ class Cells(unittest.TestCase):
         chance = random.Random(seed)
         for word, cells in library().items():
             self.assertGreaterEqual(len(cells), 8)
-            for cell in cells:
+            for cell in [*cells, *base_cells()[word]]:
                 odd = chance.randrange(2)
                 shift = tuple(2 * chance.randrange(40) + odd for _ in range(3))
                 found, expected = self.ends(cell, (shift[0], shift[1], shift[2]))
