@@ -14,6 +14,10 @@ from .world import Item, World, path_item
 
 # A leg leads on for at least this many steps, if the path goes on so long.
 LEAST_LEG = 12
+# A wander ends with this many steps more than the way to its goal needs at least.
+SPARE_STEPS = 30
+# A path without a return has at most this many steps to spare.
+STAIR_STEPS = 24
 
 
 @dataclass(frozen=True)
@@ -36,11 +40,14 @@ class Option(NamedTuple):
 
 
 class Turned(NamedTuple):
-    """A bounce after or before some steps, with the ball on its other side."""
+    """A bounce after or before some steps, with the ball on its other side; or no bounce."""
 
     steps: int
-    turn: Turn
+    turn: Turn | None
     ball: Ball
+
+
+Direction = tuple[int, int]
 
 
 class Trail:
@@ -145,7 +152,7 @@ class PathFinder:
         self.check_time()
         for _ in range(self.settings.wander_tries):
             left = end - trail.ball.time
-            if left == 0 and not trail.steps or trail.room(left) >= left and left >= trail.begun and trail.push(left, None):
+            if left == 0 and not trail.steps or self.can_end(trail, left, goal) and trail.push(left, None):
                 return True
             ways.append(iter(self.options(trail, left, goal)))
             while ways:
@@ -159,6 +166,12 @@ class PathFinder:
             if not ways:
                 return False
         return False
+
+    def can_end(self, trail: Trail, left: int, goal: Ball | None) -> bool:
+        """Whether a trail can fly straight on to its end, with enough time to come to a goal from there."""
+        if left < trail.begun or trail.room(left) < left:
+            return False
+        return goal is None or is_in_reach(trail.ball.flown(left), goal, SPARE_STEPS)
 
     def options(self, trail: Trail, left: int, goal: Ball | None) -> list[Option]:
         """Returns the ways on of a trail, the cheapest first."""
@@ -177,7 +190,7 @@ class PathFinder:
                     continue
                 clear = after.flown(BOUNCE_STEPS)
                 on = BOUNCE_STEPS + world.free_flight(clear, min(60, rest - BOUNCE_STEPS))
-                if on < min(LEAST_LEG, rest) or goal and not is_in_reach(after, goal):
+                if on < min(LEAST_LEG, rest) or goal and not is_in_reach(after, goal, SPARE_STEPS):
                     continue
                 new = world.new_cells(trail.ball, steps) + world.new_cells(clear, on - BOUNCE_STEPS)
                 cost = (new + settings.mirror_cost) / (steps + on) + chance.random() * 0.5
@@ -239,35 +252,40 @@ class PathFinder:
             if self.is_path(start, straight):
                 return straight
         first, last = self.departures(start, total), self.approaches(goal, total)
-        for _ in range(tries):
-            before = self.chance.choice(first) if first and self.chance.random() < 0.7 else None
-            after = self.chance.choice(last) if last and self.chance.random() < 0.8 else None
-            legs = self.joined(start, goal, before, after)
+        spare = total - max(abs(start.x - goal.x), abs(start.y - goal.y))
+        returns = (True, True, True, False) if spare <= STAIR_STEPS else (True,)
+        joins = [(before, after, is_return) for way, before in first.items() for is_return in returns
+                 for after in [last.get((-way[0], -way[1]) if is_return else way)] if after]
+        for _ in range(tries if joins else 0):
+            firsts, lasts, is_return = joins[int(self.chance.random() * len(joins))]
+            before, after = firsts[int(self.chance.random() * len(firsts))], lasts[int(self.chance.random() * len(lasts))]
+            legs = self.joined(before, after, is_return)
             if legs and self.is_path(start, legs):
                 return legs
         return None
 
-    def departures(self, ball: Ball, total: int) -> list[Turned]:
-        """Returns first bounces of a ball for which a mirror has room, each with the ball after it."""
-        found, room = [], self.world.free_flight(ball, min(self.settings.longest_leg, total))
+    def departures(self, ball: Ball, total: int) -> dict[Direction, list[Turned]]:
+        """Returns by direction the beginnings of a path: none, and first bounces for which a mirror has room."""
+        found = {(ball.dx, ball.dy): [Turned(0, None, ball)]}
+        room = self.world.free_flight(ball, min(self.settings.longest_leg, total))
         for steps in self.some_steps(0, room):
             at = ball.flown(steps)
             for turn in Turn:
                 after, mirror = bounce(at, turn)
                 if self.world.can_hold(mirror):
-                    found.append(Turned(steps, turn, after))
+                    found.setdefault((after.dx, after.dy), []).append(Turned(steps, turn, after))
         return found
 
-    def approaches(self, goal: Ball, total: int) -> list[Turned]:
-        """Returns last bounces before a ball for which a mirror has room, each with the ball before it."""
-        found, back = [], goal.reversed()
+    def approaches(self, goal: Ball, total: int) -> dict[Direction, list[Turned]]:
+        """Returns by direction the ends of a path: none, and last bounces for which a mirror has room."""
+        found, back = {(goal.dx, goal.dy): [Turned(0, None, goal)]}, goal.reversed()
         room = self.world.free_flight(back, min(self.settings.longest_leg, total))
         for steps in self.some_steps(BOUNCE_STEPS, room):
             at = goal.flown(-steps)
             for turn in Turn:
                 before, mirror = bounce_before(at, turn)
                 if self.world.can_hold(mirror):
-                    found.append(Turned(steps, turn, before))
+                    found.setdefault((before.dx, before.dy), []).append(Turned(steps, turn, before))
         return found
 
     def some_steps(self, least: int, most: int) -> Sequence[int]:
@@ -276,57 +294,19 @@ class PathFinder:
             return range(least, most + 1)
         return sorted(self.chance.sample(range(least, most + 1), 40))
 
-    def joined(self, start: Ball, goal: Ball, before: Turned | None, after: Turned | None) -> list[Leg] | None:
-        """Returns legs that begin and end with given bounces, if one or two bounces between them can join them."""
-        ball, begun = (before.ball, BOUNCE_STEPS) if before else (start, 0)
-        target = after.ball if after else goal
-        flat, upright = ball.dy != target.dy, ball.dx != target.dx
-        if flat != upright:
-            turns = [Turn.FLAT if flat else Turn.UPRIGHT]
-        elif flat:
-            turns = [Turn.FLAT, Turn.UPRIGHT] if self.chance.random() < 0.5 else [Turn.UPRIGHT, Turn.FLAT]
-        else:
-            turns = [self.chance.choice((Turn.FLAT, Turn.UPRIGHT))] * 2
-        rest = self.last_legs(ball, target, turns, begun)
-        if rest is None or not self.is_free(ball, rest, begun):
+    def joined(self, before: Turned, after: Turned, is_return: bool) -> list[Leg] | None:
+        """Returns legs that begin and end with given bounces, if two bounces between them can join them."""
+        begun = BOUNCE_STEPS if before.turn else 0
+        rest = middle_legs(before.ball, after.ball, begun, is_return, self.chance.random())
+        if rest is None or not self.is_free(before.ball, rest, begun):
             return None
-        legs = [Leg(before.steps, before.turn), *rest] if before else rest
-        return [*legs[:-1], Leg(legs[-1].steps, after.turn), Leg(after.steps, None)] if after else legs
+        legs = [Leg(before.steps, before.turn), *rest] if before.turn else rest
+        return [*legs[:-1], Leg(legs[-1].steps, after.turn), Leg(after.steps, None)] if after.turn else legs
 
     def is_path(self, start: Ball, legs: list[Leg]) -> bool:
         """Whether a path meets nothing, itself included."""
         item = path_item(start, legs)
         return item is not None and self.world.fits(item)
-
-    def last_legs(self, ball: Ball, goal: Ball, turns: list[Turn], begun: int) -> list[Leg] | None:
-        """Returns the legs with these one or two bounces that lead to the goal in place and time, or None."""
-        x, y, dx, dy = goal.x - ball.x, goal.y - ball.y, ball.dx, ball.dy
-        directions = [(dx, dy)]
-        for turn in turns:
-            if turn is Turn.FLAT:
-                x, y, dy = x + 2 * dx, y - dy, -dy
-            else:
-                x, y, dx = x - dx, y + 2 * dy, -dx
-            directions.append((dx, dy))
-        if (dx, dy) != (goal.dx, goal.dy):
-            return None
-        # On the two diagonals, which are at right angles, these are the sums of steps in the direction of the first two legs.
-        first = x * directions[0][0] + y * directions[0][1]
-        second = x * directions[1][0] + y * directions[1][1]
-        if first % 2 or second % 2:
-            return None
-        first, second, total = first // 2, second // 2, goal.time - ball.time
-        if len(turns) == 1:
-            steps = [first, second]
-        elif directions[2] == directions[0]:
-            start = self.chance.randint(begun, first) if first >= begun else -1
-            steps = [start, second, first - start]
-        else:
-            start = total - second + first
-            steps = [start // 2, second, total - second - start // 2] if start % 2 == 0 else [-1]
-        if steps[0] < begun or min(steps[1:]) < BOUNCE_STEPS or sum(steps) != total:
-            return None
-        return [Leg(own, turn) for own, turn in zip(steps, [*turns, None])]
 
     def is_free(self, ball: Ball, legs: list[Leg], begun: int) -> bool:
         """Whether no mirror is in the way of legs, and each of their mirrors has room."""
@@ -343,6 +323,36 @@ class PathFinder:
         return True
 
 
-def is_in_reach(ball: Ball, goal: Ball) -> bool:
-    """Whether a ball can come to the place of another in time, apart from what is in the way."""
-    return max(abs(ball.x - goal.x), abs(ball.y - goal.y)) <= goal.time - ball.time + 2 * BOUNCE_STEPS
+def middle_legs(ball: Ball, goal: Ball, begun: int, is_return: bool, share: float) -> list[Leg] | None:
+    """Returns three legs from a ball to a ball, with two bounces, or None.
+
+    If `is_return`, the ball comes back at the second bounce: two different bounces reverse it, and the time follows from the
+    legs. Else two equal bounces shift it, and the time must fit; `share`, from 0 to 1, divides the way between the two legs.
+    """
+    x, y, dx, dy, time = ball
+    total = goal.time - time
+    for turn in Turn:
+        if is_return:
+            # The places of a ball after two bounces at one place, less its place before: see `bounce`.
+            u, v = (goal.x - x) * dx, (goal.y - y) * dy
+            u, v = (u + 1, v - 3) if turn is Turn.FLAT else (u - 3, v + 1)
+        else:
+            u, v = (goal.x - x) * dx, (goal.y - y) * dy
+            u, v = (u + 4, v) if turn is Turn.FLAT else (u, v + 4)
+        along, across = (u + v) // 2, (u - v) // 2 if turn is Turn.FLAT else (v - u) // 2
+        if across < BOUNCE_STEPS or (u + v) % 2:
+            continue
+        if is_return:
+            first, odd = divmod(total - across + along, 2)
+            last, second = total - across - first, turn.other
+        else:
+            first, odd, second = begun + int(share * (along - begun - BOUNCE_STEPS + 1)), along + across != total, turn
+            last = along - first
+        if not odd and first >= begun and last >= BOUNCE_STEPS:
+            return [Leg(first, turn), Leg(across, second), Leg(last, None)]
+    return None
+
+
+def is_in_reach(ball: Ball, goal: Ball, spare: int = -2 * BOUNCE_STEPS) -> bool:
+    """Whether a ball can come to the place of another in time and with steps to spare, apart from what is in the way."""
+    return max(abs(ball.x - goal.x), abs(ball.y - goal.y)) + spare <= goal.time - ball.time

@@ -206,9 +206,9 @@ class Placer:
         return item if item and self.board.world.fits(item) else None
 
     def lead_inputs(self, step: Step, inlets: list[Inlet]) -> bool:
-        """Leads the inputs to a gate, those that come last first."""
+        """Leads the inputs to a gate: first those that failed most often, and then those that come last."""
         board, world = self.board, self.board.world
-        order = sorted(inlets, key=lambda inlet: -inlet.ball.time if inlet.ball else 1)
+        order = sorted(inlets, key=lambda inlet: (-self.blame[inlet.root], -inlet.ball.time if inlet.ball else 1))
         ways = {inlet.root: self.way_in(step.gate.into(inlet.port)) for inlet in order}
         kept = {root: item for root, item in ways.items() if item}
         for item in kept.values():
