@@ -207,6 +207,7 @@ REFUSED = {
     "an unknown word": (MODEL + ".nemas a y\n1 1\n.end\n", "no line of combinational BLIF"),
     "an input named twice": (".model m\n.inputs a a\n.outputs y\n.names a y\n1 1\n", "named twice"),
     "no netlist": ("circuit\nend\n", "neither BLIF"),
+    "a long text": (MODEL + "#" * 16_777_216, "longer than 16777216 bytes"),
     "no JSON": ("{", "not JSON"),
     "deep JSON": ('{"modules":' + "[" * 100_000, "not JSON"),
     "no modules": ("{}", "no member `modules`"),
@@ -237,10 +238,12 @@ class Sentences(unittest.TestCase):
                 self.assertRaisesRegex(NetlistError, sentence, circuit_from_netlist, text)
 
     def test_a_circuit_too_large(self) -> None:
-        """A chain that needs more than 1024 gates is refused with the limit, also one of 4000 inputs."""
-        for count in (700, 4000):
-            with self.subTest(count):
-                self.assertRaisesRegex(NetlistError, "A circuit has at most 1024", circuit_from_netlist, wide_xor(count))
+        """A chain that needs more than 1024 gates is refused with the limit, and so are 2000 copies of one input."""
+        copies = [f"y{index}" for index in range(2000)]
+        fan_out = f".model m\n.inputs a\n.outputs {' '.join(copies)}\n" + "".join(f".names a {name}\n1 1\n" for name in copies)
+        for text in (wide_xor(700), wide_xor(4000), fan_out):
+            with self.subTest(len(text)):
+                self.assertRaisesRegex(NetlistError, "A circuit has at most 1024", circuit_from_netlist, text)
 
     def test_names(self) -> None:
         """Names become legal and stay different, and a note names each change."""

@@ -154,21 +154,21 @@ class TwoBalls(unittest.TestCase):
     """Collisions of balls of two cells."""
 
     def test_right_angles(self) -> None:
-        """Two balls at a right angle with this phase have this result, for each pair of directions and either order."""
-        rows = table("phase")
+        """Two balls at a right angle with this lag have this result, for each pair of directions and either order."""
+        rows = table("lag")
         self.assertEqual([row[0] for row in rows], ["0", "2", "4", "6", "8"])
         pairs = [((1, 1), (1, -1)), ((-1, 1), (-1, -1)), ((1, 1), (-1, 1)), ((1, -1), (-1, -1))]
         for word, result in rows:
             for first, second in pairs:
-                for phase in (int(word), -int(word)):
-                    with self.subTest(phase=phase, first=first, second=second):
-                        self.check_right_angle(result, first, second, phase)
+                for lag in (int(word), -int(word)):
+                    with self.subTest(lag=lag, first=first, second=second):
+                        self.check_right_angle(result, first, second, lag)
 
-    def check_right_angle(self, result: str, first: tuple[int, int], second: tuple[int, int], phase: int) -> None:
-        """Runs two balls that would be at one crossing after 20 steps, the second `phase` columns or rows behind."""
+    def check_right_angle(self, result: str, first: tuple[int, int], second: tuple[int, int], lag: int) -> None:
+        """Runs two balls that would be at one crossing after 20 steps, the second `lag` columns or rows behind."""
         steps, axis = 60, 0 if first[0] == second[0] else 1
         balls = []
-        for way, back in ((first, 0), (second, phase)):
+        for way, back in ((first, 0), (second, lag)):
             x, y = start_of(way)
             lead = [x - 20 * way[0], y - 20 * way[1]]
             lead[axis] -= back * way[axis]
@@ -229,8 +229,8 @@ class OneCell(unittest.TestCase):
         passed = {(ORIGIN + 60, ORIGIN + 60), (ORIGIN + 62, ORIGIN - 39)}
         across = {(ORIGIN + 60, ORIGIN - 39), (ORIGIN - 39, ORIGIN + 60)}
         for what, other, result, cells in (
-                ("one cell at a right angle, phase 0", (0, 21), "both come back on their own tracks", back),
-                ("one cell at a right angle, phase 2", (2, 21), "pass", passed),
+                ("one cell at a right angle, lag 0", (0, 21), "both come back on their own tracks", back),
+                ("one cell at a right angle, lag 2", (2, 21), "pass", passed),
                 ("one cell head-on, on one track", (21, 21), "leave at right angles", across)):
             with self.subTest(what):
                 self.assertEqual(rows[what], result)

@@ -5,6 +5,7 @@ Sources: Fredkin and Toffoli 1982 for the gates, and for constants and garbage; 
 
 from dataclasses import dataclass
 
+from ..lines import MAX_TEXT_BYTES
 from .blif import read_blif
 from .circuit_text import NamedCircuit
 from .graph import graph_of
@@ -40,6 +41,8 @@ def read_netlist(text: str) -> Netlist:
 
     Raises NetlistError with a sentence for the user if the text is not a combinational netlist.
     """
+    if len(text) > MAX_TEXT_BYTES:
+        raise NetlistError(f"The netlist is longer than {MAX_TEXT_BYTES} bytes.")
     form = netlist_format(text)
     if form is None:
         raise NetlistError("The text is neither BLIF, which begins with a line such as `.model`, nor the JSON of yosys.")

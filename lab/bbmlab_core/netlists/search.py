@@ -11,7 +11,7 @@ from .mapping import Mapper, Wiring
 from .model import NetlistError
 
 MAX_TRIES = 200
-# Tries times nodes: one or two seconds.
+# Tries times nodes and outputs: one or two seconds.
 TRY_BUDGET = 30_000
 # One interaction gate makes three products, and no gate makes more.
 MAX_NEEDED_NODES = 3 * MAX_GATES
@@ -44,7 +44,7 @@ def map_graph(graph: Graph) -> NamedCircuit:
                            f"A circuit has at most {MAX_GATES}.")
     separate: frozenset[int] = frozenset()
     while True:
-        wiring = cheapest(graph, separate, len(needed))
+        wiring = cheapest(graph, separate, len(needed) + len(graph.outputs))
         circuit = named(graph, wiring)
         require_room(len(circuit.gates), len(circuit.inputs) + sum(len(line.split(" -> ")[1].split()) for line in circuit.gates))
         document = read_document(circuit.text(), "circuit")
