@@ -12,7 +12,7 @@ from typing import Any, Callable
 from unittest import mock
 
 import support
-from bbmlab_core.circuits import Circuit, evaluate
+from bbmlab_core.circuits import Circuit, evaluate, values_under
 from bbmlab_core.netlists import NetlistError, NetlistFormat, circuit_from_netlist, map_netlist, netlist_format
 from bbmlab_core.netlists.keeping import keep_cone
 
@@ -143,6 +143,19 @@ class Equivalence(unittest.TestCase):
                 with self.subTest(write):
                     self.compare(made.read_text(), sum_values, inputs, outputs)
 
+    def test_wide_adder_at_samples(self) -> None:
+        """A ripple adder of ten bits adds, at random inputs and at the extremes."""
+        seed = random.SystemRandom().randrange(1 << 32)
+        chooser, width = random.Random(seed), 10
+        circuit = circuit_of(ripple_adder_blif(width))
+        pairs = [(0, 0), (1023, 1), (1023, 1023), *((chooser.randrange(1024), chooser.randrange(1024)) for _ in range(100))]
+        for left, right in pairs:
+            on = {f"{name}{index}" for name, number in (("a", left), ("b", right)) for index in range(width) if number >> index & 1}
+            values, undefined = values_under(circuit, on)
+            with self.subTest(seed=seed, left=left, right=right):
+                self.assertIsNone(undefined)
+                self.assertEqual(sum(values[f"s{index}"] << index for index in range(width + 1)), left + right)
+
     def test_without_joins(self) -> None:
         """If no inverse gate has a cone, the circuit has no inverse gate, and still computes the netlist."""
         chooser = random.Random(5)
@@ -171,6 +184,17 @@ def full_adder_blif() -> str:
     """Returns a full adder: a sum s and a carry t."""
     rows = "".join(f"{row} 1\n" for row in ("001", "010", "100", "111"))
     return f".model f\n.inputs a b c\n.outputs s t\n.names a b c s\n{rows}.names a b c t\n11- 1\n1-1 1\n-11 1\n.end\n"
+
+
+def ripple_adder_blif(width: int) -> str:
+    """Returns an adder of two numbers of some bits: a, b and the sum s, with carries t."""
+    lines = [".model r", f".inputs {' '.join(f'{name}{index}' for name in 'ab' for index in range(width))}",
+             f".outputs {' '.join(f's{index}' for index in range(width + 1))}", ".names t0"]
+    for index in range(width):
+        after = f"s{width}" if index == width - 1 else f"t{index + 1}"
+        lines += [f".names a{index} b{index} t{index} s{index}", "001 1", "010 1", "100 1", "111 1",
+                  f".names a{index} b{index} t{index} {after}", "11- 1", "1-1 1", "-11 1"]
+    return "\n".join([*lines, ".end", ""])
 
 
 def cell_document(kind: str, nets: dict[str, int], inputs: str) -> dict[str, Any]:
