@@ -41,7 +41,7 @@ ABOUT = {
 
 @dataclass(frozen=True)
 class Port:
-    """A wire at a cell's border: `role` is in, inner or out, and the lead of its ball is at `lead` at the time.
+    """A wire at a cell's border: `role` is in, inner, out or spill, and the lead of its ball is at `lead` at the time.
 
     `dx` and `dy` are 1 or -1: the direction of the ball.
     """
@@ -58,7 +58,7 @@ class Port:
         x, y = self.lead
         way = f"{'right' if self.dx > 0 else 'left'} and {'down' if self.dy > 0 else 'up'}"
         parity = f"x + t {parity_word(x + self.time)}, y + t {parity_word(y + self.time)}"
-        return f"  {self.role:5} {self.name:4} at ({x}, {y}) at time {self.time}, {way} ({parity})"
+        return f"  {self.role:5} {self.name:5} at ({x}, {y}) at time {self.time}, {way} ({parity})"
 
 
 @dataclass(frozen=True)
@@ -113,9 +113,7 @@ def ports_of(document: Document) -> list[Port]:
             stops.setdefault(stop.name, {}).setdefault(stop.time, []).append(stop.cell)
     ports = []
     for name in sorted(stops, key=circuit.rank):
-        role = "in" if name in circuit.inputs else "out"
-        if name not in circuit.outputs and role == "out":
-            role = "inner"
+        role = "in" if name in circuit.inputs else "out" if name in circuit.outputs else "spill" if name in circuit.spills else "inner"
         times = sorted(stops[name])
         for time in times if role == "in" and name in circuit.outputs else [times[-1] if role == "in" else times[0]]:
             ports.append(port_of(role, name, time, sorted(stops[name][time], key=row_order)))

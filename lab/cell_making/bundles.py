@@ -18,9 +18,9 @@ MARGIN = 2
 class Machine:
     """A circuit as balls and mirrors.
 
-    An input's ball has the time at which the wire arrives, and an output's ball the time at which it leaves. `inner` has the
-    wires from one gate to another that get stops too. The run begins at time 0, at which all inputs and constants are on their
-    way, and ends `rest` steps after the last output has left.
+    An input's ball has the time at which the wire arrives, and an output's ball the time at which it leaves, as garbage does.
+    `inner` has the wires from one gate to another that get stops too. The run begins at time 0, at which all inputs and
+    constants are on their way, and ends `rest` steps after the last output or garbage has left.
     """
 
     name: str
@@ -29,18 +29,18 @@ class Machine:
     outs: dict[str, Ball]
     mirrors: list[Mirror] = field(default_factory=list)
     constants: list[Ball] = field(default_factory=list)
-    garbage: list[str] = field(default_factory=list)
+    garbage: dict[str, Ball] = field(default_factory=dict)
     inner: dict[str, Ball] = field(default_factory=dict)
     rest: int = 2
 
     @property
     def last(self) -> int:
         """The last time of the run."""
-        return max(ball.time for ball in self.outs.values()) + self.rest
+        return max(ball.time for ball in [*self.outs.values(), *self.garbage.values()]) + self.rest
 
     def ports(self) -> list[tuple[str, Ball]]:
         """Returns the wires that get stops, with their balls."""
-        return [*self.ins.items(), *self.inner.items(), *self.outs.items()]
+        return [*self.ins.items(), *self.inner.items(), *self.outs.items(), *self.garbage.items()]
 
     def circuit_text(self) -> str:
         """Returns the circuit section."""

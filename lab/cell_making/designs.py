@@ -58,11 +58,11 @@ def gate_machine(name: str, cell: GateCell) -> Machine:
 
 
 def renamed(machine: Machine, name: str, names: dict[str, str], gates: list[str]) -> Machine:
-    """Returns a machine with other names and gate lines. An output named `*` is garbage, and an input named `1` is a constant."""
+    """Returns a machine with other names and gate lines. An output whose name begins with `*` is garbage, and an input named `1` is a constant."""
     ins = {names[port]: ball for port, ball in machine.ins.items() if names[port] != "1"}
     constants = [ball for port, ball in machine.ins.items() if names[port] == "1"]
     outs = {names[port]: ball for port, ball in machine.outs.items() if not names[port].startswith("*")}
-    garbage = [names[port][1:] for port in machine.outs if names[port].startswith("*")]
+    garbage = {names[port][1:]: ball for port, ball in machine.outs.items() if names[port].startswith("*")}
     return replace(machine, name=name, gates=gates, ins=ins, outs=outs, constants=constants, garbage=garbage)
 
 
@@ -123,14 +123,15 @@ def half_adder_machine() -> Machine:
     gates = ["source 1 -> k", "switch a k -> a1 a2 not_a", "interact a1 b -> carry b_alone a_alone again",
              "unswitch a2 a_alone b_alone -> a3 sum"]
     ins = {"a": Ball(6, 6, 1, 1, 0).at(2), "b": Ball(0, -23, 1, -1, 0).at(2)}
-    outs = {"sum": Ball(-21, -31, -1, -1, 98).at(96), "carry": Ball(4, -23, 1, -1, 98).at(96)}
-    return Machine("half_adder", gates, ins, outs, mirrors_of(HALF_ADDER_MIRRORS), [Ball(6, 15, 1, -1, 0)], ["not_a", "again", "a3"])
+    outs = {"sum": Ball(-21, -31, -1, -1, 98).at(96), "carry": Ball(4, -23, 1, -1, 98).at(76)}
+    garbage = {"not_a": Ball(34, 2, 1, 1, 98).at(66), "again": Ball(2, -22, 1, 1, 98).at(84), "a3": Ball(-10, -31, 1, -1, 98).at(96)}
+    return Machine("half_adder", gates, ins, outs, mirrors_of(HALF_ADDER_MIRRORS), [Ball(6, 15, 1, -1, 0)], garbage)
 
 
 def xor_machine() -> Machine:
     """Returns the half adder with the carry as garbage."""
     half = half_adder_machine()
-    return replace(half, name="xor", outs={"sum": half.outs["sum"]}, garbage=["carry", *half.garbage])
+    return replace(half, name="xor", outs={"sum": half.outs["sum"]}, garbage={"carry": half.outs["carry"], **half.garbage})
 
 
 def switch_machines(switch: Machine) -> list[Machine]:

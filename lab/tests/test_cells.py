@@ -66,7 +66,7 @@ class Meaning(unittest.TestCase):
     def test_ports(self) -> None:
         """At a port's time its ball is there if and only if the wire is true, and it flies in the port's direction.
 
-        An input flies so in the step before, and an output in the step after.
+        An input flies so in the step before, and an output or garbage in the step after.
         """
         for name in cell_names():
             cell = read_cell(name)
@@ -76,7 +76,7 @@ class Meaning(unittest.TestCase):
                 values, _ = values_under(circuit, on)
                 states = states_of(layout, on)
                 for port in cell.ports:
-                    step = 1 if port.role == "out" else -1
+                    step = 1 if port.role in ("out", "spill") else -1
                     (x, y), later = port.lead, states[port.time + step]
                     with self.subTest(name, on=on, port=port.name):
                         for back in (0, 2):
