@@ -36,6 +36,7 @@ ABOUT = {
     "or": "computes a or b by a Fredkin gate with a constant 1",
     "xor": "computes one of a and b, and not both, by a switch, a collision and an inverse switch",
     "half_adder": "adds two bits: a sum and a carry",
+    "full_adder": "adds three bits: a sum and a carry",
 }
 
 

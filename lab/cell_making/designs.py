@@ -9,6 +9,7 @@ from bbmlab_core.route.balls import Ball, Leg, Mirror, Turn, follow
 from bbmlab_core.route.cells import GateCell, base_cells
 
 from .bundles import Machine, rectangles
+from .full_adder import full_adder_machine
 
 FLAT, UPRIGHT = Turn.FLAT, Turn.UPRIGHT
 # The steps from the start of a cell's run until its inputs arrive.
@@ -157,5 +158,5 @@ def all_machines() -> list[Machine]:
         gate_machine("interact", cells["interact"][0]), uninteract_machine(), switch, unswitch_machine(),
         fredkin, gate_machine("fredkin_inverse", cells["fredkin"][1]),
         gate_machine("cswap", cells["cswap"][0]), gate_machine("cswap_inverse", cells["cswap"][1]),
-        *switch_machines(switch), either, xor_machine(), half_adder_machine(),
+        *switch_machines(switch), either, xor_machine(), half_adder_machine(), full_adder_machine(),
     ]

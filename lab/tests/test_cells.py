@@ -20,6 +20,7 @@ FUNCTIONS = {
     "or": {"u": lambda on: on["a"] or on["b"]},
     "xor": {"sum": lambda on: on["a"] != on["b"]},
     "half_adder": {"sum": lambda on: sum(on.values()) % 2 == 1, "carry": lambda on: sum(on.values()) > 1},
+    "full_adder": {"sum": lambda on: sum(on.values()) % 2 == 1, "carry": lambda on: sum(on.values()) > 1},
 }
 
 
