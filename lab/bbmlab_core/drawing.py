@@ -28,7 +28,7 @@ SEVERAL = 8
 STYLE = """text{font:7px sans-serif;fill:#222}.name{font-weight:bold;font-size:8px}.in{fill:none;stroke:#222}
 .out{fill:none;stroke:#222;stroke-dasharray:2 1.5}.waste{stroke:#222;fill:none}.mirror{fill:#9aa0aa}.ball{fill:#111}
 .box{fill:none;stroke:#7a3db8;stroke-width:1.2;stroke-dasharray:5 3}.number{fill:#7a3db8;font-size:8px}
-.faint{stroke-width:1;stroke-dasharray:none;stroke-opacity:.2}.fault{fill:none;stroke:#d00000;stroke-width:2.5}.way{fill:none;stroke-width:2.2;stroke-linecap:round}
+.faint{stroke-width:1;stroke-dasharray:none;stroke-opacity:.2}.fault{fill:none;stroke:#d00000;stroke-width:2.5}.way{fill:none;stroke-width:2.2;stroke-linecap:round}.way[stroke-dasharray]{stroke-linecap:butt}
 .back{fill:#fff}.plane{fill:#f7f7f4}.line{stroke:#dcdcd6;stroke-width:.4}.w8{stroke:#777}
 @media(prefers-color-scheme:dark){text{fill:#eee}.in,.out,.waste{stroke:#eee}.mirror{fill:#7c828c}.ball{fill:#fff}
 .box{stroke:#c79bff}.number{fill:#c79bff}.back{fill:#16181c}.plane{fill:#1e2126}.line{stroke:#343840}.w8{stroke:#999}}"""
@@ -204,7 +204,7 @@ def way_parts(drawing: Drawing, wires: list[str], widening: float) -> list[str]:
         # Later ways are thinner, so that one below another is still seen.
         width = (5 - 3.4 * index / max(1, len(order) - 1)) * widening
         path = "".join(f"M{short(centre(a)[0])} {short(centre(a)[1])}L{short(centre(b)[0])} {short(centre(b)[1])}" for a, b in merged(by_wire[wire]))
-        dashes = f' stroke-dasharray="{dash}"' if dash else ""
+        dashes = f' stroke-dasharray="{" ".join(short(int(part) * widening) for part in dash.split())}"' if dash else ""
         title = escape(label_of(drawing, wire))
         parts.append(f'<path class="way w{colour}" style="stroke-width:{short(width)}"{dashes} d="{path}"><title>{title}</title></path>')
     return parts

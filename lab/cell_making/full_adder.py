@@ -48,7 +48,7 @@ MIRRORS = [
 
 def full_adder_machine() -> Machine:
     """Returns the full adder."""
-    ins = {"a": Ball(101, 62, -1, 1, 0), "b": Ball(94, 117, 1, -1, 0), "c": Ball(64, 124, 1, 1, 0)}
+    ins = {"a": Ball(99, 64, -1, 1, 2), "b": Ball(96, 115, 1, -1, 2), "c": Ball(66, 126, 1, 1, 2)}
     outs = {"sum": Ball(36, 72, 1, 1, 426), "carry": Ball(57, 110, -1, 1, 434)}
     garbage = {"not_a": Ball(66, 81, 1, -1, 416), "again": Ball(88, 88, 1, 1, 414), "a3": Ball(97, 137, -1, -1, 408),
                "not_h": Ball(22, 59, 1, -1, 406), "again2": Ball(91, 136, 1, -1, 395), "h4": Ball(57, 105, -1, -1, 434)}
