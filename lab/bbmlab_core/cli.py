@@ -250,6 +250,12 @@ def cells_command(options: argparse.Namespace) -> int:
     return 0
 
 
+def route_command(options: argparse.Namespace) -> int:
+    """Runs `bbmlab route`. Its modules are read only here, since other commands do not need them."""
+    from .route.command import route_command as route
+    return route(options)
+
+
 def grid_sides(word: str) -> tuple[int, int]:
     """Returns the sides of boxes, written W,H or WxH."""
     sides = word.lower().replace("x", ",").split(",")
@@ -411,7 +417,22 @@ def add_others(commands: Commands) -> None:
     add_file(parser, "an RLE file for Golly's rule BBM-Margolus-emulated")
 
 
-ADDERS = [add_check, add_explain, add_trace, add_draw, add_view, add_certify, add_cells, add_fmt, add_others]
+def add_route(commands: Commands) -> None:
+    """Adds `route`."""
+    parser = commands.add("route", route_command, "Place and route a circuit: a layout of balls and mirrors, with a certificate.",
+                          "Example: bbmlab route circuit.txt -o bundle.txt")
+    add_file(parser, "a text that begins with a circuit")
+    parser.add_argument("--seed", type=positive, default=1, metavar="N", help="another seed gives another layout (default: 1)")
+    parser.add_argument("--size", type=positive, metavar="N", help="the side of the layout, a multiple of 16 up to 512 (default: as needed)")
+    parser.add_argument("--effort", type=seconds, default=60.0, metavar="SECONDS", help="how long to search (default: 60)")
+    parser.add_argument("--jobs", type=positive, default=1, metavar="N", help="attempts at a time, each in a process (default: 1)")
+    parser.add_argument("--compact", action="store_true", help="try on for a smaller layout and fewer steps")
+    parser.add_argument("--no-certificate", action="store_true", help="write the circuit and the layout alone")
+    parser.add_argument("--keep-partial", action="store_true", help="if there is no route, write a bundle of the gates that were placed")
+    add_program(parser)
+
+
+ADDERS = [add_check, add_explain, add_trace, add_draw, add_view, add_certify, add_route, add_cells, add_fmt, add_others]
 
 
 def main(words: list[str] | None = None) -> int:

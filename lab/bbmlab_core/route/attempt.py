@@ -54,8 +54,9 @@ class Attempt:
         self.todo = {gate.number: gate for gate in self.netlist.gates}
         self.failures: Counter[int] = Counter()
         self.weight = self.chance.choice((0.0, 0.3, 0.6))
-        # The most gates that were placed at a time, and a design of them.
+        # The most gates that were placed at a time, and the steps that placed them.
         self.most_placed = 0
+        self.best_steps: list[Step] = []
 
     def check_time(self) -> None:
         """Raises OutOfTimeError when the time is over."""
@@ -81,8 +82,15 @@ class Attempt:
             self.board.commit(step)
             self.placer.horizon = max(self.placer.horizon, self.placer.done(step))
             del self.todo[gate.number]
-            self.most_placed = max(self.most_placed, total - len(self.todo))
+            if total - len(self.todo) > self.most_placed:
+                self.most_placed, self.best_steps = total - len(self.todo), list(self.board.steps)
             progress(total - len(self.todo), total)
+
+    def adopt(self, steps: list[Step]) -> None:
+        """Adds gates that another attempt placed."""
+        for step in steps:
+            self.board.commit(step)
+            del self.todo[step.gate.number]
 
     def next_gate(self) -> Gate:
         """Returns the gate to place next: its inputs are there early, and its results are needed early.

@@ -1,6 +1,6 @@
 """What an attempt has placed so far: gates, paths, waiting balls, and the wires that each box of the certificate needs."""
 
-from dataclasses import dataclass, field
+from dataclasses import dataclass, field, replace
 from typing import Iterable
 
 from ..certificates import MAX_CUTS
@@ -58,6 +58,10 @@ class Step:
     outs: dict[str, Waiting] = field(default_factory=dict)
     before: dict[str, Waiting] = field(default_factory=dict)
     cost: float = 0.0
+
+    def with_number(self, number: int) -> "Step":
+        """Returns the step for a gate with another number, before it is added."""
+        return Step(replace(self.gate, number=number), self.paths, self.outs)
 
 
 def box_of(cell: GateCell, x: int, y: int) -> TileBox:
