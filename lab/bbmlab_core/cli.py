@@ -421,13 +421,14 @@ def add_route(commands: Commands) -> None:
     """Adds `route`."""
     parser = commands.add("route", route_command, "Place and route a circuit: a layout of balls and mirrors, with a certificate.",
                           "Example: bbmlab route circuit.txt -o bundle.txt")
-    add_file(parser, "a text that begins with a circuit")
+    add_file(parser, "a text that begins with a circuit, or a netlist in BLIF or in the JSON of yosys")
     parser.add_argument("--seed", type=positive, default=1, metavar="N", help="another seed gives another layout (default: 1)")
     parser.add_argument("--size", type=positive, metavar="N", help="the side of the layout, a multiple of 16 up to 512 (default: as needed)")
     parser.add_argument("--effort", type=seconds, default=60.0, metavar="SECONDS", help="how long to search (default: 60)")
     parser.add_argument("--jobs", type=positive, default=1, metavar="N", help="attempts at a time, each in a process (default: 1)")
     parser.add_argument("--compact", action="store_true", help="try on for a smaller layout and fewer steps")
     parser.add_argument("--no-certificate", action="store_true", help="write the circuit and the layout alone")
+    parser.add_argument("--circuit-only", action="store_true", help="write the circuit section to which a netlist is mapped, and route nothing")
     parser.add_argument("--keep-partial", action="store_true", help="if there is no route, write a bundle of the gates that were placed")
     add_program(parser)
 

@@ -252,6 +252,37 @@ def wide_xor(count: int) -> str:
     return f".model m\n.inputs {' '.join(names)}\n.outputs y\n{''.join(lines)}.end\n"
 
 
+class Command(unittest.TestCase):
+    """`bbmlab route` with netlists."""
+
+    def test_circuit_only(self) -> None:
+        """`--circuit-only` writes the circuit of a netlist, and says which names it changed. It writes a circuit section as it is."""
+        ended = support.lab("route", "--circuit-only", support.example("two_bit_adder").replace(".txt", ".blif"))
+        self.assertEqual((ended.returncode, words_of(ended.stdout, "input")), (0, ["a_0", "a_1", "b_0", "b_1"]))
+        self.assertIn("`a[0]` is `a_0`", ended.stderr)
+        again = support.lab("route", "--circuit-only", "-", text=ended.stdout)
+        self.assertEqual((again.returncode, again.stdout, again.stderr), (0, ended.stdout, ""))
+
+    def test_a_wrong_netlist(self) -> None:
+        """A netlist that cannot be mapped ends with status 1 and its sentence."""
+        text, sentence = REFUSED["a loop"]
+        ended = support.lab("route", "--circuit-only", "-", text=text)
+        self.assertEqual((ended.returncode, ended.stdout), (1, ""))
+        self.assertIn(sentence, ended.stderr)
+
+    def test_verilog_gets_a_yes(self) -> None:
+        """Verilog, through yosys and the router, gets a yes from the program."""
+        program = support.program()
+        if shutil.which("yosys") is None:
+            self.skipTest("yosys is not installed (apt-get install yosys)")
+        with tempfile.TemporaryDirectory() as room:
+            netlist = str(Path(room) / "adder.json")
+            subprocess.run(["yosys", "-q", "-p", YOSYS_STEPS.format(file=ADDER, write=f"write_json {netlist}")], check=True, timeout=60)
+            ended = support.lab("route", netlist, "--effort", "120", "--program", program)
+        self.assertEqual(ended.returncode, 0, ended.stderr)
+        self.assertIn("verdict yes", ended.stderr)
+
+
 class Sentences(unittest.TestCase):
     """What cannot be mapped gets a sentence; names that are not legal are changed, and the notes say so."""
 

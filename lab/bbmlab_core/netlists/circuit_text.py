@@ -27,7 +27,7 @@ class NamedCircuit:
 def named(graph: Graph, wiring: Wiring) -> NamedCircuit:
     """Returns the circuit of a wiring, with a name for each wire."""
     book, names, gates = NameBook(), dict[Wire, str](), list(wiring.gates)
-    inputs = [book.port("input", name) for name in graph.input_names]
+    inputs = [book.port(name) for name in graph.input_names]
     names.update(enumerate(inputs))
     next_wire = 1 + max([len(inputs) - 1, *(wire for gate in gates for wire in gate.outs)])
     outputs = []
@@ -36,7 +36,7 @@ def named(graph: Graph, wiring: Wiring) -> NamedCircuit:
             # An input that goes straight to an output: a delay gives it the name of the output.
             gates.append(MappedGate("delay", 1, [wire], [next_wire]))
             wire, next_wire = next_wire, next_wire + 1
-        names[wire] = book.port("output", wanted)
+        names[wire] = book.port(wanted)
         outputs.append(names[wire])
     garbage = set(wiring.garbage)
     for gate in gates:
@@ -46,7 +46,7 @@ def named(graph: Graph, wiring: Wiring) -> NamedCircuit:
     words = [gate.word for gate in gates]
     counts = {word: words.count(word) for word in GATE_COSTS if word in words}
     spills = sorted((names[wire] for wire in garbage), key=spill_order)
-    return NamedCircuit(inputs, [gate_line(gate, names) for gate in gates], outputs, spills, book.notes, counts)
+    return NamedCircuit(inputs, [gate_line(gate, names) for gate in gates], outputs, spills, book.notes(), counts)
 
 
 def gate_line(gate: MappedGate, names: dict[Wire, str]) -> str:

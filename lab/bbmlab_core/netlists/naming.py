@@ -11,15 +11,20 @@ class NameBook:
 
     def __init__(self) -> None:
         self.taken: set[str] = set()
-        self.notes: list[str] = []
+        self.changed: list[tuple[str, str]] = []
         self.last: dict[str, int] = {}
 
-    def port(self, kind: str, wanted: str) -> str:
-        """Returns the name for a port. A note says so if it is another one than the netlist has."""
+    def port(self, wanted: str) -> str:
+        """Returns the name for a port, and remembers it if it is another one than the netlist has."""
         name = self.fresh(legal(wanted))
         if name != wanted:
-            self.notes.append(f"The {kind} `{wanted}` of the netlist is `{name}` in the circuit.")
+            self.changed.append((wanted, name))
         return name
+
+    def notes(self) -> list[str]:
+        """Returns a sentence on the ports that have other names, or nothing."""
+        pairs = ", ".join(f"`{wanted}` is `{name}`" for wanted, name in self.changed)
+        return [f"These ports of the netlist have other names in the circuit: {pairs}."] if pairs else []
 
     def fresh(self, stem: str) -> str:
         """Returns `stem`, or `stem` with a number if it is taken."""
