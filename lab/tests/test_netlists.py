@@ -14,7 +14,7 @@ from unittest import mock
 import support
 from bbmlab_core.circuits import Circuit, evaluate, values_under
 from bbmlab_core.netlists import NetlistError, NetlistFormat, circuit_from_netlist, map_netlist, netlist_format
-from bbmlab_core.netlists.keeping import keep_cone
+from bbmlab_core.route.certificate import keeping_cone
 
 ADDER = support.EXAMPLES / "two_bit_adder.v"
 YOSYS_STEPS = "read_verilog {file}; synth -flatten; abc -g AND,XOR,MUX; opt_clean; {write}"
@@ -93,7 +93,7 @@ class Equivalence(unittest.TestCase):
             self.assertEqual(found, {name: bool(wanted[name]) for name in outputs}, f"inputs {bits[::-1]}")
         for gate in circuit.gates:
             if gate.is_inverse:
-                self.assertIsNotNone(keep_cone(circuit, gate.number), f"gate {gate.number}")
+                self.assertIsNotNone(keeping_cone(circuit, gate.number), f"gate {gate.number}")
 
     def test_random_netlists(self) -> None:
         """Random netlists of tables agree with their rows at all inputs."""
@@ -160,7 +160,7 @@ class Equivalence(unittest.TestCase):
         """If no inverse gate has a cone, the circuit has no inverse gate, and still computes the netlist."""
         chooser = random.Random(5)
         texts = [full_adder_blif(), *(random_blif(chooser) for _ in range(10))]
-        with mock.patch("bbmlab_core.netlists.search.keep_cone", return_value=None):
+        with mock.patch("bbmlab_core.netlists.search.keeping_cone", return_value=None):
             for number, text in enumerate(texts):
                 with self.subTest(number):
                     self.assertFalse(any(gate.is_inverse for gate in circuit_of(text).gates))

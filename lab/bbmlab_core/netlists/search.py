@@ -4,9 +4,9 @@ import random
 
 from ..circuits import MAX_GATES, MAX_WIRES, Circuit
 from ..documents import read_document
+from ..route.certificate import keeping_cone
 from .circuit_text import NamedCircuit, named
 from .graph import Graph
-from .keeping import keep_cone
 from .mapping import Mapper, Wiring
 from .model import NetlistError
 
@@ -33,7 +33,7 @@ def cheapest(graph: Graph, separate: frozenset[int], size: int) -> Wiring:
 def nodes_not_kept(circuit: Circuit, wiring: Wiring) -> frozenset[int]:
     """Returns the nodes whose inverse gate has no cone that shows that it always has a row."""
     return frozenset(gate.node for number, gate in enumerate(wiring.gates)
-                     if gate.word == "unswitch" and gate.node is not None and keep_cone(circuit, number) is None)
+                     if gate.word == "unswitch" and gate.node is not None and keeping_cone(circuit, number) is None)
 
 
 def map_graph(graph: Graph) -> NamedCircuit:
