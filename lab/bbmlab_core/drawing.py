@@ -201,8 +201,9 @@ def way_parts(drawing: Drawing, wires: list[str], widening: float) -> list[str]:
     styles = wire_style(order)
     for index, wire in enumerate(order):
         colour, dash = styles[wire]
-        # Later ways are thinner, so that one below another is still seen.
-        width = (5 - 3.4 * index / max(1, len(order) - 1)) * widening
+        # Later ways are thinner, so that one below another is still seen. In a large layout the thinnest must still be seen itself.
+        thinnest = 1.6 if widening == 1 else 2.6
+        width = (5 - (5 - thinnest) * index / max(1, len(order) - 1)) * widening
         path = "".join(f"M{short(centre(a)[0])} {short(centre(a)[1])}L{short(centre(b)[0])} {short(centre(b)[1])}" for a, b in merged(by_wire[wire]))
         dashes = f' stroke-dasharray="{" ".join(short(int(part) * widening) for part in dash.split())}"' if dash else ""
         title = escape(label_of(drawing, wire))
