@@ -16,6 +16,8 @@ from bbmlab_core.circuits import Circuit, evaluate, values_under
 from bbmlab_core.netlists import NetlistError, NetlistFormat, circuit_from_netlist, map_netlist, netlist_format
 from bbmlab_core.route.certificate import keeping_cone
 
+# Fewer tries than users get, which save time: each try is one that a search can end with.
+FEW_TRIES = mock.patch("bbmlab_core.netlists.search.MAX_TRIES", 60)
 ADDER = support.EXAMPLES / "two_bit_adder.v"
 YOSYS_STEPS = "read_verilog {file}; synth -flatten; abc -g AND,XOR,MUX; opt_clean; {write}"
 # The cells of yosys, after its cell library: the ports and the value of Y.
@@ -95,6 +97,7 @@ class Equivalence(unittest.TestCase):
             if gate.is_inverse:
                 self.assertIsNotNone(keeping_cone(circuit, gate.number), f"gate {gate.number}")
 
+    @FEW_TRIES
     def test_random_netlists(self) -> None:
         """Random netlists of tables agree with their rows at all inputs."""
         seed = random.SystemRandom().randrange(1 << 32)
@@ -104,6 +107,7 @@ class Equivalence(unittest.TestCase):
             with self.subTest(f"seed {seed}, netlist {number}"):
                 self.compare(text, lambda on: blif_values(text, on), words_of(text, ".inputs"), words_of(text, ".outputs"))
 
+    @FEW_TRIES
     def test_each_simple_cell(self) -> None:
         """Each simple cell of yosys agrees with its rule, alone and with all its inputs connected to one net."""
         for kind, (ports, rule) in CELLS.items():
@@ -113,6 +117,7 @@ class Equivalence(unittest.TestCase):
                 with self.subTest(kind, one_net=is_one):
                     self.compare(text, lambda on: {"Y": rule(*(on["A" if is_one else port] for port in ports))}, list(names), ["Y"])
 
+    @FEW_TRIES
     def test_luts(self) -> None:
         """A `$lut` gives the bit of its table at the number of its inputs, the first input lowest."""
         chooser = random.Random(11)
@@ -161,6 +166,7 @@ class Equivalence(unittest.TestCase):
                         values, _ = values_under(circuit, on)
                         self.assertEqual({wire for wire in circuit.outputs if values[wire]}, wanted, on)
 
+    @FEW_TRIES
     def test_wide_adder_at_samples(self) -> None:
         """A ripple adder of ten bits adds, at random inputs and at the extremes."""
         seed = random.SystemRandom().randrange(1 << 32)
@@ -174,6 +180,7 @@ class Equivalence(unittest.TestCase):
                 self.assertIsNone(undefined)
                 self.assertEqual(sum(values[f"s{index}"] << index for index in range(width + 1)), left + right)
 
+    @FEW_TRIES
     def test_without_joins(self) -> None:
         """If no inverse gate has a cone, the circuit has no inverse gate, and still computes the netlist."""
         chooser = random.Random(5)

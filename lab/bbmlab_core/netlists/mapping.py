@@ -3,7 +3,7 @@
 A `switch` computes "c and x" and "x without c", and gives c back. With a constant 1 as x it copies c and makes "not c". An `interact` of p
 and q followed by an `unswitch` makes their XOR. An `unswitch` merges two wires that exclude each other. Fredkin and Toffoli 1982.
 
-A gate consumes its wires, so each value has a pool of wires. `search` tries many orders of the nodes.
+A gate consumes its wires, so each value has a pool of wires. `search` tries many preferences on the order and the ways.
 """
 
 import random
@@ -17,6 +17,10 @@ GATE_COSTS = {"switch": 1.0, "unswitch": 1.0, "interact": 0.8, "fredkin": 4.0, "
 GARBAGE_COST = 0.15
 COPY_COST = GATE_COSTS["switch"] + GATE_COSTS["source"]
 DEPTH_COST = 0.05
+
+# How much a preference can add to the cost of a way, and the most ways for a node.
+NOISE = 0.8
+MAX_WAYS = 10
 
 Wire = int
 # The cost of a way to map a node, its name in `WAYS`, and the literals in the order that it takes.
@@ -52,11 +56,39 @@ class Wiring:
         return gates + GARBAGE_COST * len(self.garbage) + DEPTH_COST * max(depths.values(), default=0)
 
 
-class Mapper:
-    """One try to map the nodes, in a random order."""
+@dataclass
+class Preferences:
+    """What decides the order of the nodes, and between ways of nearly equal cost: a rank and some noise for each node."""
 
-    def __init__(self, graph: Graph, separate: frozenset[int], chooser: random.Random) -> None:
-        self.graph, self.separate, self.chooser = graph, separate, chooser
+    ranks: dict[int, float]
+    noise: dict[int, list[float]]
+
+    @classmethod
+    def at_random(cls, graph: Graph, chooser: random.Random) -> "Preferences":
+        """Returns random preferences. XOR nodes come rather early, since they make products too."""
+        needed = graph.needed()
+        ranks = {number: chooser.random() + (graph.nodes[number].kind is not Kind.XOR) * chooser.choice((0, 1)) for number in needed}
+        return cls(ranks, {number: [chooser.random() for _ in range(MAX_WAYS)] for number in needed})
+
+    def changed(self, chooser: random.Random) -> "Preferences":
+        """Returns preferences that differ for one to three nodes."""
+        new = Preferences(dict(self.ranks), dict(self.noise))
+        for _ in range(chooser.choice((1, 1, 2, 3))):
+            number = chooser.choice(list(new.ranks))
+            if chooser.random() < 0.5:
+                new.ranks[number] = 2 * chooser.random()
+            else:
+                # Sometimes more, so that a dear way can be taken.
+                scale = chooser.choice((1, 1, 3))
+                new.noise[number] = [scale * chooser.random() for _ in range(MAX_WAYS)]
+        return new
+
+
+class Mapper:
+    """One try to map the nodes."""
+
+    def __init__(self, graph: Graph, separate: frozenset[int], preferences: Preferences) -> None:
+        self.graph, self.separate, self.preferences = graph, separate, preferences
         self.wiring = Wiring()
         self.wire_count = len(graph.input_names)
         self.pool: dict[Literal, list[Wire]] = {}
@@ -82,12 +114,9 @@ class Mapper:
         return self.wiring
 
     def order(self) -> list[int]:
-        """Returns the needed nodes, each after its inputs: XOR nodes rather early, since they make products too, and else at random."""
-        nodes = self.graph.nodes
-        rank = {number: self.chooser.random() for number in self.needed}
-        for number in self.needed:
-            rank[number] += 0 if nodes[number].kind is Kind.XOR else self.chooser.choice((0, 1))
-        # A node comes as late as the latest of its inputs, plus a little.
+        """Returns the needed nodes, each after its inputs."""
+        nodes, rank = self.graph.nodes, dict(self.preferences.ranks)
+        # A node comes as late as the latest of its inputs, plus its own rank.
         for number in self.needed:
             rank[number] += max((rank.get(literal >> 1, 0) for literal in nodes[number].inputs), default=0)
         return sorted((number for number in self.needed if number not in self.mapped and number), key=lambda number: (rank[number], number))
@@ -100,8 +129,9 @@ class Mapper:
         self.mapped.add(number)
         makers = {Kind.AND: self.and_ways, Kind.XOR: self.xor_ways, Kind.JOIN: self.join_ways}
         ways = makers[node.kind](number, node.inputs)
-        _, way, words = min(((cost + 0.8 * self.chooser.random(), way, words) for cost, way, words in ways), key=lambda choice: choice[0])
-        WAYS[way](self, number, *words)
+        noise = self.preferences.noise[number]
+        _, index = min((way[0] + NOISE * noise[index], index) for index, way in enumerate(ways))
+        WAYS[ways[index][1]](self, number, *ways[index][2])
 
     # ---- pools of wires
 

@@ -7,12 +7,13 @@ from ..documents import read_document
 from ..route.certificate import keeping_cone
 from .circuit_text import NamedCircuit, named
 from .graph import Graph
-from .mapping import Mapper, Wiring
+from .mapping import Mapper, Preferences, Wiring
 from .model import NetlistError
 
-MAX_TRIES = 200
-# Tries times nodes and outputs: one or two seconds.
-TRY_BUDGET = 30_000
+FIRST_TRIES = 20
+MAX_TRIES = 1000
+# Tries times nodes and outputs: some seconds.
+TRY_BUDGET = 40_000
 # One interaction gate makes three products, and no gate makes more.
 MAX_NEEDED_NODES = 3 * MAX_GATES
 
@@ -25,9 +26,25 @@ def require_room(gate_count: int, wire_count: int) -> None:
 
 
 def cheapest(graph: Graph, separate: frozenset[int], size: int) -> Wiring:
-    """Returns the cheapest of some wirings. The same graph gets the same wiring each time."""
-    tries = max(2, min(MAX_TRIES, TRY_BUDGET // max(1, size)))
-    return min((Mapper(graph, separate, random.Random(number)).run() for number in range(tries)), key=Wiring.cost)
+    """Returns the cheapest of some wirings: the best of some at random, improved by small changes of its preferences.
+
+    The same graph gets the same wiring each time.
+    """
+    chooser, tries = random.Random(1), max(2, min(MAX_TRIES, TRY_BUDGET // max(1, size)))
+
+    def tried(preferences: Preferences) -> tuple[float, Preferences, Wiring]:
+        """Returns the cost, the preferences and the wiring of a try."""
+        wiring = Mapper(graph, separate, preferences).run()
+        return wiring.cost(), preferences, wiring
+
+    first = min(tries, FIRST_TRIES)
+    cost, best, wiring = min((tried(Preferences.at_random(graph, chooser)) for _ in range(first)), key=lambda found: found[0])
+    if best.ranks:
+        for _ in range(tries - first):
+            found = tried(best.changed(chooser))
+            if found[0] <= cost:
+                cost, best, wiring = found
+    return wiring
 
 
 def nodes_not_kept(circuit: Circuit, wiring: Wiring) -> frozenset[int]:
