@@ -9,7 +9,7 @@ class Settings:
 
     # The tries to find one path, the paths of which the cheapest is taken, and the longest leg in steps.
     path_tries: int = 300
-    path_choices: int = 3
+    path_choices: int = 2
     longest_leg: int = 160
     # The places at which the first and the last bounce of a path are tried.
     bounce_places: int = 24
@@ -23,7 +23,7 @@ class Settings:
     wander_stop: tuple[int, int] = (50, 190)
     # The tries of a wander, and the ways on that it weighs at each bounce.
     wander_tries: int = 160
-    wander_options: int = 10
+    wander_options: int = 6
     # The places that are tried for a gate, and the places with all paths of which the cheapest is taken.
     place_tries: int = 400
     # The tries after which the places are as far away as they may be.
