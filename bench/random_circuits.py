@@ -156,6 +156,14 @@ def wide_layers(gates, inputs):
     return maker.text(list(maker.live))
 
 
+def straight_delay(steps):
+    """Returns a delay of some steps before a switch."""
+    maker = Maker(["a", "b"])
+    (late,) = maker.add("delay", ["a"], steps)
+    maker.add("switch", [late, "b"])
+    return maker.text(list(maker.live))
+
+
 def made_circuit(kind, gates, inputs, seed):
     """Returns a circuit by the words of the command."""
     special = {"ripple": lambda: ripple_adder(gates), "multiply": multiplier, "wide": lambda: wide_layers(gates, inputs)}

@@ -51,6 +51,7 @@ class Attempt:
         self.placer = Placer(self.board, self.chance)
         self.settings, self.deadline = settings, deadline
         self.placer.finder.check_time = self.check_time
+        self.doing = "the search began"
         self.todo = {gate.number: gate for gate in self.netlist.gates}
         self.failures: Counter[int] = Counter()
         self.weight = self.chance.choice((0.0, 0.3, 0.6))
@@ -59,9 +60,9 @@ class Attempt:
         self.best_steps: list[Step] = []
 
     def check_time(self) -> None:
-        """Raises OutOfTimeError when the time is over."""
+        """Raises OutOfTimeError when the time is over, with what was done then."""
         if time.monotonic() > self.deadline:
-            raise OutOfTimeError("the time is over")
+            raise OutOfTimeError(f"the time was over while {self.doing}")
 
     def run(self, progress: Callable[[int, int], None] = no_progress) -> Design:
         """Places all gates and leads all balls to the end; raises NoRouteError."""
@@ -75,6 +76,7 @@ class Attempt:
                 self.take_back(-1, why)
                 continue
             gate = self.next_gate()
+            self.doing = f"gate {gate.number} ({gate.word} {' '.join(gate.ins)}) was placed"
             step = self.placer.place_gate(gate)
             if step is None:
                 self.take_back(gate.number, self.reason(gate))
@@ -148,6 +150,7 @@ class Attempt:
         If a ball cannot be led, the paths that cross its way are taken back, and led after it.
         """
         board, end = self.board, self.end_time()
+        self.doing = f"balls were led to the last time, {end}"
         queue = sorted(board.waiting, key=lambda root: self.begin(board.waiting[root]))
         before: dict[str, Waiting] = {}
         left = self.settings.end_rips

@@ -8,8 +8,9 @@ from .attempt import Attempt, Design, NoRouteError
 from .board import Step
 from .settings import Settings
 
-# The seconds that leading the balls of a part to the end may take.
-SECONDS = 0.7
+# The seconds that leading the balls of a part to the end may take, after an interrupt and after the time is over.
+INTERRUPT_SECONDS = 0.7
+SECONDS = 8.0
 
 
 def partial_circuit(circuit: Circuit, placed: set[int]) -> Circuit:
@@ -41,9 +42,9 @@ def partial_text(circuit: Circuit) -> str:
     return "\n".join([*lines, *(f"output {name}" for name in circuit.outputs), *(f"spill {name}" for name in circuit.spills), "end"]) + "\n"
 
 
-def partial_design(circuit: Circuit, steps: list[Step], size: int, settings: Settings) -> Design | None:
+def partial_design(circuit: Circuit, steps: list[Step], size: int, settings: Settings, seconds: float) -> Design | None:
     """Returns a design of the gates of some steps, the most for which all balls can be led to the end, or None."""
-    deadline = time.monotonic() + SECONDS
+    deadline = time.monotonic() + seconds
     while steps and time.monotonic() < deadline:
         part = partial_circuit(circuit, {step.gate.number for step in steps})
         attempt = Attempt(part, size, 1, settings, deadline)
@@ -53,7 +54,7 @@ def partial_design(circuit: Circuit, steps: list[Step], size: int, settings: Set
                 return attempt.design()
         except NoRouteError:
             return None
-        steps = steps[:-1]
+        steps = steps[:len(steps) - max(1, len(steps) // 4)]
     return None
 
 

@@ -122,6 +122,8 @@ class PathFinder:
 
     def __init__(self, world: World, chance: random.Random, settings: Settings) -> None:
         self.world, self.chance, self.settings = world, chance, settings
+        # The departures of waiting balls, while one gate is placed. What a place adds to the world is looked at later.
+        self.known_departures: dict[tuple[Ball, int], dict[Direction, list[Turned]]] = {}
         # What may raise an exception when the time is over.
         self.check_time: Callable[[], None] = lambda: None
 
@@ -262,7 +264,9 @@ class PathFinder:
             straight = [Leg(total, None)]
             if self.is_path(start, straight):
                 return straight
-        first, last = self.departures(start, total), self.approaches(goal, total)
+        key = start, total // 32
+        first, last = self.known_departures.get(key) or self.departures(start, total), self.approaches(goal, total)
+        self.known_departures[key] = first
         spare = total - max(abs(start.x - goal.x), abs(start.y - goal.y))
         returns = (True, True, True, False) if spare <= STAIR_STEPS else (True,)
         joins = [(before, after, is_return) for way, before in first.items() for is_return in returns
@@ -301,9 +305,8 @@ class PathFinder:
 
     def some_steps(self, least: int, most: int) -> Sequence[int]:
         """Returns numbers of steps from `least` to `most`: all, or some at random if they are many."""
-        if most - least < 40:
-            return range(least, most + 1)
-        return sorted(self.chance.sample(range(least, most + 1), 40))
+        count = self.settings.bounce_places
+        return range(least, most + 1) if most - least < count else sorted(self.chance.sample(range(least, most + 1), count))
 
     def joined(self, before: Turned, after: Turned, is_return: bool) -> list[Leg] | None:
         """Returns legs that begin and end with given bounces, if two bounces between them can join them."""

@@ -75,6 +75,7 @@ class Placer:
         self.reasons.clear()
         self.blame.clear()
         self.stuck.clear()
+        self.finder.known_departures.clear()
         best: Step | None = None
         found, inlets = 0, self.inlets(gate)
         for spot in self.spots(gate, inlets):
@@ -99,7 +100,7 @@ class Placer:
         chance, tries = self.chance, self.settings.place_tries
         cells, partner = self.board.netlist.cells(gate), self.partner(gate, inlets)
         for index in range(tries):
-            cell, growth = cells[chance.randrange(len(cells))], index / tries
+            cell, growth = cells[chance.randrange(len(cells))], min(1.0, index / self.settings.growth_tries)
             left, top, right, bottom = cell.bounds
             x, y, radius = self.centre(inlets, partner, growth, (right - left) // 2)
             x, y = x - (left + right) // 2, y - (top + bottom) // 2
@@ -108,7 +109,7 @@ class Placer:
             if column is None:
                 self.reasons["no room"] += 1
                 continue
-            if not self.is_box_free(cell, column, row):
+            if not self.is_box_free(cell, column, row, chance.random() > growth):
                 self.reasons["box taken"] += 1
                 continue
             time = self.earliest(cell, column, row, inlets)
@@ -133,7 +134,7 @@ class Placer:
         balls = [inlet.ball for inlet in inlets if inlet.ball] or ([partner] if partner else [])
         if not balls:
             return chance.randrange(half, size - half), chance.randrange(half, size - half), 60
-        radius = half + chance.choice((20, 40, 80, 30 + int(200 * growth)))
+        radius = half + chance.choice((20, 40 + int(60 * growth), 80 + int(100 * growth), 120 + int(140 * growth)))
         last = max(balls, key=lambda ball: ball.time)
         ahead = last.flown(chance.randint(half, half + 20 + int(60 * growth)))
         x, y = ahead.x, ahead.y
@@ -159,15 +160,15 @@ class Placer:
         bits = free >> skipped
         return first + ((bits & -bits).bit_length() - 1 + skipped if bits else free.bit_length() - 1)
 
-    def is_box_free(self, cell: GateCell, x: int, y: int) -> bool:
-        """Whether the box of a cell is small enough, inside the layout, and no other gate's."""
-        box = box_of(cell, x, y)
-        column, row, columns, rows = box
+    def is_box_free(self, cell: GateCell, x: int, y: int, is_wide: bool) -> bool:
+        """Whether the box of a cell is small enough, inside the layout, and no other gate's; if `is_wide`, with a tile around it."""
+        column, row, columns, rows = box_of(cell, x, y)
         most = self.board.size // TILE
         if columns > MOST_TILES or rows > MOST_TILES or column < 0 or row < 0 or column + columns > most or row + rows > most:
             return False
-        owners = self.board.owners
-        return not any(tile in owners for tile in tiles_in(box))
+        owners, margin = self.board.owners, 1 if is_wide else 0
+        around = (column - margin, row - margin, columns + 2 * margin, rows + 2 * margin)
+        return not any(tile in owners for tile in tiles_in(around))
 
     def earliest(self, cell: GateCell, x: int, y: int, inlets: list[Inlet]) -> int:
         """Returns the earliest time for a cell at which each input can be there."""

@@ -18,7 +18,7 @@ from .attempt import Attempt, Design, NoRouteError, OutOfTimeError
 from .board import Step
 from .certificate import Certifier, bundle_text, circuit_section
 from .netlist import Netlist
-from .partial import partial_design, partial_text
+from .partial import INTERRUPT_SECONDS, SECONDS, partial_design, partial_text
 from .settings import Settings
 from .world import TILE
 
@@ -163,7 +163,8 @@ class Search:
 
     def note_failure(self, error: NoRouteError, placed: int) -> None:
         """Notes why an attempt failed. The reason that counts is that of the attempt that placed most gates."""
-        if not isinstance(error, OutOfTimeError) and (not self.outcome.reason or placed >= self.outcome.placed):
+        is_late = isinstance(error, OutOfTimeError)
+        if not self.outcome.reason or placed >= self.outcome.placed and not is_late:
             self.outcome.reason = str(error)
 
     def note_partial(self, placed: int, steps: list[Step], side: int) -> None:
@@ -282,7 +283,8 @@ class Pool:
 
 def partial_bundle(circuit: Circuit, outcome: Outcome, settings: Settings) -> tuple[str, int] | None:
     """Returns a bundle of the part of a circuit that was placed, and its count of gates, or None if there is none."""
-    found = partial_design(circuit, outcome.partial, outcome.partial_size, replace(settings, wander_tries=80))
+    seconds = INTERRUPT_SECONDS if outcome.is_interrupted else SECONDS
+    found = partial_design(circuit, outcome.partial, outcome.partial_size, replace(settings, wander_tries=80), seconds)
     if found is None:
         return None
     try:

@@ -8,9 +8,11 @@ class Settings:
     """What the search may spend, and what it prefers. Costs are in cells that a ball newly touches."""
 
     # The tries to find one path, the paths of which the cheapest is taken, and the longest leg in steps.
-    path_tries: int = 120
-    path_choices: int = 3
+    path_tries: int = 300
+    path_choices: int = 2
     longest_leg: int = 160
+    # The places at which the first and the last bounce of a path are tried.
+    bounce_places: int = 24
     # Paths longer than this are not compared with others.
     many_choices: int = 300
     # With more steps to spare than the first number a ball wanders at once, and with more than the second if it found no other
@@ -21,9 +23,11 @@ class Settings:
     wander_stop: tuple[int, int] = (50, 190)
     # The tries of a wander, and the ways on that it weighs at each bounce.
     wander_tries: int = 160
-    wander_options: int = 10
+    wander_options: int = 6
     # The places that are tried for a gate, and the places with all paths of which the cheapest is taken.
     place_tries: int = 400
+    # The tries after which the places are as far away as they may be.
+    growth_tries: int = 80
     place_choices: int = 4
     # The cost of a mirror, and of each step by which the last output of a gate is later.
     mirror_cost: float = 12.0

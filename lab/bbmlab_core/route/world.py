@@ -7,6 +7,7 @@ alone: in each block at most one of them moves, and mirrors alone stay (Margolus
 Cells and blocks are numbers here, so that sets of them are quick. A path's blocks are ranges of such numbers.
 """
 
+import itertools
 from dataclasses import dataclass
 from functools import cache
 from typing import Iterable
@@ -23,6 +24,7 @@ MARGIN = 4
 # A certificate's boxes are squares of this side, or rectangles of such squares.
 TILE = 16
 TILE_BITS = 4
+BITS = [1 << index for index in range(ROW)]
 
 
 def cell_number(cell: Cell) -> int:
@@ -154,17 +156,18 @@ class World:
         self.mirrors |= item.mirrors
         for number in item.mirrors:
             self._flip(number, self.mirror_falling, self.mirror_rising)
-        counts, size = self.counts, self.size
-        for numbers in (item.touched, item.mirrors):
-            for key in numbers:
-                count = counts.get(key, 0)
-                counts[key] = count + 1
-                if not count:
-                    x, y = key & ROW - 1, key >> 10
-                    bit = 1 << x
-                    self.blocked[y] |= bit
-                    self.blocked_falling[y - x + size] |= bit
-                    self.blocked_rising[y + x] |= bit
+        counts, size, bits = self.counts, self.size, BITS
+        rows, falling, rising = self.blocked, self.blocked_falling, self.blocked_rising
+        for number in itertools.chain(item.touched, item.mirrors):
+            if number in counts:
+                counts[number] += 1
+            else:
+                counts[number] = 1
+                x, y = number & 1023, number >> 10
+                bit = bits[x]
+                rows[y] |= bit
+                falling[y - x + size] |= bit
+                rising[y + x] |= bit
 
     def remove(self, item: Item) -> None:
         """Removes an item that was added."""
@@ -172,19 +175,19 @@ class World:
         self.mirrors -= item.mirrors
         for number in item.mirrors:
             self._flip(number, self.mirror_falling, self.mirror_rising)
-        counts, size = self.counts, self.size
-        for numbers in (item.touched, item.mirrors):
-            for key in numbers:
-                count = counts[key] - 1
-                if count:
-                    counts[key] = count
-                else:
-                    del counts[key]
-                    x, y = key & ROW - 1, key >> 10
-                    bit = 1 << x
-                    self.blocked[y] ^= bit
-                    self.blocked_falling[y - x + size] ^= bit
-                    self.blocked_rising[y + x] ^= bit
+        counts, size, bits = self.counts, self.size, BITS
+        rows, falling, rising = self.blocked, self.blocked_falling, self.blocked_rising
+        for number in itertools.chain(item.touched, item.mirrors):
+            count = counts[number]
+            if count > 1:
+                counts[number] = count - 1
+            else:
+                del counts[number]
+                x, y = number & 1023, number >> 10
+                bit = bits[x]
+                rows[y] ^= bit
+                falling[y - x + size] ^= bit
+                rising[y + x] ^= bit
 
     def _flip(self, number: int, falling: list[int], rising: list[int]) -> None:
         """Adds a cell to the diagonals, or takes it away."""
