@@ -60,7 +60,7 @@ use Rattle.pattern.specs.FromLines.{layout_of}
 use Rattle.answers.specs.BundleText.{Bundle, bundle_of}
 use Rattle.answers.specs.CheckText.{IsReportOf, SaysReport, verdict_outcome}
 use Rattle.meaning.specs.Design.{SaysDesign}
-use Rattle.meaning.specs.Headline.{SaysYes}
+use Rattle.meaning.specs.Streams.{SaysYes}
 use Rattle.headline.specs.Laws.{FourthLineTells, IsRightAsRead, ReportsOnGoodDesigns, YesHasOneValuation}
 use Rattle.headline.specs.Laws.{YesMeansRightStops}
 use Rattle.headline.specs.RightInFull.{IsGoodDesign}
