@@ -1,0 +1,23 @@
+"""Reading a text that a command needs to be a design, and the report that an option names."""
+
+import argparse
+
+from .documents import Document, read_document
+from .reports import Report, parse_report
+from .terminal import LabError, read_text
+
+
+def read_design(name: str, needs_circuit: bool = False) -> Document:
+    """Returns a text with a layout; raises LabError where it is refused. What stands behind circuit and layout may be missing."""
+    document = read_document(read_text(name))
+    if document.refusal:
+        refusal = document.refusal
+        raise LabError(f"{name}: line {refusal.line} is refused with code {refusal.code}; bbmlab explain tells why", 1)
+    if document.layout is None or needs_circuit and document.circuit is None:
+        raise LabError(f"{name}: the text has no {'circuit and ' if needs_circuit else ''}layout", 1)
+    return document
+
+
+def report_for(options: argparse.Namespace) -> Report | None:
+    """Returns the report of the option `--report`, if it is given."""
+    return parse_report(read_text(options.report)) if options.report else None
