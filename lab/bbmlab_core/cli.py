@@ -123,14 +123,17 @@ def add_file(parser: argparse.ArgumentParser, about: str) -> None:
 
 def add_certify(commands: Commands) -> None:
     """Adds `certify`."""
-    parser = commands.add("certify", late("certify"), "Make a certificate for a circuit and a layout.",
-                          "Example: bbmlab certify --grid 16,16 design.txt -o bundle.txt")
+    parser = commands.add("certify", late("certify"), "Make a certificate for a circuit and a layout; exit 0 only if the program says yes to it.",
+                          "Example: bbmlab certify design.txt -o bundle.txt")
     add_file(parser, "a text that begins with a circuit and a layout")
-    parser.add_argument("--grid", type=grid_sides, metavar="W,H", help="cut the layout into boxes of W by H cells, even and at most 64")
-    parser.add_argument("--plain", action="store_true", help="one module for the whole layout, without edge lines")
+    boxes = parser.add_mutually_exclusive_group()
+    boxes.add_argument("--grid", type=grid_sides, metavar="W,H", help="take boxes of W by H cells, even and at most 64 (default: the lab chooses)")
+    boxes.add_argument("--boxes", metavar="FILE", help="take the boxes of the lines `module X Y W H` of this text")
+    boxes.add_argument("--plain", action="store_true", help="one module for the whole layout, without edge lines")
     parser.add_argument("--version", dest="version_of_text", type=int, choices=[1, 2], default=2, help="certificate version (default: 2)")
-    parser.add_argument("--cuts", choices=["safe", "cheap"], default="safe",
-                        help="safe: use all gates back to the inputs. cheap: cut wires where they come in, where that holds (default: safe)")
+    parser.add_argument("--cuts", choices=["auto", "safe"], default="auto",
+                        help="auto: cut wires where they come in, if that holds. safe: use all gates back to the inputs (default: auto)")
+    add_program(parser)
 
 
 def add_trace(commands: Commands) -> None:
