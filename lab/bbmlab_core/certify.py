@@ -51,9 +51,11 @@ class Maker:
 
     def __init__(self, circuit: Circuit, layout: Layout, plan: Plan) -> None:
         self.circuit, self.layout, self.plan = circuit, layout, plan
-        self.observer = Observer(circuit, layout)
+        self.observer = Observer(circuit, layout, bool(plan.stops))
         self.observer.require_quiet_rim()
-        self.stops = plan.stops or self.delay_stops()
+        # What the user should know of the certificate.
+        self.notes: list[str] = []
+        self.stops = self.chosen_stops()
         self.ports = {key_of(part.cell): part.name or "" for part in layout.of_kind("in") + layout.of_kind("out")}
         self.starts = {key_of(part.cell): part.name or "" for part in layout.of_kind("in")}
 
@@ -213,7 +215,32 @@ class Maker:
                 return
         raise LabError(f"no module has room for the {len(cone.cuts)} wires that show that gate {gate.number} always has a row", 1)
 
-    # ---- stops of delays
+    # ---- stops
+
+    def chosen_stops(self) -> list[StopLine]:
+        """Returns the user's stops if all of them hold and show the delays, and else stops for the delays."""
+        if not self.plan.stops:
+            return self.delay_stops()
+        wrong = [stop for stop in self.plan.stops if not self.holds(stop)]
+        wrong += [stop for gate in self.circuit.gates if gate.word == "delay" for stop in self.delay_faults(gate)]
+        if not wrong:
+            return self.plan.stops
+        self.notes.append(f"the old stops are left out: `{wrong[0]}` does not hold in the layout")
+        return self.delay_stops()
+
+    def holds(self, stop: StopLine) -> bool:
+        """Whether the cell of a stop is live just in the cases in which its wire is true."""
+        key, values = key_of(stop.cell), self.observer.values
+        live = values.full if key in self.observer.observed.always else self.observer.observed.moments[stop.time].get(key, 0)
+        return live == values.tables[stop.name]
+
+    def delay_faults(self, gate: Gate) -> list[StopLine]:
+        """Returns the stops of the user that show another delay than a gate's."""
+        before = [stop for stop in self.plan.stops if stop.name == gate.ins[0]]
+        after = [stop for stop in self.plan.stops if stop.name == gate.outs[0]]
+        if not before or not after:
+            return self.plan.stops[:1]
+        return [] if after[0].time - before[-1].time == gate.parameter else [after[0]]
 
     def delay_stops(self) -> list[StopLine]:
         """Returns stops for delays: a wire is seen once, at its `in` cell or at the first time at which a cell carries it."""
@@ -304,13 +331,19 @@ def certificate_text(certificate: Certificate) -> str:
     return "\n".join([*lines, "end"]) + "\n"
 
 
-def certified(document: Document, boxes: list[Box] | None, plan: Plan) -> str:
-    """Returns the text of a circuit and a layout with a certificate of its own, with given boxes or with boxes that it chooses."""
+def certified(document: Document, boxes: list[Box] | None, plan: Plan, notes: list[str] | None = None) -> str:
+    """Returns the text of a circuit and a layout with a certificate of its own, with given boxes or with boxes that it chooses.
+
+    What the user should know of the certificate is added to `notes`.
+    """
     circuit, layout = document.circuit, document.layout
     if circuit is None or layout is None:
         raise LabError("certify takes a circuit and a layout")
     try:
-        certificate = Maker(circuit, layout, plan).certificate(boxes)
+        maker = Maker(circuit, layout, plan)
+        certificate = maker.certificate(boxes)
+        if notes is not None:
+            notes += maker.notes
     except NoBoxError as error:
         raise LabError(f"no certificate was found: {error}", 1) from error
     head = document.text.split("\nend\n")

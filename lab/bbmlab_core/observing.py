@@ -22,15 +22,17 @@ class Observed:
 
     always: set[int] = field(default_factory=set)
     seen: dict[int, list[tuple[int, Table]]] = field(default_factory=dict)
-    # The cells that are not live always, at each time, if the circuit has a delay.
+    # The cells that are not live always, at each time, if they are remembered.
     moments: list[dict[int, Table]] = field(default_factory=list)
 
 
 class Observer:
     """Runs a layout once, under all choices of the inputs or under samples of them, and tells the wires of its cells."""
 
-    def __init__(self, circuit: Circuit, layout: Layout) -> None:
+    def __init__(self, circuit: Circuit, layout: Layout, remembers: bool = False) -> None:
         self.circuit, self.layout = circuit, layout
+        # Whether the cells are remembered at each time, for stops.
+        self.remembers = remembers or any(gate.word == "delay" for gate in circuit.gates)
         if len(circuit.inputs) <= MAX_TRIED_INPUTS:
             self.values = evaluate(circuit, circuit.inputs, [gate.number for gate in circuit.gates])
         else:
@@ -53,17 +55,16 @@ class Observer:
     def run(self) -> Observed:
         """Runs the layout, and returns what its cells were."""
         run, observed, values = WholeRun(self.layout, self.values.tables, self.values.full), Observed(), self.values
-        has_delay = any(gate.word == "delay" for gate in self.circuit.gates)
         observed.always = {key for key, table in run.field.live.items() if table == values.full}
         moving = {key: table for key, table in run.field.live.items() if table != values.full}
         remembered = 0
         while True:
             time = run.time
-            if has_delay:
+            if self.remembers:
                 observed.moments.append(dict(moving))
                 remembered += len(moving)
                 if remembered > MAX_REMEMBERED:
-                    raise LabError("the circuit has a delay, and the run is too long to look for stops: write the `stop` lines by hand", 1)
+                    raise LabError("the run is too long to look for stops of delays: write the `stop` lines by hand", 1)
             if time % 2 and time < self.layout.steps:
                 for key, table in moving.items():
                     observed.seen.setdefault(key, []).append((time, table))
