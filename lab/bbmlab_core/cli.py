@@ -25,6 +25,29 @@ def late(module: str, function: str = "run") -> Callable[[argparse.Namespace], i
     return run
 
 
+def cells_command(options: argparse.Namespace) -> int:
+    """Runs `bbmlab cells`."""
+    from . import standard_cells  # Imported late: no other command reads the cells.
+    if options.cell is None:
+        if options.svg or options.bundle:
+            raise LabError("--svg and --bundle need the name of a cell", 2)
+        text = "\n\n".join(standard_cells.read_cell(name).text() for name in standard_cells.cell_names()) + "\n"
+    elif options.svg:
+        text = picture_of(str(standard_cells.cell_path(options.cell)), None, None)
+    elif options.bundle:
+        text = read_text(str(standard_cells.cell_path(options.cell)))
+    else:
+        text = standard_cells.read_cell(options.cell).text() + "\n"
+    write_text(options.output, text)
+    return 0
+
+
+def route_command(options: argparse.Namespace) -> int:
+    """Runs `bbmlab route`. Its modules are read only here, since other commands do not need them."""
+    from .route.command import route_command as route
+    return route(options)
+
+
 def grid_sides(word: str) -> tuple[int, int]:
     """Returns the sides of boxes, written W,H or WxH."""
     sides = word.lower().replace("x", ",").split(",")
@@ -172,6 +195,17 @@ def add_view(commands: Commands) -> None:
     add_program(parser)
 
 
+def add_cells(commands: Commands) -> None:
+    """Adds `cells`."""
+    parser = commands.add("cells", late("cells"), "List the standard cells with their ports, or show one of them.",
+                          "Example: bbmlab cells fredkin --svg -o fredkin.svg")
+    parser.add_argument("cell", nargs="?", metavar="NAME", help="the name of a cell (default: list all)")
+    form = parser.add_mutually_exclusive_group()
+    form.add_argument("--svg", action="store_true", help="draw the ways of its balls")
+    form.add_argument("--bundle", action="store_true", help="write its bundle, which the program checks")
+    parser.add_argument("-o", "--output", metavar="FILE", help="write to this file (default: standard output)")
+
+
 def add_others(commands: Commands) -> None:
     """Adds `json`, `golly` and `from-golly`."""
     parser = commands.add("json", late("json_document"), "Write a text and its report as one JSON document, or the text of such a document.",
@@ -188,7 +222,23 @@ def add_others(commands: Commands) -> None:
     add_file(parser, "an RLE file for Golly's rule BBM-Margolus-emulated")
 
 
-ADDERS = [add_check, add_explain, add_trace, add_draw, add_view, add_certify, add_fmt, add_others]
+def add_route(commands: Commands) -> None:
+    """Adds `route`."""
+    parser = commands.add("route", late("route"), "Place and route a circuit: a layout of balls and mirrors, with a certificate.",
+                          "Example: bbmlab route circuit.txt -o bundle.txt")
+    add_file(parser, "a text that begins with a circuit, or a netlist in BLIF or in the JSON of yosys")
+    parser.add_argument("--seed", type=positive, default=1, metavar="N", help="another seed gives another layout (default: 1)")
+    parser.add_argument("--size", type=positive, metavar="N", help="the side of the layout, a multiple of 16 up to 512 (default: as needed)")
+    parser.add_argument("--effort", type=seconds, default=60.0, metavar="SECONDS", help="how long to search (default: 60)")
+    parser.add_argument("--jobs", type=positive, default=1, metavar="N", help="attempts at a time, each in a process (default: 1)")
+    parser.add_argument("--compact", action="store_true", help="try on for a smaller layout and fewer steps")
+    parser.add_argument("--no-certificate", action="store_true", help="write the circuit and the layout alone")
+    parser.add_argument("--circuit-only", action="store_true", help="write the circuit section to which a netlist is mapped, and route nothing")
+    parser.add_argument("--keep-partial", action="store_true", help="if there is no route, write a bundle of the gates that were placed")
+    add_program(parser)
+
+
+ADDERS = [add_check, add_explain, add_trace, add_draw, add_view, add_certify, add_route, add_cells, add_fmt, add_others]
 
 
 def answered(run: Callable[[argparse.Namespace], int], options: argparse.Namespace) -> int:

@@ -7,8 +7,8 @@ from types import FrameType
 from typing import NoReturn
 
 
-class Stopped(BaseException):
-    """A signal that asks for the end. `status` is the exit status that a shell gives for it."""
+class Stopped(KeyboardInterrupt):
+    """SIGINT or SIGTERM. `status` is the exit status that a shell gives for it."""
 
     def __init__(self, number: int) -> None:
         super().__init__(number)
