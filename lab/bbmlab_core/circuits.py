@@ -2,6 +2,7 @@
 
 import random
 from dataclasses import dataclass, field
+from typing import Iterable
 
 from .gates import GATE_SIZES, INVERSE_GATES, Table, gate_row, input_tables
 from .lines import Lines, SectionReader, forms_of
@@ -92,20 +93,27 @@ def evaluate(circuit: Circuit, free: list[str], gates: list[int]) -> Valuation:
     return evaluate_under(circuit, dict(zip(free, input_tables(len(free)))), full, gates)
 
 
-def evaluate_samples(circuit: Circuit, count: int, seed: int = 1) -> Valuation:
-    """Returns the tables of all wires in sampled choices of the inputs.
+def sampled_tables(names: list[str], count: int, first: Iterable[str] = (), seed: int = 1) -> dict[str, Table]:
+    """Returns a table for each of some free wires in `count` sampled choices of them. In the first choice those of `first` are on.
 
-    Among the samples are all inputs off, all on, and many with one input on or one off. The others are random, some with many ones and
+    Among the samples are all wires off, all on, and many with one wire on or one off. The others are random, some with many ones and
     some with few, so that wires that are seldom true or seldom false differ from constants.
     """
-    chance, number, columns = random.Random(seed), len(circuit.inputs), [0, (1 << len(circuit.inputs)) - 1]
+    chance, number, all_on = random.Random(seed), len(names), (1 << len(names)) - 1
+    chosen = set(first)
+    columns = [sum(1 << place for place, name in enumerate(names) if name in chosen), 0, all_on]
     some = range(number) if number <= count // 8 else sorted(chance.sample(range(number), count // 8))
-    columns += [flip ^ 1 << index for index in some for flip in (0, columns[1])]
+    columns += [flip ^ 1 << index for index in some for flip in (0, all_on)]
     for index in range(count - len(columns)):
         share = (0.5, 0.5, 0.25, 0.75, 0.1, 0.9, 0.03, 0.97)[index % 8]
         columns.append(sum(1 << place for place in range(number) if chance.random() < share))
-    tables = {name: sum((column >> place & 1) << index for index, column in enumerate(columns)) for place, name in enumerate(circuit.inputs)}
-    values = evaluate_under(circuit, tables, (1 << len(columns)) - 1, [gate.number for gate in circuit.gates])
+    return {name: sum((column >> place & 1) << index for index, column in enumerate(columns)) for place, name in enumerate(names)}
+
+
+def evaluate_samples(circuit: Circuit, count: int, first: Iterable[str] = ()) -> Valuation:
+    """Returns the tables of all wires in `count` sampled choices of the inputs. In the first choice the inputs of `first` are on."""
+    tables = sampled_tables(circuit.inputs, count, first)
+    values = evaluate_under(circuit, tables, (1 << count) - 1, [gate.number for gate in circuit.gates])
     values.is_all = False
     return values
 

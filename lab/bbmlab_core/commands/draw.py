@@ -17,7 +17,7 @@ def picture_of(file: str, names: str | None, time: int | None, report: Report | 
     picture = drawing.Drawing(modules=document.certificate.modules if document.certificate else [])
     if time is None:
         picture.ways, picture.labels = drawing.ball_ways(document, on if names is not None else None, layout.steps)
-        picture.title = "ways of the balls" + (under if names is not None else "")
+        picture.title = "ways of the balls" + (under if names is not None else drawing.sampled_words(document))
     else:
         trace = tracing.trace_layout(layout, on, time, time)
         if not trace.states:
