@@ -163,6 +163,17 @@ def wire_style(wires: list[str]) -> dict[str, tuple[int, str]]:
     return styles | {"": (SEVERAL, "1 2")}
 
 
+def runs_of(numbers: list[int]) -> list[tuple[int, int]]:
+    """Returns the first and the last number of each run of rising numbers without a gap."""
+    runs = [(numbers[0], numbers[0])]
+    for number in numbers[1:]:
+        if number == runs[-1][1] + 1:
+            runs[-1] = runs[-1][0], number
+        else:
+            runs.append((number, number))
+    return runs
+
+
 def merged(segments: list[tuple[Cell, Cell]]) -> list[tuple[Cell, Cell]]:
     """Joins segments of one diagonal that meet. Each goes from its left end to its right end."""
     lines: dict[tuple[int, int], list[int]] = {}
@@ -173,12 +184,8 @@ def merged(segments: list[tuple[Cell, Cell]]) -> list[tuple[Cell, Cell]]:
     joined = []
     for (slope, offset), starts in lines.items():
         ordered = sorted(set(starts))
-        first = last = ordered[0]
-        for x in [*ordered[1:], None]:
-            if x is None or x != last + 1:
-                joined.append(((first, slope * first + offset), (last + 1, slope * (last + 1) + offset)))
-                first = x
-            last = x
+        for first, last in runs_of(ordered):
+            joined.append(((first, slope * first + offset), (last + 1, slope * (last + 1) + offset)))
     return joined
 
 
