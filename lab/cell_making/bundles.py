@@ -102,6 +102,7 @@ def bundle_text(machine: Machine) -> str:
     dx, dy, width, height = frame_of(machine, run)
 
     def shifted(ball: Ball) -> list[Cell]:
+        """Returns the cells of a ball in the layout."""
         return [(x + dx, y + dy) for x, y in ball.cells()]
 
     outs = {name: shifted(ball.at(machine.last)) for name, ball in machine.outs.items()}
