@@ -1,0 +1,246 @@
+"""What an attempt has placed so far: gates, paths, waiting balls, and the wires that each box of the certificate needs."""
+
+from dataclasses import dataclass, field, replace
+from typing import Iterable
+
+from ..certificates import MAX_CUTS
+from ..circuits import Circuit
+from .balls import Ball, Leg
+from .cells import GateCell
+from .netlist import Netlist
+from .paths import Path
+from .settings import Settings
+from .world import ROW, TILE, Item, World, cell_item, path_item, tiles_of
+
+TileBox = tuple[int, int, int, int]
+
+
+@dataclass(frozen=True)
+class PlacedGate:
+    """A gate's cell at a place and a time, and its box: first tile column and row, and the counts of columns and rows."""
+
+    number: int
+    cell: GateCell
+    x: int
+    y: int
+    time: int
+    box: TileBox
+    item: Item
+
+    def port(self, name: str) -> Ball:
+        """Returns the ball of a port."""
+        ball = self.cell.ins[name] if name in self.cell.ins else self.cell.outs[name]
+        return ball.moved(self.x, self.y, self.time)
+
+    def out(self, name: str) -> Ball:
+        """Returns the ball of an output."""
+        return self.cell.outs[name].moved(self.x, self.y, self.time)
+
+    def into(self, name: str) -> Ball:
+        """Returns the ball of an input."""
+        return self.cell.ins[name].moved(self.x, self.y, self.time)
+
+
+@dataclass(frozen=True)
+class Waiting:
+    """A ball that waits to be led on, and what is reserved for its next steps. Without a ball, it may begin anywhere at time 0."""
+
+    ball: Ball | None = None
+    item: Item | None = None
+
+
+@dataclass
+class Step:
+    """A gate that was placed, the paths to its inputs, and its outputs that wait; with its cost, and its inputs before."""
+
+    gate: PlacedGate
+    paths: list[Path]
+    outs: dict[str, Waiting] = field(default_factory=dict)
+    before: dict[str, Waiting] = field(default_factory=dict)
+    cost: float = 0.0
+
+    def with_number(self, number: int) -> "Step":
+        """Returns the step for a gate with another number, before it is added."""
+        return Step(replace(self.gate, number=number), self.paths, self.outs)
+
+
+def box_of(cell: GateCell, x: int, y: int) -> TileBox:
+    """Returns the box of whole tiles whose inside has all cells of a placed gate that carry no wire."""
+    left, top, right, bottom = cell.unnamed_bounds
+    first_column, first_row = (left + x - 1) // TILE, (top + y - 1) // TILE
+    return first_column, first_row, (right + x + 1) // TILE - first_column + 1, (bottom + y + 1) // TILE - first_row + 1
+
+
+def tiles_in(box: TileBox) -> list[int]:
+    """Returns the tiles of a box."""
+    column, row, columns, rows = box
+    return [(row + j) * ROW + column + i for j in range(rows) for i in range(columns)]
+
+
+def fewest_cuts(circuit: Circuit, wires: Iterable[str], used: Iterable[int]) -> tuple[set[str], set[int]]:
+    """Returns wires to cut and gates to use so that all given wires are local; `used` are gates that must be used.
+
+    A gate with more outputs among the wires than inputs that are not is used in place of cutting its outputs.
+    """
+    gates, local = set(used), set(wires)
+    for number in gates:
+        local |= set(circuit.gates[number].ins)
+    cuts = local - {wire for number in gates for wire in circuit.gates[number].outs}
+    while len(cuts) > 1:
+        outs: dict[int, int] = {}
+        for wire in cuts:
+            gate = circuit.maker.get(wire)
+            if gate is not None and not gate.is_inverse:
+                outs[gate.number] = outs.get(gate.number, 0) + 1
+        defined = cuts | {wire for number in gates for wire in circuit.gates[number].outs}
+        gains = [(count - sum(wire not in defined for wire in circuit.gates[number].ins), -number) for number, count in outs.items()]
+        gain, number = max(gains, default=(0, 0))
+        if gain <= 0:
+            break
+        gate = circuit.gates[-number]
+        gates.add(gate.number)
+        cuts = (cuts | {wire for wire in gate.ins if wire not in defined}) - set(gate.outs)
+    return cuts, gates
+
+
+class Board:
+    """The state of an attempt. Each change can be taken back."""
+
+    def __init__(self, netlist: Netlist, size: int, settings: Settings) -> None:
+        self.netlist, self.size, self.settings = netlist, size, settings
+        self.world = World(size)
+        # The root wires that wait.
+        self.waiting: dict[str, Waiting] = {root: Waiting() for root in netlist.free_roots()}
+        self.steps: list[Step] = []
+        self.ends: list[Path] = []
+        # For each tile the wires that its box needs, with the number of items for which it does; and the gate that owns it.
+        self.names: dict[int, dict[str, int]] = {}
+        self.owners: dict[int, PlacedGate] = {}
+
+    # --- wires of boxes ------------------------------------------------------------------------------------------------
+
+    def count_names(self, wires: Iterable[str], tiles: Iterable[int], change: int) -> None:
+        """Notes that tiles need wires for one more item, or for one less."""
+        for tile in tiles:
+            names = self.names.setdefault(tile, {})
+            for wire in wires:
+                count = names.get(wire, 0) + change
+                if count:
+                    names[wire] = count
+                else:
+                    del names[wire]
+
+    def wires_of(self, root: str) -> list[str]:
+        """Returns the wires by which certificates know the ball of a root: none if it is a constant."""
+        return [] if root in self.netlist.constants else self.netlist.chain(root)
+
+    def names_in(self, tiles: Iterable[int]) -> set[str]:
+        """Returns the wires that some tiles need."""
+        return {wire for tile in tiles for wire in self.names.get(tile, ())}
+
+    def has_room_for(self, root: str, tiles: set[int]) -> bool:
+        """Whether the boxes of tiles have room for the wires of a ball."""
+        wires = self.wires_of(root)
+        if not wires:
+            return True
+        boxes = {self.owners[tile].box: self.owners[tile] for tile in tiles if tile in self.owners}
+        for tile in tiles:
+            names = self.names.get(tile)
+            if names and tile not in self.owners and len(names) + len(wires) > MAX_CUTS:
+                if len(fewest_cuts(self.netlist.circuit, {*names, *wires}, ())[0]) > MAX_CUTS:
+                    return False
+        return all(self.box_has_room(box, [gate.number], wires) for box, gate in boxes.items())
+
+    def box_has_room(self, box: TileBox, used: list[int], wires: Iterable[str], spare: int = 0) -> bool:
+        """Whether a box that uses gates has room for more wires, and then for `spare` others."""
+        names = self.names_in(tiles_in(box)) | set(wires)
+        return len(fewest_cuts(self.netlist.circuit, names, used)[0]) <= MAX_CUTS - spare
+
+    # --- waiting balls -------------------------------------------------------------------------------------------------
+
+    def waiting_ball(self, ball: Ball) -> Waiting | None:
+        """Returns a ball that waits, or None if its next steps leave the layout or meet something."""
+        for steps in self.settings.reserved_steps:
+            far = ball.flown(steps)
+            if self.world.is_inside(far.x, far.y) and self.world.is_inside(ball.x, ball.y):
+                item = path_item(ball, [Leg(steps, None)])
+                if item and self.world.fits(item):
+                    return Waiting(ball, item)
+        return None
+
+    def wait(self, root: str, waiting: Waiting) -> None:
+        """Makes a root wait."""
+        self.waiting[root] = waiting
+        if waiting.item is not None:
+            self.world.add(waiting.item)
+            self.count_names(self.wires_of(root), tiles_of(waiting.item.touched), 1)
+
+    def stop_waiting(self, root: str) -> Waiting:
+        """Ends the waiting of a root, and returns it."""
+        waiting = self.waiting.pop(root)
+        if waiting.item is not None:
+            self.world.remove(waiting.item)
+            self.count_names(self.wires_of(root), tiles_of(waiting.item.touched), -1)
+        return waiting
+
+    # --- paths and gates -----------------------------------------------------------------------------------------------
+
+    def add_path(self, path: Path) -> None:
+        """Adds a path."""
+        self.world.add(path.item)
+        self.count_names(self.wires_of(path.wire), tiles_of(path.item.touched | path.item.mirrors), 1)
+
+    def remove_path(self, path: Path) -> None:
+        """Removes a path."""
+        self.world.remove(path.item)
+        self.count_names(self.wires_of(path.wire), tiles_of(path.item.touched | path.item.mirrors), -1)
+
+    def place(self, x: int, y: int, time: int, cell: GateCell, number: int) -> PlacedGate:
+        """Returns a gate's cell at a place and a time, without adding it."""
+        return PlacedGate(number, cell, x, y, time, box_of(cell, x, y), cell_item(cell, x, y, time))
+
+    def gate_wires(self, gate: PlacedGate) -> list[str]:
+        """Returns the wires at a gate's ports that are no constants."""
+        line = self.netlist.circuit.gates[gate.number]
+        return [wire for wire in line.ins + line.outs if self.netlist.root(wire) not in self.netlist.constants]
+
+    def add_gate(self, gate: PlacedGate) -> None:
+        """Adds a gate's cell and its box."""
+        self.world.add(gate.item)
+        for tile in tiles_in(gate.box):
+            self.owners[tile] = gate
+        self.count_names(self.gate_wires(gate), self.gate_tiles(gate), 1)
+
+    def remove_gate(self, gate: PlacedGate) -> None:
+        """Removes a gate's cell and its box."""
+        self.world.remove(gate.item)
+        for tile in tiles_in(gate.box):
+            del self.owners[tile]
+        self.count_names(self.gate_wires(gate), self.gate_tiles(gate), -1)
+
+    def gate_tiles(self, gate: PlacedGate) -> set[int]:
+        """Returns the tiles to which a gate's moving cells come."""
+        return tiles_of(gate.item.touched)
+
+    def commit(self, step: Step) -> None:
+        """Adds a gate with its paths, and lets its outputs wait."""
+        self.add_gate(step.gate)
+        for path in step.paths:
+            step.before[path.wire] = self.stop_waiting(path.wire)
+            self.add_path(path)
+        for wire, waiting in step.outs.items():
+            self.wait(wire, waiting)
+        self.steps.append(step)
+
+    def take_back(self) -> Step:
+        """Takes the last gate back, and returns it."""
+        step = self.steps.pop()
+        for wire in step.outs:
+            self.stop_waiting(wire)
+        for path in step.paths:
+            self.remove_path(path)
+        self.remove_gate(step.gate)
+        for wire, waiting in step.before.items():
+            self.wait(wire, waiting)
+        step.before = {}
+        return step

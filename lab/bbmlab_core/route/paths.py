@@ -1,0 +1,369 @@
+"""Paths of balls: from a ball to a ball at an exact time, or with a free beginning or end.
+
+A path is straight legs with a bounce between two legs. A bounce exchanges falling and rising diagonals, so the legs of
+a path lie on the two kinds of diagonals in turn. The last three legs follow from place and time of the goal.
+"""
+
+import random
+from dataclasses import dataclass
+from typing import Callable, Iterator, NamedTuple, Sequence
+
+from .balls import BOUNCE_STEPS, Ball, Leg, Mirror, Turn, bounce, bounce_before, follow
+from .settings import Settings
+from .world import Item, World, path_item
+
+# A leg leads on for at least this many steps, if the path goes on so long.
+LEAST_LEG = 12
+# A wander ends with this many steps more than the way to its goal needs at least.
+SPARE_STEPS = 30
+# A path without a return has at most this many steps to spare.
+STAIR_STEPS = 24
+
+
+@dataclass(frozen=True)
+class Path:
+    """A path of one ball: its wire, its first and last ball, its legs, and what it takes."""
+
+    wire: str
+    start: Ball
+    end: Ball
+    legs: tuple[Leg, ...]
+    item: Item
+
+    def mirrors(self) -> list[Mirror]:
+        """Returns the mirrors, in the order of time."""
+        return follow(self.start, self.legs)[1]
+
+
+class Option(NamedTuple):
+    """A way on for a wandering ball: steps and a bounce, with a cost for each step."""
+
+    cost: float
+    steps: int
+    turn: Turn
+
+
+class Turned(NamedTuple):
+    """A bounce after or before some steps, with the ball on its other side; or no bounce."""
+
+    steps: int
+    turn: Turn | None
+    ball: Ball
+
+
+Direction = tuple[int, int]
+
+
+class Trail:
+    """A path that is being made, forward from its first ball or backward from its last one.
+
+    Its parts are in the world, so that the parts to come keep off them. A trail that goes backward moves the reversed ball.
+    """
+
+    def __init__(self, world: World, ball: Ball, is_backward: bool = False) -> None:
+        self.world, self.is_backward = world, is_backward
+        self.ball = ball.reversed() if is_backward else ball
+        self.begun = BOUNCE_STEPS if is_backward else 0
+        self.steps: list[tuple[int, Turn | None, Ball, int, Item]] = []
+
+    def turned(self, ball: Ball, turn: Turn) -> tuple[Ball, Mirror]:
+        """Returns the ball after a bounce, and its mirror."""
+        if not self.is_backward:
+            return bounce(ball, turn)
+        before, mirror = bounce_before(ball.reversed(), turn)
+        return before.reversed(), mirror
+
+    def room(self, most: int) -> int:
+        """Returns how many steps, at most `most`, the ball can fly straight on."""
+        begun = 0 if self.is_backward else self.begun
+        return begun + self.world.free_flight(self.ball.flown(begun), most - begun) if most > begun else 0
+
+    def push(self, steps: int, turn: Turn | None) -> bool:
+        """Adds a leg and its bounce if they meet nothing."""
+        if steps < self.begun and turn is not None or steps < 0:
+            return False
+        ball = self.ball.flown(steps)
+        after = self.turned(ball, turn)[0] if turn else ball
+        if self.is_backward:
+            first = after.reversed()
+            item = path_item(first, [Leg(0, turn), Leg(steps, None)] if turn else [Leg(steps, None)])
+        else:
+            item = path_item(self.ball, [Leg(steps, turn)], min(self.begun, steps))
+        if item is None or not self.world.fits(item):
+            return False
+        self.world.add(item)
+        self.steps.append((steps, turn, self.ball, self.begun, item))
+        self.ball, self.begun = after, BOUNCE_STEPS
+        return True
+
+    def pop(self) -> None:
+        """Takes the last leg away."""
+        _, _, self.ball, self.begun, item = self.steps.pop()
+        self.world.remove(item)
+
+    def clear(self) -> None:
+        """Takes all legs away."""
+        while self.steps:
+            self.pop()
+
+    def legs(self) -> list[Leg]:
+        """Returns the legs in the order of time."""
+        if not self.is_backward:
+            return [Leg(steps, turn) for steps, turn, *_ in self.steps]
+        turns = [turn for _, turn, *_ in self.steps]
+        legs = [Leg(self.steps[0][0], None)]
+        for index in range(1, len(self.steps)):
+            legs.insert(0, Leg(self.steps[index][0], turns[index - 1]))
+        return legs
+
+
+class PathFinder:
+    """Finds paths in a world. Its choices come from `chance` alone."""
+
+    def __init__(self, world: World, chance: random.Random, settings: Settings) -> None:
+        self.world, self.chance, self.settings = world, chance, settings
+        # What may raise an exception when the time is over.
+        self.check_time: Callable[[], None] = lambda: None
+
+    # --- free ends -----------------------------------------------------------------------------------------------------
+
+    def lead_on(self, wire: str, ball: Ball, end: int) -> Path | None:
+        """Returns a path from a ball to any place at the time `end`."""
+        trail = Trail(self.world, ball)
+        found = self.wander(trail, end)
+        legs, last = trail.legs(), trail.ball
+        trail.clear()
+        return self.complete(wire, ball, last, legs) if found else None
+
+    def lead_here(self, wire: str, goal: Ball) -> Path | None:
+        """Returns a path that begins at any place at time 0 and comes to a ball."""
+        trail = Trail(self.world, goal, is_backward=True)
+        found = self.wander(trail, 0)
+        legs, first = trail.legs() if trail.steps else [], trail.ball.reversed()
+        trail.clear()
+        return self.complete(wire, first, goal, legs) if found else None
+
+    def complete(self, wire: str, start: Ball, end: Ball, legs: list[Leg]) -> Path | None:
+        """Returns the path of these legs if it meets nothing, itself included."""
+        item = path_item(start, legs)
+        if item is None or not self.world.fits(item):
+            return None
+        return Path(wire, start, end, tuple(legs), item)
+
+    def wander(self, trail: Trail, end: int, goal: Ball | None = None) -> bool:
+        """Leads a trail on up to a time, so that it takes few new cells; with a goal, it can still come to this ball."""
+        ways: list[Iterator[Option]] = []
+        self.check_time()
+        for _ in range(self.settings.wander_tries):
+            left = end - trail.ball.time
+            if left == 0 and not trail.steps or self.can_end(trail, left, goal) and trail.push(left, None):
+                return True
+            ways.append(iter(self.options(trail, left, goal)))
+            while ways:
+                option = next(ways[-1], None)
+                if option and trail.push(option.steps, option.turn):
+                    break
+                if option is None:
+                    ways.pop()
+                    if ways:
+                        trail.pop()
+            if not ways:
+                return False
+        return False
+
+    def can_end(self, trail: Trail, left: int, goal: Ball | None) -> bool:
+        """Whether a trail can fly straight on to its end, with enough time to come to a goal from there."""
+        if left < trail.begun or trail.room(left) < left:
+            return False
+        return goal is None or is_in_reach(trail.ball.flown(left), goal, SPARE_STEPS)
+
+    def options(self, trail: Trail, left: int, goal: Ball | None) -> list[Option]:
+        """Returns the ways on of a trail, the cheapest first."""
+        chance, world, settings = self.chance, self.world, self.settings
+        room, least = trail.room(min(settings.longest_leg, left)), trail.begun
+        found: list[Option] = []
+        if room < least:
+            return found
+        for index in range(settings.wander_options):
+            steps = room - index if index < 3 and room - index >= least else chance.randint(least, room)
+            at = trail.ball.flown(steps)
+            for turn in Turn:
+                after, mirror = trail.turned(at, turn)
+                rest = left - steps
+                if rest < BOUNCE_STEPS or not world.can_hold(mirror):
+                    continue
+                clear = after.flown(BOUNCE_STEPS)
+                on = BOUNCE_STEPS + world.free_flight(clear, min(60, rest - BOUNCE_STEPS))
+                if on < min(LEAST_LEG, rest) or goal and not is_in_reach(after, goal, SPARE_STEPS):
+                    continue
+                new = world.new_cells(trail.ball, steps) + world.new_cells(clear, on - BOUNCE_STEPS)
+                cost = (new + settings.mirror_cost) / (steps + on) + chance.random() * 0.5
+                found.append(Option(cost, steps, turn))
+        found.sort(key=lambda option: option.cost)
+        return found[:4]
+
+    # --- from a ball to a ball -----------------------------------------------------------------------------------------
+
+    def connect(self, wire: str, start: Ball, goal: Ball, tries: int) -> Path | None:
+        """Returns a path from a ball to a ball: the cheapest of some that were found."""
+        settings, best, least = self.settings, None, 0.0
+        total = goal.time - start.time
+        for _ in range(settings.path_choices if total <= settings.many_choices else 1):
+            path = self.connect_once(wire, start, goal, tries)
+            if path is None:
+                break
+            cost = self.cost(path)
+            if best is None or cost < least:
+                best, least = path, cost
+        return best
+
+    def cost(self, path: Path) -> float:
+        """Returns the cost of a path: the cells that it newly touches, and its mirrors."""
+        counts = self.world.counts
+        new = sum(number not in counts for number in path.item.touched)
+        return new + self.settings.mirror_cost * (len(path.legs) - 1)
+
+    def connect_once(self, wire: str, start: Ball, goal: Ball, tries: int) -> Path | None:
+        """Returns a path from a ball to a ball. If there is much time to spare, the ball wanders first."""
+        settings, total = self.settings, goal.time - start.time
+        spare = total - max(abs(start.x - goal.x), abs(start.y - goal.y))
+        if spare <= settings.direct_spare:
+            legs = self.connect_short(start, goal, tries)
+            path = self.complete(wire, start, goal, legs) if legs else None
+            if path or spare <= settings.least_wander:
+                return path
+        for _ in range(settings.wanders):
+            path = self.connect_by_wander(wire, start, goal, tries)
+            if path:
+                return path
+        return None
+
+    def connect_by_wander(self, wire: str, start: Ball, goal: Ball, tries: int) -> Path | None:
+        """Returns a path that wanders up to some time before the goal."""
+        trail = Trail(self.world, start)
+        stop = goal.time - self.chance.randint(*self.settings.wander_stop)
+        legs = None
+        if stop > start.time and self.wander(trail, stop, goal):
+            before, rest = trail.legs(), self.connect_short(trail.ball, goal, tries)
+            if rest:
+                legs = [*before[:-1], Leg(before[-1].steps + rest[0].steps, rest[0].turn), *rest[1:]]
+        trail.clear()
+        return self.complete(wire, start, goal, legs) if legs else None
+
+    def connect_short(self, start: Ball, goal: Ball, tries: int) -> list[Leg] | None:
+        """Returns legs from a ball to a ball.
+
+        The first and the last bounce are chosen where mirrors have room. The two bounces between follow from place and time.
+        """
+        total = goal.time - start.time
+        if total < 0 or not is_in_reach(start, goal):
+            return None
+        if start.flown(total) == goal:
+            straight = [Leg(total, None)]
+            if self.is_path(start, straight):
+                return straight
+        first, last = self.departures(start, total), self.approaches(goal, total)
+        spare = total - max(abs(start.x - goal.x), abs(start.y - goal.y))
+        returns = (True, True, True, False) if spare <= STAIR_STEPS else (True,)
+        joins = [(before, after, is_return) for way, before in first.items() for is_return in returns
+                 for after in [last.get((-way[0], -way[1]) if is_return else way)] if after]
+        for _ in range(tries if joins else 0):
+            firsts, lasts, is_return = joins[int(self.chance.random() * len(joins))]
+            before, after = firsts[int(self.chance.random() * len(firsts))], lasts[int(self.chance.random() * len(lasts))]
+            legs = self.joined(before, after, is_return)
+            if legs and self.is_path(start, legs):
+                return legs
+        return None
+
+    def departures(self, ball: Ball, total: int) -> dict[Direction, list[Turned]]:
+        """Returns by direction the beginnings of a path: none, and first bounces for which a mirror has room."""
+        found = {(ball.dx, ball.dy): [Turned(0, None, ball)]}
+        room = self.world.free_flight(ball, min(self.settings.longest_leg, total))
+        for steps in self.some_steps(0, room):
+            at = ball.flown(steps)
+            for turn in Turn:
+                after, mirror = bounce(at, turn)
+                if self.world.can_hold(mirror):
+                    found.setdefault((after.dx, after.dy), []).append(Turned(steps, turn, after))
+        return found
+
+    def approaches(self, goal: Ball, total: int) -> dict[Direction, list[Turned]]:
+        """Returns by direction the ends of a path: none, and last bounces for which a mirror has room."""
+        found, back = {(goal.dx, goal.dy): [Turned(0, None, goal)]}, goal.reversed()
+        room = self.world.free_flight(back, min(self.settings.longest_leg, total))
+        for steps in self.some_steps(BOUNCE_STEPS, room):
+            at = goal.flown(-steps)
+            for turn in Turn:
+                before, mirror = bounce_before(at, turn)
+                if self.world.can_hold(mirror):
+                    found.setdefault((before.dx, before.dy), []).append(Turned(steps, turn, before))
+        return found
+
+    def some_steps(self, least: int, most: int) -> Sequence[int]:
+        """Returns numbers of steps from `least` to `most`: all, or some at random if they are many."""
+        if most - least < 40:
+            return range(least, most + 1)
+        return sorted(self.chance.sample(range(least, most + 1), 40))
+
+    def joined(self, before: Turned, after: Turned, is_return: bool) -> list[Leg] | None:
+        """Returns legs that begin and end with given bounces, if two bounces between them can join them."""
+        begun = BOUNCE_STEPS if before.turn else 0
+        rest = middle_legs(before.ball, after.ball, begun, is_return, self.chance.random())
+        if rest is None or not self.is_free(before.ball, rest, begun):
+            return None
+        legs = [Leg(before.steps, before.turn), *rest] if before.turn else rest
+        return [*legs[:-1], Leg(legs[-1].steps, after.turn), Leg(after.steps, None)] if after.turn else legs
+
+    def is_path(self, start: Ball, legs: list[Leg]) -> bool:
+        """Whether a path meets nothing, itself included."""
+        item = path_item(start, legs)
+        return item is not None and self.world.fits(item)
+
+    def is_free(self, ball: Ball, legs: list[Leg], begun: int) -> bool:
+        """Whether no mirror is in the way of legs, and each of their mirrors has room."""
+        world = self.world
+        for steps, turn in legs:
+            if world.free_flight(ball.flown(begun), steps - begun) < steps - begun:
+                return False
+            ball = ball.flown(steps)
+            if turn is not None:
+                ball, mirror = bounce(ball, turn)
+                if not world.can_hold(mirror):
+                    return False
+            begun = BOUNCE_STEPS
+        return True
+
+
+def middle_legs(ball: Ball, goal: Ball, begun: int, is_return: bool, share: float) -> list[Leg] | None:
+    """Returns three legs from a ball to a ball, with two bounces, or None.
+
+    If `is_return`, the ball comes back at the second bounce: two different bounces reverse it, and the time follows from the
+    legs. Else two equal bounces shift it, and the time must fit; `share`, from 0 to 1, divides the way between the two legs.
+    """
+    x, y, dx, dy, time = ball
+    total = goal.time - time
+    for turn in Turn:
+        if is_return:
+            # The places of a ball after two bounces at one place, less its place before: see `bounce`.
+            u, v = (goal.x - x) * dx, (goal.y - y) * dy
+            u, v = (u + 1, v - 3) if turn is Turn.FLAT else (u - 3, v + 1)
+        else:
+            u, v = (goal.x - x) * dx, (goal.y - y) * dy
+            u, v = (u + 4, v) if turn is Turn.FLAT else (u, v + 4)
+        along, across = (u + v) // 2, (u - v) // 2 if turn is Turn.FLAT else (v - u) // 2
+        if across < BOUNCE_STEPS or (u + v) % 2:
+            continue
+        if is_return:
+            first, odd = divmod(total - across + along, 2)
+            last, second = total - across - first, turn.other
+        else:
+            first, odd, second = begun + int(share * (along - begun - BOUNCE_STEPS + 1)), along + across != total, turn
+            last = along - first
+        if not odd and first >= begun and last >= BOUNCE_STEPS:
+            return [Leg(first, turn), Leg(across, second), Leg(last, None)]
+    return None
+
+
+def is_in_reach(ball: Ball, goal: Ball, spare: int = -2 * BOUNCE_STEPS) -> bool:
+    """Whether a ball can come to the place of another in time and with steps to spare, apart from what is in the way."""
+    return max(abs(ball.x - goal.x), abs(ball.y - goal.y)) + spare <= goal.time - ball.time

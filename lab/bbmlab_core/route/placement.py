@@ -1,0 +1,342 @@
+"""Placing gates: a place, an orientation and a time for a gate's cell, with paths from the balls that wait for it.
+
+Gates are placed one after another, about in the order of time. Each gets the cheapest of a few places to which all its
+inputs can be led. A failure takes some of the last gates back.
+"""
+
+import random
+from collections import Counter
+from dataclasses import dataclass
+from typing import Iterator
+
+from ..circuits import Gate
+from ..layouts import Cell
+from .balls import BOUNCE_STEPS, Ball, Leg, Turn, bounce
+from .board import Board, Step, Waiting, box_of, tiles_in
+from .cells import PORTS, GateCell
+from .paths import PathFinder
+from .settings import Settings
+from .world import MARGIN, TILE, Item, path_item, tiles_of
+
+# Largest side of a box in tiles: boxes have at most 64 by 64 cells.
+MOST_TILES = 4
+# A waiting ball is looked at again if something new is nearer than this many columns and rows.
+NEAR = 100
+EVEN_BITS = sum(1 << index for index in range(0, 1024, 2))
+
+
+@dataclass(frozen=True)
+class Spot:
+    """A place and a time for a cell."""
+
+    cell: GateCell
+    x: int
+    y: int
+    time: int
+
+
+@dataclass(frozen=True)
+class Inlet:
+    """An input of a gate that has a ball: its port, its root wire, the waiting ball if any, and the least steps of its way."""
+
+    port: str
+    root: str
+    ball: Ball | None
+    least: int
+
+
+class Placer:
+    """Places gates on a board. Its choices come from `chance` alone."""
+
+    def __init__(self, board: Board, chance: random.Random) -> None:
+        self.board, self.chance = board, chance
+        self.settings: Settings = board.settings
+        self.finder = PathFinder(board.world, chance, board.settings)
+        # Why tries failed, since the last call of `place_gate`; and for each wire how often no path was found.
+        self.reasons: Counter[str] = Counter()
+        self.blame: Counter[str] = Counter()
+        # Waiting balls that cannot turn, and the ball that the last step or path would have enclosed.
+        self.stuck: set[str] = set()
+        self.enclosed = ""
+        # The estimated time at which all gates are done.
+        self.horizon = 0
+
+    def inlets(self, gate: Gate) -> list[Inlet]:
+        """Returns the inputs of a gate that have a ball."""
+        netlist, found = self.board.netlist, []
+        for port, wire in zip(PORTS[gate.word][0], gate.ins):
+            if not netlist.is_zero(wire):
+                root = netlist.root(wire)
+                found.append(Inlet(port, root, self.board.waiting[root].ball, netlist.least_steps(wire)))
+        return found
+
+    def place_gate(self, gate: Gate) -> Step | None:
+        """Returns the cheapest of some ways to place a gate, or None. Nothing is added yet."""
+        self.reasons.clear()
+        self.blame.clear()
+        self.stuck.clear()
+        best: Step | None = None
+        found, inlets = 0, self.inlets(gate)
+        for spot in self.spots(gate, inlets):
+            self.reasons["tries"] += 1
+            step = self.try_spot(gate, spot, inlets)
+            if step is None:
+                self.note_stuck()
+                if max(self.blame.values(), default=0) > 40:
+                    break
+                continue
+            if best is None or step.cost < best.cost:
+                best = step
+            found += 1
+            if found >= self.settings.place_choices:
+                break
+        return best
+
+    # --- where and when ------------------------------------------------------------------------------------------------
+
+    def spots(self, gate: Gate, inlets: list[Inlet]) -> Iterator[Spot]:
+        """Yields places and times for a gate, at which its mirrors have room and its box is free."""
+        chance, tries = self.chance, self.settings.place_tries
+        cells, partner = self.board.netlist.cells(gate), self.partner(gate, inlets)
+        for index in range(tries):
+            cell, growth = cells[chance.randrange(len(cells))], index / tries
+            left, top, right, bottom = cell.bounds
+            x, y, radius = self.centre(inlets, partner, growth, (right - left) // 2)
+            x, y = x - (left + right) // 2, y - (top + bottom) // 2
+            row = y + chance.randint(-radius, radius)
+            column = self.free_column(cell, row, x - radius, x + radius)
+            if column is None:
+                self.reasons["no room"] += 1
+                continue
+            if not self.is_box_free(cell, column, row):
+                self.reasons["box taken"] += 1
+                continue
+            time = self.earliest(cell, column, row, inlets)
+            if partner:
+                time = max(time, partner.time - cell.length)
+            time += chance.randint(2, min(110, chance.choice((12, 24, 50)) + 3 * max(self.blame.values(), default=0)))
+            yield Spot(cell, column, row, time + (time - column) % 2)
+
+    def partner(self, gate: Gate, inlets: list[Inlet]) -> Ball | None:
+        """Returns the ball that a gate's results wait for or meet later, if the gate's own inputs may all begin anywhere."""
+        netlist, waiting = self.board.netlist, self.board.waiting
+        if any(inlet.ball for inlet in inlets):
+            return None
+        consumers = [netlist.consumer[wire] for wire in gate.outs if wire in netlist.consumer]
+        others = [waiting.get(netlist.root(wire)) for consumer in consumers for wire in consumer.ins]
+        balls = [own.ball for own in others if own and own.ball]
+        return max(balls, key=lambda ball: ball.time) if balls else None
+
+    def centre(self, inlets: list[Inlet], partner: Ball | None, growth: float, half: int) -> tuple[int, int, int]:
+        """Returns a place near the waiting balls for a cell of twice `half` cells, and how far around it the cell may be."""
+        chance, size = self.chance, self.board.size
+        balls = [inlet.ball for inlet in inlets if inlet.ball] or ([partner] if partner else [])
+        if not balls:
+            return chance.randrange(half, size - half), chance.randrange(half, size - half), 60
+        radius = half + chance.choice((20, 40, 80, 30 + int(200 * growth)))
+        last = max(balls, key=lambda ball: ball.time)
+        ahead = last.flown(chance.randint(half, half + 20 + int(60 * growth)))
+        x, y = ahead.x, ahead.y
+        if len(balls) > 1 and chance.random() < 0.4:
+            other = balls[chance.randrange(len(balls))]
+            x, y = (x + other.x) // 2, (y + other.y) // 2
+        return min(max(x, half), size - half), min(max(y, half), size - half), radius
+
+    def free_column(self, cell: GateCell, row: int, first: int, last: int) -> int | None:
+        """Returns a random column from `first` to `last` at which the cell's mirrors have room if it is at this row, or None."""
+        left, top, right, bottom = cell.bounds
+        far = self.board.size - MARGIN - 1
+        first, last = max(first, MARGIN - left), min(last, far - right)
+        if row + top < MARGIN or row + bottom > far or first > last:
+            return None
+        blocked, taken = self.board.world.blocked, 0
+        for x, y in cell.mirrors:
+            taken |= blocked[row + y] >> first + x
+        free = ~taken & (EVEN_BITS << (first - row) % 2) & (1 << last - first + 1) - 1
+        if not free:
+            return None
+        skipped = self.chance.randrange(last - first + 1)
+        bits = free >> skipped
+        return first + ((bits & -bits).bit_length() - 1 + skipped if bits else free.bit_length() - 1)
+
+    def is_box_free(self, cell: GateCell, x: int, y: int) -> bool:
+        """Whether the box of a cell is small enough, inside the layout, and no other gate's."""
+        box = box_of(cell, x, y)
+        column, row, columns, rows = box
+        most = self.board.size // TILE
+        if columns > MOST_TILES or rows > MOST_TILES or column < 0 or row < 0 or column + columns > most or row + rows > most:
+            return False
+        owners = self.board.owners
+        return not any(tile in owners for tile in tiles_in(box))
+
+    def earliest(self, cell: GateCell, x: int, y: int, inlets: list[Inlet]) -> int:
+        """Returns the earliest time for a cell at which each input can be there."""
+        time = 0
+        meeting = min((cell.ins[inlet.port].time for inlet in inlets), default=0)
+        for inlet in inlets:
+            port = cell.ins[inlet.port]
+            if inlet.ball is None:
+                time = max(time, inlet.least + 6 - meeting)
+                continue
+            far = max(abs(port.x + x - inlet.ball.x), abs(port.y + y - inlet.ball.y))
+            time = max(time, inlet.ball.time + far + 4 - port.time, inlet.ball.time + inlet.least - meeting)
+        return time
+
+    # --- trying a spot -------------------------------------------------------------------------------------------------
+
+    def try_spot(self, gate: Gate, spot: Spot, inlets: list[Inlet]) -> Step | None:
+        """Returns the step that places a gate at a spot, or None if something is in the way. The board stays as it is."""
+        board, world = self.board, self.board.world
+        placed, self.enclosed = board.place(spot.x, spot.y, spot.time, spot.cell, gate.number), ""
+        if not world.fits(placed.item):
+            self.reasons["in the way"] += 1
+            return None
+        if not board.box_has_room(placed.box, [gate.number], board.gate_wires(placed), 2):
+            self.reasons["cuts"] += 1
+            return None
+        board.add_gate(placed)
+        step = Step(placed, [])
+        done = (self.reserve_outs(step, gate) and self.leaves_others([(placed.x, placed.y)])
+                and self.lead_inputs(step, inlets) and self.leaves_escapes(step))
+        for path in step.paths:
+            board.remove_path(path)
+        for own in step.outs.values():
+            world.remove(item_of(own))
+        for root, waiting in step.before.items():
+            board.wait(root, waiting)
+        step.before = {}
+        board.remove_gate(placed)
+        return step if done else None
+
+    def reserve_outs(self, step: Step, gate: Gate) -> bool:
+        """Lets a gate's outputs wait, if their ways out are free."""
+        for port, wire in zip(PORTS[gate.word][1], gate.outs):
+            waiting = self.board.waiting_ball(step.gate.out(port))
+            if waiting is None:
+                self.reasons["ways out"] += 1
+                return False
+            self.board.world.add(item_of(waiting))
+            step.outs[wire] = waiting
+        return True
+
+    def way_in(self, ball: Ball) -> Item | None:
+        """Returns what the last steps of a straight way into a port take, or None if they meet something."""
+        before = ball.flown(-6)
+        if before.time < 0 or not self.board.world.is_inside(before.x, before.y):
+            return None
+        item = path_item(before, [Leg(6, None)])
+        return item if item and self.board.world.fits(item) else None
+
+    def lead_inputs(self, step: Step, inlets: list[Inlet]) -> bool:
+        """Leads the inputs to a gate: first those that failed most often, and then those that come last."""
+        board, world = self.board, self.board.world
+        order = sorted(inlets, key=lambda inlet: (-self.blame[inlet.root], -inlet.ball.time if inlet.ball else 1))
+        ways = {inlet.root: self.way_in(step.gate.into(inlet.port)) for inlet in order}
+        kept = {root: item for root, item in ways.items() if item}
+        for item in kept.values():
+            world.add(item)
+        good = True
+        for inlet in order:
+            if inlet.root in kept:
+                world.remove(kept.pop(inlet.root))
+            if not self.lead_input(step, inlet):
+                good = False
+                break
+        for item in kept.values():
+            world.remove(item)
+        return good
+
+    def lead_input(self, step: Step, inlet: Inlet) -> bool:
+        """Leads one input to a gate."""
+        board, goal = self.board, step.gate.into(inlet.port)
+        waiting = board.stop_waiting(inlet.root)
+        if waiting.ball is None:
+            path = self.finder.lead_here(inlet.root, goal)
+        else:
+            path = self.finder.connect(inlet.root, waiting.ball, goal, self.settings.path_tries)
+        if path and not board.has_room_for(inlet.root, tiles_of(path.item.touched | path.item.mirrors)):
+            self.reasons["cuts of a path"] += 1
+            path = None
+        if path is None:
+            board.wait(inlet.root, waiting)
+            self.reasons["no path"] += 1
+            self.blame[inlet.root] += 1
+            return False
+        step.cost += self.finder.cost(path)
+        board.add_path(path)
+        step.before[inlet.root] = waiting
+        step.paths.append(path)
+        return True
+
+    def leaves_escapes(self, step: Step) -> bool:
+        """Whether each waiting ball can still turn. Adds the cost of time to the step."""
+        places = [(step.gate.x, step.gate.y), *((mirror.x, mirror.y) for path in step.paths for mirror in path.mirrors())]
+        if not self.leaves_others(places):
+            self.reasons["encloses another"] += 1
+            return False
+        if not all(self.can_turn(own) for own in step.outs.values()):
+            self.reasons["enclosed"] += 1
+            return False
+        late = max(0, self.done(step) - self.horizon)
+        step.cost += 3 * len(self.board.waiting) * late + 0.3 * max(ball_of(own).time for own in step.outs.values())
+        return True
+
+    def leaves_others(self, places: list[Cell]) -> bool:
+        """Whether each ball that waits near new mirrors can still turn, but for those that could not turn before."""
+        waiting = self.board.waiting
+        near = [root for root, own in waiting.items() if own.ball and root not in self.stuck and any(
+            abs(own.ball.x - x) < NEAR and abs(own.ball.y - y) < NEAR for x, y in places)]
+        self.enclosed = next((root for root in near if not self.can_turn(waiting[root])), "")
+        return not self.enclosed
+
+    def note_stuck(self) -> None:
+        """Notes the ball that something would have enclosed, if it cannot turn without that either."""
+        own = self.board.waiting.get(self.enclosed)
+        if own and own.ball and not self.can_turn(own):
+            self.stuck.add(self.enclosed)
+
+    def done(self, step: Step) -> int:
+        """Returns an estimate of the time at which all that follows a step is done."""
+        netlist, times = self.board.netlist, []
+        for wire, waiting in step.outs.items():
+            consumer = netlist.consumer.get(wire)
+            times.append(ball_of(waiting).time + (netlist.tails[consumer.number] if consumer else 0))
+        return max(times)
+
+    def can_turn(self, waiting: Waiting) -> bool:
+        """Whether a waiting ball has enough places ahead at which it can turn."""
+        world, ball, reserved = self.board.world, ball_of(waiting), item_of(waiting)
+        room, least = world.free_flight(ball, 70), self.settings.escapes
+        found = self.count_turns(ball, range(self.settings.reserved_steps[0] + 3, room + 1, 3), least)
+        if found < least:
+            world.remove(reserved)
+            found += self.count_turns(ball, range(0, min(room, self.settings.reserved_steps[0] + 2) + 1, 2), least - found)
+            world.add(reserved)
+        return found >= least
+
+    def count_turns(self, ball: Ball, places: range, most: int) -> int:
+        """Returns how many mirrors, at most about `most`, have room after some numbers of steps, with a free way behind them."""
+        world, found = self.board.world, 0
+        for steps in places:
+            at = ball.flown(steps)
+            for turn in Turn:
+                after, mirror = bounce(at, turn)
+                if world.can_hold(mirror) and world.free_flight(after.flown(BOUNCE_STEPS), 20) >= 17:
+                    found += 1
+            if found >= most:
+                break
+        return found
+
+
+def ball_of(waiting: Waiting) -> Ball:
+    """Returns the ball that waits; raises ValueError if it may begin anywhere."""
+    if waiting.ball is None:
+        raise ValueError("the ball may begin anywhere")
+    return waiting.ball
+
+
+def item_of(waiting: Waiting) -> Item:
+    """Returns what is reserved for a waiting ball; raises ValueError if nothing is."""
+    if waiting.item is None:
+        raise ValueError("nothing is reserved for the ball")
+    return waiting.item

@@ -1,0 +1,291 @@
+"""Attempts with different sizes and seeds, one after another or in several processes, until one finds a route.
+
+The attempts have an order that depends on circuit and options alone. The result is that of the first one in this order
+that succeeds, whatever the number of processes. So the same seed gives the same bytes, unless the time ends first.
+"""
+
+import multiprocessing
+import signal
+import time
+from dataclasses import dataclass, field, replace
+from multiprocessing.connection import Connection, wait
+from multiprocessing.process import BaseProcess
+from typing import Callable, Iterator
+
+from ..circuits import Circuit
+from ..layouts import MAX_SIDE
+from .attempt import Attempt, Design, NoRouteError, OutOfTimeError
+from .board import Step
+from .certificate import Certifier, bundle_text, circuit_section
+from .netlist import Netlist
+from .partial import partial_design, partial_text
+from .settings import Settings
+from .world import TILE
+
+# The least side of a layout that is tried, and the attempts with a side before a larger one is tried.
+LEAST_SIDE = 96
+ATTEMPTS_PER_SIDE = 2
+# The part of the layout's cells that paths and gates may touch by estimate, and the cells that a ball touches in a step.
+FILL = 0.16
+CELLS_PER_STEP = 2.6
+# The attempts that `--compact` makes at most.
+COMPACT_ATTEMPTS = 24
+
+
+@dataclass(frozen=True)
+class Options:
+    """What a search is asked for: a seed, a side or None, seconds, processes, and whether small layouts are wanted."""
+
+    seed: int = 1
+    side: int | None = None
+    effort: float = 60.0
+    jobs: int = 1
+    is_compact: bool = False
+    keeps_partial: bool = False
+
+
+@dataclass(frozen=True)
+class Routed:
+    """A routed bundle with the figures of its summary."""
+
+    text: str
+    layout_text: str
+    size: int
+    steps: int
+    mirrors: int
+    modules: int
+    most_cuts: int
+    gates: int
+
+    @property
+    def rank(self) -> tuple[int, int]:
+        """The key by which a smaller and faster layout comes first."""
+        return self.size, self.steps
+
+
+@dataclass
+class Outcome:
+    """The result of a search: the bundle if there is one, else the reason, and the best part if it was asked for."""
+
+    routed: Routed | None = None
+    reason: str = ""
+    attempts: int = 0
+    placed: int = 0
+    total: int = 0
+    partial: list[Step] = field(default_factory=list)
+    partial_size: int = 0
+    is_interrupted: bool = False
+
+
+Progress = Callable[[int, int, int, int], None]
+
+
+def estimated_side(netlist: Netlist) -> int:
+    """Returns a side of a layout in which a circuit has room, by an estimate of what its balls touch."""
+    area = 0.0
+    for gate in netlist.gates:
+        left, top, right, bottom = netlist.cells(gate)[0].bounds
+        area += (right - left + 12) * (bottom - top + 12)
+    steps = max(netlist.tails.values(), default=0)
+    balls = max(len(netlist.free_roots()), len(netlist.circuit.outputs) + len(netlist.circuit.spills))
+    area += balls * (steps + 16) * CELLS_PER_STEP
+    side = LEAST_SIDE
+    while side < MAX_SIDE and side * side * FILL < area:
+        side += 2 * TILE
+    return side
+
+
+def attempts_of(netlist: Netlist, options: Options) -> Iterator[tuple[int, int]]:
+    """Yields sides and seeds in the order of attempts, without end."""
+    side, index = options.side or estimated_side(netlist), 0
+    while True:
+        for _ in range(ATTEMPTS_PER_SIDE):
+            yield side, options.seed * 1_000_003 + index
+            index += 1
+        side = side if options.side else min(MAX_SIDE, side + max(2 * TILE, side // 4 // TILE * TILE))
+
+
+def routed_bundle(circuit_text: str, design: Design) -> Routed:
+    """Returns the bundle of a design; raises NoRouteError if its certificate needs too much."""
+    certifier = Certifier(design)
+    text = bundle_text(circuit_text, certifier)
+    layout = circuit_section(circuit_text) + "\n".join(certifier.layout) + "\n"
+    return Routed(text, layout, design.size, design.end, len(certifier.mirrors), len(certifier.modules), certifier.most_cuts,
+                  len(design.steps))
+
+
+class Search:
+    """A search for a route of one circuit."""
+
+    def __init__(self, circuit: Circuit, circuit_text: str, options: Options, settings: Settings, progress: Progress) -> None:
+        self.circuit, self.circuit_text, self.options, self.settings = circuit, circuit_text, options, settings
+        self.progress = progress
+        self.netlist = Netlist(circuit)
+        self.deadline = time.monotonic() + options.effort
+        self.outcome = Outcome(total=len(self.netlist.gates))
+
+    def run(self) -> Outcome:
+        """Returns what the search found. An interrupt ends it with the best part so far."""
+        try:
+            if self.options.jobs > 1:
+                Pool(self).run()
+            else:
+                self.run_here()
+        except KeyboardInterrupt:
+            self.outcome.is_interrupted = True
+        return self.outcome
+
+    def limit(self) -> int:
+        """Returns the number of attempts that are made at most."""
+        return COMPACT_ATTEMPTS if self.options.is_compact else 1_000_000
+
+    def run_here(self) -> None:
+        """Makes attempts in this process."""
+        for index, (side, seed) in enumerate(attempts_of(self.netlist, self.options)):
+            if index >= self.limit() or time.monotonic() > self.deadline:
+                break
+            self.outcome.attempts = index + 1
+            attempt = Attempt(self.circuit, side, seed, self.settings, self.deadline)
+            try:
+                design = attempt.run(lambda placed, total: self.progress(index + 1, side, placed, total))
+                if self.take(routed_bundle(self.circuit_text, design)):
+                    break
+            except NoRouteError as error:
+                self.note_failure(error, attempt.most_placed)
+            finally:
+                self.note_partial(attempt.most_placed, attempt.best_steps, side)
+
+    def take(self, routed: Routed) -> bool:
+        """Takes a bundle if it is the best so far, and returns whether the search is done."""
+        if self.outcome.routed is None or routed.rank < self.outcome.routed.rank:
+            self.outcome.routed = routed
+        return not self.options.is_compact
+
+    def note_failure(self, error: NoRouteError, placed: int) -> None:
+        """Notes why an attempt failed. The reason that counts is that of the attempt that placed most gates."""
+        if not isinstance(error, OutOfTimeError) and (not self.outcome.reason or placed >= self.outcome.placed):
+            self.outcome.reason = str(error)
+
+    def note_partial(self, placed: int, steps: list[Step], side: int) -> None:
+        """Notes how many gates an attempt placed, and keeps them if they are the most."""
+        if placed >= self.outcome.placed:
+            self.outcome.placed = placed
+            if self.options.keeps_partial:
+                self.outcome.partial, self.outcome.partial_size = steps, side
+
+
+# What a process sends: that it placed gates, with their steps if they are kept; its bundle; or why it failed.
+Message = tuple[str, int, object]
+
+
+def work(connection: Connection, circuit: Circuit, circuit_text: str, side: int, seed: int, settings: Settings, deadline: float,
+         keeps_partial: bool) -> None:
+    """Makes one attempt in a process of its own, and sends messages on it."""
+    signal.signal(signal.SIGINT, signal.SIG_IGN)
+    attempt = Attempt(circuit, side, seed, settings, deadline)
+
+    def tell(placed: int, total: int) -> None:
+        is_best = keeps_partial and placed == attempt.most_placed
+        connection.send(("placed", placed, attempt.best_steps if is_best else None))
+
+    try:
+        connection.send(("routed", attempt.most_placed, routed_bundle(circuit_text, attempt.run(tell))))
+    except NoRouteError as error:
+        connection.send(("failed", attempt.most_placed, error))
+    finally:
+        connection.close()
+
+
+@dataclass
+class Worker:
+    """A process that makes an attempt."""
+
+    process: BaseProcess
+    index: int
+    side: int
+
+
+class Pool:
+    """Attempts in several processes at a time."""
+
+    def __init__(self, search: Search) -> None:
+        self.search = search
+        self.attempts = enumerate(attempts_of(search.netlist, search.options))
+        self.workers: dict[Connection, Worker] = {}
+        self.found: dict[int, Routed] = {}
+
+    def run(self) -> None:
+        """Makes attempts until the first in order that succeeds is known, or the time is over."""
+        search = self.search
+        try:
+            while time.monotonic() < search.deadline + 1:
+                while len(self.workers) < search.options.jobs and self.is_useful(search.outcome.attempts):
+                    self.start()
+                if not self.workers:
+                    break
+                for connection in wait(list(self.workers), max(0.05, search.deadline + 1 - time.monotonic())):
+                    if isinstance(connection, Connection):
+                        self.receive(connection)
+        finally:
+            for worker in self.workers.values():
+                worker.process.kill()
+            for worker in self.workers.values():
+                worker.process.join()
+        for index in sorted(self.found):
+            if search.take(self.found[index]):
+                break
+
+    def is_useful(self, index: int) -> bool:
+        """Whether the attempt with an index can still count."""
+        search = self.search
+        if time.monotonic() > search.deadline or index >= search.limit():
+            return False
+        return search.options.is_compact or not self.found or index < min(self.found)
+
+    def start(self) -> None:
+        """Starts the next attempt."""
+        search, (index, (side, seed)) = self.search, next(self.attempts)
+        here, there = multiprocessing.Pipe(duplex=False)
+        words = (there, search.circuit, search.circuit_text, side, seed, search.settings, search.deadline, search.options.keeps_partial)
+        process = multiprocessing.get_context("fork").Process(target=work, args=words, daemon=True)
+        process.start()
+        there.close()
+        self.workers[here] = Worker(process, index, side)
+        search.outcome.attempts = index + 1
+
+    def receive(self, connection: Connection) -> None:
+        """Takes a message of a process. A process that ended without one is dropped."""
+        worker, search = self.workers[connection], self.search
+        try:
+            kind, placed, content = connection.recv()
+        except EOFError:
+            self.workers.pop(connection).process.join()
+            return
+        if isinstance(content, Routed):
+            self.found[worker.index] = content
+            if not search.options.is_compact:
+                self.drop_later(worker.index)
+        elif isinstance(content, NoRouteError):
+            search.note_failure(content, placed)
+        search.note_partial(placed, content if isinstance(content, list) else [], worker.side)
+        if kind == "placed":
+            search.progress(worker.index + 1, worker.side, placed, search.outcome.total)
+
+    def drop_later(self, index: int) -> None:
+        """Ends the attempts that come after one that succeeded."""
+        for connection, worker in list(self.workers.items()):
+            if worker.index > index:
+                worker.process.kill()
+                worker.process.join()
+                del self.workers[connection]
+
+
+def partial_bundle(circuit: Circuit, outcome: Outcome, settings: Settings) -> tuple[str, int] | None:
+    """Returns a bundle of the part of a circuit that was placed, and its count of gates, or None if there is none."""
+    found = partial_design(circuit, outcome.partial, outcome.partial_size, replace(settings, wander_tries=80))
+    if found is None:
+        return None
+    try:
+        return routed_bundle(partial_text(found.circuit), found).text, len(found.steps)
+    except NoRouteError:
+        return None

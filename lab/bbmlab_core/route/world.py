@@ -1,0 +1,248 @@
+"""What is claimed on the plane: mirrors, cells that balls touch, and blocks at times.
+
+An item is a path of one ball, or a gate's cell. It claims a block at a time if it has a moving cell there in the step from
+this time. Items that claim no block in common, and whose mirrors are in no touched cell of another item, run as they run
+alone: in each block at most one of them moves, and mirrors alone stay (Margolus 1984: a block changes by itself).
+
+Cells and blocks are numbers here, so that sets of them are quick. A path's blocks are ranges of such numbers.
+"""
+
+from dataclasses import dataclass
+from functools import cache
+from typing import Iterable
+
+from ..layouts import Cell
+from .balls import BOUNCE_STEPS, Ball, Leg, Mirror, Turn, block_cells, bounce, mirror_cells, path_run
+from .cells import GateCell
+
+# The number of a cell is its row times ROW plus its column, and that of a block at a time is STEP times the time plus its corner.
+ROW = 1 << 10
+STEP = 1 << 20
+# No ball comes nearer to the border than this many cells, and no mirror nearer than two cells less.
+MARGIN = 4
+# A certificate's boxes are squares of this side, or rectangles of such squares.
+TILE = 16
+TILE_BITS = 4
+
+
+def cell_number(cell: Cell) -> int:
+    """Returns the number of a cell."""
+    return cell[1] * ROW + cell[0]
+
+
+def number_cell(number: int) -> Cell:
+    """Returns the cell of a number."""
+    return number % ROW, number // ROW
+
+
+def tiles_of(cells: Iterable[int]) -> set[int]:
+    """Returns the tiles of cells: the tile (i, j) is ROW times j plus i."""
+    return {(number >> 10 + TILE_BITS) * ROW + ((number & ROW - 1) >> TILE_BITS) for number in cells}
+
+
+@dataclass
+class Item:
+    """What a path or a gate's cell takes: numbers of mirror cells, of touched cells, and of blocks at times."""
+
+    mirrors: set[int]
+    touched: set[int]
+    claims: set[int]
+
+
+@dataclass(frozen=True)
+class BounceShape:
+    """The blocks and cells of a bounce, as differences to the number of the lead's cell at the time of the bounce."""
+
+    claims: tuple[int, ...]
+    touched: tuple[int, ...]
+    mirror: tuple[int, ...]
+
+
+@cache
+def bounce_shape(turn: Turn, dx: int, dy: int) -> BounceShape:
+    """Returns the shape of a bounce, from an exact run. It is the same for all places and times."""
+    lead = Ball(100 + (dx < 0), 100 + (dy < 0), dx, dy, 0)
+    run = path_run(lead.flown(-2), [Leg(2, turn), Leg(BOUNCE_STEPS, None)])
+    own = mirror_cells([bounce(lead, turn)[1]])
+    base = cell_number((lead.x, lead.y))
+    claims, touched = [], set()
+    for time, corners in enumerate(run.blocks[2:]):
+        claims += [time * STEP + cell_number(corner) - base for corner in sorted(corners)]
+        touched |= {cell for corner in corners for cell in block_cells(corner)}
+    return BounceShape(tuple(claims), tuple(sorted(cell_number(cell) - base for cell in touched - own)),
+                       tuple(sorted(cell_number(cell) - base for cell in own)))
+
+
+def add_flight(ball: Ball, steps: int, claims: list[Iterable[int]], touched: list[Iterable[int]]) -> None:
+    """Adds the blocks and cells of a straight flight, as ranges."""
+    if steps <= 0:
+        return
+    x, y, dx, dy, time = ball
+    corner = (y if dy > 0 else y - 1) * ROW + (x if dx > 0 else x - 1)
+    along = dy * ROW + dx
+    lead, step = time * STEP + corner, STEP + along
+    claims.append(range(lead, lead + steps * step, step))
+    tail = lead - 2 * along
+    claims.append(range(tail, tail + steps * step, step))
+    first, last = corner - 2 * along, corner + steps * along
+    touched += [range(first + other, last + other, along) for other in (0, 1, ROW, ROW + 1)]
+
+
+def path_item(ball: Ball, legs: Iterable[Leg], begun: int = 0) -> Item | None:
+    """Returns what a path takes, or None if the ball would come to one of its own mirrors at another time than it should.
+
+    The first `begun` steps of the first leg are left out: they belong to the bounce before it.
+    """
+    claims: list[Iterable[int]] = []
+    touched: list[Iterable[int]] = []
+    mirrors: list[int] = []
+    for steps, turn in legs:
+        if begun > steps:
+            return None
+        add_flight(ball.flown(begun), steps - begun, claims, touched)
+        ball = ball.flown(steps)
+        if turn is None:
+            break
+        shape, base = bounce_shape(turn, ball.dx, ball.dy), cell_number((ball.x, ball.y))
+        start = ball.time * STEP + base
+        claims.append([start + number for number in shape.claims])
+        touched.append([base + number for number in shape.touched])
+        mirrors += [base + number for number in shape.mirror]
+        ball, begun = bounce(ball, turn)[0], BOUNCE_STEPS
+    item = Item(set(mirrors), set().union(*touched), set().union(*claims))
+    return item if item.touched.isdisjoint(item.mirrors) else None
+
+
+def cell_item(cell: GateCell, x: int, y: int, time: int) -> Item:
+    """Returns what a gate's cell takes at a place and a time."""
+    shape, base = cell_shape(cell), y * ROW + x
+    start = time * STEP + base
+    return Item({base + number for number in shape.mirrors}, {base + number for number in shape.touched},
+                {start + number for number in shape.claims})
+
+
+_shapes: dict[int, Item] = {}
+
+
+def cell_shape(cell: GateCell) -> Item:
+    """Returns what a gate's cell takes at place and time 0. The cells of the library live as long as the process."""
+    shape = _shapes.get(id(cell))
+    if shape is None:
+        claims = {time * STEP + cell_number(corner) for time, corners in enumerate(cell.blocks) for corner in corners}
+        shape = Item({cell_number(own) for own in cell.mirrors}, {cell_number(own) for own in cell.touched}, claims)
+        _shapes[id(cell)] = shape
+    return shape
+
+
+class World:
+    """A square of cells with the items on it. Rows and diagonals of cells are bits of numbers."""
+
+    def __init__(self, size: int) -> None:
+        self.size = size
+        self.claims: set[int] = set()
+        self.mirrors: set[int] = set()
+        # How many items touch a cell or have a mirror there, and the same cells as bits of rows: no new mirror may be there.
+        self.counts: dict[int, int] = {}
+        self.blocked = [0] * (size + 8)
+        # The mirrors by falling diagonals (y - x + size) and rising ones (y + x), as bits of x; and so the blocked cells.
+        self.mirror_falling, self.mirror_rising = [0] * (2 * size + 8), [0] * (2 * size + 8)
+        self.blocked_falling, self.blocked_rising = [0] * (2 * size + 8), [0] * (2 * size + 8)
+
+    def add(self, item: Item) -> None:
+        """Adds an item."""
+        self.claims |= item.claims
+        self.mirrors |= item.mirrors
+        for number in item.mirrors:
+            self._flip(number, self.mirror_falling, self.mirror_rising)
+        counts, size = self.counts, self.size
+        for numbers in (item.touched, item.mirrors):
+            for key in numbers:
+                count = counts.get(key, 0)
+                counts[key] = count + 1
+                if not count:
+                    x, y = key & ROW - 1, key >> 10
+                    bit = 1 << x
+                    self.blocked[y] |= bit
+                    self.blocked_falling[y - x + size] |= bit
+                    self.blocked_rising[y + x] |= bit
+
+    def remove(self, item: Item) -> None:
+        """Removes an item that was added."""
+        self.claims -= item.claims
+        self.mirrors -= item.mirrors
+        for number in item.mirrors:
+            self._flip(number, self.mirror_falling, self.mirror_rising)
+        counts, size = self.counts, self.size
+        for numbers in (item.touched, item.mirrors):
+            for key in numbers:
+                count = counts[key] - 1
+                if count:
+                    counts[key] = count
+                else:
+                    del counts[key]
+                    x, y = key & ROW - 1, key >> 10
+                    bit = 1 << x
+                    self.blocked[y] ^= bit
+                    self.blocked_falling[y - x + size] ^= bit
+                    self.blocked_rising[y + x] ^= bit
+
+    def _flip(self, number: int, falling: list[int], rising: list[int]) -> None:
+        """Adds a cell to the diagonals, or takes it away."""
+        x, y = number & ROW - 1, number >> 10
+        falling[y - x + self.size] ^= 1 << x
+        rising[y + x] ^= 1 << x
+
+    def fits(self, item: Item) -> bool:
+        """Whether an item may be added: it meets nothing that is there, neither in space nor in time."""
+        return (self.mirrors.isdisjoint(item.touched) and self.counts.keys().isdisjoint(item.mirrors)
+                and self.claims.isdisjoint(item.claims))
+
+    def is_inside(self, x: int, y: int) -> bool:
+        """Whether a ball may be at a cell."""
+        return MARGIN <= x < self.size - MARGIN and MARGIN <= y < self.size - MARGIN
+
+    def can_hold(self, mirror: Mirror) -> bool:
+        """Whether a mirror may stand where nothing is and no ball passes."""
+        x, y, width, height = mirror
+        low, high = MARGIN - 2, self.size - MARGIN + 2
+        if x < low or y < low or x + width > high or y + height > high:
+            return False
+        blocked = self.blocked
+        if height == 2:
+            return not (blocked[y] | blocked[y + 1]) >> x & 15
+        return not (blocked[y] | blocked[y + 1] | blocked[y + 2] | blocked[y + 3]) >> x & 3
+
+    def free_flight(self, ball: Ball, most: int) -> int:
+        """Returns how many steps, at most `most`, a ball can fly straight before it meets a mirror or the margin."""
+        x, y, dx, dy, _ = ball
+        far = self.size - MARGIN - 1
+        room_x, room_y = far - x if dx > 0 else x - MARGIN, far - y if dy > 0 else y - MARGIN
+        most = min(most, room_x, room_y)
+        if most <= 0:
+            return 0
+        if dx == dy:
+            line, lines = y - x + self.size, self.mirror_falling
+        else:
+            line, lines = y + x, self.mirror_rising
+        bits = lines[line - 1] | lines[line] | lines[line + 1]
+        if not bits:
+            return most
+        if dx > 0:
+            bits >>= x
+            return max(0, min(most, (bits & -bits).bit_length() - 2)) if bits else most
+        bits &= (1 << x + 1) - 1
+        return max(0, min(most, x - bits.bit_length())) if bits else most
+
+    def new_cells(self, ball: Ball, steps: int) -> int:
+        """Returns how many cells that nothing touches yet a straight flight would touch, about."""
+        x, y, dx, dy, _ = ball
+        low, high = (x, x + steps) if dx > 0 else (x - steps, x)
+        mask = (1 << high - low + 1) - 1
+        if dx == dy:
+            line, lines = y - x + self.size, self.blocked_falling
+        else:
+            line, lines = y + x, self.blocked_rising
+        taken = ((lines[line - 1] >> low & mask).bit_count() + (lines[line] >> low & mask).bit_count()
+                 + (lines[line + 1] >> low & mask).bit_count())
+        return 3 * (high - low + 1) - taken
+

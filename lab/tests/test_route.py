@@ -1,0 +1,290 @@
+"""The router: each gate and random circuits get a yes, planted mistakes are found, and hostile circuits end in time."""
+
+import contextlib
+import io
+import os
+import random
+import re
+import resource
+import signal
+import subprocess
+import sys
+import tempfile
+import time
+import unittest
+from pathlib import Path
+from unittest import mock
+
+import support
+from bbmlab_core.circuits import evaluate
+from bbmlab_core.cli import main
+from bbmlab_core.documents import Document, read_document
+from bbmlab_core.route import certificate, world
+from bbmlab_core.route.world import Item
+from bbmlab_core.simulation import WholeRun, key_of
+
+sys.path.insert(0, str(support.TOP / "bench"))
+from random_circuits import KINDS, made_circuit  # noqa: E402
+
+LINES = {
+    "source": "source 1 -> x\nsource 0 -> y", "fredkin": "fredkin a b c -> x y z", "cswap": "cswap a b c -> x y z",
+    "interact": "interact a b -> w x y z", "switch": "switch a b -> x y z", "delay": "delay 37 a -> x",
+    "unswitch": "switch a b -> p q r\nunswitch p q r -> x y", "uninteract": "interact a b -> p q r s\nuninteract p q r s -> x y",
+}
+# The seconds in which an interrupted search has to end, with room for a slow machine.
+INTERRUPT_SECONDS = 2.0
+
+
+def circuit_text(inputs: str, lines: str, outputs: str, spills: str = "") -> str:
+    """Writes a circuit section; names are letters."""
+    parts = [*(f"input {name}" for name in inputs), *lines.splitlines(), *(f"output {name}" for name in outputs)]
+    return "\n".join(["circuit", *parts, *(f"spill {name}" for name in spills), "end"]) + "\n"
+
+
+def gate_circuit(word: str) -> str:
+    """Writes a circuit of one gate, for an inverse gate with the gate that it reverses."""
+    lines = LINES[word]
+    made = [name for line in lines.splitlines() for name in line.split("-> ")[1].split()]
+    used = [name for line in lines.splitlines() for name in line.split(" ->")[0].split()[1:] if name.isalpha()]
+    return circuit_text("".join(name for name in "abc" if name in used), lines, "".join(name for name in made if name not in used))
+
+
+class Routing(unittest.TestCase):
+    """A case with a folder and the command."""
+
+    def setUp(self) -> None:
+        """Makes the folder, and finds the program."""
+        self.program = support.program()
+        room = tempfile.TemporaryDirectory()
+        self.addCleanup(room.cleanup)
+        self.room = Path(room.name)
+
+    def route(self, text: str, *words: str) -> tuple[int, str, str]:
+        """Runs the command in this process: its status, the bundle, and what it said."""
+        circuit, bundle, said = self.room / "circuit.txt", self.room / "bundle.txt", io.StringIO()
+        circuit.write_text(text)
+        bundle.unlink(missing_ok=True)
+        with contextlib.redirect_stderr(said):
+            status = main(["route", str(circuit), "-o", str(bundle), "--program", self.program, *words])
+        return status, bundle.read_text() if bundle.exists() else "", said.getvalue()
+
+    def verdict(self, bundle: str) -> str:
+        """Returns what the program says about a bundle."""
+        ended = subprocess.run([self.program, "check"], input=bundle.encode(), capture_output=True, check=False)
+        return ended.stdout.decode()
+
+    def assert_yes(self, text: str, *words: str) -> Document:
+        """Asserts that a circuit is routed with a yes, keeps its text, and that the lab's simulation gives its values."""
+        status, bundle, said = self.route(text, *words)
+        self.assertEqual(status, 0, said)
+        self.assertIn("verdict yes", said)
+        self.assertIn("\nverdict yes\n", self.verdict(bundle))
+        self.assertTrue(bundle.startswith(text))
+        document = read_document(bundle)
+        self.assertIsNone(document.refusal)
+        self.assert_same_values(document)
+        return document
+
+    def assert_same_values(self, document: Document) -> None:
+        """Asserts that under all inputs the layout's run ends with the circuit's values in its `out` cells."""
+        circuit, layout = document.circuit, document.layout
+        assert circuit and layout
+        values = evaluate(circuit, circuit.inputs, [gate.number for gate in circuit.gates])
+        run = WholeRun(layout, values.tables, values.full)
+        self.assertTrue(run.run_to(layout.steps))
+        wastes = {key_of(part.cell) for part in layout.of_kind("waste")}
+        expected = {key_of(cell): values.full for cell in layout.mirror_cells()}
+        expected.update((key_of(part.cell), values.tables[part.name or ""]) for part in layout.of_kind("out"))
+        found = {key: table for key, table in run.field.live.items() if key not in wastes}
+        self.assertEqual(found, {key: table for key, table in expected.items() if table})
+
+
+class Yes(Routing):
+    """What can be routed gets a yes."""
+
+    def test_each_gate_alone(self) -> None:
+        """Each of the eight kinds of gate."""
+        for word in LINES:
+            with self.subTest(word):
+                self.assert_yes(gate_circuit(word))
+
+    def test_random_circuits(self) -> None:
+        """30 random circuits of all kinds, with a new seed each time."""
+        seed = int(os.environ.get("ROUTE_SEED") or random.randrange(10**6))
+        print(f"test_random_circuits: ROUTE_SEED={seed}", file=sys.stderr)
+        chance = random.Random(seed)
+        for index in range(30):
+            kind = sorted(KINDS)[index % len(KINDS)]
+            text = made_circuit(kind, chance.randint(1, 4), chance.randint(4, 5), chance.randrange(10**6))
+            with self.subTest(kind=kind, index=index, seed=seed):
+                self.assert_yes(text, "--seed", str(chance.randint(1, 10**6)))
+
+    def test_fredkin_lies_in_one_module(self) -> None:
+        """A Fredkin gate lies in one module of at most 64 by 64 cells, which uses it."""
+        document = self.assert_yes(gate_circuit("fredkin"))
+        assert document.certificate
+        large = [module for module in document.certificate.modules if module.box.width > 16]
+        self.assertEqual([list(module.uses) for module in large], [[0]])
+        self.assertLessEqual(max(large[0].box.width, large[0].box.height), 64)
+
+    def test_same_seed_same_bytes(self) -> None:
+        """The same seed gives the same bytes, also with two processes. Another seed gives another layout."""
+        text = made_circuit("inverse", 6, 4, 7)
+        first = self.route(text, "--seed", "5")[1]
+        self.assertTrue(first)
+        self.assertEqual(first, self.route(text, "--seed", "5")[1])
+        self.assertEqual(first, self.route(text, "--seed", "5", "--jobs", "2")[1])
+        self.assertNotEqual(first, self.route(text, "--seed", "6")[1])
+
+    def test_no_certificate(self) -> None:
+        """`--no-certificate` writes the circuit and the layout of the same bundle."""
+        text = gate_circuit("switch")
+        whole, part = self.route(text)[1], self.route(text, "--no-certificate")[1]
+        self.assertEqual(whole.split("certificate")[0], part)
+
+    def test_compact(self) -> None:
+        """`--compact` ends with a layout that is not larger."""
+        text = gate_circuit("switch")
+        plain, small = (read_document(self.route(text, *words)[1]).layout for words in ((), ("--compact",)))
+        assert plain and small
+        self.assertLessEqual((small.width, small.steps), (plain.width, plain.steps))
+
+
+class Mistakes(Routing):
+    """A router with a mistake does not get a yes, and the command says so."""
+
+    def assert_found(self, text: str) -> None:
+        """Asserts that the command ends with 1 and says that something is wrong with the router."""
+        status, _, said = self.route(text, "--effort", "20")
+        self.assertEqual(status, 1, said)
+        self.assertIn("error of the router", said)
+
+    def test_swapped_outputs(self) -> None:
+        """Two outputs are swapped in the layout."""
+        right = certificate.Certifier.end_lines
+
+        def wrong(self: certificate.Certifier) -> list[str]:
+            names = {" y ": " z ", " z ": " y "}
+            return [re.sub(" [yz] ", lambda found: names[found[0]], line) for line in right(self)]
+
+        with mock.patch.object(certificate.Certifier, "end_lines", wrong):
+            self.assert_found(gate_circuit("switch"))
+
+    def test_wrong_wire_of_an_edge_line(self) -> None:
+        """The first edge line of a wire names another wire."""
+        right = certificate.Certifier.add_edge
+        done: list[int] = []
+
+        def wrong(self: certificate.Certifier, at: int, cell: tuple[int, int], wire: str | None) -> None:
+            count = sum(len(module.edges) for module in self.modules)
+            right(self, at, cell, "b" if wire == "a" and not done else wire)
+            if wire == "a" and sum(len(module.edges) for module in self.modules) > count:
+                done.append(at)
+
+        with mock.patch.object(certificate.Certifier, "add_edge", wrong):
+            self.assert_found(gate_circuit("fredkin"))
+        self.assertTrue(done)
+
+    def test_too_few_claims(self) -> None:
+        """Paths claim no blocks and touch no cells, so that balls meet outside gates."""
+        right = world.path_item
+
+        def wrong(*words: object) -> Item | None:
+            item = right(*words)  # type: ignore[arg-type]
+            return Item(item.mirrors, set(), set()) if item else None
+
+        with contextlib.ExitStack() as stack:
+            for module in ("world", "paths", "board", "placement"):
+                stack.enter_context(mock.patch(f"bbmlab_core.route.{module}.path_item", wrong))
+            self.assert_found(made_circuit("forward", 12, 8, 1))
+
+
+class Hostile(Routing):
+    """Circuits at the limits: a bundle with a yes, or a sentence, within the time."""
+
+    def assert_ends(self, text: str, effort: float = 10.0) -> None:
+        """Asserts that the command ends in time with a yes or a sentence, in less than 500 MB."""
+        path = self.room / "hostile.txt"
+        path.write_text(text)
+        begun = time.monotonic()
+        ended = subprocess.run([sys.executable, str(support.LAB / "bbmlab"), "route", str(path), "-o", str(self.room / "bundle.txt"),
+                                "--program", self.program, "--effort", str(effort)], capture_output=True, check=False)
+        said = ended.stderr.decode()
+        self.assertLess(time.monotonic() - begun, 2 * effort + 20)
+        self.assertLess(resource.getrusage(resource.RUSAGE_CHILDREN).ru_maxrss, 500_000)
+        self.assertIn(ended.returncode, (0, 1), said)
+        self.assertIn("verdict yes" if ended.returncode == 0 else "no route", said)
+        self.assertNotIn("Traceback", said)
+
+    def test_few_wires(self) -> None:
+        """No gates at all, an input that goes straight to an output, constants alone, and spilled outputs get a yes."""
+        texts = [circuit_text("a", "", "a"), circuit_text("", "source 1 -> a\nsource 0 -> b", "ab"), circuit_text("", "source 0 -> a", "", "a"),
+                 circuit_text("ab", "switch a b -> x y z", "", "xyz"), circuit_text("ab", "", "", "ab"), "circuit\nend\n",
+                 circuit_text("a", "source 0 -> b\nsource 1 -> c\nfredkin a b c -> x y z", "xyz"),
+                 circuit_text("a", "source 0 -> b\ndelay 9 b -> c\nswitch a c -> x y z", "xyz")]
+        for text in texts:
+            with self.subTest(text=text):
+                self.assert_yes(text)
+
+    def test_long_names(self) -> None:
+        """Names of 32 bytes are kept."""
+        names = [name * 32 for name in "abxyz"]
+        lines = [f"input {name}" for name in names[:2]] + [f"switch {' '.join(names[:2])} -> {' '.join(names[2:])}"]
+        self.assert_yes("\n".join(["circuit", *lines, *(f"output {name}" for name in names[2:]), "end"]) + "\n")
+
+    def test_delays(self) -> None:
+        """Delays in a row, on two inputs of one gate, and one of 1,000 steps get a yes; one of 4096 steps ends in time."""
+        self.assert_yes(circuit_text("ab", "delay 9 a -> c\ndelay 30 c -> d\ndelay 5 b -> e\nswitch d e -> x y z", "xyz"))
+        self.assert_yes(circuit_text("ab", "delay 1000 a -> c\nswitch c b -> x y z", "xyz"))
+        self.assert_ends(circuit_text("a", "delay 4096 a -> b", "b"))
+
+    def test_many_wires(self) -> None:
+        """4096 wires that go straight on."""
+        names = [f"w{index}" for index in range(4096)]
+        lines = [f"input {name}" for name in names] + [f"output {name}" for name in names]
+        self.assert_ends("\n".join(["circuit", *lines, "end"]) + "\n")
+
+    def test_too_many_gates(self) -> None:
+        """What does not fit gets a sentence that names a gate, and with `--keep-partial` a bundle of a part with a yes."""
+        status, bundle, said = self.route(made_circuit("any", 200, 12, 3), "--effort", "8", "--keep-partial")
+        self.assertEqual(status, 1)
+        self.assertIn("no route", said)
+        self.assertIn("kept a bundle", said)
+        self.assertIn("verdict yes", self.verdict(bundle))
+
+    def test_interrupt(self) -> None:
+        """An interrupt ends the search in time, with one process and with two, and keeps a part."""
+        path, bundle = self.room / "large.txt", self.room / "part.txt"
+        path.write_text(made_circuit("any", 200, 12, 3))
+        for words in ((), ("--jobs", "2"), ("--keep-partial",), ("--keep-partial", "--jobs", "2")):
+            bundle.unlink(missing_ok=True)
+            command = [sys.executable, str(support.LAB / "bbmlab"), "route", str(path), "-o", str(bundle), "--program", self.program, *words]
+            process = subprocess.Popen(command, stderr=subprocess.PIPE, start_new_session=True)
+            time.sleep(5)
+            begun = time.monotonic()
+            os.killpg(process.pid, signal.SIGINT)
+            said = process.communicate(timeout=30)[1].decode()
+            with self.subTest(words=words):
+                self.assertLess(time.monotonic() - begun, INTERRUPT_SECONDS + 1)
+                self.assertEqual(process.returncode, 130)
+                self.assertIn("interrupted", said)
+                self.assertNotIn("Traceback", said)
+                self.assertEqual(bundle.exists(), "--keep-partial" in words, said)
+
+
+class Refusals(Routing):
+    """What is no circuit, and wrong words."""
+
+    def test_refused_circuit(self) -> None:
+        """A circuit that is refused gets the line and status 1."""
+        status, _, said = self.route("circuit\ninput a\nend\n")
+        self.assertEqual(status, 1)
+        self.assertIn("line 3 is refused with code 11", said)
+
+    def test_wrong_size(self) -> None:
+        """A size that no layout can have gets status 2."""
+        self.assertEqual(self.route(gate_circuit("switch"), "--size", "100")[0], 2)
+
+
+if __name__ == "__main__":
+    unittest.main()

@@ -1,0 +1,106 @@
+"""The balls and cells of the router: the algebra of a ball, and each gate's cell by exact runs."""
+
+import random
+import unittest
+
+import support  # noqa: F401
+from bbmlab_core.circuits import Gate
+from bbmlab_core.gates import gate_row, input_tables
+from bbmlab_core.route.balls import (BOUNCE_STEPS, Ball, Leg, Turn, bounce, bounce_before, follow, mirror_cells, path_run, run_exactly,
+                                     start_state)
+from bbmlab_core.route.cells import PORTS, GateCell, base_cells, library
+
+EACH_DIRECTION = [Ball(40 + (dx < 0), 40 + (dy < 0), dx, dy, 0) for dx in (1, -1) for dy in (1, -1)]
+
+
+class Balls(unittest.TestCase):
+    """A ball by algebra is where the rule of blocks leads it."""
+
+    def test_bounce(self) -> None:
+        """A bounce ends on the track that the algebra says, in all directions, and not a step sooner than `BOUNCE_STEPS`."""
+        for ball in EACH_DIRECTION:
+            for turn in Turn:
+                legs = [Leg(6, turn), Leg(BOUNCE_STEPS, None)]
+                run, (end, _) = path_run(ball, legs), follow(ball, legs)
+                with self.subTest(ball=ball, turn=turn):
+                    self.assertTrue(run.is_stable)
+                    self.assertEqual(set(run.states[-1]), set(end.cells()))
+                    self.assertNotEqual(set(run.states[-2]), set(end.flown(-1).cells()))
+
+    def test_bounce_before(self) -> None:
+        """`bounce_before` undoes `bounce`."""
+        for ball in EACH_DIRECTION:
+            for turn in Turn:
+                after, mirror = bounce(ball, turn)
+                self.assertEqual(bounce_before(after, turn), (ball, mirror))
+
+    def test_free_flight(self) -> None:
+        """A legal ball flies straight, and `reversed` gives the same way backwards."""
+        for ball in EACH_DIRECTION:
+            self.assertTrue(ball.is_legal)
+            self.assertEqual(set(path_run(ball, [Leg(9, None)]).states[-1]), set(ball.flown(9).cells()))
+            self.assertEqual(set(ball.reversed().cells()), set(ball.cells()))
+
+
+class Cells(unittest.TestCase):
+    """The library."""
+
+    def ends(self, cell: GateCell, shift: tuple[int, int, int]) -> tuple[dict, dict]:
+        """Returns the last state of a run of a moved cell, and the state that the gate's rule asks for."""
+        inputs, outputs = PORTS[cell.word]
+        tables = input_tables(len(inputs))
+        outs, rows = gate_row(cell.word, None, tables, (1 << (1 << len(inputs))) - 1)
+        table = dict(zip(inputs + outputs, tables + outs))
+        ports = {port: ball.moved(*shift) for port, ball in (cell.ins | cell.outs).items()}
+        first = min(ports[port].time for port in inputs)
+        last = max(ports[port].time for port in outputs)
+        mirrors = {(x + shift[0], y + shift[1]) for x, y in cell.mirrors}
+        run = run_exactly(mirrors, start_state([(ports[port].at(first), table[port] & rows) for port in inputs]), first, last)
+        self.assertTrue(run.is_stable)
+        return run.states[-1], start_state([(ports[port].at(last), table[port] & rows) for port in outputs])
+
+    def test_each_cell_in_each_orientation(self) -> None:
+        """Each cell computes its gate in all orientations, moved by even and by odd numbers."""
+        seed = random.randrange(10**6)
+        chance = random.Random(seed)
+        for word, cells in library().items():
+            self.assertGreaterEqual(len(cells), 8)
+            for cell in [*cells, *base_cells()[word]]:
+                odd = chance.randrange(2)
+                shift = tuple(2 * chance.randrange(40) + odd for _ in range(3))
+                found, expected = self.ends(cell, (shift[0], shift[1], shift[2]))
+                self.assertEqual(found, expected, (word, shift, f"seed {seed}"))
+
+    def test_ports_are_legal(self) -> None:
+        """The ports of each cell are legal balls, and their names are those of the gate's line."""
+        for word, cells in library().items():
+            for cell in cells:
+                self.assertEqual((tuple(sorted(cell.ins)), tuple(sorted(cell.outs))), tuple(tuple(sorted(names)) for names in PORTS[word]))
+                self.assertTrue(all(ball.is_legal for ball in (cell.ins | cell.outs).values()))
+
+    def test_claims_are_whole(self) -> None:
+        """A cell's blocks and the straight flights of its ports have all moving cells of its run."""
+        for word in ("switch", "interact", "fredkin"):
+            cell = library()[word][3]
+            inputs = PORTS[word][0]
+            tables = dict(zip(inputs, input_tables(len(inputs))))
+            run = run_exactly(set(cell.mirrors), start_state([(cell.ins[port].at(0), tables[port]) for port in inputs]), 0, cell.length)
+            for time, state in enumerate(run.states[:-1]):
+                flying = {own for ball in cell.ins.values() if time < ball.time for own in ball.at(time).cells()}
+                flying |= {own for ball in cell.outs.values() if time >= ball.time for own in ball.at(time).cells()}
+                self.assertEqual(set(state) - flying, set(cell.names[time]), (word, time))
+
+
+class Names(unittest.TestCase):
+    """The rows of gates that the tests use are those of a circuit's gate."""
+
+    def test_port_counts(self) -> None:
+        """Each gate has as many ports as wires."""
+        for word, (inputs, outputs) in PORTS.items():
+            gate = Gate(0, word, None, list(inputs), list(outputs), 1)
+            self.assertEqual(gate.is_inverse, word.startswith("un"))
+            self.assertEqual(len(gate_row(word, None, input_tables(len(inputs)), 1)[0]), len(outputs))
+
+
+if __name__ == "__main__":
+    unittest.main()
