@@ -126,3 +126,24 @@ fn other_failed_writes_are_not_made_again(rt: HostRuntime) {
         assert!(rt; writer.write(b"ab").ok() == Some(2));
     }
 }
+
+/// Takes all bytes, and cannot be flushed.
+#[derive(Drop)]
+struct Unflushable;
+
+impl Write for Unflushable {
+    fn write(&mut self, piece: &[u8]) -> io::Result<usize> {
+        Ok(piece.len())
+    }
+
+    fn flush(&mut self) -> io::Result<()> {
+        Err(io::Error::from(ErrorKind::Other))
+    }
+}
+
+#[test]
+fn a_flush_is_passed_on(rt: HostRuntime) {
+    let mut writer = Retrying::new(Unflushable);
+    assert!(rt; writer.write(b"ab").ok() == Some(2));
+    assert!(rt; writer.flush().is_err());
+}
