@@ -4,7 +4,7 @@ from dataclasses import dataclass, field
 from html import escape
 
 from .certificates import Module
-from .circuits import evaluate
+from .circuits import evaluate, evaluate_samples, sampled_tables
 from .documents import Document
 from .gates import input_tables
 from .layouts import Cell, Layout, Part
@@ -12,27 +12,40 @@ from .simulation import DIAGONAL, ROW, Table, WholeRun, block_of, cell_of
 
 CELL = 12
 MARGIN = 30
+# Up to this many inputs all choices are tried, and else so many samples of them.
 MAX_INPUTS = 12
-# Colours that people with any sight tell apart (Okabe and Ito), and dashes for print.
+SAMPLES = 256
+# Larger layouts get larger letters and wider ways, so that they can be read at the width of a page.
+PLAIN_SIDE = 64
+MAX_WIDENING = 2.5
+MAX_LEGEND = 40
+# More modules have faint borders and no numbers, which would hide the ways.
+MAX_NUMBERED = 64
+# Colours that people with any sight tell apart (Okabe and Ito) on white and on black, and dashes for print.
 COLOURS = ["#0072b2", "#d55e00", "#009e73", "#cc79a7", "#e69f00", "#56b4e9", "#8c510a", "#5e3c99"]
+DARK_COLOURS = ["#4aa8e0", "#f0803c", "#2cc79a", "#e3a1c4", "#f5b942", "#8fd0f5", "#c98f4e", "#a98be0"]
 DASHES = ["", "6 2", "2 2", "8 2 2 2", "4 4", "1 3", "10 3", "6 2 1 2 1 2"]
-SEVERAL = "#777777"
+SEVERAL = 8
 
 STYLE = """text{font:7px sans-serif;fill:#222}.name{font-weight:bold;font-size:8px}.in{fill:none;stroke:#222}
 .out{fill:none;stroke:#222;stroke-dasharray:2 1.5}.waste{stroke:#222;fill:none}.mirror{fill:#9aa0aa}.ball{fill:#111}
 .box{fill:none;stroke:#7a3db8;stroke-width:1.2;stroke-dasharray:5 3}.number{fill:#7a3db8;font-size:8px}
-.fault{fill:none;stroke:#d00000;stroke-width:2.5}.way{fill:none;stroke-width:2.2;stroke-linecap:round}
-.back{fill:#fff}.plane{fill:#f7f7f4}.line{stroke:#dcdcd6;stroke-width:.4}
+.faint{stroke-width:1;stroke-dasharray:none;stroke-opacity:.2}.fault{fill:none;stroke:#d00000;stroke-width:2.5}
+.way{fill:none;stroke-width:2.2;stroke-linecap:round}.way[stroke-dasharray]{stroke-linecap:butt}
+.back{fill:#fff}.plane{fill:#f7f7f4}.line{stroke:#dcdcd6;stroke-width:.4}.w8{stroke:#777}
 @media(prefers-color-scheme:dark){text{fill:#eee}.in,.out,.waste{stroke:#eee}.mirror{fill:#7c828c}.ball{fill:#fff}
-.box{stroke:#c79bff}.number{fill:#c79bff}.back{fill:#16181c}.plane{fill:#1e2126}.line{stroke:#343840}}"""
+.box{stroke:#c79bff}.number{fill:#c79bff}.back{fill:#16181c}.plane{fill:#1e2126}.line{stroke:#343840}.w8{stroke:#999}}"""
+LIGHT_WAYS = "".join(f".w{index}{{stroke:{colour}}}" for index, colour in enumerate(COLOURS))
+DARK_WAYS = "".join(f".w{index}{{stroke:{colour}}}" for index, colour in enumerate(DARK_COLOURS))
 
 
 @dataclass
 class Drawing:
-    """What a picture shows beside the layout."""
+    """What a picture shows of a layout, apart from its parts. `labels` has the names of the wires that share a way with the key."""
 
     live: set[Cell] = field(default_factory=set)
     ways: dict[tuple[Cell, Cell], set[str]] = field(default_factory=dict)
+    labels: dict[str, str] = field(default_factory=dict)
     modules: list[Module] = field(default_factory=list)
     faults: list[tuple[Cell, str]] = field(default_factory=list)
     title: str = ""
@@ -46,6 +59,12 @@ def centre(cell: Cell) -> tuple[float, float]:
 def short(number: float) -> str:
     """Writes a coordinate with as few digits as it needs."""
     return f"{number:.1f}".rstrip("0").rstrip(".")
+
+
+def point(cell: Cell) -> str:
+    """Writes the middle of a cell for a path."""
+    x, y = centre(cell)
+    return f"{short(x)} {short(y)}"
 
 
 def rectangle(kind: str, x: int, y: int, width: int, height: int) -> str:
@@ -73,19 +92,35 @@ def plane(layout: Layout) -> list[str]:
     return parts
 
 
-def port_labels(layout: Layout) -> list[str]:
-    """Returns the names of ports. Names of one cell stand together, inputs above it and outputs below."""
-    labels: dict[tuple[Cell, str], list[str]] = {}
+def labelled_cells(layout: Layout) -> dict[tuple[Cell, str], list[str]]:
+    """Returns the cells that get names, with their kinds. A ball of two cells has its name once: behind an `in`, ahead of an `out`."""
+    ports: dict[tuple[str, str], list[Cell]] = {}
     for part in layout.parts:
         if part.kind in ("in", "out"):
-            labels.setdefault((part.cell, part.kind), []).append(part.name or "")
+            ports.setdefault((part.kind, part.name or ""), []).append(part.cell)
+    labels: dict[tuple[Cell, str], list[str]] = {}
+    for (kind, name), cells in ports.items():
+        if len(cells) == 2 and all(abs(one - other) == 2 for one, other in zip(*cells)):
+            way = direction(cells[0], 0 if kind == "in" else layout.steps)
+            cells = [(max if kind == "out" else min)(cells, key=lambda cell: cell[0] * way[0] + cell[1] * way[1])]
+        for cell in cells:
+            labels.setdefault((cell, kind), []).append(name)
+    return labels
+
+
+def direction(cell: Cell, time: int) -> tuple[int, int]:
+    """Returns the direction in which a lone cell moves in the step from a time: dx and dy, each 1 or -1."""
+    return -1 if (cell[0] + time) % 2 else 1, -1 if (cell[1] + time) % 2 else 1
+
+
+def port_labels(layout: Layout, scale: float) -> list[str]:
+    """Returns the names of ports. Names of one cell are in one place, inputs above it and outputs below."""
     parts = []
-    for (cell, kind), names in labels.items():
+    for (cell, kind), names in labelled_cells(layout).items():
         x, y = centre(cell)
         mark = "→" + names[0] if kind == "in" else names[0] + "→"
-        up = kind == "in"
-        parts.append(f'<text class="name" x="{short(x)}" y="{short(y - CELL / 2 - 2 if up else y + CELL / 2 + 7.5)}" '
-                     f'text-anchor="middle">{escape(mark)}</text>')
+        place = y - CELL / 2 - 2 if kind == "in" else y + CELL / 2 + 7.5 * scale
+        parts.append(f'<text class="name" x="{short(x)}" y="{short(place)}" text-anchor="middle">{escape(mark)}</text>')
     return parts
 
 
@@ -107,12 +142,13 @@ def waste_sign(part: Part) -> str:
 
 
 def module_parts(modules: list[Module]) -> list[str]:
-    """Returns the borders of modules with their numbers."""
-    parts = []
+    """Returns the borders of modules, with their numbers if they are few."""
+    is_numbered, parts = len(modules) <= MAX_NUMBERED, []
     for module in modules:
         box = module.box
-        parts.append(rectangle("box", box.x, box.y, box.width, box.height))
-        parts.append(f'<text class="number" x="{MARGIN + box.x * CELL + 3}" y="{MARGIN + box.y * CELL + 9}">{module.number}</text>')
+        parts.append(rectangle("box" if is_numbered else "box faint", box.x, box.y, box.width, box.height))
+        if is_numbered:
+            parts.append(f'<text class="number" x="{MARGIN + box.x * CELL + 3}" y="{MARGIN + box.y * CELL + 9}">{module.number}</text>')
     return parts
 
 
@@ -128,10 +164,21 @@ def ball_parts(layout: Layout, live: set[Cell]) -> list[str]:
     return parts
 
 
-def wire_style(wires: list[str]) -> dict[str, tuple[str, str]]:
-    """Returns a colour and a dash for each wire."""
-    styles = {wire: (COLOURS[index % 8], DASHES[index // 8 % 8]) for index, wire in enumerate(wire for wire in wires if wire)}
+def wire_style(wires: list[str]) -> dict[str, tuple[int, str]]:
+    """Returns the number of a colour, and a dash, for each wire."""
+    styles = {wire: (index % 8, DASHES[index // 8 % 8]) for index, wire in enumerate(wire for wire in wires if wire)}
     return styles | {"": (SEVERAL, "1 2")}
+
+
+def runs_of(numbers: list[int]) -> list[tuple[int, int]]:
+    """Returns the first and the last number of each run of rising numbers without a gap."""
+    runs = [(numbers[0], numbers[0])]
+    for number in numbers[1:]:
+        if number == runs[-1][1] + 1:
+            runs[-1] = runs[-1][0], number
+        else:
+            runs.append((number, number))
+    return runs
 
 
 def merged(segments: list[tuple[Cell, Cell]]) -> list[tuple[Cell, Cell]]:
@@ -144,62 +191,83 @@ def merged(segments: list[tuple[Cell, Cell]]) -> list[tuple[Cell, Cell]]:
     joined = []
     for (slope, offset), starts in lines.items():
         ordered = sorted(set(starts))
-        first = last = ordered[0]
-        for x in [*ordered[1:], None]:
-            if x is None or x != last + 1:
-                joined.append(((first, slope * first + offset), (last + 1, slope * (last + 1) + offset)))
-                first = x
-            last = x
+        for first, last in runs_of(ordered):
+            joined.append(((first, slope * first + offset), (last + 1, slope * (last + 1) + offset)))
     return joined
 
 
-def way_parts(ways: dict[tuple[Cell, Cell], set[str]], wires: list[str]) -> list[str]:
-    """Returns the ways of balls, a path for each wire, and a legend."""
+def way_order(drawing: Drawing, wires: list[str]) -> list[str]:
+    """Returns the wires that have a way, in their order, then the constants, and then what is no wire's."""
+    present = {name for names in drawing.ways.values() for name in names}
+    return [wire for wire in [*wires, "1", ""] if wire in present]
+
+
+def label_of(drawing: Drawing, wire: str) -> str:
+    """Returns what the legend says of a wire."""
+    return {"": "no wire", "1": "constant"}.get(wire, drawing.labels.get(wire, wire))
+
+
+def way_parts(drawing: Drawing, wires: list[str], widening: float) -> list[str]:
+    """Returns the ways of balls, a path for each wire."""
     by_wire: dict[str, list[tuple[Cell, Cell]]] = {}
-    for segment, names in ways.items():
+    for segment, names in drawing.ways.items():
         for name in names:
             by_wire.setdefault(name, []).append(segment)
-    styles, parts = wire_style([wire for wire in [*wires, "1"] if wire in by_wire]), []
-    order = [wire for wire in [*wires, "1", ""] if wire in by_wire]
+    order, parts = way_order(drawing, wires), []
+    styles = wire_style(order)
     for index, wire in enumerate(order):
         colour, dash = styles[wire]
-        # Later ways are thinner, so that one below another is still seen.
-        width = 5 - 3.4 * index / max(1, len(order) - 1)
-        path = "".join(f"M{short(centre(a)[0])} {short(centre(a)[1])}L{short(centre(b)[0])} {short(centre(b)[1])}" for a, b in merged(by_wire[wire]))
-        dashes = f' stroke-dasharray="{dash}"' if dash else ""
-        title = {"": "several wires", "1": "constant"}.get(wire, wire)
-        parts.append(f'<path class="way" style="stroke-width:{short(width)}" stroke="{colour}"{dashes} d="{path}"><title>{escape(title)}</title></path>')
+        # Later ways are thinner, so that one below another is still seen. In a large layout the thinnest must still be seen itself.
+        thinnest = 1.6 if widening == 1 else 2.6
+        width = (5 - (5 - thinnest) * index / max(1, len(order) - 1)) * widening
+        path = "".join(f"M{point(first)}L{point(last)}" for first, last in merged(by_wire[wire]))
+        dashes = f' stroke-dasharray="{" ".join(short(int(part) * widening) for part in dash.split())}"' if dash else ""
+        title = escape(label_of(drawing, wire))
+        parts.append(f'<path class="way w{colour}" style="stroke-width:{short(width)}"{dashes} d="{path}"><title>{title}</title></path>')
     return parts
 
 
-def legend(ways: dict[tuple[Cell, Cell], set[str]], wires: list[str], y: int) -> tuple[list[str], int]:
-    """Returns the names of the wires with their colours, and the height that they take."""
-    present = {name for names in ways.values() for name in names}
-    order = [wire for wire in [*wires, "1", ""] if wire in present]
-    styles = wire_style([wire for wire in order if wire])
-    parts, shown = [], order[:24]
-    for index, wire in enumerate(shown):
+def legend(drawing: Drawing, wires: list[str], y: int, width: float) -> tuple[list[str], int]:
+    """Returns the names of the wires with their colours, in lines of at most a width, and the height that they take."""
+    order = way_order(drawing, wires)
+    styles, parts = wire_style(order), []
+    x, top = float(MARGIN), y
+    for wire in order[:MAX_LEGEND]:
         colour, dash = styles[wire]
+        text = label_of(drawing, wire)
+        text = text if len(text) <= 30 else text[:28] + ".."
+        room = 32 + 4.2 * len(text)
+        if x > MARGIN and x + room > width - MARGIN:
+            x, top = float(MARGIN), top + 12
         dashes = f' stroke-dasharray="{dash}"' if dash else ""
-        x, top = MARGIN + index % 4 * 64, y + index // 4 * 12
-        text = {"": "no wire's", "1": "constant"}.get(wire, wire[:9])
-        parts.append(f'<path class="way" stroke="{colour}"{dashes} d="M{x} {top}h16"/><text x="{x + 20}" y="{top + 2.5}">{escape(text)}</text>')
-    return parts, (len(shown) + 3) // 4 * 12
+        parts.append(f'<path class="way w{colour}"{dashes} d="M{short(x)} {top}h16"/>'
+                     f'<text x="{short(x + 20)}" y="{top + 2.5}">{escape(text)}</text>')
+        x += room
+    return parts, top - y + 12 if parts else 0
 
 
 def svg(layout: Layout, drawing: Drawing, wires: list[str]) -> str:
-    """Writes the picture."""
-    width, bottom = 2 * MARGIN + layout.width * CELL, MARGIN + layout.height * CELL + 18
-    keys, key_height = legend(drawing.ways, wires, bottom + 6)
-    width, height = max(width, 2 * MARGIN + 256 if keys else 0), bottom + key_height + 16
-    parts = [f'<rect class="back" width="{width}" height="{height}"/>', *plane(layout), *layout_parts(layout), *module_parts(drawing.modules),
-             *way_parts(drawing.ways, wires), *ball_parts(layout, drawing.live), *port_labels(layout)]
+    """Writes the picture. Above `PLAIN_SIDE` cells a side, letters and margins grow with the layout."""
+    scale = max(1.0, max(layout.width, layout.height) / PLAIN_SIDE)
+    widening, margin = min(scale, MAX_WIDENING), MARGIN * (scale - 1)
+    width, bottom = 2 * MARGIN * scale + layout.width * CELL, MARGIN * scale + layout.height * CELL
+    width = max(width, 2 * MARGIN + 256 if drawing.ways else 0)
+    keys, key_height = legend(drawing, wires, 24, width / scale)
+    height = bottom + (34 + key_height) * scale
+    parts = [*plane(layout), *layout_parts(layout), *module_parts(drawing.modules), *way_parts(drawing, wires, widening),
+             *ball_parts(layout, drawing.live), *port_labels(layout, scale)]
     for cell, about in drawing.faults:
         x, y = centre(cell)
         parts.append(f'<circle class="fault" cx="{short(x)}" cy="{short(y)}" r="{CELL * 0.75:.1f}"><title>{escape(about)}</title></circle>')
-    title = f'<text x="{MARGIN}" y="12">{escape(drawing.title)}</text>'
-    return (f'<svg xmlns="http://www.w3.org/2000/svg" viewBox="0 0 {width} {height}" width="{width}" height="{height}" role="img">'
-            f"<title>{escape(drawing.title)}</title>\n<style>{STYLE}</style>\n" + "\n".join([*parts, title, *keys]) + "\n</svg>\n")
+    letters = f"g.plan text{{font-size:{short(7 * scale)}px}}g.plan .name{{font-size:{short(8 * scale)}px}}" if scale > 1 else ""
+    style = f"{STYLE}{LIGHT_WAYS}@media(prefers-color-scheme:dark){{{DARK_WAYS}}}{letters}"
+    title = f'<g transform="scale({short(scale)})"><text x="{MARGIN}" y="12">{escape(drawing.title)}</text></g>'
+    below = f'<g transform="translate(0 {short(bottom)}) scale({short(scale)})">' + "\n".join(keys) + "</g>"
+    size = f"{short(width)} {short(height)}"
+    return (f'<svg xmlns="http://www.w3.org/2000/svg" viewBox="0 0 {size}" width="{short(width)}" height="{short(height)}" role="img">'
+            f"<title>{escape(drawing.title)}</title>\n<style>{style}</style>\n"
+            f'<rect class="back" width="{short(width)}" height="{short(height)}"/>\n'
+            f'<g class="plan" transform="translate({short(margin)} {short(margin)})">\n' + "\n".join(parts) + f"\n</g>\n{title}\n{below}\n</svg>\n")
 
 
 def block_moves(before: dict[int, Table], corner: int) -> list[tuple[int, int, Table]]:
@@ -214,28 +282,47 @@ def block_moves(before: dict[int, Table], corner: int) -> list[tuple[int, int, T
     return [move for move in moves if move[2]]
 
 
-def ball_ways(document: Document, on: list[str] | None, until: int) -> dict[tuple[Cell, Cell], set[str]]:
-    """Returns the ways of the balls: for each step from cell to cell the wires that are true where a ball takes it.
+def wire_tables(document: Document, on: list[str]) -> tuple[dict[str, Table], Table, int]:
+    """Returns the tables of the wires, that of all columns, and the column in which just the names of `on` are true.
 
-    With `on` only the ways under this choice of inputs are left. The empty name stands for assignments that are no wire's.
+    The columns are all assignments of the inputs, or samples if there are more inputs than `MAX_INPUTS`.
     """
     layout, circuit = document.layout, document.circuit
     assert layout is not None
-    ins = list(dict.fromkeys(part.name or "" for part in layout.of_kind("in")))
-    inputs = circuit.inputs if circuit else ins
-    chosen = sum(1 << index for index, name in enumerate(inputs) if name in (on or []))
+    inputs = circuit.inputs if circuit else list(dict.fromkeys(part.name or "" for part in layout.of_kind("in")))
+    chosen = sum(1 << index for index, name in enumerate(inputs) if name in on)
     if len(inputs) > MAX_INPUTS:
-        tables, full, chosen, on = {name: 1 for name in on or []}, 1, 0, on or []
-    elif circuit:
+        full = (1 << SAMPLES) - 1
+        return evaluate_samples(circuit, SAMPLES, on).tables if circuit else sampled_tables(inputs, SAMPLES, on), full, 0
+    if circuit:
         values = evaluate(circuit, inputs, [gate.number for gate in circuit.gates])
-        tables, full = values.tables, values.full
-    else:
-        tables, full = dict(zip(inputs, input_tables(len(inputs)))), (1 << (1 << len(inputs))) - 1
+        return values.tables, values.full, chosen
+    return dict(zip(inputs, input_tables(len(inputs)))), (1 << (1 << len(inputs))) - 1, chosen
+
+
+def sampled_words(document: Document) -> str:
+    """Says that not all choices of the inputs are tried, if that is so."""
+    layout, circuit = document.layout, document.circuit
+    assert layout is not None
+    count = len(circuit.inputs) if circuit else len({part.name for part in layout.of_kind("in")})
+    return f" in {SAMPLES} sampled choices of the {count} inputs" if count > MAX_INPUTS else ""
+
+
+def ball_ways(document: Document, on: list[str] | None, until: int) -> tuple[dict[tuple[Cell, Cell], set[str]], dict[str, str]]:
+    """Returns the ways of the balls: for each step from cell to cell the wires that are true if and only if a ball takes it.
+
+    With `on` only the ways under this choice of inputs are left. The empty name is for assignments that are no wire's. Of equal wires
+    the first one has the way: the second result is the list of their names, by this wire.
+    """
+    layout = document.layout
+    assert layout is not None
+    tables, full, chosen = wire_tables(document, on or [])
     names: dict[Table, str] = {}
+    equal: dict[str, list[str]] = {}
     for name, table in tables.items():
-        names.setdefault(table, name)
+        equal.setdefault(names.setdefault(table, name), []).append(name)
     names[full] = "1"
-    run, ways = WholeRun(layout, tables, full), {}
+    run, ways = WholeRun(layout, tables, full), dict[tuple[Cell, Cell], set[str]]()
     for _ in range(until):
         before, is_odd = dict(run.field.live), run.time % 2
         if not run.step():
@@ -244,4 +331,4 @@ def ball_ways(document: Document, on: list[str] | None, until: int) -> dict[tupl
             for start, end, table in block_moves(before, corner):
                 if on is None or table >> chosen & 1:
                     ways.setdefault((cell_of(start), cell_of(end)), set()).add(names.get(table, ""))
-    return ways
+    return ways, {name: ", ".join(same) for name, same in equal.items()}

@@ -1,6 +1,7 @@
 """What the lab writes: certificates, spellings, JSON, pattern files and pictures."""
 
 import random
+import re
 import shutil
 import subprocess
 import tempfile
@@ -11,8 +12,9 @@ from pathlib import Path
 import support
 from bbmlab_core import golly, json_form
 from bbmlab_core.boxes import Box
-from bbmlab_core.certify import certified
-from bbmlab_core.drawing import merged
+from bbmlab_core.certificates import Module
+from bbmlab_core.certify import Plan, certified, checked_boxes
+from bbmlab_core.drawing import centre, merged, module_parts
 from bbmlab_core.program import ask
 from bbmlab_core.reports import parse_report
 from bbmlab_core.simulation import run_layout
@@ -37,8 +39,8 @@ class Certificates(unittest.TestCase):
         """What is made of examples gets a yes, in both versions and with both ways to cut."""
         for name, grid in GRIDS:
             for version in (1, 2):
-                for cuts in ("safe", "cheap"):
-                    text = certified(design(name), grid, version, cuts)
+                for cuts in ("safe", "auto"):
+                    text = by_grid(name, grid, Plan(version, cuts))
                     with self.subTest(f"{name} {grid} {version} {cuts}"):
                         self.assertIn("verdict yes", ask(support.program(), "check", text.encode()).output)
 
@@ -50,13 +52,47 @@ class Certificates(unittest.TestCase):
 
     def test_says_why_there_is_none(self) -> None:
         """Where a cell has the value of no wire, that is said with time and cell: here c without x goes to (8, 10)."""
-        with self.assertRaisesRegex(LabError, r"at time 1 the cell \(8, 10\) of a ring is live under 2 of 8 assignments, the first with `c` on"):
-            certified(design("fredkin_gate"), (10, 10), 2, "safe")
+        with self.assertRaisesRegex(LabError, r"at time 1 the cell \(8, 10\) is live with `c` on, and no wire of the circuit is true in just"):
+            by_grid("fredkin_gate", (10, 10), Plan())
 
-    def test_cheap_cuts_fewer(self) -> None:
-        """Cheap cuts are fewer somewhere than safe ones."""
-        safe, cheap = (certified(design("gate_and_mirror"), (8, 12), 2, cuts) for cuts in ("safe", "cheap"))
-        self.assertLess(cheap.count("\nuse "), safe.count("\nuse "))
+    def test_own_boxes_avoid_cells_without_a_wire(self) -> None:
+        """Without a grid the lab finds boxes by itself, though a grid of 10 by 10 cells has no certificate."""
+        for name, _ in GRIDS:
+            for version in (1, 2):
+                text = certified(design(name), None, Plan(version))
+                with self.subTest(f"{name} {version}"):
+                    self.assertIn("verdict yes", ask(support.program(), "check", text.encode()).output)
+
+    def test_many_inputs(self) -> None:
+        """With 360 inputs no assignment can be tried by itself; the certificate gets a yes, and its stops and its boxes can be kept."""
+        text = (support.TOP / "conformance" / "data" / "trains_36_cut_v2.txt").read_text()
+        with tempfile.TemporaryDirectory() as room:
+            file, boxes = Path(room) / "trains.txt", Path(room) / "boxes.txt"
+            file.write_text(text.split("certificate ")[0])
+            ended = support.lab("certify", str(file), BBMCHECK=support.program())
+            self.assertIn("the program says yes", ended.stderr)
+            boxes.write_text("".join(f"module {x} {y} 32 32\n" for y in range(0, 512, 32) for x in range(0, 512, 32)))
+            ended = support.lab("certify", "--boxes", str(boxes), str(file), BBMCHECK=support.program())
+            self.assertEqual((ended.returncode, ended.stdout.count("\nmodule ")), (0, 256))
+
+    def test_auto_uses_fewer_gates(self) -> None:
+        """Cuts at wires that come in use fewer gates somewhere than safe cuts."""
+        safe, auto = (by_grid("gate_and_mirror", (8, 12), Plan(2, cuts)) for cuts in ("safe", "auto"))
+        self.assertLess(auto.count("\nuse "), safe.count("\nuse "))
+
+    def test_own_stops_are_kept(self) -> None:
+        """The stops of the old certificate are those of the new one."""
+        text = (support.EXAMPLES / "timed_modules.txt").read_text()
+        ended = support.lab("certify", support.example("timed_modules"), BBMCHECK=support.program())
+        stops = [sorted(line for line in one.splitlines() if line.startswith("stop ")) for one in (text, ended.stdout)]
+        self.assertEqual(stops[0], stops[1])
+
+
+def by_grid(name: str, grid: tuple[int, int], plan: Plan) -> str:
+    """Returns an example with a certificate whose boxes are those of a grid."""
+    document = design(name)
+    assert document.layout is not None
+    return certified(document, checked_boxes(document.layout, *grid), plan)
 
 
 class Spelling(unittest.TestCase):
@@ -163,6 +199,11 @@ def golly_run(document: support.Document, on: list[str], time: int) -> set:
         return golly.live_cells(golly.golly_states(f"#CXRLE Pos={-golly.MARGIN},{-golly.MARGIN}\n" + after.read_text())[0])
 
 
+def legend_of(picture: str) -> list[str]:
+    """Returns the names in the legend of a picture, which come last."""
+    return [part.text or "" for part in list(ET.fromstring(picture))[-1].iter() if part.tag.endswith("text")]
+
+
 class Pictures(unittest.TestCase):
     """`draw`."""
 
@@ -172,6 +213,28 @@ class Pictures(unittest.TestCase):
         root = ET.fromstring(ended.stdout)
         classes = [part.get("class") for part in root.iter() if part.get("class")]
         self.assertEqual((classes.count("mirror"), classes.count("in"), classes.count("out"), classes.count("ball")), (1, 2, 4, 2))
+
+    def test_equal_wires_share_a_way(self) -> None:
+        """The legend names the wires that are always equal: in a switch the output d is c. A ball of two cells has its name once."""
+        ended = support.lab("draw", "--ways", support.example("machine_switch"))
+        self.assertEqual(legend_of(ended.stdout), ["c, d", "x", "y", "z", "no wire"])
+        self.assertEqual([ended.stdout.count(f">{name}<") for name in ("→c", "→x", "d→", "y→", "z→")], [1] * 5)
+        # The tail of c, and the head of d, which flies left and up.
+        names = {part.text: (float(part.get("x")), float(part.get("y"))) for part in ET.fromstring(ended.stdout).iter() if part.get("class") == "name"}
+        layout = support.read_document((support.EXAMPLES / "machine_switch.txt").read_text()).layout
+        for mark, kind, best in (("→c", "in", min), ("d→", "out", min)):
+            cells = [part.cell for part in layout.of_kind(kind) if part.name == mark.strip("→")]
+            self.assertEqual(names[mark][0], centre(best(cells))[0])
+
+    def test_large_layouts_have_large_letters(self) -> None:
+        """Letters grow with the layout, and many modules have no numbers."""
+        small, large = (support.lab("draw", "--ways", support.example(name)).stdout for name in ("machine_fredkin", "machine_full_adder"))
+        self.assertNotIn("g.plan text{font-size", small)
+        size = float(re.search(r"g\.plan text\{font-size:([\d.]+)px", large)[1])
+        self.assertAlmostEqual(size, 7 * 144 / 64, delta=0.1)
+        modules = [Module(number, Box(2 * number, 0, 2, 2), 0) for number in range(65)]
+        self.assertIn("text", "".join(module_parts(modules[:64])))
+        self.assertNotIn("text", "".join(module_parts(modules)))
 
     def test_faults_are_marked(self) -> None:
         """The cells of a report's faults are marked."""

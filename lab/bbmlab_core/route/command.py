@@ -7,6 +7,7 @@ import time
 from ..circuits import Circuit
 from ..documents import read_document
 from ..layouts import MAX_SIDE
+from ..netlists import map_netlist, netlist_format
 from ..program import ask, find_program
 from ..terminal import LabError, painted, read_text, write_text
 from .certificate import circuit_section
@@ -40,8 +41,18 @@ class ProgressLine:
 
 
 def circuit_of(name: str) -> tuple[str, Circuit]:
-    """Returns the circuit section of a file, word for word, and the circuit; raises LabError if it is refused."""
-    text = circuit_section(read_text(name))
+    """Returns the circuit section of a file, word for word, and the circuit; raises LabError if it is refused.
+
+    A netlist of BLIF or yosys is mapped to a circuit section. Notes on names go to standard error.
+    """
+    text = read_text(name)
+    if netlist_format(text) is None:
+        text = circuit_section(text)
+    else:
+        mapped = map_netlist(text)
+        text = mapped.text
+        for note in mapped.notes:
+            print(f"bbmlab: {note}", file=sys.stderr)
     document = read_document(text, "circuit")
     if document.refusal is not None or document.circuit is None:
         refusal = document.refusal
@@ -60,6 +71,9 @@ def route_command(options: argparse.Namespace) -> int:
     """Runs `bbmlab route`."""
     check_side(options.size)
     text, circuit = circuit_of(options.file)
+    if options.circuit_only:
+        write_text(options.output, text)
+        return 0
     program = find_program(options.program)
     begun, line = time.monotonic(), ProgressLine()
     asked = Options(options.seed, options.size, options.effort, options.jobs, options.compact, options.keep_partial)

@@ -1,0 +1,56 @@
+"""Searches for a cheap circuit: maps a graph in many orders, and asks that each inverse gate can be kept by a module."""
+
+import random
+
+from ..circuits import MAX_GATES, MAX_WIRES, Circuit
+from ..documents import read_document
+from ..route.certificate import keeping_cone
+from .circuit_text import NamedCircuit, named
+from .graph import Graph
+from .mapping import Mapper, Wiring
+from .model import NetlistError
+
+MAX_TRIES = 200
+# Tries times nodes and outputs: one or two seconds.
+TRY_BUDGET = 30_000
+# One interaction gate makes three products, and no gate makes more.
+MAX_NEEDED_NODES = 3 * MAX_GATES
+
+
+def require_room(gate_count: int, wire_count: int) -> None:
+    """Raises NetlistError if a circuit section cannot have so many gates or wires."""
+    for count, most, what in ((gate_count, MAX_GATES, "gates"), (wire_count, MAX_WIRES, "wires")):
+        if count > most:
+            raise NetlistError(f"The circuit would need {count} {what}. A circuit has at most {most}.")
+
+
+def cheapest(graph: Graph, separate: frozenset[int], size: int) -> Wiring:
+    """Returns the cheapest of some wirings. The same graph gets the same wiring each time."""
+    tries = max(2, min(MAX_TRIES, TRY_BUDGET // max(1, size)))
+    return min((Mapper(graph, separate, random.Random(number)).run() for number in range(tries)), key=Wiring.cost)
+
+
+def nodes_not_kept(circuit: Circuit, wiring: Wiring) -> frozenset[int]:
+    """Returns the nodes whose inverse gate has no cone that shows that it always has a row."""
+    return frozenset(gate.node for number, gate in enumerate(wiring.gates)
+                     if gate.word == "unswitch" and gate.node is not None and keeping_cone(circuit, number) is None)
+
+
+def map_graph(graph: Graph) -> NamedCircuit:
+    """Maps a graph. Raises NetlistError if the circuit does not fit the limits of a circuit section."""
+    needed = graph.needed()
+    if len(needed) > MAX_NEEDED_NODES:
+        raise NetlistError(f"The netlist needs {len(needed)} nodes of logic, and so more than {MAX_GATES} gates. "
+                           f"A circuit has at most {MAX_GATES}.")
+    separate: frozenset[int] = frozenset()
+    while True:
+        wiring = cheapest(graph, separate, len(needed) + len(graph.outputs))
+        circuit = named(graph, wiring)
+        require_room(len(circuit.gates), len(circuit.inputs) + sum(len(line.split(" -> ")[1].split()) for line in circuit.gates))
+        document = read_document(circuit.text(), "circuit")
+        if document.refusal or document.circuit is None:
+            raise NetlistError(f"The mapped circuit is wrong: {document.refusal}.")
+        failed = nodes_not_kept(document.circuit, wiring)
+        if not failed:
+            return circuit
+        separate |= failed

@@ -1,0 +1,156 @@
+"""A machine of two-cell balls, and its bundle: circuit, layout, and a certificate with stops at its ports."""
+
+from dataclasses import dataclass, field
+
+from bbmlab_core.certificates import MAX_BOX_SIDE, Module
+from bbmlab_core.certify import Plan, certified, grid_boxes
+from bbmlab_core.circuits import Circuit, evaluate
+from bbmlab_core.documents import read_document
+from bbmlab_core.gates import Table
+from bbmlab_core.layouts import Cell, row_order
+from bbmlab_core.route.balls import Ball, Mirror, Run, block_cells, mirror_cells, run_exactly, start_state
+
+# Dead cells between the machine and the rim, so that nothing is live on the rim.
+MARGIN = 2
+
+
+@dataclass
+class Machine:
+    """A circuit as balls and mirrors.
+
+    An input's ball has the time at which the wire arrives, and an output's ball the time at which it leaves, as garbage does.
+    `inner` has the wires from one gate to another that get stops too. The run begins at time 0, at which all inputs and
+    constants are on their way, and ends `rest` steps after the last output or garbage has left.
+    """
+
+    name: str
+    gates: list[str]
+    ins: dict[str, Ball]
+    outs: dict[str, Ball]
+    mirrors: list[Mirror] = field(default_factory=list)
+    constants: list[Ball] = field(default_factory=list)
+    garbage: dict[str, Ball] = field(default_factory=dict)
+    inner: dict[str, Ball] = field(default_factory=dict)
+    rest: int = 2
+
+    @property
+    def last(self) -> int:
+        """The last time of the run."""
+        return max(ball.time for ball in [*self.outs.values(), *self.garbage.values()]) + self.rest
+
+    def ports(self) -> list[tuple[str, Ball]]:
+        """Returns the wires that get stops, with their balls."""
+        return [*self.ins.items(), *self.inner.items(), *self.outs.items(), *self.garbage.items()]
+
+    def circuit_text(self) -> str:
+        """Returns the circuit section."""
+        lines = ["circuit", *(f"input {name}" for name in self.ins), *self.gates, *(f"output {name}" for name in self.outs)]
+        return "\n".join([*lines, *(f"spill {name}" for name in self.garbage), "end", ""])
+
+
+def read_circuit(text: str) -> Circuit:
+    """Returns the circuit of a circuit section. Raises ValueError if it is refused."""
+    document = read_document(text, "circuit")
+    if document.refusal or document.circuit is None:
+        raise ValueError(f"the circuit is refused: {document.refusal}")
+    return document.circuit
+
+
+def run_machine(machine: Machine, tables: dict[str, Table], full: Table) -> Run:
+    """Returns the run of a machine under all its inputs. Raises ValueError if a mirror breaks or an output is wrong."""
+    start = [(ball.at(0), tables[name]) for name, ball in machine.ins.items()] + [(ball.at(0), full) for ball in machine.constants]
+    run = run_exactly(mirror_cells(machine.mirrors), start_state(start), 0, machine.last)
+    if not run.is_stable:
+        raise ValueError(f"{machine.name}: a mirror breaks in the step from time {len(run.blocks)}")
+    for name, ball in machine.ports():
+        for cell in ball.cells():
+            if run.state(ball.time).get(cell, 0) != tables[name]:
+                raise ValueError(f"{machine.name}: the ball of {name} is not at {cell} at time {ball.time}")
+    return run
+
+
+def frame_of(machine: Machine, run: Run) -> tuple[int, int, int, int]:
+    """Returns how far to move the machine, by even numbers, and the even width and height of its layout."""
+    cells = mirror_cells(machine.mirrors) | {cell for corners in run.blocks for corner in corners for cell in block_cells(corner)}
+    columns, rows = [x for x, _ in cells], [y for _, y in cells]
+    left, top = min(columns) // 2 * 2 - MARGIN, min(rows) // 2 * 2 - MARGIN
+    width, height = (largest - least + 1 + MARGIN for largest, least in ((max(columns), left), (max(rows), top)))
+    return -left, -top, width + width % 2, height + height % 2
+
+
+def rectangles(cells: set[Cell]) -> list[Mirror]:
+    """Returns disjoint rectangles with these cells: rows as wide as they go, then as high as they go."""
+    left, found = set(cells), []
+    for x, y in sorted(cells, key=row_order):
+        if (x, y) not in left:
+            continue
+        width = height = 1
+        while (x + width, y) in left:
+            width += 1
+        while all((x + column, y + height) in left for column in range(width)):
+            height += 1
+        found.append(Mirror(x, y, width, height))
+        left -= set(found[-1].cells())
+    return found
+
+
+def bundle_text(machine: Machine) -> str:
+    """Returns the bundle of a machine, after a run of it under all its inputs."""
+    circuit = read_circuit(machine.circuit_text())
+    values = evaluate(circuit, circuit.inputs, [gate.number for gate in circuit.gates])
+    run = run_machine(machine, values.tables, values.full)
+    dx, dy, width, height = frame_of(machine, run)
+
+    def shifted(ball: Ball) -> list[Cell]:
+        """Returns the cells of a ball in the layout."""
+        return [(x + dx, y + dy) for x, y in ball.cells()]
+
+    outs = {name: shifted(ball.at(machine.last)) for name, ball in machine.outs.items()}
+    taken = {cell for cells in outs.values() for cell in cells}
+    wastes = sorted({(x + dx, y + dy) for x, y in run.states[-1]} - taken, key=row_order)
+    mirrors = rectangles({(x + dx, y + dy) for x, y in mirror_cells(machine.mirrors)})
+    lines = [f"layout {width} {height} {machine.last}"]
+    lines += [f"mirror {mirror.x} {mirror.y} {mirror.width} {mirror.height}" for mirror in mirrors]
+    lines += [f"ball {x} {y}" for ball in machine.constants for x, y in shifted(ball.at(0))]
+    lines += [f"in {name} {x} {y}" for name, ball in machine.ins.items() for x, y in shifted(ball.at(0))]
+    lines += [f"out {name} {x} {y}" for name, cells in outs.items() for x, y in cells]
+    lines += [f"waste {x} {y}" for x, y in wastes]
+    design = machine.circuit_text() + "\n".join([*lines, "end", ""])
+    stops = [(ball.time, name, cell) for name, ball in machine.ports() for cell in shifted(ball)]
+    return with_stops(certificate_for(design, circuit, width, height), stops)
+
+
+def certificate_for(design: str, circuit: Circuit, width: int, height: int) -> str:
+    """Returns a design with its certificate: one module if it is small enough, else modules on a grid."""
+    if max(width, height) <= MAX_BOX_SIDE:
+        lines = [f"certificate 2\nmodule 0 0 {width} {height}", *(f"cut {name}" for name in circuit.inputs)]
+        lines += [f"use {gate.number}" for gate in circuit.gates]
+        lines += [f"keep {gate.number}" for gate in circuit.gates if gate.is_inverse]
+        return design + "\n".join([*lines, "end", ""])
+    document = read_document(design, "design")
+    assert document.layout is not None
+    return certified(document, grid_boxes(document.layout, MAX_BOX_SIDE, MAX_BOX_SIDE), Plan(2, "safe"))
+
+
+def with_stops(bundle: str, stops: list[tuple[int, str, Cell]]) -> str:
+    """Returns a bundle with stops added to the modules that have their cells. Their wires become local there."""
+    document = read_document(bundle)
+    circuit, certificate = document.circuit, document.certificate
+    if document.refusal or circuit is None or certificate is None:
+        raise ValueError(f"the bundle is refused: {document.refusal}")
+    lines = bundle.split("\n")
+    # From the last module, so that the lines of earlier ones keep their numbers.
+    for module in reversed(certificate.modules):
+        own = sorted((time, y, x, name) for time, name, (x, y) in stops if module.box.has((x, y)))
+        if not own:
+            continue
+        end = next(number for number in range(module.line, len(lines)) if lines[number].startswith("module ") or lines[number] == "end")
+        cuts, uses = circuit.cone(sorted({*module.local, *(name for _, _, _, name in own)}))
+        lines[module.line:end] = [*(f"cut {name}" for name in cuts), *(f"use {number}" for number in uses), *other_lines(module),
+                                  *(f"stop {time} {name} {x} {y}" for time, y, x, name in own)]
+    return "\n".join(lines)
+
+
+def other_lines(module: Module) -> list[str]:
+    """Returns the lines of a module between its `use` lines and its stops."""
+    return [*(f"keep {number}" for number in sorted(module.keeps)), *(str(line) for line in module.edges)]
