@@ -1,238 +1,321 @@
-"""`bbmlab certify`: makes a certificate for a circuit and a layout, from one run of all assignments of the inputs at once."""
+"""`bbmlab certify`: makes a certificate for a circuit and a layout of any size, from one run of the layout.
+
+The rectangle is cut into boxes: in halves again and again, along lines at which each cell carries a wire, until a box has few enough wires
+and its own run has no fault. The wires of cells are found by their values in all choices of the inputs, or in samples of them if they are
+many. So the certificate may be wrong where wires differ in no sample; the program decides.
+"""
 
 from dataclasses import dataclass, field
+from typing import Iterable
 
 from .boxes import Box
-from .certificates import MAX_CUTS, MAX_MODULES, MAX_USES, BorderLine, Certificate, Module, StopLine
+from .certificates import MAX_BOX_SIDE, MAX_BORDER_LINES, MAX_CUTS, MAX_MODULES, MAX_USES, BorderLine, Certificate, Module, StopLine
 from .circuits import Circuit, Gate, evaluate
 from .documents import Document
 from .layouts import Cell, Layout, row_order
-from .refusals import listed
-from .simulation import ModuleRun, Table, WholeRun, cell_of, key_of, lowest_bit
+from .observing import Observer, perimeter
+from .simulation import ModuleRun, Table, cell_of, key_of
 from .terminal import LabError
 
-MAX_INPUTS = 14
+# How many steps back from the wires of a box to the gates that make them are tried, before all gates back to the inputs.
+MAX_DEPTH = 4
+
+
+class NoBoxError(Exception):
+    """A box can't be a module. The message says why."""
+
+
+@dataclass
+class Wiring:
+    """The wires that a module cuts, and the gates that it uses."""
+
+    cuts: list[str]
+    uses: list[int]
+
+    def fits(self) -> bool:
+        """Whether it is within the limits of a module."""
+        return len(self.cuts) <= MAX_CUTS and len(self.uses) <= MAX_USES
 
 
 @dataclass
 class Plan:
-    """What is known of the whole run: edge lines as tables, and where stops may be."""
+    """What the user asked for: the kind of cuts, and stops that are kept."""
 
-    always: set[int] = field(default_factory=set)
-    timed: list[tuple[int, int, Table]] = field(default_factory=list)
-    # The live cells at the times at which a delay needs stops.
-    kept: dict[int, dict[int, Table]] = field(default_factory=dict)
+    version: int = 2
+    cuts: str = "auto"
+    stops: list[StopLine] = field(default_factory=list)
 
 
 class Maker:
-    """Makes the certificate of one circuit and layout."""
+    """Makes certificates of one circuit and layout."""
 
-    def __init__(self, circuit: Circuit, layout: Layout, boxes: list[Box], version: int) -> None:
-        if len(circuit.inputs) > MAX_INPUTS:
-            raise LabError(f"the circuit has {len(circuit.inputs)} inputs; certify tries all assignments of at most {MAX_INPUTS}", 1)
-        if len(boxes) > MAX_MODULES:
-            raise LabError(f"the grid makes {len(boxes)} modules; {MAX_MODULES} is the most", 1)
-        self.circuit, self.layout, self.version = circuit, layout, version
-        self.values = evaluate(circuit, circuit.inputs, [gate.number for gate in circuit.gates])
-        for number, table in self.values.rows.items():
-            if table != self.values.full:
-                on = self.values.names_of(lowest_bit(self.values.full ^ table))
-                raise LabError(f"gate {number} has no row with {listed(on) or 'none of the inputs'} on: no certificate gets a yes", 1)
-        self.signals: dict[Table, str] = {}
-        for name, table in self.values.tables.items():
-            self.signals.setdefault(table, name)
-        self.signals[self.values.full] = "1"
-        self.modules = [Module(number, box, 0) for number, box in enumerate(boxes)]
-        self.block_owner = {(u, v): module for module in self.modules for v in range(module.box.y, module.box.y + module.box.height, 2)
-                            for u in range(module.box.x, module.box.x + module.box.width, 2)}
+    def __init__(self, circuit: Circuit, layout: Layout, plan: Plan) -> None:
+        self.circuit, self.layout, self.plan = circuit, layout, plan
+        self.observer = Observer(circuit, layout, bool(plan.stops))
+        self.observer.require_quiet_rim()
+        # What the user should know of the certificate.
+        self.notes: list[str] = []
+        self.stops = self.chosen_stops()
+        self.ports = {key_of(part.cell): part.name or "" for part in layout.of_kind("in") + layout.of_kind("out")}
+        self.starts = {key_of(part.cell): part.name or "" for part in layout.of_kind("in")}
 
-    def owner(self, cell: Cell) -> Module:
-        """Returns the module that has the cell."""
-        return self.block_owner[cell[0] // 2 * 2, cell[1] // 2 * 2]
+    # ---- boxes
 
-    def make(self, cuts: str) -> Certificate:
-        """Returns the certificate."""
-        rings = {key_of(cell) for module in self.modules for cell in module.box.ring()}
-        plan = self.run_whole(rings)
-        self.add_edges(plan)
-        self.add_stops(plan)
-        certificate = Certificate(self.version, self.modules)
-        needed = self.needed_wires(certificate)
-        keepers = self.add_keeps(needed)
-        for module in self.modules:
-            self.cut_safely(module, needed[module.number])
-        if cuts == "cheap":
-            for module in self.modules:
-                if module.number not in keepers:
-                    self.cut_cheaply(module, needed[module.number], certificate)
-        return certificate
+    def certificate(self, boxes: list[Box] | None) -> Certificate:
+        """Returns a certificate with given boxes, or with boxes of its own."""
+        modules = [self.module(box) for box in boxes] if boxes else self.divided(Box(0, 0, self.layout.width, self.layout.height))
+        if len(modules) > MAX_MODULES:
+            raise LabError(f"the certificate takes {len(modules)} modules; {MAX_MODULES} is the most", 1)
+        for number, module in enumerate(modules):
+            module.number = number
+        self.add_keeps(modules)
+        if self.plan.version == 2:
+            for module in modules:
+                module.halos = []
+        return Certificate(self.plan.version, modules)
 
-    def run_whole(self, rings: set[int]) -> Plan:
-        """Runs the whole layout under all assignments, and notes what rings have at odd times."""
-        run, plan = WholeRun(self.layout, self.values.tables, self.values.full), Plan()
-        full, steps, live = self.values.full, self.layout.steps, run.field.live
-        wanted = self.stop_times()
-        moving: dict[int, Table] = {}
-        while True:
-            time, field_ = run.time, run.field
-            if time in wanted:
-                plan.kept[time] = dict(field_.live)
-            if time == 1:
-                self.note_first(plan, moving, rings, live, full if steps > 3 else 0)
-            elif time > 1:
-                for key in field_.changed & rings:
-                    self.note_change(plan, moving, key, live.get(key, 0), time)
-            if time % 2 and time < steps:
-                plan.timed += [(time, key, table) for key, table in moving.items() if table]
-            if time == steps:
-                return plan
-            if not run.step():
-                on = self.values.names_of(lowest_bit(run.left[1])) if run.left else []
-                raise LabError(f"step {run.time} leaves the rectangle with {listed(on) or 'none of the inputs'} on: no certificate gets a yes", 1)
+    def divided(self, box: Box) -> list[Module]:
+        """Returns the modules of a rectangle: itself, or those of its parts."""
+        why = ""
+        if max(box.width, box.height) <= MAX_BOX_SIDE:
+            try:
+                return [self.module(box)]
+            except NoBoxError as error:
+                why = str(error)
+        for parts in self.halves(box):
+            try:
+                return [module for part in parts for module in self.divided(part)]
+            except NoBoxError as error:
+                why = why or str(error)
+        raise NoBoxError(why or self.uncut_words(box))
 
-    @staticmethod
-    def note_first(plan: Plan, moving: dict[int, Table], rings: set[int], live: dict[int, Table], full: Table) -> None:
-        """Notes what rings have at time 1. Cells that are live whatever the inputs are begin as held ones."""
-        for key in rings & live.keys():
-            if live[key] == full:
-                plan.always.add(key)
+    def halves(self, box: Box) -> Iterable[tuple[Box, Box]]:
+        """Yields cuts of a rectangle into two, along lines at which all cells carry a wire: the best of each direction."""
+        found = []
+        for is_upright in (True, False):
+            size = box.width if is_upright else box.height
+            places = range(2, size - 1, 2)
+            ranked = sorted(places, key=lambda place: (abs(2 * place - size), place))
+            # Boxes of full size first: then by nearness to the middle.
+            if size > MAX_BOX_SIDE:
+                ranked.sort(key=lambda place: place % MAX_BOX_SIDE != 0)
+            place = next((place for place in ranked if self.is_cut(box, place, is_upright)), None)
+            if place is not None:
+                found.append((size, is_upright, place))
+        for _, is_upright, place in sorted(found, reverse=True):
+            if is_upright:
+                yield Box(box.x, box.y, place, box.height), Box(box.x + place, box.y, box.width - place, box.height)
             else:
-                moving[key] = live[key]
+                yield Box(box.x, box.y, box.width, place), Box(box.x, box.y + place, box.width, box.height - place)
 
-    def note_change(self, plan: Plan, moving: dict[int, Table], key: int, table: Table, time: int) -> None:
-        """Notes a cell that changed. One that was held, and is not at an odd time, gets lines for the times before."""
-        if key in plan.always:
-            plan.always.discard(key)
-            plan.timed += [(before, key, self.values.full) for before in range(1, time, 2)]
-        moving[key] = table
-        if not table:
-            del moving[key]
+    def is_cut(self, box: Box, place: int, is_upright: bool) -> bool:
+        """Whether each cell on both sides of a line through a rectangle carries a wire at each odd time."""
+        for side in (place - 1, place):
+            for along in range(box.height if is_upright else box.width):
+                cell = (box.x + side, box.y + along) if is_upright else (box.x + along, box.y + side)
+                if self.observer.names_at(key_of(cell)) is None:
+                    return False
+        return True
 
-    def require_quiet_rim(self, plan: Plan) -> None:
-        """Raises LabError where a cell of the rim is live at an odd time."""
-        live = [(1, key) for key in plan.always] + [(time, key) for time, key, _ in plan.timed]
-        rim = [(time, cell_of(key)) for time, key in live if self.layout.is_rim(cell_of(key))]
-        if rim:
-            time, (x, y) = min(rim, key=lambda place: (place[0], row_order(place[1])))
-            raise LabError(f"at time {time} the cell ({x}, {y}) is live, on the rim of the rectangle: no certificate allows it. "
-                           "Make the layout larger", 1)
+    def uncut_words(self, box: Box) -> str:
+        """Says why a rectangle can't be cut."""
+        for y in range(box.y, box.y + box.height):
+            for x in range(box.x, box.x + box.width):
+                if self.observer.names_at(key_of((x, y))) is None:
+                    return f"each line through the rectangle {box} meets a cell without a wire: {self.observer.unnamed_words(key_of((x, y)))}"
+        return f"the rectangle {box} can't be cut further"
 
-    def signal(self, key: int, table: Table, time: int) -> str:
-        """Returns the signal that has a table; raises LabError where no wire has it."""
-        if table in self.signals:
-            return self.signals[table]
-        x, y = cell_of(key)
-        on = listed(self.values.names_of(lowest_bit(table))) or "none of the inputs"
-        raise LabError(f"at time {time} the cell ({x}, {y}) of a ring is live under {table.bit_count()} of {self.values.full.bit_length()} "
-                       f"assignments, the first with {on} on, and no wire is true under just these: no certificate by this grid", 1)
+    # ---- one module
 
-    def add_edges(self, plan: Plan) -> None:
-        """Writes the edge lines of all modules, and in version 1 the halo lines."""
-        self.require_quiet_rim(plan)
-        lines = [BorderLine("edge", None, *cell_of(key), "1", 0) for key in plan.always]
-        lines += [BorderLine("edge", time, *cell_of(key), self.signal(key, table, time), 0) for time, key, table in sorted(plan.timed)]
-        for line in sorted(lines, key=lambda line: line.place):
-            self.owner(line.cell).edges.append(line)
-            if self.version == 1:
-                for module in self.beside(line.cell):
-                    module.halos.append(BorderLine("halo", line.time, line.x, line.y, line.signal, 0))
+    def module(self, box: Box) -> Module:
+        """Returns the module of a box, whose own run has no fault."""
+        ring, halo = perimeter(self.layout, box)
+        unnamed = [key for key in (*ring, *halo) if self.observer.names_at(key) is None]
+        if unnamed:
+            raise NoBoxError(self.observer.unnamed_words(min(unnamed, key=self.observer.unnamed_place)))
+        module = Module(0, box, 0)
+        module.edges, module.halos = self.border_lines("edge", ring), self.border_lines("halo", halo)
+        module.stops = [stop for stop in self.stops if box.has(stop.cell)]
+        if len(module.edges) + max(len(module.halos), len(module.stops)) > MAX_BORDER_LINES:
+            raise NoBoxError(f"the box {box} takes more than {MAX_BORDER_LINES} lines")
+        needed = {line.signal for line in (*module.edges, *module.halos)} - {"1"}
+        inside = [key_of(cell) for cell in box.cells()]
+        needed |= {self.ports[key] for key in inside if key in self.ports} | {stop.name for stop in module.stops}
+        for wiring in self.wirings(box, needed, inside, halo):
+            if wiring.fits():
+                module.cuts, module.uses = wiring.cuts, dict.fromkeys(wiring.uses, 0)
+                if ModuleRun(self.circuit, self.layout, Certificate(1, [module]), module).least_fault() is None:
+                    return module
+        raise NoBoxError(f"the box {box} needs {len(needed)} wires, and no cuts that were tried serve it")
 
-    def beside(self, cell: Cell) -> list[Module]:
-        """Returns the other modules whose halo has the cell."""
-        x, y = cell
-        found = {self.owner((u, v)).number: self.owner((u, v)) for v in (y - 1, y, y + 1) for u in (x - 1, x, x + 1) if self.layout.has((u, v))}
-        return [module for number, module in sorted(found.items()) if number != self.owner(cell).number]
+    def border_lines(self, kind: str, keys: list[int]) -> list[BorderLine]:
+        """Returns the lines for cells of a ring or a halo."""
+        lines = []
+        for key in keys:
+            x, y = cell_of(key)
+            if key in self.observer.observed.always and self.layout.steps > 1:
+                lines.append(BorderLine(kind, None, x, y, "1", 0))
+            lines += [BorderLine(kind, time, x, y, self.observer.signals[table], 0) for time, table in self.observer.observed.seen.get(key, ())]
+        return sorted(lines, key=lambda line: line.place)
 
-    def needed_wires(self, certificate: Certificate) -> list[set[str]]:
-        """Returns for each module the wires of its ports and stops, of its edge lines, and of those beside it."""
-        needed: list[set[str]] = [{stop.name for stop in module.stops} for module in certificate.modules]
-        for part in self.layout.of_kind("in") + self.layout.of_kind("out"):
-            needed[self.owner(part.cell).number].add(part.name or "")
-        for module in certificate.modules:
-            for cell, signal in {(line.cell, line.signal) for line in module.edges if line.signal != "1"}:
-                for other in [module, *self.beside(cell)]:
-                    needed[other.number].add(signal)
-        return needed
+    def wirings(self, box: Box, needed: set[str], inside: list[int], halo: list[int]) -> Iterable[Wiring]:
+        """Yields ways to know the wires of a box: with the wires cut that come in, then with gates before these, at last from the inputs."""
+        if self.plan.cuts != "safe":
+            seen: set[tuple[str, ...]] = set()
+            incoming = self.incoming(box, needed, inside, halo)
+            for depth in range(MAX_DEPTH + 1):
+                for wiring in self.known_by(needed, incoming):
+                    if tuple(wiring.cuts) not in seen:
+                        seen.add(tuple(wiring.cuts))
+                        yield wiring
+                before = {wire for name in incoming for gate in [self.circuit.maker.get(name)] for wire in (gate.ins if gate else [name])}
+                if before == incoming:
+                    break
+                incoming = before
+        cuts, uses = self.circuit.cone(sorted(needed))
+        yield Wiring(cuts, uses)
 
-    def add_keeps(self, needed: list[set[str]]) -> set[int]:
-        """Has each inverse gate kept by a module that uses it, and returns the modules that keep one."""
-        keepers = set()
+    def incoming(self, box: Box, needed: set[str], inside: list[int], halo: list[int]) -> set[str]:
+        """Returns the wires that come into a box: those of its `in` cells, and those that are beside it before they are in it."""
+        here, beside = self.observer.first_times(inside), self.observer.first_times(halo)
+        starts = {self.starts[key] for key in inside if key in self.starts}
+        return starts | {name for name in needed if name not in starts and beside.get(name, self.layout.steps) < here.get(name, self.layout.steps)}
+
+    def known_by(self, needed: set[str], incoming: set[str]) -> Iterable[Wiring]:
+        """Yields the wiring that cuts the incoming wires, and one that uses the gates between them too."""
+        cuts, uses = self.circuit.cone(sorted(needed), frozenset(incoming))
+        made = {name for number in uses for name in self.circuit.gates[number].outs}
+        if not set(cuts) & made:
+            yield Wiring(cuts, uses)
+        fewer, more = fewest_cuts(self.circuit, needed | set(cuts), uses)
+        yield Wiring(sorted(fewer, key=self.circuit.rank), sorted(more))
+
+    # ---- inverse gates
+
+    def add_keeps(self, modules: list[Module]) -> None:
+        """Has each inverse gate kept by a module that can show that it always has a row."""
         for gate in self.circuit.gates:
             if gate.is_inverse:
-                number = next((number for number, wires in enumerate(needed) if gate.number in self.circuit.cone(sorted(wires))[1]), 0)
-                needed[number] |= set(gate.outs)
-                self.modules[number].keeps[gate.number] = 0
-                keepers.add(number)
-        return keepers
+                self.add_keep(gate, modules)
 
-    def cut_safely(self, module: Module, wires: set[str]) -> None:
-        """Has a module use all gates back to the inputs, so that it is run under nothing but what occurs."""
-        cuts, uses = self.circuit.cone(sorted(wires))
-        if len(cuts) > MAX_CUTS or len(uses) > MAX_USES:
-            raise LabError(f"module {module.number} would cut {len(cuts)} inputs and use {len(uses)} gates; 12 and 64 are the most. "
-                           "Take smaller boxes", 1)
-        module.cuts, module.uses = cuts, dict.fromkeys(uses, 0)
-        module.local = dict.fromkeys([*cuts, *(name for number in uses for name in self.circuit.gates[number].outs)], 0)
+    def add_keep(self, gate: Gate, modules: list[Module]) -> None:
+        """Has a gate kept by the module that needs the fewest more wires for it."""
+        found = row_cone(self.circuit, gate)
+        if found is None:
+            raise LabError(f"gate {gate.number} (`{gate.word}`, line {gate.line}) always has a row only if more than {MAX_CUTS} wires or "
+                           f"{MAX_USES} gates are looked at: no certificate keeps it", 1)
+        cone: Wiring = found
+        for module in sorted(modules, key=lambda module: len(set(cone.cuts) - set(module.cuts)) + len(module.cuts)):
+            uses = sorted({*module.uses, *cone.uses})
+            made = {name for number in uses for name in self.circuit.gates[number].outs}
+            ins = {name for number in uses for name in self.circuit.gates[number].ins}
+            cuts = sorted(({*module.cuts, *cone.cuts} | ins) - made, key=self.circuit.rank)
+            if len(cuts) <= MAX_CUTS and len(uses) <= MAX_USES:
+                module.cuts, module.uses = cuts, dict.fromkeys(uses, 0)
+                module.keeps[gate.number] = 0
+                return
+        raise LabError(f"no module has room for the {len(cone.cuts)} wires that show that gate {gate.number} always has a row", 1)
 
-    def cut_cheaply(self, module: Module, wires: set[str], certificate: Certificate) -> None:
-        """Has a module cut the wires that come in, where its own run then has no fault; else the safe cuts stay."""
-        heard = {line.signal for other in self.neighbours(module) for line in other.edges if module.box.has_in_halo(line.cell)}
-        incoming = frozenset((heard - {"1"}) | {part.name or "" for part in self.layout.of_kind("in") if module.box.has(part.cell)})
-        cuts, uses = self.circuit.cone(sorted(wires), incoming)
-        made = {name for number in uses for name in self.circuit.gates[number].outs}
-        if len(cuts) >= len(module.cuts) and len(uses) >= len(module.uses) or len(cuts) > MAX_CUTS or set(cuts) & made:
-            return
-        safe = module.cuts, module.uses
-        module.cuts, module.uses = cuts, dict.fromkeys(uses, 0)
-        if ModuleRun(self.circuit, self.layout, certificate, module).least_fault():
-            module.cuts, module.uses = safe
+    # ---- stops
 
-    def neighbours(self, module: Module) -> list[Module]:
-        """Returns the modules that touch a module."""
-        return list({other.number: other for cell in module.box.halo() if self.layout.has(cell) for other in [self.owner(cell)]}.values())
+    def chosen_stops(self) -> list[StopLine]:
+        """Returns the user's stops if all of them hold and show the delays, and else stops for the delays."""
+        if not self.plan.stops:
+            return self.delay_stops()
+        wrong = [stop for stop in self.plan.stops if not self.holds(stop)]
+        wrong += [stop for gate in self.circuit.gates if gate.word == "delay" for stop in self.delay_faults(gate)]
+        if not wrong:
+            return self.plan.stops
+        self.notes.append(f"the old stops are left out: `{wrong[0]}` does not hold in the layout")
+        return self.delay_stops()
 
-    # ---- stops of delays
+    def holds(self, stop: StopLine) -> bool:
+        """Whether the cell of a stop is live just in the cases in which its wire is true."""
+        key, values = key_of(stop.cell), self.observer.values
+        live = values.full if key in self.observer.observed.always else self.observer.observed.moments[stop.time].get(key, 0)
+        return live == values.tables[stop.name]
 
-    def delays(self) -> list[Gate]:
-        """Returns the delay gates."""
-        return [gate for gate in self.circuit.gates if gate.word == "delay"]
+    def delay_faults(self, gate: Gate) -> list[StopLine]:
+        """Returns the stops of the user that show another delay than a gate's."""
+        before = [stop for stop in self.plan.stops if stop.name == gate.ins[0]]
+        after = [stop for stop in self.plan.stops if stop.name == gate.outs[0]]
+        if not before or not after:
+            return self.plan.stops[:1]
+        return [] if after[0].time - before[-1].time == gate.parameter else [after[0]]
 
-    def stop_times(self) -> set[int]:
-        """Returns the times at which the live cells are kept for stops: all, where there is a delay."""
-        return set(range(self.layout.steps + 1)) if self.delays() else set()
+    def delay_stops(self) -> list[StopLine]:
+        """Returns stops for delays: a wire is seen once, at its `in` cell or at the first time at which a cell carries it."""
+        moments = self.observer.observed.moments
+        seen: dict[str, tuple[int, Cell]] = {part.name or "": (0, part.cell) for part in reversed(self.layout.of_kind("in"))}
+        stops: dict[str, StopLine] = {}
+        for gate in (gate for gate in self.circuit.gates if gate.word == "delay"):
+            used, made, steps = gate.ins[0], gate.outs[0], gate.parameter or 0
+            first = [seen[used]] if used in seen else [(time, cell) for time in range(len(moments)) for cell in [self.place_of(used, moments[time])] if cell]
+            pairs = ((place, (place[0] + steps, end)) for place in first if place[0] + steps < len(moments)
+                     for end in [self.place_of(made, moments[place[0] + steps])] if end)
+            pair = next(pairs, None)
+            if pair is None:
+                raise LabError(f"no cell carries `{made}` {steps} steps after one carries `{used}`: the layout does not keep the delay of line "
+                               f"{gate.line}", 1)
+            seen[used], seen[made] = pair
+            for wire in (used, made):
+                time, (x, y) = seen[wire]
+                stops.setdefault(wire, StopLine(time, wire, x, y, 0))
+        return sorted(stops.values(), key=lambda stop: stop.place)
 
     def place_of(self, wire: str, live: dict[int, Table]) -> Cell | None:
-        """Returns a cell that is live exactly where a wire is true, an `out` cell of it first."""
+        """Returns a cell that carries a wire, an `out` cell of it first."""
         outs = {part.cell for part in self.layout.of_kind("out") if part.name == wire}
-        table = self.values.tables[wire]
+        table = self.observer.values.tables[wire]
         cells = [cell for cell in (cell_of(key) for key, other in live.items() if other == table) if self.layout.has(cell)]
-        return min(cells, key=lambda cell: (cell not in outs, row_order(cell)), default=None)
+        return min(cells, key=lambda cell: (cell not in outs, row_order(cell))) if cells else None
 
-    def add_stops(self, plan: Plan) -> None:
-        """Adds stops for delays: a wire is seen once, at its `in` cell or at the first time at which a cell has its values."""
-        seen: dict[str, tuple[int, Cell]] = {part.name or "": (0, part.cell) for part in reversed(self.layout.of_kind("in"))}
-        stopped: set[str] = set()
-        for gate in self.delays():
-            used, made = gate.ins[0], gate.outs[0]
-            places = [seen[used]] if used in seen else [(time, cell) for time, live in sorted(plan.kept.items())
-                                                        for cell in [self.place_of(used, live)] if cell]
-            pairs = [((time, cell), (time + (gate.parameter or 0), end)) for time, cell in places
-                     for end in [self.place_of(made, plan.kept.get(time + (gate.parameter or 0), {}))] if end]
-            if not pairs:
-                raise LabError(f"no cell is live exactly where `{made}` is true {gate.parameter} steps after `{used}`: "
-                               f"the layout does not keep the delay of line {gate.line}", 1)
-            seen[used], seen[made] = pairs[0]
-            for wire in (used, made):
-                if wire not in stopped:
-                    stopped.add(wire)
-                    time, (x, y) = seen[wire]
-                    self.owner((x, y)).stops.append(StopLine(time, wire, x, y, 0))
-        for module in self.modules:
-            module.stops.sort(key=lambda stop: stop.place)
+
+def fewest_cuts(circuit: Circuit, wires: Iterable[str], used: Iterable[int]) -> tuple[set[str], set[int]]:
+    """Returns wires to cut and gates to use so that all given wires are known; `used` are gates that must be used.
+
+    A gate whose outputs take more cuts than its inputs would is used, and its outputs are not cut.
+    """
+    gates, local = set(used), set(wires)
+    for number in gates:
+        local |= set(circuit.gates[number].ins)
+    cuts = local - {wire for number in gates for wire in circuit.gates[number].outs}
+    while True:
+        defined = cuts | {wire for number in gates for wire in circuit.gates[number].outs}
+        makers = {gate.number: gate for gate in map(circuit.maker.get, cuts) if gate}
+        gains = [(sum(wire in cuts for wire in gate.outs) - sum(wire not in defined for wire in gate.ins), -number) for number, gate in makers.items()]
+        gain, number = max(gains, default=(0, 0))
+        if gain <= 0:
+            return cuts, gates
+        gate = makers[-number]
+        gates.add(gate.number)
+        cuts = (cuts | {wire for wire in gate.ins if wire not in defined}) - set(gate.outs)
+
+
+def row_cone(circuit: Circuit, gate: Gate) -> Wiring | None:
+    """Returns the wires to cut and the gates to use under which an inverse gate always has a row, or None within the limits of a module."""
+    used = {gate.number}
+    while len(used) <= MAX_USES:
+        made = {name for number in used for name in circuit.gates[number].outs}
+        cuts = sorted({name for number in used for name in circuit.gates[number].ins} - made, key=circuit.rank)
+        if len(cuts) <= MAX_CUTS:
+            values = evaluate(circuit, cuts, sorted(used))
+            before = values.full
+            for number in sorted(used):
+                if number == gate.number and before & ~values.rows[number]:
+                    break
+                before = values.rows[number]
+            else:
+                return Wiring(cuts, sorted(used))
+        makers = [circuit.maker[name].number for name in cuts if name in circuit.maker]
+        if not makers:
+            return None
+        used.add(max(makers))
+    return None
 
 
 def grid_boxes(layout: Layout, width: int, height: int) -> list[Box]:
-    """Returns the boxes of a grid, row by row; the last ones are smaller where the rectangle ends."""
+    """Returns the boxes of a grid, row by row; the last ones are smaller if the rectangle ends."""
     return [Box(x, y, min(width, layout.width - x), min(height, layout.height - y))
             for y in range(0, layout.height, height) for x in range(0, layout.width, width)]
 
@@ -243,21 +326,33 @@ def certificate_text(certificate: Certificate) -> str:
     for module in certificate.modules:
         lines.append(f"module {module.box}")
         lines += [f"cut {name}" for name in module.cuts]
-        lines += [f"use {number}" for number in module.uses]
+        lines += [f"use {number}" for number in sorted(module.uses)]
         lines += [f"keep {number}" for number in sorted(module.keeps)]
         lines += [str(line) for line in (*module.edges, *module.halos, *module.stops)]
     return "\n".join([*lines, "end"]) + "\n"
 
 
-def certified(document: Document, grid: tuple[int, int] | None, version: int, cuts: str) -> str:
-    """Returns the text of a circuit and a layout with a certificate of their own; without a grid it has one module."""
+def certified(document: Document, boxes: list[Box] | None, plan: Plan, notes: list[str] | None = None) -> str:
+    """Returns the text of a circuit and a layout with a certificate of its own, with given boxes or with boxes that it chooses.
+
+    What the user should know of the certificate is added to `notes`.
+    """
     circuit, layout = document.circuit, document.layout
     if circuit is None or layout is None:
         raise LabError("certify takes a circuit and a layout")
-    width, height = grid or (layout.width, layout.height)
-    if any(side % 2 or not 2 <= side <= 64 for side in (width, height)):
-        raise LabError(f"a box of {width} by {height} cells: its sides are even numbers from 2 to 64"
-                       + ("" if grid else "; take --grid W,H for a larger layout"), 2)
-    certificate = Maker(circuit, layout, grid_boxes(layout, width, height), version).make(cuts)
+    try:
+        maker = Maker(circuit, layout, plan)
+        certificate = maker.certificate(boxes)
+        if notes is not None:
+            notes += maker.notes
+    except NoBoxError as error:
+        raise LabError(f"no certificate was found: {error}", 1) from error
     head = document.text.split("\nend\n")
     return f"{head[0]}\nend\n{head[1]}\nend\n{certificate_text(certificate)}"
+
+
+def checked_boxes(layout: Layout, width: int, height: int) -> list[Box]:
+    """Returns the boxes of a grid whose sides are allowed."""
+    if any(side % 2 or not 2 <= side <= MAX_BOX_SIDE for side in (width, height)):
+        raise LabError(f"a box of {width} by {height} cells: its sides are even numbers from 2 to {MAX_BOX_SIDE}", 2)
+    return grid_boxes(layout, width, height)

@@ -1,6 +1,8 @@
 """The circuit section: its model, its reader, and the values of its wires."""
 
+import random
 from dataclasses import dataclass, field
+from typing import Iterable
 
 from .gates import GATE_SIZES, INVERSE_GATES, Table, gate_row, input_tables
 from .lines import Lines, SectionReader, forms_of
@@ -61,23 +63,64 @@ class Circuit:
 
 @dataclass
 class Valuation:
-    """Tables of wires over all assignments of some free wires, and where each gate has a row."""
+    """Tables of wires over assignments of some free wires, and where each gate has a row.
+
+    A bit of a table is a column. If `is_all`, column A is assignment A, and there is one for each choice of the free wires. Else the
+    columns are samples.
+    """
 
     free: list[str]
     full: Table
     tables: dict[str, Table]
-    # The assignments under which each gate and all gates before it have a row.
+    # The columns at which each gate and all gates before it have a row.
     rows: dict[int, Table]
+    is_all: bool = True
 
-    def names_of(self, assignment: int) -> list[str]:
-        """Returns the free wires that are true under an assignment."""
-        return [name for index, name in enumerate(self.free) if assignment >> index & 1]
+    def names_of(self, column: int) -> list[str]:
+        """Returns the free wires that are true in a column."""
+        return [name for name in self.free if self.tables[name] >> column & 1]
+
+    @property
+    def scope(self) -> str:
+        """In how many choices of the inputs something was tried, in words."""
+        count = self.full.bit_length()
+        return f"in all {count} choices of the inputs" if self.is_all else f"in {count} sampled choices of the inputs"
 
 
 def evaluate(circuit: Circuit, free: list[str], gates: list[int]) -> Valuation:
-    """Returns the tables of the free wires and of the outputs of `gates`, in order of gates."""
+    """Returns the tables of the free wires and of the outputs of `gates`, in order of gates, over all assignments."""
     full = (1 << (1 << len(free))) - 1
-    tables = dict(zip(free, input_tables(len(free))))
+    return evaluate_under(circuit, dict(zip(free, input_tables(len(free)))), full, gates)
+
+
+def sampled_tables(names: list[str], count: int, first: Iterable[str] = (), seed: int = 1) -> dict[str, Table]:
+    """Returns a table for each of some free wires in `count` sampled choices of them. In the first choice those of `first` are on.
+
+    Among the samples are all wires off, all on, and many with one wire on or one off. The others are random, some with many ones and
+    some with few, so that wires that are seldom true or seldom false differ from constants.
+    """
+    chance, number, all_on = random.Random(seed), len(names), (1 << len(names)) - 1
+    chosen = set(first)
+    columns = [sum(1 << place for place, name in enumerate(names) if name in chosen), 0, all_on]
+    some = range(number) if number <= count // 8 else sorted(chance.sample(range(number), count // 8))
+    columns += [flip ^ 1 << index for index in some for flip in (0, all_on)]
+    for index in range(count - len(columns)):
+        share = (0.5, 0.5, 0.25, 0.75, 0.1, 0.9, 0.03, 0.97)[index % 8]
+        columns.append(sum(1 << place for place in range(number) if chance.random() < share))
+    return {name: sum((column >> place & 1) << index for index, column in enumerate(columns)) for place, name in enumerate(names)}
+
+
+def evaluate_samples(circuit: Circuit, count: int, first: Iterable[str] = ()) -> Valuation:
+    """Returns the tables of all wires in `count` sampled choices of the inputs. In the first choice the inputs of `first` are on."""
+    tables = sampled_tables(circuit.inputs, count, first)
+    values = evaluate_under(circuit, tables, (1 << count) - 1, [gate.number for gate in circuit.gates])
+    values.is_all = False
+    return values
+
+
+def evaluate_under(circuit: Circuit, free: dict[str, Table], full: Table, gates: list[int]) -> Valuation:
+    """Returns the tables of wires that follow from those of the free wires by `gates`, in order of gates. `full` has all columns."""
+    tables = dict(free)
     defined, rows = full, {}
     for number in gates:
         gate = circuit.gates[number]
@@ -85,7 +128,7 @@ def evaluate(circuit: Circuit, free: list[str], gates: list[int]) -> Valuation:
         defined &= has_row
         rows[number] = defined
         tables.update((name, table & defined) for name, table in zip(gate.outs, outs))
-    return Valuation(free, full, tables, rows)
+    return Valuation(list(free), full, tables, rows)
 
 
 def values_under(circuit: Circuit, on: set[str]) -> tuple[dict[str, bool], int | None]:

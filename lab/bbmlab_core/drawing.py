@@ -4,7 +4,7 @@ from dataclasses import dataclass, field
 from html import escape
 
 from .certificates import Module
-from .circuits import evaluate
+from .circuits import evaluate, evaluate_samples, sampled_tables
 from .documents import Document
 from .gates import input_tables
 from .layouts import Cell, Layout, Part
@@ -12,7 +12,9 @@ from .simulation import DIAGONAL, ROW, Table, WholeRun, block_of, cell_of
 
 CELL = 12
 MARGIN = 30
+# Up to this many inputs all choices are tried, and else so many samples of them.
 MAX_INPUTS = 12
+SAMPLES = 256
 # Larger layouts get larger letters and wider ways, so that they can be read at the width of a page.
 PLAIN_SIDE = 64
 MAX_WIDENING = 2.5
@@ -168,6 +170,17 @@ def wire_style(wires: list[str]) -> dict[str, tuple[int, str]]:
     return styles | {"": (SEVERAL, "1 2")}
 
 
+def runs_of(numbers: list[int]) -> list[tuple[int, int]]:
+    """Returns the first and the last number of each run of rising numbers without a gap."""
+    runs = [(numbers[0], numbers[0])]
+    for number in numbers[1:]:
+        if number == runs[-1][1] + 1:
+            runs[-1] = runs[-1][0], number
+        else:
+            runs.append((number, number))
+    return runs
+
+
 def merged(segments: list[tuple[Cell, Cell]]) -> list[tuple[Cell, Cell]]:
     """Joins segments of one diagonal that meet. Each goes from its left end to its right end."""
     lines: dict[tuple[int, int], list[int]] = {}
@@ -178,12 +191,8 @@ def merged(segments: list[tuple[Cell, Cell]]) -> list[tuple[Cell, Cell]]:
     joined = []
     for (slope, offset), starts in lines.items():
         ordered = sorted(set(starts))
-        first = last = ordered[0]
-        for x in [*ordered[1:], None]:
-            if x is None or x != last + 1:
-                joined.append(((first, slope * first + offset), (last + 1, slope * (last + 1) + offset)))
-                first = x
-            last = x
+        for first, last in runs_of(ordered):
+            joined.append(((first, slope * first + offset), (last + 1, slope * (last + 1) + offset)))
     return joined
 
 
@@ -274,20 +283,29 @@ def block_moves(before: dict[int, Table], corner: int) -> list[tuple[int, int, T
 
 
 def wire_tables(document: Document, on: list[str]) -> tuple[dict[str, Table], Table, int]:
-    """Returns the tables of the wires, that of all assignments, and the assignment in which the names of `on` are true.
+    """Returns the tables of the wires, that of all columns, and the column in which just the names of `on` are true.
 
-    A layout of more inputs than `MAX_INPUTS` is run under this assignment alone.
+    The columns are all assignments of the inputs, or samples if there are more inputs than `MAX_INPUTS`.
     """
     layout, circuit = document.layout, document.circuit
     assert layout is not None
     inputs = circuit.inputs if circuit else list(dict.fromkeys(part.name or "" for part in layout.of_kind("in")))
     chosen = sum(1 << index for index, name in enumerate(inputs) if name in on)
     if len(inputs) > MAX_INPUTS:
-        return {name: 1 for name in on}, 1, 0
+        full = (1 << SAMPLES) - 1
+        return evaluate_samples(circuit, SAMPLES, on).tables if circuit else sampled_tables(inputs, SAMPLES, on), full, 0
     if circuit:
         values = evaluate(circuit, inputs, [gate.number for gate in circuit.gates])
         return values.tables, values.full, chosen
     return dict(zip(inputs, input_tables(len(inputs)))), (1 << (1 << len(inputs))) - 1, chosen
+
+
+def sampled_words(document: Document) -> str:
+    """Says that not all choices of the inputs are tried, if that is so."""
+    layout, circuit = document.layout, document.circuit
+    assert layout is not None
+    count = len(circuit.inputs) if circuit else len({part.name for part in layout.of_kind("in")})
+    return f" in {SAMPLES} sampled choices of the {count} inputs" if count > MAX_INPUTS else ""
 
 
 def ball_ways(document: Document, on: list[str] | None, until: int) -> tuple[dict[tuple[Cell, Cell], set[str]], dict[str, str]]:

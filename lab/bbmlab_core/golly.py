@@ -13,6 +13,8 @@ from .terminal import LabError
 RULE = "BBM-Margolus-emulated"
 SIGNS = ".ABCD"
 MARGIN = 2
+# The most rows and columns of a file that are read, counted with those that are empty.
+MAX_REACH = 4096
 
 
 def state_of(cell: Cell, live: set[Cell]) -> int:
@@ -54,12 +56,18 @@ def golly_states(text: str) -> tuple[dict[Cell, int], list[str]]:
 
 
 def unpacked(body: str, corner: Cell) -> dict[Cell, int]:
-    """Returns the states that the body of an RLE file gives to cells from a corner on."""
-    states, (x, y) = {}, corner
+    """Returns the states that the body of an RLE file gives to cells from a corner on.
+
+    A pattern is refused as soon as a row or a column is out of the reach of any layout.
+    """
+    states: dict[Cell, int] = {}
+    x, y = corner
     for count, sign in re.findall(r"(\d*)([.A-Xbo$!])", re.sub(r"\s", "", body)):
-        number = int(count or 1)
+        number = int(count[:10] or 1)
         if sign == "!":
             break
+        if (y if sign == "$" else x) + number - corner[sign == "$"] > MAX_REACH:
+            raise LabError(f"the pattern takes more than {MAX_REACH} rows or columns; a layout takes 512 at most")
         if sign == "$":
             x, y = corner[0], y + number
             continue

@@ -1,12 +1,14 @@
 """`bbmlab json`: a text and its report as one JSON document, and back."""
 
 import json
-from typing import Any
+from typing import Any, Callable
 
 from .certificates import Certificate, Module
 from .circuits import Circuit
 from .documents import Document
+from .gates import GATE_SIZES
 from .layouts import Layout
+from .lines import NAME
 from .reports import Report
 from .terminal import LabError
 
@@ -65,48 +67,130 @@ def document_json(document: Document, report: Report | None) -> str:
     return json.dumps(parts, indent=1) + "\n"
 
 
-def circuit_text(circuit: dict[str, Any]) -> list[str]:
+class Member:
+    """A value of a JSON document with its path, such as `certificate.modules[2].cuts[0]`. What is wrong with it is a `LabError`."""
+
+    def __init__(self, value: Any, path: str) -> None:
+        self.value, self.path = value, path
+
+    def wrong(self, wanted: str) -> LabError:
+        """Returns the error that says what the member should be."""
+        shown = json.dumps(self.value)
+        return LabError(f"{self.path} is {shown if len(shown) <= 60 else shown[:57] + '...'}, and not {wanted}")
+
+    def __getitem__(self, name: str) -> "Member":
+        """Returns a member of an object."""
+        if not isinstance(self.value, dict):
+            raise self.wrong("an object")
+        path = f"{self.path}.{name}" if self.path else name
+        if name not in self.value:
+            raise LabError(f"{path} is missing")
+        return Member(self.value[name], path)
+
+    def has(self, name: str) -> bool:
+        """Whether an object contains a member."""
+        return isinstance(self.value, dict) and name in self.value
+
+    def items(self, count: int | None = None) -> "list[Member]":
+        """Returns the values of a list, which has `count` of them if that is given."""
+        if not isinstance(self.value, list) or count is not None and len(self.value) != count:
+            raise self.wrong("a list" if count is None else f"a list of {count} values")
+        return [Member(value, f"{self.path}[{index}]") for index, value in enumerate(self.value)]
+
+    def number(self) -> str:
+        """Returns a number as a text writes it."""
+        if type(self.value) is not int or not 0 <= self.value < 10 ** 9:
+            raise self.wrong("a whole number from 0 to 999999999")
+        return str(self.value)
+
+    def name(self) -> str:
+        """Returns a name of a wire."""
+        if not isinstance(self.value, str) or not NAME.match(self.value):
+            raise self.wrong("a name of a wire: a to z, then a to z, 0 to 9 and _, at most 32 of them")
+        return str(self.value)
+
+    def signal(self) -> str:
+        """Returns a name of a wire, or `1`."""
+        return "1" if self.value == "1" else self.name()
+
+    def time(self) -> str:
+        """Returns a time, with `*` for null."""
+        return "*" if self.value is None else self.number()
+
+    def numbers(self, count: int) -> str:
+        """Returns so many numbers with spaces between them."""
+        return " ".join(item.number() for item in self.items(count))
+
+
+def gate_text(gate: Member) -> str:
+    """Returns the line of a gate."""
+    word, parameter = gate["gate"].value, gate["parameter"]
+    if not isinstance(word, str) or word not in GATE_SIZES:
+        raise gate["gate"].wrong("the word of a gate")
+    ins, outs = GATE_SIZES[word]
+    number = [parameter.number()] if word in ("source", "delay") else []
+    if not number and parameter.value is not None:
+        raise parameter.wrong("null")
+    return " ".join([word, *number, *(item.name() for item in gate["ins"].items(ins)), "->", *(item.name() for item in gate["outs"].items(outs))])
+
+
+def circuit_text(circuit: Member) -> list[str]:
     """Returns the lines of a circuit."""
-    lines = ["circuit", *(f"input {name}" for name in circuit["inputs"])]
-    for gate in circuit["gates"]:
-        number = [] if gate["parameter"] is None else [str(gate["parameter"])]
-        lines.append(" ".join([gate["gate"], *number, *gate["ins"], "->", *gate["outs"]]))
-    return [*lines, *(f"output {name}" for name in circuit["outputs"]), *(f"spill {name}" for name in circuit["spills"]), "end"]
+    return ["circuit", *(f"input {item.name()}" for item in circuit["inputs"].items()), *(gate_text(gate) for gate in circuit["gates"].items()),
+            *(f"output {item.name()}" for item in circuit["outputs"].items()), *(f"spill {item.name()}" for item in circuit["spills"].items()), "end"]
 
 
-def layout_text(layout: dict[str, Any]) -> list[str]:
+def layout_text(layout: Member) -> list[str]:
     """Returns the lines of a layout."""
-    lines = [f"layout {layout['width']} {layout['height']} {layout['steps']}"]
-    lines += ["mirror {} {} {} {}".format(*box) for box in layout["mirrors"]]
-    lines += ["ball {} {}".format(*cell) for cell in layout["balls"]]
-    lines += ["in {} {} {}".format(port["name"], *port["cell"]) for port in layout["ins"]]
-    lines += ["out {} {} {}".format(port["name"], *port["cell"]) for port in layout["outs"]]
-    return [*lines, *("waste {} {}".format(*cell) for cell in layout["wastes"]), "end"]
+    def ports(word: str) -> list[str]:
+        """Returns the lines of ports."""
+        return [f"{word} {port['name'].name()} {port['cell'].numbers(2)}" for port in layout[f"{word}s"].items()]
+
+    return [f"layout {layout['width'].number()} {layout['height'].number()} {layout['steps'].number()}",
+            *(f"mirror {box.numbers(4)}" for box in layout["mirrors"].items()), *(f"ball {cell.numbers(2)}" for cell in layout["balls"].items()),
+            *ports("in"), *ports("out"), *(f"waste {cell.numbers(2)}" for cell in layout["wastes"].items()), "end"]
 
 
-def certificate_text(certificate: dict[str, Any]) -> list[str]:
-    """Returns the lines of a certificate."""
-    lines = [f"certificate {certificate['version']}"]
-    for module in certificate["modules"]:
-        lines.append("module {} {} {} {}".format(*module["box"]))
-        for word, name in (("cut", "cuts"), ("use", "uses"), ("keep", "keeps")):
-            lines += [f"{word} {value}" for value in module[name]]
-        for word in ("edge", "halo"):
-            lines += [f"{word} {'*' if time is None else time} {x} {y} {signal}" for time, x, y, signal in module[f"{word}s"]]
-        lines += [f"stop {time} {name} {x} {y}" for time, name, x, y in module["stops"]]
-    return [*lines, "end"]
+def border_text(word: str, line: Member) -> str:
+    """Returns an `edge` or `halo` line."""
+    time, x, y, signal = line.items(4)
+    return f"{word} {time.time()} {x.number()} {y.number()} {signal.signal()}"
+
+
+def stop_text(line: Member) -> str:
+    """Returns a `stop` line."""
+    time, name, x, y = line.items(4)
+    return f"stop {time.number()} {name.name()} {x.number()} {y.number()}"
+
+
+def module_text(module: Member) -> list[str]:
+    """Returns the lines of a module."""
+    kinds: list[tuple[str, Callable[[Member], str]]] = [("cut", Member.name), ("use", Member.number), ("keep", Member.number)]
+    lines = [f"module {module['box'].numbers(4)}"]
+    for word, value in kinds:
+        lines += [f"{word} {value(item)}" for item in module[f"{word}s"].items()]
+    for word in ("edge", "halo"):
+        lines += [border_text(word, line) for line in module[f"{word}s"].items()]
+    return lines + [stop_text(line) for line in module["stops"].items()]
 
 
 def text_from_json(text: str) -> str:
-    """Returns the text of a JSON document. A report in it is left out."""
+    """Returns the text of a JSON document. A report in it is left out. A member that is wrong is named."""
     try:
-        parts = json.loads(text)
-        if parts.get("format") != FORMAT:
-            raise LabError(f"the JSON document has not the format `{FORMAT}`")
-        lines = circuit_text(parts["circuit"]) if "circuit" in parts else []
-        lines += layout_text(parts["layout"]) if "layout" in parts else []
-        lines += ["assign", *(f"on {name}" for name in parts["assign"]["on"]), "end"] if "assign" in parts else []
-        lines += certificate_text(parts["certificate"]) if "certificate" in parts else []
-    except (ValueError, KeyError, TypeError, AttributeError, IndexError) as error:
-        raise LabError(f"this is no such JSON document: {type(error).__name__}: {error}") from error
+        document = Member(json.loads(text), "")
+    except (ValueError, RecursionError) as error:
+        raise LabError(f"this is no JSON document: {error}") from error
+    if not isinstance(document.value, dict) or document.value.get("format") != FORMAT:
+        raise LabError(f"the JSON document has not the format `{FORMAT}`")
+    lines: list[str] = []
+    if document.has("circuit"):
+        lines += circuit_text(document["circuit"])
+    if document.has("layout"):
+        lines += layout_text(document["layout"])
+    if document.has("assign"):
+        lines += ["assign", *(f"on {item.name()}" for item in document["assign"]["on"].items()), "end"]
+    if document.has("certificate"):
+        certificate = document["certificate"]
+        lines.append(f"certificate {certificate['version'].number()}")
+        lines += [line for module in certificate["modules"].items() for line in module_text(module)] + ["end"]
     return "\n".join(lines) + "\n"

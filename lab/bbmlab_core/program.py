@@ -2,7 +2,9 @@
 
 import os
 import shutil
+import signal
 import subprocess
+import threading
 from dataclasses import dataclass
 from pathlib import Path
 
@@ -45,15 +47,61 @@ def find_program(given: str | None = None) -> str:
     raise ProgramError(f"the program is not at {' or '.join(tried)}; name it with --program PATH or set BBMCHECK")
 
 
-def ask(program: str, command: str, text: bytes, timeout: float | None = None) -> Answer:
-    """Runs a command of the program on a text."""
+class Running:
+    """The runs of the program that have not ended, each with the processes that it started. All can be stopped from any thread."""
+
+    def __init__(self) -> None:
+        self.lock = threading.Lock()
+        self.processes: set[subprocess.Popen[bytes]] = set()
+        self.is_stopped = False
+
+    def start(self, words: list[str]) -> "subprocess.Popen[bytes]":
+        """Starts a program in a session of its own."""
+        with self.lock:
+            if self.is_stopped:
+                raise ProgramError("stopped")
+            process = subprocess.Popen(words, stdin=subprocess.PIPE, stdout=subprocess.PIPE, stderr=subprocess.PIPE, start_new_session=True)
+            self.processes.add(process)
+            return process
+
+    def end(self, process: "subprocess.Popen[bytes]") -> None:
+        """Kills a program and what it started, if it still runs, and forgets it."""
+        with self.lock:
+            self.processes.discard(process)
+        if process.poll() is None:
+            kill_session(process)
+            process.wait()
+
+    def stop(self) -> None:
+        """Kills all programs. None can be started later."""
+        with self.lock:
+            self.is_stopped = True
+            for process in self.processes:
+                kill_session(process)
+
+
+def kill_session(process: "subprocess.Popen[bytes]") -> None:
+    """Kills a program and what it started."""
     try:
-        ended = subprocess.run([program, command], input=text, capture_output=True, timeout=timeout, check=False)
-    except subprocess.TimeoutExpired as late:
-        raise ProgramTimeout(f"no answer within {timeout:g} seconds") from late
+        os.killpg(process.pid, signal.SIGKILL)
+    except (ProcessLookupError, PermissionError):
+        process.kill()
+
+
+def ask(program: str, command: str, text: bytes, timeout: float | None = None, running: Running | None = None) -> Answer:
+    """Runs a command of the program on a text."""
+    running = running or Running()
+    try:
+        process = running.start([program, command])
     except OSError as error:
         raise ProgramError(f"{program} can't be run: {error.strerror or error}") from error
-    errors = ended.stderr.decode("utf-8", "replace").strip()
-    if ended.returncode not in (0, 1, 2, 3, 4, 5) or ended.returncode == 2:
-        raise ProgramError(f"{program} ended with status {ended.returncode}: {errors.splitlines()[0] if errors else 'no message'}")
-    return Answer(ended.returncode, ended.stdout.decode("latin-1"), errors)
+    try:
+        output, written = process.communicate(text, timeout)
+    except subprocess.TimeoutExpired as late:
+        raise ProgramTimeout(f"no answer within {timeout:g} seconds") from late
+    finally:
+        running.end(process)
+    errors = written.decode("utf-8", "replace").strip()
+    if process.returncode not in (0, 1, 3, 4, 5):
+        raise ProgramError(f"{program} ended with status {process.returncode}: {errors.splitlines()[0] if errors else 'no message'}")
+    return Answer(process.returncode, output.decode("latin-1"), errors)

@@ -8,7 +8,7 @@ from dataclasses import dataclass, field
 from typing import Iterable, Iterator
 
 from .boxes import clipped
-from .certificates import Certificate, Module
+from .certificates import BorderLine, Certificate, Module
 from .circuits import Circuit, Valuation, evaluate
 from .layouts import Cell, Layout
 
@@ -181,7 +181,7 @@ class ModuleRun:
             self.stops.setdefault(stop.time, []).append((stop.cell, stop.name))
         self.heard: list[int] = []
 
-    def borders(self, lines: list) -> Borders:
+    def borders(self, lines: list[BorderLine]) -> Borders:
         """Returns what edge or halo lines say, by the tables of the wires that are local here."""
         said = Borders()
         for line in lines:

@@ -2,117 +2,145 @@
 
 import re
 from dataclasses import dataclass, field
+from typing import Iterator
 
 from .certificates import ORDER as MODULE_ORDER
 from .circuits import ORDER as CIRCUIT_ORDER
 from .gates import GATE_SIZES
 from .layouts import ORDER as LAYOUT_ORDER
 
-Words = list[str]
 LAST = 10 ** 9
+SECTION_ORDERS = {"circuit": CIRCUIT_ORDER, "layout": LAYOUT_ORDER}
+MODULE_RANKS = {kind: rank for rank, kind in enumerate(MODULE_ORDER)}
+# A line that is in its one spelling already, apart from its place.
+SPELLED = re.compile(r"[a-z*1-9][a-z0-9_*]*(?: (?:->|0|[a-z*1-9][a-z0-9_*]*))*")
 
 
 @dataclass
 class Spelling:
-    """A text in its one spelling, and what was changed beside spaces and comments."""
+    """A text in its one spelling, what was changed besides spaces, and how many comments were left out."""
 
     text: str = ""
     notes: list[str] = field(default_factory=list)
+    comments: int = 0
 
 
-def free_words(text: str) -> list[Words]:
-    """Returns the words of the lines that have any, without comments, BOM and odd spaces."""
-    text = re.sub(r"^(\xef\xbb\xbf|\ufeff)", "", text)
-    lines = (re.sub(r"#.*", "", line).replace("->", " -> ").split() for line in re.split(r"\r\n|\n|\r", text))
-    return [[plain_number(word) for word in words] for words in lines if words]
+def free_lines(text: str, spelling: Spelling) -> Iterator[str]:
+    """Yields the lines that contain a word, with single spaces, and without comments, byte order mark and leading zeros."""
+    start = 3 if text.startswith("\xef\xbb\xbf") else 1 if text.startswith("\ufeff") else 0
+    if "\r" in text:
+        text = text.replace("\r\n", "\n").replace("\r", "\n")
+    is_spelled, size = SPELLED.fullmatch, len(text)
+    while start < size:
+        end = text.find("\n", start)
+        line = text[start:end] if end >= 0 else text[start:]
+        start = end + 1 if end >= 0 else size
+        if is_spelled(line):
+            yield line
+            continue
+        code, mark, _ = line.partition("#")
+        spelling.comments += bool(mark)
+        words = code.replace("->", " -> ").split()
+        if words:
+            yield " ".join(plain_number(word) for word in words)
 
 
 def plain_number(word: str) -> str:
     """Returns a number without leading zeros; other words stay."""
-    return (word.lstrip("0") or "0") if re.fullmatch(r"[0-9]+", word) else word
+    return (word.lstrip("0") or "0") if word.isdecimal() and word.isascii() else word
 
 
-def number_at(words: Words, index: int) -> int:
+def number_at(words: list[str], index: int) -> int:
     """Returns the number at a place of a line; lines of another form come last."""
-    return int(words[index]) if index < len(words) and words[index].isdigit() else LAST
+    word = words[index] if index < len(words) else ""
+    return int(word) if word.isdecimal() and len(word) <= 9 else LAST
 
 
-def border_key(words: Words) -> tuple[int, int, int]:
-    """Returns the key of an `edge` or `halo` line: time, y and x, with `*` first."""
-    return -1 if words[1:2] == ["*"] else number_at(words, 1), number_at(words, 3), number_at(words, 2)
+def module_key(line: str) -> int:
+    """Returns the key of a line of a module: its kind, and then time, y and x, or the gate. Kinds without an order keep theirs."""
+    words = line.split(" ")
+    kind = words[0]
+    key = MODULE_RANKS.get(kind, len(MODULE_RANKS)) << 96
+    if kind in ("edge", "halo"):
+        time = 0 if words[1:2] == ["*"] else number_at(words, 1) + 1
+        return key | time << 64 | number_at(words, 3) << 32 | number_at(words, 2)
+    if kind == "stop":
+        return key | number_at(words, 1) << 64 | number_at(words, 4) << 32 | number_at(words, 3)
+    return key | number_at(words, 1) if kind in ("use", "keep") else key
 
 
-def line_key(words: Words) -> tuple[int, ...]:
-    """Returns the key of a line within its kind; kinds without an order keep theirs."""
-    if words[0] in ("edge", "halo"):
-        return border_key(words)
-    if words[0] == "stop":
-        return number_at(words, 1), number_at(words, 4), number_at(words, 3)
-    if words[0] in ("use", "keep"):
-        return (number_at(words, 1),)
-    return ()
+def first_word(line: str) -> str:
+    """Returns the first word of a line."""
+    return line.partition(" ")[0]
 
 
-def by_kind(lines: list[Words], order: list[str]) -> list[Words]:
-    """Sorts lines by their kinds, and within a kind by its order. Unknown kinds come last."""
-    def rank(words: Words) -> int:
-        """Returns the place of a line among the lines of its section or module."""
-        kind = "gate" if words[0] in GATE_SIZES and "gate" in order else words[0]
-        return order.index(kind) if kind in order else len(order)
-
-    return sorted(sorted(lines, key=line_key), key=rank) if order is MODULE_ORDER else sorted(lines, key=rank)
+def rank_of(line: str, order: list[str]) -> int:
+    """Returns the place of a line's kind among the kinds of its section or module. Unknown kinds come last."""
+    word = first_word(line)
+    kind = "gate" if word in GATE_SIZES and "gate" in order else word
+    return order.index(kind) if kind in order else len(order)
 
 
-def without_repeats(lines: list[Words], spelling: Spelling) -> list[Words]:
-    """Leaves out lines of a module that stand twice, word for word."""
-    kept: list[Words] = []
-    for words in lines:
-        if words in kept[-1:]:
-            spelling.notes.append(f"left out a second `{' '.join(words)}`")
+def sorted_module(lines: list[str], spelling: Spelling) -> list[str]:
+    """Returns the lines of a module, the first aside, in their order, each once."""
+    ordered = sorted(lines, key=module_key)
+    kept: list[str] = []
+    for line in ordered:
+        if kept and line == kept[-1]:
+            spelling.notes.append(f"left out a second `{line}`")
         else:
-            kept.append(words)
+            kept.append(line)
     return kept
 
 
-def certificate_lines(lines: list[Words], spelling: Spelling) -> list[Words]:
-    """Sorts the lines of each module."""
-    modules: list[list[Words]] = [[]]
-    for words in lines:
-        if words[0] == "module":
-            modules.append([])
-        modules[-1].append(words)
-    sorted_lines = list(modules[0])
-    for head, *rest in modules[1:]:
-        sorted_lines += [head, *without_repeats(by_kind(rest, MODULE_ORDER), spelling)]
-    return sorted_lines
+def sorted_certificate(lines: list[str], spelling: Spelling) -> list[str]:
+    """Returns the lines of a certificate with the lines of each module in their order."""
+    result: list[str] = []
+    module: list[str] | None = None
+    for line in lines:
+        if first_word(line) == "module":
+            result += sorted_module(module or [], spelling)
+            result.append(line)
+            module = []
+        elif module is None:
+            result.append(line)
+        else:
+            module.append(line)
+    return result + sorted_module(module or [], spelling)
 
 
-def section_lines(lines: list[Words], spelling: Spelling) -> list[Words]:
-    """Sorts the lines of a section between its header and its `end`."""
-    head = lines[0]
-    ends = lines[-1] == ["end"] and len(lines) > 1
-    body, tail = (lines[1:-1], [["end"]]) if ends else (lines[1:], [])
-    if head[0] == "circuit":
-        body = by_kind(body, CIRCUIT_ORDER)
-    elif head[0] == "layout":
-        body = by_kind(body, LAYOUT_ORDER)
-    elif head[0] == "certificate":
-        body = certificate_lines(body, spelling)
-    return [head, *body, *tail]
+def sorted_section(lines: list[str], spelling: Spelling) -> list[str]:
+    """Returns the lines of a section in their order, between its header and its `end`."""
+    kind, has_end = first_word(lines[0]), lines[-1] == "end" and len(lines) > 1
+    body, tail = (lines[1:-1], ["end"]) if has_end else (lines[1:], [])
+    if kind in SECTION_ORDERS:
+        order = SECTION_ORDERS[kind]
+        after = sorted(body, key=lambda line: rank_of(line, order))
+    elif kind == "certificate":
+        after = sorted_certificate(body, spelling)
+    else:
+        return lines
+    if after != body and len(after) == len(body):
+        spelling.notes.append(f"sorted the {kind} section")
+    return [lines[0], *after, *tail]
 
 
 def spelled(text: str) -> Spelling:
-    """Returns a text in its one spelling. What it can't mend stays, for the program to refuse."""
-    spelling, sections = Spelling(), [[]]
-    for words in free_words(text):
-        sections[-1].append(words)
-        if words == ["end"]:
-            sections.append([])
-    for lines in sections:
-        if lines:
-            before = list(lines)
-            after = section_lines(lines, spelling)
-            if [words for words in before if words in after] != after and len(before) == len(after):
-                spelling.notes.append(f"sorted the {lines[0][0]} section")
-            spelling.text += "".join(" ".join(words) + "\n" for words in after)
+    """Returns a text in its one spelling. What it can't change into a good line stays, for the program to refuse."""
+    spelling = Spelling()
+    parts: list[str] = []
+    section: list[str] = []
+
+    def close() -> None:
+        """Adds the section that was read."""
+        if section:
+            parts.append("\n".join(sorted_section(section, spelling)) + "\n")
+            section.clear()
+
+    for line in free_lines(text, spelling):
+        section.append(line)
+        if line == "end":
+            close()
+    close()
+    spelling.text = "".join(parts)
     return spelling

@@ -2,9 +2,7 @@
 
 import os
 import sys
-import textwrap
-from pathlib import Path
-from typing import IO
+from typing import IO, BinaryIO, Iterable
 
 CODES = {"red": "31", "green": "32", "yellow": "33", "bold": "1", "dim": "2"}
 
@@ -27,20 +25,42 @@ def painted(text: str, colour: str, stream: IO[str] | None = None) -> str:
     return f"\033[{CODES[colour]}m{text}\033[0m" if has_colour(stream or sys.stdout) else text
 
 
+def plain(text: str) -> str:
+    """Returns a text whose control characters are escapes, so that no terminal and no other program obeys them.
+
+    Characters that stand for bytes of no character, as Python reads names of files, are shown as these bytes.
+    """
+    if text.isprintable():
+        return text
+    return "".join(char if char.isprintable() else escaped(ord(char)) for char in text)
+
+
+def escaped(code: int) -> str:
+    """Returns the escape of a character that is not shown."""
+    if 0xDC80 <= code <= 0xDCFF:
+        return f"\\x{code - 0xDC00:02x}"
+    return f"\\x{code:02x}" if code < 0x100 else f"\\u{code:04x}"
+
+
 def wrapped(text: str, first: str = "", rest: str | None = None, width: int = 100) -> str:
     """Returns a paragraph in lines of at most `width` columns."""
-    return textwrap.fill(text, width, initial_indent=first, subsequent_indent=first if rest is None else rest,
+    import textwrap
+    return textwrap.fill(plain(text), width, initial_indent=first, subsequent_indent=first if rest is None else rest,
                          break_long_words=False, break_on_hyphens=False)
 
 
 def read_bytes(name: str) -> bytes:
     """Returns the bytes of a file, or of standard input for `-`."""
-    if name == "-":
-        return sys.stdin.buffer.read()
     try:
-        return Path(name).read_bytes()
+        if name == "-":
+            if sys.stdin is None:
+                raise LabError("standard input is closed")
+            return sys.stdin.buffer.read()
+        with open(name, "rb") as file:
+            return file.read()
     except OSError as error:
-        raise LabError(f"{name}: {error.strerror or error}") from error
+        where = "standard input" if name == "-" else name
+        raise LabError(f"{where}: {error.strerror or error}") from error
 
 
 def read_text(name: str) -> str:
@@ -48,12 +68,63 @@ def read_text(name: str) -> str:
     return read_bytes(name).decode("latin-1")
 
 
-def write_text(name: str | None, text: str) -> None:
-    """Writes a text to a file, or to standard output for None and `-`."""
-    if name in (None, "-"):
-        sys.stdout.write(text)
+def standard_output() -> BinaryIO:
+    """Returns standard output for bytes."""
+    if sys.stdout is None:
+        raise LabError("standard output is closed")
+    sys.stdout.flush()
+    return sys.stdout.buffer
+
+
+def write_bytes(name: str | None, data: bytes, sources: Iterable[str] = ()) -> None:
+    """Writes bytes to a file, or to standard output for None and `-`.
+
+    A file keeps its old bytes until all new ones are written. It must be none of `sources`, the files that were read.
+    """
+    if name is None or name == "-":
+        output = standard_output()
+        output.write(data)
+        output.flush()
         return
+    if any(is_same_file(name, source) for source in sources):
+        raise LabError(f"{name}: the output is the input; write to another file", 2)
     try:
-        Path(str(name)).write_text(text, encoding="utf-8")
+        replace_file(name, data)
     except OSError as error:
         raise LabError(f"{name}: {error.strerror or error}") from error
+
+
+def write_text(name: str | None, text: str, sources: Iterable[str] = ()) -> None:
+    """Writes a text in UTF-8 to a file, or to standard output for None and `-`."""
+    write_bytes(name, text.encode("utf-8"), sources)
+
+
+def is_same_file(one: str, other: str) -> bool:
+    """Whether two names are of one file. `-` is no file."""
+    if "-" in (one, other):
+        return False
+    try:
+        return os.path.samefile(one, other)
+    except OSError:
+        return os.path.realpath(one) == os.path.realpath(other)
+
+
+def replace_file(name: str, data: bytes) -> None:
+    """Writes a file beside the named one and renames it. A device or a pipe is written as it is."""
+    target = os.path.realpath(name)
+    if os.path.exists(target) and not os.path.isfile(target):
+        with open(target, "wb", buffering=0) as device:
+            device.write(data)
+        return
+    beside = f"{target[:200]}.{os.getpid()}.part"
+    mode = os.stat(target).st_mode & 0o7777 if os.path.exists(target) else None
+    try:
+        with open(os.open(beside, os.O_WRONLY | os.O_CREAT | os.O_EXCL, 0o666), "wb") as file:
+            file.write(data)
+        if mode is not None:
+            os.chmod(beside, mode)
+        os.replace(beside, target)
+    except BaseException:
+        if os.path.exists(beside):
+            os.unlink(beside)
+        raise

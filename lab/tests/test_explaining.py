@@ -6,7 +6,7 @@ import re
 import unittest
 
 import support
-from bbmlab_core.certify import certified
+from bbmlab_core.certify import Plan, certified, checked_boxes
 from bbmlab_core.circuits import values_under
 from bbmlab_core.diagnosis import Diagnosis
 from bbmlab_core.explaining import as_gcc, explain_answer
@@ -139,7 +139,7 @@ class Cures(unittest.TestCase):
     def test_cut_certificates_get_a_yes(self) -> None:
         """A design whose certificate `certify` makes anew gets a yes."""
         document = support.read_document((support.EXAMPLES / "wrong_edge.txt").read_text())
-        self.assertIn("verdict yes", self.answer(certified(document, (8, 12), 2, "safe")))
+        self.assertIn("verdict yes", self.answer(certified(document, checked_boxes(document.layout, 8, 12), Plan())))
 
     def answer(self, text: str) -> str:
         """Returns what the program's `check` says of a text."""

@@ -13,7 +13,7 @@ import support
 from bbmlab_core import golly, json_form
 from bbmlab_core.boxes import Box
 from bbmlab_core.certificates import Module
-from bbmlab_core.certify import certified
+from bbmlab_core.certify import Plan, certified, checked_boxes
 from bbmlab_core.drawing import centre, merged, module_parts
 from bbmlab_core.program import ask
 from bbmlab_core.reports import parse_report
@@ -39,8 +39,8 @@ class Certificates(unittest.TestCase):
         """What is made of examples gets a yes, in both versions and with both ways to cut."""
         for name, grid in GRIDS:
             for version in (1, 2):
-                for cuts in ("safe", "cheap"):
-                    text = certified(design(name), grid, version, cuts)
+                for cuts in ("safe", "auto"):
+                    text = by_grid(name, grid, Plan(version, cuts))
                     with self.subTest(f"{name} {grid} {version} {cuts}"):
                         self.assertIn("verdict yes", ask(support.program(), "check", text.encode()).output)
 
@@ -52,13 +52,47 @@ class Certificates(unittest.TestCase):
 
     def test_says_why_there_is_none(self) -> None:
         """Where a cell has the value of no wire, that is said with time and cell: here c without x goes to (8, 10)."""
-        with self.assertRaisesRegex(LabError, r"at time 1 the cell \(8, 10\) of a ring is live under 2 of 8 assignments, the first with `c` on"):
-            certified(design("fredkin_gate"), (10, 10), 2, "safe")
+        with self.assertRaisesRegex(LabError, r"at time 1 the cell \(8, 10\) is live with `c` on, and no wire of the circuit is true in just"):
+            by_grid("fredkin_gate", (10, 10), Plan())
 
-    def test_cheap_cuts_fewer(self) -> None:
-        """Cheap cuts are fewer somewhere than safe ones."""
-        safe, cheap = (certified(design("gate_and_mirror"), (8, 12), 2, cuts) for cuts in ("safe", "cheap"))
-        self.assertLess(cheap.count("\nuse "), safe.count("\nuse "))
+    def test_own_boxes_avoid_cells_without_a_wire(self) -> None:
+        """Without a grid the lab finds boxes by itself, though a grid of 10 by 10 cells has no certificate."""
+        for name, _ in GRIDS:
+            for version in (1, 2):
+                text = certified(design(name), None, Plan(version))
+                with self.subTest(f"{name} {version}"):
+                    self.assertIn("verdict yes", ask(support.program(), "check", text.encode()).output)
+
+    def test_many_inputs(self) -> None:
+        """With 360 inputs no assignment can be tried by itself; the certificate gets a yes, and its stops and its boxes can be kept."""
+        text = (support.TOP / "conformance" / "data" / "trains_36_cut_v2.txt").read_text()
+        with tempfile.TemporaryDirectory() as room:
+            file, boxes = Path(room) / "trains.txt", Path(room) / "boxes.txt"
+            file.write_text(text.split("certificate ")[0])
+            ended = support.lab("certify", str(file), BBMCHECK=support.program())
+            self.assertIn("the program says yes", ended.stderr)
+            boxes.write_text("".join(f"module {x} {y} 32 32\n" for y in range(0, 512, 32) for x in range(0, 512, 32)))
+            ended = support.lab("certify", "--boxes", str(boxes), str(file), BBMCHECK=support.program())
+            self.assertEqual((ended.returncode, ended.stdout.count("\nmodule ")), (0, 256))
+
+    def test_auto_uses_fewer_gates(self) -> None:
+        """Cuts at wires that come in use fewer gates somewhere than safe cuts."""
+        safe, auto = (by_grid("gate_and_mirror", (8, 12), Plan(2, cuts)) for cuts in ("safe", "auto"))
+        self.assertLess(auto.count("\nuse "), safe.count("\nuse "))
+
+    def test_own_stops_are_kept(self) -> None:
+        """The stops of the old certificate are those of the new one."""
+        text = (support.EXAMPLES / "timed_modules.txt").read_text()
+        ended = support.lab("certify", support.example("timed_modules"), BBMCHECK=support.program())
+        stops = [sorted(line for line in one.splitlines() if line.startswith("stop ")) for one in (text, ended.stdout)]
+        self.assertEqual(stops[0], stops[1])
+
+
+def by_grid(name: str, grid: tuple[int, int], plan: Plan) -> str:
+    """Returns an example with a certificate whose boxes are those of a grid."""
+    document = design(name)
+    assert document.layout is not None
+    return certified(document, checked_boxes(document.layout, *grid), plan)
 
 
 class Spelling(unittest.TestCase):

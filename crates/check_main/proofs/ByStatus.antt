@@ -9,7 +9,8 @@ use Rattle.command_line.specs.CommandLine.{AsksForHelp, IsAccepted, IsHelpAlone,
 use Rattle.command_line.specs.declared.Request.TheVariants.{Check}
 use Rattle.answers.specs.declared.outcome.Outcome.{Outcome}
 use Rattle.answers.specs.declared.outcome.Outcome.TheVariants.{Yes, No, Refused}
-use Rattle.meaning.specs.Headline.{Gives, IsRight, YesMeans}
+use Rattle.meaning.specs.Headline.{IsRight}
+use Rattle.meaning.specs.Streams.{Gives, YesMeans}
 use Rattle.headline.specs.RightInFull.{IsRightInFull}
 use Rattle.headline.specs.Stops.{HasRightStops}
 use Rattle.headline.specs.Plain.{IsWrongIfPlain}

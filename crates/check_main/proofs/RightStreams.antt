@@ -6,7 +6,7 @@ use Rattle.std.specs.Prelude.{◌↔◌, IfErr, IfOk, OnOk}
 use Rattle.std.specs.Io.KnownBytes.{Appends, Consumes, IsAtEnd}
 use Rattle.answers.specs.declared.outcome.Outcome.{Outcome}
 use Rattle.answers.specs.declared.outcome.Outcome.TheVariants.{Yes}
-use Rattle.meaning.specs.Headline.{Gives, SaysYes, YesMeans}
+use Rattle.meaning.specs.Streams.{Gives, SaysYes, YesMeans}
 use Rattle.headline.specs.ReportLines.{Relates}
 use Rattle.headline.proofs.FourthLines.{says_on}
 use Rattle.check_main.specs.Program.{YesPromises}

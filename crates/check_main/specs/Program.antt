@@ -12,7 +12,7 @@ use Rattle.command_line.specs.CommandLine.{AsksForHelp, IsAccepted, IsHelpAlone,
 use Rattle.command_line.specs.declared.Request.{Request}
 use Rattle.command_line.specs.declared.Request.TheVariants.{Check}
 use Rattle.answers.specs.declared.outcome.Outcome.{Outcome}
-use Rattle.meaning.specs.Headline.{Gives, YesMeans}
+use Rattle.meaning.specs.Streams.{Gives, YesMeans}
 use Rattle.check_main.specs.declared.fault.CheckFault.{CheckFault}
 use Rattle.check_main.specs.declared.fault.CheckFault.TheVariants.{Write, Memory}
 use Rattle.check_main.specs.declared.front.Streams.{Streams}

@@ -1,7 +1,8 @@
 //! Reads a bundle, and answers with its report.
 ghost use Rattle.std.specs.Prelude.{◌≡◌, ◌<◌, ◌≤◌, ◌↔◌, true, None, IfOk};
 ghost use Rattle.answers.specs.CheckText.{IsReportOf};
-ghost use Rattle.meaning.specs.Headline.{IsRight, SaysYes};
+ghost use Rattle.meaning.specs.Headline.{IsRight};
+ghost use Rattle.meaning.specs.Streams.{SaysYes};
 ghost use Rattle.headline.specs.Stops.{HasRightStops};
 ghost use Rattle.headline.specs.Plain.{IsWrongIfPlain};
 ghost use Rattle.headline.specs.ReportLines.{LinesTell};

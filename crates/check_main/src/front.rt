@@ -3,7 +3,7 @@ ghost use Rattle.std.specs.Prelude.{◌≡◌, ◌<◌, ◌≤◌, ◌⊎◌, fa
 ghost use Rattle.clap.specs.Walk.{texts};
 ghost use Rattle.clap.specs.Words.{kind_of};
 ghost use Rattle.command_line.specs.CommandLine.{IsAccepted, asked_by};
-ghost use Rattle.meaning.specs.Headline.{Gives};
+ghost use Rattle.meaning.specs.Streams.{Gives};
 ghost use Rattle.headline.specs.RightInFull.{IsRightInFull};
 ghost use Rattle.headline.specs.Plain.{IsWrongIfPlain};
 ghost use Rattle.headline.specs.SmallDesigns.{IsNoSmallDesign};

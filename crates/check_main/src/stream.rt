@@ -2,7 +2,7 @@
 ghost use Rattle.std.specs.Prelude.{◌≡◌, ◌≢◌, ◌<◌, ◌≤◌, true, false, Ok, IfOk, IfErr, IsErrOf, OnOk, length};
 ghost use Rattle.std.specs.Io.KnownBytes.{Appends};
 ghost use Rattle.answers.specs.CheckText.{IsReportOf};
-ghost use Rattle.meaning.specs.Headline.{Gives};
+ghost use Rattle.meaning.specs.Streams.{Gives};
 ghost use Rattle.headline.specs.RightInFull.{IsRightInFull};
 ghost use Rattle.headline.specs.Plain.{IsWrongIfPlain};
 ghost use Rattle.headline.specs.SmallDesigns.{IsNoSmallDesign};

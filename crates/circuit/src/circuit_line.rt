@@ -1,4 +1,19 @@
 //! The lines of a circuit.
+//!
+//! The kinds of gate (Fredkin and Toffoli 1982), with the order of their wires:
+//!
+//! - `Source(b)`, `source b -> a`: no input; a is b.
+//! - `Fredkin`, `fredkin c x y -> d u v`: d is c. If c is true, u is x and v is y, else u is y and v is x.
+//! - `Cswap`, `cswap c x y -> d u v`: d is c. If c is true, u is y and v is x, else u is x and v is y.
+//! - `Interact`, `interact p q -> a b c d`: a and d are p and q; b is q without p; c is p without q.
+//! - `Switch`, `switch c x -> d y z`: d is c; y is x if c is true, z is x if it is false; the other one is false.
+//! - `Delay(n)`, `delay n a -> b`: b is a. The number, 1 to 4096, is the delay in steps.
+//! - `Unswitch`, `unswitch c y z -> d x`: undoes `switch`. d is c; x is y if c is true, else z. There is no row if the
+//!   other one is true.
+//! - `Uninteract`, `uninteract a b c d -> p q`: undoes `interact`. There is no row at inputs that `interact` never
+//!   gives.
+//!
+//! All but sources keep the number of ones. The last two are the inverse gates: they lack a row at some inputs.
 ghost use Rattle.std.specs.Prelude.{◌≡◌, ◌≤◌, [], ◌∷◌, if◌then◌else◌};
 ghost use Rattle.circuit.specs.Entries.{rank_of, entry};
 ghost use Rattle.circuit.specs.Bridge.{is_input};
@@ -8,26 +23,16 @@ ghost use Rattle.circuit.specs.declared.circuit_line.GateKind.TheVariants.{Sourc
 
 use section_text::{Name, Names};
 
-/// The kind of a gate (Fredkin and Toffoli 1982), with the order of its wires.
-///
-/// A source has no input. All others keep the number of ones. The last two, inverse gates, lack a row at some inputs.
+/// The kind of a gate (Fredkin and Toffoli 1982). The head of this file gives the rows.
 #[derive(Clone, Copy, Debug, PartialEq, Eq)]
 pub enum GateKind {
-    /// One wire, which has this value.
     Source(bool),
-    /// `c x y -> d u v`: d is c; if c is true u is x and v is y, else u is y and v is x.
     Fredkin,
-    /// `c x y -> d u v`: d is c; if c is true u is y and v is x, else u is x and v is y.
     Cswap,
-    /// `p q -> a b c d`: a and d are p and q; b is q without p; c is p without q.
     Interact,
-    /// `c x -> d y z`: d is c; y is x if c is true, z is x if it is false; the other one is false.
     Switch,
-    /// `a -> b`: b is a. The number, 1..4096, is the delay in steps.
     Delay(u32),
-    /// `c y z -> d x`: undoes `switch`. d is c; x is y if c is true, else z. There is no row if the other one is true.
     Unswitch,
-    /// `a b c d -> p q`: undoes `interact`. There is no row at inputs that `interact` never gives.
     Uninteract,
 }
 

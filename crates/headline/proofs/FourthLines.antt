@@ -25,7 +25,7 @@ use Rattle.certificate_lines.proofs.Lists.{kept}
 use Rattle.audit_core.specs.declared.verdict.Verdict.{Verdict}
 use Rattle.audit_core.specs.declared.verdict.Verdict.TheVariants as verdict
 use Rattle.report.specs.ReportText.{fault_line, refusal_line, report_lines, verdict_lines}
-use Rattle.meaning.specs.Headline.{SaysYes}
+use Rattle.meaning.specs.Streams.{SaysYes}
 use Rattle.headline.specs.Laws.{FourthLineIsLine}
 
 -- ---- bytes that are no line feed

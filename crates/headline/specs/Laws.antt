@@ -12,7 +12,8 @@ use Rattle.answers.specs.CheckText.{IsReportOf}
 use Rattle.meaning.specs.Design.{SaysDesign}
 use Rattle.headline.specs.ThereAndBack.{there_and_back}
 use Rattle.headline.specs.TimedModules.{timed_modules}
-use Rattle.meaning.specs.Headline.{IsRight, SaysYes}
+use Rattle.meaning.specs.Headline.{IsRight}
+use Rattle.meaning.specs.Streams.{SaysYes}
 use Rattle.meaning.specs.Implements.{IsCorrect}
 use Rattle.meaning.specs.Printed.{BeginsWithDesign}
 use Rattle.headline.specs.Stops.{HasRightStops, SaysBundle}

@@ -25,6 +25,11 @@ AreMarked n l = (u : ℕ) → u < n →
 abbrev pub IsDeadCell : ℕ → ℕ → List ℕ → Type 0
 IsDeadCell words u cells = (k : ℕ) → k < words → slice_index cells (words * u + k) ≡ 0
 
+-- in each plane the word at this place is zero
+abbrev pub AreZeroAt : ℕ → Planes → Type 0
+AreZeroAt at p = (slice_index p.odd.items at ≡ 0) × (slice_index p.right.items at ≡ 0)
+    × (slice_index p.down.items at ≡ 0) × (slice_index p.even.items at ≡ 0)
+
 -- the cells of a plane are dead, but for those with a mark
 abbrev pub DeadBut : ℕ → ℕ → List ℕ → List ℕ → Type 0
 DeadBut words count marks cells = (u : ℕ) → u < count → IsUnmarked marks u → IsDeadCell words u cells

@@ -61,9 +61,9 @@ pub fn start_at(job: &Job, x: usize, y: usize) -> Signal
     job.start(inner_cell(job.area(), x, y))
 }
 
-/// Returns the column of the first cell of a row of the box that may be another than dead at time 0.
+/// Returns a column from `x` on, at most the box's width. All cells of row `y` from `x` to before it are dead at time 0.
 ///
-/// The search begins at a column. If there is no such cell, it returns the box's width.
+/// Contracts do not exclude that the cell at the result is dead too.
 pub fn next_start(job: &Job, x: usize, y: usize) -> usize
     requires { (x ≤ job.now.area.w) × (y < job.now.area.h) }
     ensures range { (x ≤ result) × (result ≤ job.now.area.w) }
@@ -86,9 +86,10 @@ pub fn demand_at(job: &Job, x: usize, y: usize) -> Demand
     job.demand(inner_cell(job.area(), x, y))
 }
 
-/// Returns the column of the first cell of a row of the box that need not be dead at the last time.
+/// Returns a column from `x` on, at most the box's width. All cells of row `y` from `x` to before it must be dead at the
+/// last time.
 ///
-/// The search begins at a column. If there is no such cell, it returns the box's width.
+/// Contracts do not exclude that the cell at the result must be dead too.
 pub fn next_demand(job: &Job, x: usize, y: usize) -> usize
     requires { (x ≤ job.now.area.w) × (y < job.now.area.h) }
     ensures range { (x ≤ result) × (result ≤ job.now.area.w) }

@@ -8,7 +8,7 @@ ghost use Rattle.bbm_rule.specs.Rows.{mate};
 ghost use Rattle.bbm_rule.specs.Words.{AreTurned};
 ghost use Rattle.local_run.specs.Across.{TurnsAcross};
 ghost use Rattle.local_run.specs.Turns.{AntiStays, DiagonalStays, MainStays, SwapsPart, TurnsPart, is_main};
-ghost use Rattle.std.specs.Prelude.{ℕ, ◌≡◌, ◌+◌, ◌-◌, ◌*◌, ◌/◌, ◌%◌, ◌<◌, ◌≤◌, ◌⊎◌, length, bit_xor, slice_index, vec_len, IfOk, false, true, not};
+ghost use Rattle.std.specs.Prelude.{ℕ, ◌≡◌, ◌+◌, ◌-◌, ◌*◌, ◌/◌, ◌%◌, ◌<◌, ◌≤◌, ◌⊎◌, ◌↔◌, length, bit_xor, slice_index, vec_len, IfOk, false, true, not};
 
 use crate::live::LiveMarks;
 use crate::marks::drop_if_dead;
@@ -339,6 +339,7 @@ fn part_changes(
 
 impl Planes {
     ghost use Rattle.local_run.specs.Lanes.{HasSize};
+    ghost use Rattle.local_run.specs.Live.{AreZeroAt};
 
     /// Returns how many cells a plane has. A block of the odd partition has the number of its cells, counted row by
     /// row.
@@ -431,6 +432,7 @@ impl Planes {
     /// Returns whether some cell with number u is live under one of the first 64 assignments.
     pub fn is_live_at_first(&self, u: usize) -> bool
         requires { u < self.now.stride * self.now.rows }
+        ensures { (result ≡ false) ↔ AreZeroAt (self.now.words * u) self.now }
     {
         let at = self.words * u;
         (self.odd[at] | self.right[at] | self.down[at] | self.even[at]) != 0

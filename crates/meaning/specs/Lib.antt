@@ -2,3 +2,4 @@ pub mod Implements
 pub mod Design
 pub mod Printed
 pub mod Headline
+pub mod Streams

@@ -102,8 +102,7 @@ impl Starts {
         Starts::numbered(self.numbers.at(place))
     }
 
-    /// Returns the place of the first cell from `place` on that may carry another signal than `Zero`, or `end` if all
-    /// before that carry `Zero`.
+    /// Returns a place from `place` to `end`, such that all cells from `place` to before it carry `Zero`.
     pub(crate) fn next(&self, place: usize, end: usize) -> usize
         requires { (place ≤ end) × (end < 2 ^ 32) }
         ensures range { (place ≤ result) × (result ≤ end) }
@@ -181,8 +180,7 @@ impl Demands {
         Demands::numbered(self.numbers.at(place))
     }
 
-    /// Returns the place of the first cell from `place` on on which there may be another demand than `Dead`, or `end`
-    /// if all before that must be dead.
+    /// Returns a place from `place` to `end`, such that all cells from `place` to before it must be dead.
     pub(crate) fn next(&self, place: usize, end: usize) -> usize
         requires { (place ≤ end) × (end < 2 ^ 32) }
         ensures range { (place ≤ result) × (result ≤ end) }

@@ -88,9 +88,10 @@ impl Shape {
         self.demands.at(place)
     }
 
-    /// Returns the place of the first cell of the box from `place` on that may be another than dead at time 0.
+    /// Returns a place from `place` to `end`, such that all cells of the box from `place` to before it are dead at time
+    /// 0.
     ///
-    /// If all before `end` are dead, it returns `end`.
+    /// Contracts do not exclude that the cell at the result is dead too.
     pub fn next_start(&self, place: usize, end: usize) -> usize
         requires { (place ≤ end) × (end < 2 ^ 32) }
         ensures range { (place ≤ result) × (result ≤ end) }
@@ -100,9 +101,10 @@ impl Shape {
         self.starts.next(place, end)
     }
 
-    /// Returns the place of the first cell of the box from `place` on that need not be dead at the last time.
+    /// Returns a place from `place` to `end`, such that all cells of the box from `place` to before it must be dead at
+    /// the last time.
     ///
-    /// If all before `end` must be dead, it returns `end`.
+    /// Contracts do not exclude that the cell at the result must be dead too.
     pub fn next_demand(&self, place: usize, end: usize) -> usize
         requires { (place ≤ end) × (end < 2 ^ 32) }
         ensures range { (place ≤ result) × (result ≤ end) }

@@ -131,8 +131,10 @@ impl SparseNumbers {
         0
     }
 
-    /// Returns a place from `place` on: all numbers from there to before it are 0. It is the first one with a mark, or
-    /// `end` if there is none, where there are marks up to `end`.
+    /// Returns a place from `place` to `end`, such that all numbers from `place` to before it are 0.
+    ///
+    /// Contracts do not exclude that the number at the result is 0 too. It is `place` itself if the marks end before
+    /// `end`.
     pub(crate) fn next(&self, place: usize, end: usize) -> usize
         requires { (place ≤ end) × (end < 2 ^ 32) }
         ensures range { (place ≤ result) × (result ≤ end) }

@@ -1,4 +1,13 @@
 //! The parts of a layout: rectangles, ports, and its lines.
+//!
+//! In a layout the sides of the whole rectangle are even, 2 to 512, and the steps are at most 65,536. The sides of a
+//! mirror are 1 to 512, and all cells lie inside.
+//!
+//! - `Mirror`: cells that are live at the start and at the end.
+//! - `Ball`: a cell that is live at the start.
+//! - `In`: a cell that is live at the start if its input is on.
+//! - `Out`: a cell that is live at the end if its output is on.
+//! - `Waste`: a cell that may be live or dead at the end.
 ghost use Rattle.std.specs.Prelude.{◌≡◌, ◌+◌, ◌&&◌, nat_le};
 ghost use Rattle.pattern.specs.Layout.{in_layout};
 ghost use Rattle.pattern.specs.Lines.{begins, ends, is_inside, is_side, is_mirror_side, limit_fault, size_fault};
@@ -7,8 +16,6 @@ use bbm_rule::Cell;
 use section_text::{Name, RefusalCode};
 
 /// A filled rectangle of cells: the column and the row of its upper left cell, its width and its height, in cells.
-///
-/// In a layout the sides are 1 to 512, and all its cells lie inside.
 #[derive(Clone, Copy, Debug, PartialEq, Eq)]
 pub struct Rectangle {
     pub x: u32,
@@ -25,8 +32,6 @@ pub struct Port {
 }
 
 /// The first line of a layout: its width and its height in cells, and how many steps it runs.
-///
-/// In a layout the sides are even, 2 to 512, and the steps are at most 65,536.
 #[derive(Clone, Copy, Debug, PartialEq, Eq)]
 pub struct LayoutHeader {
     pub w: u32,
@@ -37,15 +42,10 @@ pub struct LayoutHeader {
 /// A line of a layout between its first and its last.
 #[derive(Clone, Copy)]
 pub enum LayoutLine {
-    /// Cells that are live at the start and at the end.
     Mirror(Rectangle),
-    /// A cell that is live at the start.
     Ball(Cell),
-    /// A cell that is live at the start if its input is on.
     In(Port),
-    /// A cell that is live at the end if its output is on.
     Out(Port),
-    /// A cell that may be live or dead at the end.
     Waste(Cell),
 }
 

@@ -63,3 +63,87 @@ fn interrupted_writes_are_made_again(rt: HostRuntime) {
     assert!(rt; writer.write(b"e").is_err());
     assert!(rt; writer.flush().is_ok());
 }
+
+/// A stream whose first call fails, and whose later calls would succeed.
+#[derive(Drop)]
+struct FailingOnce<T> {
+    inner: T,
+    kind: ErrorKind,
+    has_failed: bool,
+}
+
+impl<T> FailingOnce<T> {
+    fn new(inner: T, kind: ErrorKind) -> FailingOnce<T> {
+        FailingOnce {
+            inner,
+            kind,
+            has_failed: false,
+        }
+    }
+}
+
+impl<R: Read> Read for FailingOnce<R> {
+    fn read(&mut self, buf: &mut [u8]) -> io::Result<usize> {
+        if !self.has_failed {
+            self.has_failed = true;
+            return Err(io::Error::from(self.kind));
+        }
+        self.inner.read(buf)
+    }
+}
+
+impl<W: Write> Write for FailingOnce<W> {
+    fn write(&mut self, piece: &[u8]) -> io::Result<usize> {
+        if !self.has_failed {
+            self.has_failed = true;
+            return Err(io::Error::from(self.kind));
+        }
+        self.inner.write(piece)
+    }
+
+    fn flush(&mut self) -> io::Result<()> {
+        self.inner.flush()
+    }
+}
+
+#[test]
+fn other_failed_reads_are_not_made_again(rt: HostRuntime) {
+    for kind in [ErrorKind::WouldBlock, ErrorKind::TimedOut, ErrorKind::Other] {
+        let letters = Letters { left: 5, piece: 2 };
+        let mut reader = Retrying::new(FailingOnce::new(letters, kind));
+        let mut buf = [0u8; 4];
+        assert!(rt; reader.read(&mut buf).is_err());
+        assert!(rt; reader.read(&mut buf).ok() == Some(2));
+    }
+}
+
+#[test]
+fn other_failed_writes_are_not_made_again(rt: HostRuntime) {
+    for kind in [ErrorKind::WouldBlock, ErrorKind::StorageFull, ErrorKind::Other] {
+        let room = FailingWriter::new(rt.alloc(), 3, true);
+        let mut writer = Retrying::new(FailingOnce::new(room, kind));
+        assert!(rt; writer.write(b"ab").is_err());
+        assert!(rt; writer.write(b"ab").ok() == Some(2));
+    }
+}
+
+/// Takes all bytes, and cannot be flushed.
+#[derive(Drop)]
+struct Unflushable;
+
+impl Write for Unflushable {
+    fn write(&mut self, piece: &[u8]) -> io::Result<usize> {
+        Ok(piece.len())
+    }
+
+    fn flush(&mut self) -> io::Result<()> {
+        Err(io::Error::from(ErrorKind::Other))
+    }
+}
+
+#[test]
+fn a_flush_is_passed_on(rt: HostRuntime) {
+    let mut writer = Retrying::new(Unflushable);
+    assert!(rt; writer.write(b"ab").ok() == Some(2));
+    assert!(rt; writer.flush().is_err());
+}

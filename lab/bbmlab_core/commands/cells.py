@@ -1,0 +1,23 @@
+"""Runs `bbmlab cells`."""
+
+import argparse
+
+from .. import standard_cells
+from ..terminal import LabError, read_text, write_text
+from .draw import picture_of
+
+
+def run(options: argparse.Namespace) -> int:
+    """Lists the standard cells, or writes one of them."""
+    if options.cell is None:
+        if options.svg or options.bundle:
+            raise LabError("--svg and --bundle need the name of a cell", 2)
+        text = "\n\n".join(standard_cells.read_cell(name).text() for name in standard_cells.cell_names()) + "\n"
+    elif options.svg:
+        text = picture_of(str(standard_cells.cell_path(options.cell)), None, None)
+    elif options.bundle:
+        text = read_text(str(standard_cells.cell_path(options.cell)))
+    else:
+        text = standard_cells.read_cell(options.cell).text() + "\n"
+    write_text(options.output, text)
+    return 0

@@ -1,0 +1,77 @@
+"""Runs `bbmlab certify`."""
+
+import argparse
+import sys
+
+from ..boxes import Box
+from ..certify import Plan, certified, checked_boxes
+from ..documents import Document, read_document
+from ..layouts import Layout
+from ..program import ProgramError, ProgramTimeout, ask, find_program
+from ..terminal import LabError, plain, read_text, write_text
+
+
+def run(options: argparse.Namespace) -> int:
+    """Makes a certificate, and has the program check it if there is one. An old certificate is left out, apart from stops that hold."""
+    text = read_text(options.file)
+    document, plan = design_of(text, options.file), Plan(options.version_of_text, "safe" if options.plain else options.cuts)
+    old = read_document(text, "check")
+    if old.certificate and not old.refusal:
+        plan.stops = sorted((stop for module in old.certificate.modules for stop in module.stops), key=lambda stop: stop.place)
+    assert document.layout is not None
+    notes: list[str] = []
+    bundle = certified(document, chosen_boxes(options, document.layout), plan, notes)
+    for note in notes:
+        print(f"bbmlab: {note}", file=sys.stderr)
+    status = verdict_status(bundle, options)
+    write_text(options.output, bundle, [options.file])
+    return status
+
+
+def design_of(text: str, file: str) -> Document:
+    """Returns the circuit and the layout of a text, without its certificate."""
+    lines = text.split("\n")
+    old = next((index for index, line in enumerate(lines) if line.startswith("certificate")), None)
+    document = read_document(text if old is None else "\n".join([*lines[:old], ""]), "design")
+    if document.refusal:
+        raise LabError(f"{file}: line {document.refusal.line} is refused with code {document.refusal.code}; bbmlab explain says why", 1)
+    return document
+
+
+def chosen_boxes(options: argparse.Namespace, layout: Layout) -> list[Box] | None:
+    """Returns the boxes that the options name, or None if the lab is to choose them."""
+    if options.plain:
+        return checked_boxes(layout, layout.width, layout.height)
+    if options.grid:
+        return checked_boxes(layout, *options.grid)
+    return boxes_of(options.boxes) if options.boxes else None
+
+
+def boxes_of(file: str) -> list[Box]:
+    """Returns the boxes of the lines `module X Y W H` of a text."""
+    found = []
+    for line in read_text(file).split("\n"):
+        words = line.split(" ")
+        if words[0] == "module":
+            if len(words) != 5 or not all(word.isdecimal() and len(word) < 9 for word in words[1:]):
+                raise LabError(f"{file}: {line!r} is no line `module X Y W H`", 1)
+            found.append(Box(*map(int, words[1:])))
+    if not found:
+        raise LabError(f"{file}: there is no line `module X Y W H`", 1)
+    return found
+
+
+def verdict_status(bundle: str, options: argparse.Namespace) -> int:
+    """Says on standard error what the program says of the bundle. Returns 0 for a yes or without a program, and else 1."""
+    try:
+        answer = ask(find_program(options.program), "check", bundle.encode("latin-1"), options.timeout)
+    except (ProgramError, ProgramTimeout) as error:
+        print(f"bbmlab: the certificate was not checked: {plain(str(error))}", file=sys.stderr)
+        return 0
+    lines = answer.output.split("\n")
+    if answer.status == 0:
+        print("bbmlab: the program says yes", file=sys.stderr)
+        return 0
+    what = lines[0] if answer.status == 3 else f"no: {lines[4] if len(lines) > 4 else ''}" if answer.status == 1 else answer.errors
+    print(f"bbmlab: the program does not say yes: {plain(what)}", file=sys.stderr)
+    return 1

@@ -1,0 +1,35 @@
+"""Runs `bbmlab draw`."""
+
+import argparse
+
+from .. import drawing, tracing
+from ..designs import read_design, report_for
+from ..reports import Report
+from ..terminal import LabError, write_text
+
+
+def picture_of(file: str, names: str | None, time: int | None, report: Report | None = None) -> str:
+    """Returns the picture of a text at a time, or without a time the ways of its balls."""
+    document, layout = read_design(file)
+    on = tracing.chosen_inputs(document, names)
+    under = f" with {' '.join(on) or 'no input'} on"
+    picture = drawing.Drawing(modules=document.certificate.modules if document.certificate else [])
+    if time is None:
+        picture.ways, picture.labels = drawing.ball_ways(document, on if names is not None else None, layout.steps)
+        picture.title = "ways of the balls" + (under if names is not None else drawing.sampled_words(document))
+    else:
+        trace = tracing.trace_layout(layout, on, time, time)
+        if not trace.states:
+            raise LabError(f"there is no time {time}: the run ends at {layout.steps if trace.left is None else trace.left - 1}", 2)
+        picture.live, picture.title = trace.states[0], f"time {time}{under}"
+    for finding in report.faults if report else []:
+        if "x" in finding.values:
+            picture.faults.append(((finding.number("x"), finding.number("y")), finding.text))
+    wires = list(document.circuit.defined) if document.circuit else tracing.port_names(layout)
+    return drawing.svg(layout, picture, wires)
+
+
+def run(options: argparse.Namespace) -> int:
+    """Draws a layout."""
+    write_text(options.output, picture_of(options.file, options.on, None if options.ways else options.time, report_for(options)))
+    return 0

@@ -1,0 +1,55 @@
+"""Runs `bbmlab fmt`."""
+
+import argparse
+import sys
+
+from ..documents import read_document
+from ..spelling import Spelling, spelled
+from ..terminal import LabError, plain, read_bytes, write_bytes
+
+MAX_SHOWN_NOTES = 20
+
+
+def run(options: argparse.Namespace) -> int:
+    """Writes texts in their one spelling. Bytes that are no ASCII stay as they are."""
+    if not options.in_place and not options.check and len(options.files) > 1:
+        raise LabError("several texts would be written to one output: write one at a time, or use --in-place", 2)
+    changed = 0
+    for file in options.files:
+        data = read_bytes(file)
+        spelling = spelled(data.decode("latin-1"))
+        after = spelling.text.encode("latin-1")
+        if options.check:
+            changed += after != data
+            if after != data:
+                print(f"{plain(file)}: not in the one spelling")
+            continue
+        if options.in_place and file != "-":
+            write_in_place(file, spelling, data, after, options.strip_comments)
+        else:
+            write_bytes(options.output, after, [file])
+        tell(file, spelling)
+    return 1 if changed else 0
+
+
+def write_in_place(file: str, spelling: Spelling, before: bytes, after: bytes, strips: bool) -> None:
+    """Writes a file again if it changes. Comments are left out only if that is asked for."""
+    if spelling.comments and not strips:
+        count = f"{spelling.comments} comment{'s' if spelling.comments != 1 else ''}"
+        raise LabError(f"{file}: its {count} would be lost, since the program takes no comments: use --strip-comments, or -o FILE", 1)
+    if after != before:
+        write_bytes(file, after)
+        print(f"{plain(file)}: written again", file=sys.stderr)
+
+
+def tell(file: str, spelling: Spelling) -> None:
+    """Says on standard error what was changed, and whether the text is still refused."""
+    for note in spelling.notes[:MAX_SHOWN_NOTES]:
+        print(f"bbmlab: {plain(file)}: {plain(note)}", file=sys.stderr)
+    if len(spelling.notes) > MAX_SHOWN_NOTES:
+        print(f"bbmlab: {plain(file)}: and {len(spelling.notes) - MAX_SHOWN_NOTES} more changes", file=sys.stderr)
+    if len(spelling.text) > 2_000_000:
+        return
+    refusal = read_document(spelling.text).refusal
+    if refusal:
+        print(f"bbmlab: {plain(file)}: line {refusal.line} is still refused, with code {refusal.code}: bbmlab explain says why", file=sys.stderr)

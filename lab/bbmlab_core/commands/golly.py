@@ -1,0 +1,22 @@
+"""Runs `bbmlab golly` and `bbmlab from-golly`."""
+
+import argparse
+
+from .. import golly, tracing
+from ..designs import read_design
+from ..terminal import read_text, write_text
+
+
+def run(options: argparse.Namespace) -> int:
+    """Writes the start of a layout for Golly."""
+    document, layout = read_design(options.file)
+    on = tracing.chosen_inputs(document, options.on)
+    start = tracing.trace_layout(layout, on, 0, 0).states[0]
+    write_text(options.output, golly.golly_text(layout, start, on, tracing.layout_lines(document)))
+    return 0
+
+
+def run_back(options: argparse.Namespace) -> int:
+    """Writes the layout of a file of Golly."""
+    write_text(options.output, golly.layout_from_golly(read_text(options.file)))
+    return 0

@@ -1,0 +1,5 @@
+"""Runs `bbmlab route`."""
+
+from ..route.command import route_command as run
+
+__all__ = ["run"]

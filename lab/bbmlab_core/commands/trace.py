@@ -1,0 +1,39 @@
+"""Runs `bbmlab trace`."""
+
+import argparse
+import sys
+
+from .. import tracing
+from ..designs import read_design
+from ..program import ProgramError, ProgramTimeout, ask, find_program
+from ..terminal import LabError, write_text
+
+
+def run(options: argparse.Namespace) -> int:
+    """Writes the live cells at each time."""
+    document, layout = read_design(options.file)
+    last = layout.steps if options.to is None else options.to
+    if options.start > last:
+        raise LabError(f"--from {options.start} is later than --to {last}", 2)
+    if options.module is not None:
+        trace = tracing.trace_module(document, options.module, options.assignment, options.start, last)
+    else:
+        on = tracing.chosen_inputs(document, options.on)
+        trace = tracing.trace_layout(layout, on, options.start, last)
+        warn_of_difference(options, trace, tracing.run_text(tracing.layout_lines(document), on))
+    mirrors = layout.mirror_cells()
+    write_text(options.output, tracing.as_json(trace, mirrors) if options.json else tracing.as_text(trace, mirrors, options.pictures))
+    return 1 if trace.left is not None else 0
+
+
+def warn_of_difference(options: argparse.Namespace, trace: tracing.Trace, text: bytes) -> None:
+    """Compares the last state with the program's `run`, where there is a program, and says what came of it on standard error."""
+    try:
+        answer = ask(find_program(options.program), "run", text, options.timeout)
+    except (ProgramError, ProgramTimeout) as error:
+        print(f"bbmlab: the last state was not compared: {error}", file=sys.stderr)
+        return
+    differs = tracing.compare_with_run(trace, answer.output)
+    if differs:
+        raise LabError(f"the lab's run is wrong: {differs}")
+    print("bbmlab: the last state is what the program's run says", file=sys.stderr)

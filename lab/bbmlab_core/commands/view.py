@@ -1,0 +1,24 @@
+"""Runs `bbmlab view`."""
+
+import argparse
+import os
+import sys
+
+from .. import explaining, viewing
+from ..designs import read_design
+from ..program import ProgramError, ProgramTimeout, ask, find_program
+from ..terminal import read_text, write_text
+
+
+def run(options: argparse.Namespace) -> int:
+    """Writes the page of a layout. A bundle is checked by the program, where there is one."""
+    (document, _), explanation = read_design(options.file), None
+    if document.certificate:
+        try:
+            output = read_text(options.report) if options.report else ask(
+                find_program(options.program), "check", document.text.encode("latin-1"), options.timeout).output
+            explanation = explaining.explain_answer(document.text, "check", output, options.file)
+        except (ProgramError, ProgramTimeout) as error:
+            print(f"bbmlab: the page has no report: {error}", file=sys.stderr)
+    write_text(options.output, viewing.page(document, explanation, os.path.basename(options.file)))
+    return 0
