@@ -119,7 +119,11 @@ fn other_failed_reads_are_not_made_again(rt: HostRuntime) {
 
 #[test]
 fn other_failed_writes_are_not_made_again(rt: HostRuntime) {
-    for kind in [ErrorKind::WouldBlock, ErrorKind::StorageFull, ErrorKind::Other] {
+    for kind in [
+        ErrorKind::WouldBlock,
+        ErrorKind::StorageFull,
+        ErrorKind::Other,
+    ] {
         let room = FailingWriter::new(rt.alloc(), 3, true);
         let mut writer = Retrying::new(FailingOnce::new(room, kind));
         assert!(rt; writer.write(b"ab").is_err());
