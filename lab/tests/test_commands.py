@@ -35,7 +35,7 @@ class Documents(unittest.TestCase):
             report = Path(room) / "report"
             report.write_text("bbmcheck 1\ncertificate " + "0" * 64 + "\nmodules 1\nverdict no\nlocal 0 edge 1 0 0 0\n")
             for words, without in [(("json", "--report", str(report), file), {"assign"}), (("explain", "--json", file), set()),
-                                   (("check", "--format", "json", file), set()), (("trace", "--json", file), set())]:
+                                   (("check", "--format", "json", file), {"stopped", "not_checked"}), (("trace", "--json", file), set())]:
                 more = () if words[0] == "json" else ("--program", program)
                 document = json.loads(support.lab(*words, *more).stdout)
                 self.assertEqual(set(document) - {"format"}, self.members(document["format"]) - without, words[0])
