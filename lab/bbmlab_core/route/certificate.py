@@ -12,12 +12,12 @@ from ..certificates import MAX_CUTS, MAX_USES, BorderLine, Certificate, Module, 
 from ..certify import certificate_text
 from ..circuits import Circuit, evaluate
 from ..layouts import Cell, row_order
-from .attempt import Design, NoRouteError
+from .attempt import Design
 from .balls import Mirror, Run, mirror_cells, path_run
-from .board import PlacedGate, fewest_cuts, tiles_in
+from .board import NoRouteError, PlacedGate, fewest_cuts, tiles_in
 from .cells import PORTS
 from .netlist import STOP_MARGIN, Netlist
-from .paths import Path
+from .paths import Path, joined_path
 from .world import ROW, TILE
 
 
@@ -92,8 +92,11 @@ class Certifier:
 
     def __init__(self, design: Design) -> None:
         self.design, self.netlist, self.circuit = design, design.netlist, design.circuit
-        paths = [path for step in design.steps for path in step.paths] + design.ends
-        self.tracks = {path.wire: track_of(self.netlist, path) for path in paths}
+        paths = [path for step in design.steps for path in [*step.paths, *step.parked]] + design.ends
+        parts: dict[str, list[Path]] = {}
+        for path in sorted(paths, key=lambda own: own.start.time):
+            parts.setdefault(path.wire, []).append(path)
+        self.tracks = {wire: track_of(self.netlist, joined_path(own)) for wire, own in parts.items()}
         self.gates = [step.gate for step in design.steps]
         self.mirrors = {(number % ROW, number // ROW) for gate in self.gates for number in gate.item.mirrors}
         for path in paths:

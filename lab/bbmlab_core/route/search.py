@@ -14,8 +14,8 @@ from typing import Callable, Iterator
 
 from ..circuits import Circuit
 from ..layouts import MAX_SIDE
-from .attempt import Attempt, Design, NoRouteError, OutOfTimeError
-from .board import Step
+from .attempt import Attempt, Design, OutOfTimeError
+from .board import NoRouteError, Step
 from .certificate import Certifier, bundle_text, circuit_section
 from .netlist import Netlist
 from .partial import INTERRUPT_SECONDS, SECONDS, partial_design, partial_text
