@@ -3,7 +3,7 @@
 import random
 import time
 from collections import Counter
-from dataclasses import dataclass, field
+from dataclasses import dataclass
 from typing import Callable
 
 from ..circuits import Circuit, Gate
@@ -30,7 +30,6 @@ class Design:
     end: int
     steps: list[Step]
     ends: list[Path]
-    missing: list[Gate] = field(default_factory=list)
 
 
 def no_progress(placed: int, total: int) -> None:
@@ -155,7 +154,8 @@ class Attempt:
 
     def end_time(self) -> int:
         """Returns the time at which all balls can have come to their last wires."""
-        netlist, end = self.netlist, 2
+        netlist = self.netlist
+        end = max([2, *(netlist.least_steps(wire) for wire in netlist.delayed if netlist.is_zero(wire))])
         for root, waiting in self.board.waiting.items():
             start = waiting.ball.time + 1 if waiting.ball else 0
             end = max(end, start + netlist.least_steps(netlist.chain(root)[-1]))
@@ -182,16 +182,7 @@ class Attempt:
                 board.ends.append(path)
                 continue
             board.wait(root, before.pop(root))
-            enclosed = self.placer.enclosed
-            if enclosed in queue and left > 0:
-                # A path was found, but only one that would enclose this other ball: it goes first, and if that was tried, later.
-                if enclosed in first:
-                    self.placer.stuck.add(enclosed)
-                    queue.insert(0, root)
-                else:
-                    first.add(enclosed)
-                    queue.remove(enclosed)
-                    queue[:0] = [enclosed, root]
+            if left > 0 and self.put_enclosed_first(queue, root, first):
                 left -= 1
                 continue
             crossing = self.ends_across(board.waiting[root].ball)
@@ -203,6 +194,23 @@ class Attempt:
                 return f"the ball of wire {root} could not be led to the last time, {end}"
             queue = [root, *queue, *(other.wire for other in crossing)]
         return None
+
+    def put_enclosed_first(self, queue: list[str], root: str, first: set[str]) -> bool:
+        """Changes the order if each path of a ball would enclose another ball that still waits; returns whether this is so.
+
+        The other ball goes first. If that was tried already, it may be enclosed.
+        """
+        enclosed = self.placer.enclosed
+        if enclosed not in queue:
+            return False
+        if enclosed in first:
+            self.placer.stuck.add(enclosed)
+            queue.insert(0, root)
+        else:
+            first.add(enclosed)
+            queue.remove(enclosed)
+            queue[:0] = [enclosed, root]
+        return True
 
     def take_ends_back(self, paths: list[Path], before: dict[str, Waiting]) -> bool:
         """Takes some paths to the last time back; returns whether all their balls have room to wait."""
@@ -241,8 +249,8 @@ class Attempt:
         """Adds a path from a waiting ball, or from any place, to the last time, and returns it. It encloses no other ball."""
         finder, board = self.placer.finder, self.board
         self.placer.enclosed = ""
-        for index in range(self.settings.end_tries if ball else 5 * self.settings.end_tries):
-            path = finder.lead_on(root, ball or self.free_start(index), end)
+        for _ in range(self.settings.end_tries if ball else 5 * self.settings.end_tries):
+            path = finder.lead_on(root, ball or self.free_start(), end)
             if path and board.has_room_for(root, tiles_of(path.item.touched | path.item.mirrors)):
                 board.add_path(path)
                 if self.placer.leaves_others([(mirror.x, mirror.y) for mirror in path.mirrors()]):
@@ -251,12 +259,12 @@ class Attempt:
                 self.placer.note_stuck()
         return None
 
-    def free_start(self, index: int) -> Ball:
+    def free_start(self) -> Ball:
         """Returns a ball at time 0 at a random place."""
         chance, size = self.chance, self.board.size
         return Ball(chance.randrange(4, size // 2 - 4) * 2, chance.randrange(4, size // 2 - 4) * 2, 1, 1, 0)
 
     def design(self) -> Design:
         """Returns the design that is on the board."""
-        end = max([path.end.time for path in self.board.ends], default=2)
+        end = max([path.end.time for path in self.board.ends], default=self.end_time())
         return Design(self.netlist.circuit, self.netlist, self.board.size, end, self.board.steps, self.board.ends)

@@ -31,11 +31,6 @@ class PlacedGate:
     box: TileBox
     item: Item
 
-    def port(self, name: str) -> Ball:
-        """Returns the ball of a port."""
-        ball = self.cell.ins[name] if name in self.cell.ins else self.cell.outs[name]
-        return ball.moved(self.x, self.y, self.time)
-
     def out(self, name: str) -> Ball:
         """Returns the ball of an output."""
         return self.cell.outs[name].moved(self.x, self.y, self.time)

@@ -279,7 +279,7 @@ class Certifier:
         """Has a module without a gate keep an inverse gate."""
         gate = self.circuit.gates[number]
         if cone is None:
-            raise NoRouteError(f"gate {number} ({gate.word} {' '.join(gate.ins)}) cannot be kept: no {MAX_CUTS} wires show that it has a row")
+            raise NoRouteError(f"gate {number} ({gate.word} {' '.join(gate.ins)}) cannot be kept: no {MAX_CUTS} wires show its row")
         gates = {own.number: own for own in self.gates}
         boxes = {self.module_of(own).number for own in gates.values()}
         for module in sorted(self.modules, key=lambda own: (len(self.needed[own.number]), own.number)):

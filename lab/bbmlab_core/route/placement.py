@@ -58,6 +58,8 @@ class Placer:
         # Waiting balls that cannot turn, and the ball that the last step or path would have enclosed.
         self.stuck: set[str] = set()
         self.enclosed = ""
+        # The earliest time for the gate that is being placed, by its delayed inputs that are never true.
+        self.least_time = 0
         # The estimated time at which all gates are done.
         self.horizon = 0
 
@@ -76,6 +78,8 @@ class Placer:
         self.blame.clear()
         self.stuck.clear()
         self.finder.known_departures.clear()
+        netlist = self.board.netlist
+        self.least_time = max((netlist.least_steps(wire) for wire in gate.ins if netlist.is_zero(wire)), default=0)
         best: Step | None = None
         found, inlets = 0, self.inlets(gate)
         for spot in self.spots(gate, inlets):
@@ -172,7 +176,7 @@ class Placer:
 
     def earliest(self, cell: GateCell, x: int, y: int, inlets: list[Inlet]) -> int:
         """Returns the earliest time for a cell at which each input can be there."""
-        time = 0
+        time = self.least_time
         meeting = min((cell.ins[inlet.port].time for inlet in inlets), default=0)
         for inlet in inlets:
             port = cell.ins[inlet.port]
