@@ -3,21 +3,17 @@
 import random
 import time
 from collections import Counter
-from dataclasses import dataclass, field
+from dataclasses import dataclass
 from typing import Callable
 
 from ..circuits import Circuit, Gate
 from .balls import Ball, Leg
-from .board import Board, Step, Waiting
+from .board import Board, NoRouteError, Step, Waiting
 from .netlist import Netlist
 from .paths import Path
 from .placement import Placer
 from .settings import Settings
 from .world import path_item, tiles_of
-
-
-class NoRouteError(Exception):
-    """An attempt found no route. The message names the gate or the wire, and the reason."""
 
 
 class OutOfTimeError(NoRouteError):
@@ -34,7 +30,6 @@ class Design:
     end: int
     steps: list[Step]
     ends: list[Path]
-    missing: list[Gate] = field(default_factory=list)
 
 
 def no_progress(placed: int, total: int) -> None:
@@ -83,6 +78,7 @@ class Attempt:
                 continue
             self.board.commit(step)
             self.placer.horizon = max(self.placer.horizon, self.placer.done(step))
+            self.placer.park_outputs(step)
             del self.todo[gate.number]
             if total - len(self.todo) > self.most_placed:
                 self.most_placed, self.best_steps = total - len(self.todo), list(self.board.steps)
@@ -124,6 +120,8 @@ class Attempt:
             raise NoRouteError(why)
         count = self.chance.randint(1, min(8, 2 + self.failures[number]))
         blame = self.placer.blame
+        if blame and self.chance.random() < 0.7 and self.take_maker_out(max(blame, key=lambda name: blame[name])):
+            return
         if blame and self.chance.random() < 0.6:
             wire = max(blame, key=lambda name: blame[name])
             made = [index for index, step in enumerate(reversed(self.board.steps), 1) if wire in step.outs]
@@ -134,11 +132,30 @@ class Attempt:
             self.todo[step.gate.number] = self.netlist.circuit.gates[step.gate.number]
         self.placer.horizon = max((self.placer.done(step) for step in self.board.steps), default=0)
 
+    def take_maker_out(self, wire: str) -> bool:
+        """Takes back the gate that makes a wire which could not be led, with the few gates that follow from it.
+
+        Returns whether that was possible. All other gates stay.
+        """
+        maker = next((step for step in self.board.steps if wire in step.outs), None)
+        steps = [maker] if maker else []
+        for step in steps:
+            steps += [other for other in self.board.steps if other not in steps and any(path.wire in step.outs for path in other.paths)]
+            if len(steps) > self.settings.most_taken_out:
+                return False
+        for step in reversed(steps):
+            if not self.board.take_out(step):
+                return step is not steps[-1]
+            self.todo[step.gate.number] = self.netlist.circuit.gates[step.gate.number]
+        self.placer.horizon = max((self.placer.done(step) for step in self.board.steps), default=0)
+        return bool(steps)
+
     # --- the end -------------------------------------------------------------------------------------------------------
 
     def end_time(self) -> int:
         """Returns the time at which all balls can have come to their last wires."""
-        netlist, end = self.netlist, 2
+        netlist = self.netlist
+        end = max([2, *(netlist.least_steps(wire) for wire in netlist.delayed if netlist.is_zero(wire))])
         for root, waiting in self.board.waiting.items():
             start = waiting.ball.time + 1 if waiting.ball else 0
             end = max(end, start + netlist.least_steps(netlist.chain(root)[-1]))
@@ -153,6 +170,7 @@ class Attempt:
         self.doing = f"balls were led to the last time, {end}"
         queue = sorted(board.waiting, key=lambda root: self.begin(board.waiting[root]))
         before: dict[str, Waiting] = {}
+        first: set[str] = set()
         left = self.settings.end_rips
         self.placer.stuck.clear()
         while queue:
@@ -164,19 +182,12 @@ class Attempt:
                 board.ends.append(path)
                 continue
             board.wait(root, before.pop(root))
-            enclosed = self.placer.enclosed
-            if enclosed in queue and left > 0:
-                # A path was found, but only one that would enclose this other ball: it goes first.
-                queue.remove(enclosed)
-                queue, left = [enclosed, root, *queue], left - 1
+            if left > 0 and self.put_enclosed_first(queue, root, first):
+                left -= 1
                 continue
             crossing = self.ends_across(board.waiting[root].ball)
             left -= 1 + len(crossing)
-            for other in crossing if left > 0 else list(board.ends):
-                board.ends.remove(other)
-                board.remove_path(other)
-                board.wait(other.wire, before.pop(other.wire))
-            if left <= 0 or not crossing:
+            if left <= 0 or not crossing or not self.take_ends_back(crossing, before):
                 self.placer.blame.clear()
                 self.placer.blame[root] += 1
                 self.clear_ends(before)
@@ -184,12 +195,42 @@ class Attempt:
             queue = [root, *queue, *(other.wire for other in crossing)]
         return None
 
+    def put_enclosed_first(self, queue: list[str], root: str, first: set[str]) -> bool:
+        """Changes the order if each path of a ball would enclose another ball that still waits; returns whether this is so.
+
+        The other ball goes first. If that was tried already, it may be enclosed.
+        """
+        enclosed = self.placer.enclosed
+        if enclosed not in queue:
+            return False
+        if enclosed in first:
+            self.placer.stuck.add(enclosed)
+            queue.insert(0, root)
+        else:
+            first.add(enclosed)
+            queue.remove(enclosed)
+            queue[:0] = [enclosed, root]
+        return True
+
+    def take_ends_back(self, paths: list[Path], before: dict[str, Waiting]) -> bool:
+        """Takes some paths to the last time back; returns whether all their balls have room to wait."""
+        for path in paths:
+            self.board.ends.remove(path)
+            self.board.remove_path(path)
+        for path in paths:
+            if not self.board.wait_again(path.wire, before[path.wire]):
+                return False
+            del before[path.wire]
+        return True
+
     def clear_ends(self, before: dict[str, Waiting]) -> None:
-        """Takes all paths to the last time back."""
-        for other in self.board.ends:
-            self.board.remove_path(other)
-            self.board.wait(other.wire, before[other.wire])
+        """Takes all paths to the last time back; raises NoRouteError if a ball has no room to wait."""
+        for path in self.board.ends:
+            self.board.remove_path(path)
         self.board.ends.clear()
+        for root, waiting in before.items():
+            if not self.board.wait_again(root, waiting):
+                raise NoRouteError(f"the ball of wire {root} has no room to wait")
 
     def ends_across(self, ball: Ball | None) -> list[Path]:
         """Returns the paths to the last time that cross or touch the straight way of a ball that waits."""
@@ -208,8 +249,8 @@ class Attempt:
         """Adds a path from a waiting ball, or from any place, to the last time, and returns it. It encloses no other ball."""
         finder, board = self.placer.finder, self.board
         self.placer.enclosed = ""
-        for index in range(self.settings.end_tries if ball else 5 * self.settings.end_tries):
-            path = finder.lead_on(root, ball or self.free_start(index), end)
+        for _ in range(self.settings.end_tries if ball else 5 * self.settings.end_tries):
+            path = finder.lead_on(root, ball or self.free_start(), end)
             if path and board.has_room_for(root, tiles_of(path.item.touched | path.item.mirrors)):
                 board.add_path(path)
                 if self.placer.leaves_others([(mirror.x, mirror.y) for mirror in path.mirrors()]):
@@ -218,12 +259,12 @@ class Attempt:
                 self.placer.note_stuck()
         return None
 
-    def free_start(self, index: int) -> Ball:
+    def free_start(self) -> Ball:
         """Returns a ball at time 0 at a random place."""
         chance, size = self.chance, self.board.size
         return Ball(chance.randrange(4, size // 2 - 4) * 2, chance.randrange(4, size // 2 - 4) * 2, 1, 1, 0)
 
     def design(self) -> Design:
         """Returns the design that is on the board."""
-        end = max([path.end.time for path in self.board.ends], default=2)
+        end = max([path.end.time for path in self.board.ends], default=self.end_time())
         return Design(self.netlist.circuit, self.netlist, self.board.size, end, self.board.steps, self.board.ends)

@@ -12,6 +12,10 @@ from .paths import Path
 from .settings import Settings
 from .world import ROW, TILE, Item, World, cell_item, path_item, tiles_of
 
+class NoRouteError(Exception):
+    """An attempt found no route. The message names the gate or the wire, and the reason."""
+
+
 TileBox = tuple[int, int, int, int]
 
 
@@ -26,11 +30,6 @@ class PlacedGate:
     time: int
     box: TileBox
     item: Item
-
-    def port(self, name: str) -> Ball:
-        """Returns the ball of a port."""
-        ball = self.cell.ins[name] if name in self.cell.ins else self.cell.outs[name]
-        return ball.moved(self.x, self.y, self.time)
 
     def out(self, name: str) -> Ball:
         """Returns the ball of an output."""
@@ -49,19 +48,23 @@ class Waiting:
     item: Item | None = None
 
 
-@dataclass
+@dataclass(eq=False)
 class Step:
-    """A gate that was placed, the paths to its inputs, and its outputs that wait; with its cost, and its inputs before."""
+    """A gate that was placed, the paths to its inputs, and its outputs that wait; with its cost, and its inputs before.
+
+    `parked` has the first paths of outputs that no gate consumes: they lead away from the gate.
+    """
 
     gate: PlacedGate
     paths: list[Path]
     outs: dict[str, Waiting] = field(default_factory=dict)
+    parked: list[Path] = field(default_factory=list)
     before: dict[str, Waiting] = field(default_factory=dict)
     cost: float = 0.0
 
     def with_number(self, number: int) -> "Step":
         """Returns the step for a gate with another number, before it is added."""
-        return Step(replace(self.gate, number=number), self.paths, self.outs)
+        return Step(replace(self.gate, number=number), self.paths, self.outs, self.parked)
 
 
 def box_of(cell: GateCell, x: int, y: int) -> TileBox:
@@ -175,6 +178,16 @@ class Board:
             self.world.add(waiting.item)
             self.count_names(self.wires_of(root), tiles_of(waiting.item.touched), 1)
 
+    def wait_again(self, root: str, before: Waiting) -> bool:
+        """Makes a root wait as before, or with a shorter reservation if something is in the way; returns whether that was possible."""
+        waiting: Waiting | None = before
+        if before.ball is not None and (before.item is None or not self.world.fits(before.item)):
+            waiting = self.waiting_ball(before.ball)
+        if waiting is None:
+            return False
+        self.wait(root, waiting)
+        return True
+
     def stop_waiting(self, root: str) -> Waiting:
         """Ends the waiting of a root, and returns it."""
         waiting = self.waiting.pop(root)
@@ -228,19 +241,55 @@ class Board:
         for path in step.paths:
             step.before[path.wire] = self.stop_waiting(path.wire)
             self.add_path(path)
+        for path in step.parked:
+            self.add_path(path)
         for wire, waiting in step.outs.items():
             self.wait(wire, waiting)
         self.steps.append(step)
+
+    def park(self, step: Step, path: Path, waiting: Waiting) -> None:
+        """Leads an output of the last gate on, to where it waits from then on."""
+        self.add_path(path)
+        step.parked.append(path)
+        step.outs[path.wire] = waiting
+        self.wait(path.wire, waiting)
 
     def take_back(self) -> Step:
         """Takes the last gate back, and returns it."""
         step = self.steps.pop()
         for wire in step.outs:
             self.stop_waiting(wire)
-        for path in step.paths:
+        for path in [*step.paths, *step.parked]:
             self.remove_path(path)
         self.remove_gate(step.gate)
         for wire, waiting in step.before.items():
-            self.wait(wire, waiting)
+            if not self.wait_again(wire, waiting):
+                raise NoRouteError(f"the ball of wire {wire} has no room to wait")
         step.before = {}
         return step
+
+    def take_out(self, step: Step) -> bool:
+        """Takes any gate back whose outputs all wait, so that it can be placed elsewhere; returns whether its inputs have room to wait."""
+        if any(wire not in self.waiting for wire in step.outs):
+            return False
+        for wire in step.outs:
+            self.stop_waiting(wire)
+        for path in [*step.paths, *step.parked]:
+            self.remove_path(path)
+        self.remove_gate(step.gate)
+        again: list[str] = []
+        for root, before in step.before.items():
+            if not self.wait_again(root, before):
+                break
+            again.append(root)
+        if len(again) == len(step.before):
+            self.steps.remove(step)
+            return True
+        for root in again:
+            self.stop_waiting(root)
+        self.add_gate(step.gate)
+        for path in [*step.paths, *step.parked]:
+            self.add_path(path)
+        for wire, waiting in step.outs.items():
+            self.wait(wire, waiting)
+        return False

@@ -12,12 +12,12 @@ from ..certificates import MAX_CUTS, MAX_USES, BorderLine, Certificate, Module, 
 from ..certify import certificate_text
 from ..circuits import Circuit, evaluate
 from ..layouts import Cell, row_order
-from .attempt import Design, NoRouteError
+from .attempt import Design
 from .balls import Mirror, Run, mirror_cells, path_run
-from .board import PlacedGate, fewest_cuts, tiles_in
+from .board import NoRouteError, PlacedGate, fewest_cuts, tiles_in
 from .cells import PORTS
 from .netlist import STOP_MARGIN, Netlist
-from .paths import Path
+from .paths import Path, joined_path
 from .world import ROW, TILE
 
 
@@ -92,8 +92,11 @@ class Certifier:
 
     def __init__(self, design: Design) -> None:
         self.design, self.netlist, self.circuit = design, design.netlist, design.circuit
-        paths = [path for step in design.steps for path in step.paths] + design.ends
-        self.tracks = {path.wire: track_of(self.netlist, path) for path in paths}
+        paths = [path for step in design.steps for path in [*step.paths, *step.parked]] + design.ends
+        parts: dict[str, list[Path]] = {}
+        for path in sorted(paths, key=lambda own: own.start.time):
+            parts.setdefault(path.wire, []).append(path)
+        self.tracks = {wire: track_of(self.netlist, joined_path(own)) for wire, own in parts.items()}
         self.gates = [step.gate for step in design.steps]
         self.mirrors = {(number % ROW, number // ROW) for gate in self.gates for number in gate.item.mirrors}
         for path in paths:
@@ -276,7 +279,7 @@ class Certifier:
         """Has a module without a gate keep an inverse gate."""
         gate = self.circuit.gates[number]
         if cone is None:
-            raise NoRouteError(f"gate {number} ({gate.word} {' '.join(gate.ins)}) cannot be kept: no {MAX_CUTS} wires show that it has a row")
+            raise NoRouteError(f"gate {number} ({gate.word} {' '.join(gate.ins)}) cannot be kept: no {MAX_CUTS} wires show its row")
         gates = {own.number: own for own in self.gates}
         boxes = {self.module_of(own).number for own in gates.values()}
         for module in sorted(self.modules, key=lambda own: (len(self.needed[own.number]), own.number)):

@@ -32,7 +32,8 @@ class ProgressLine:
         now = time.monotonic()
         if self.is_shown and now - self.last > 0.1:
             self.last = now
-            print(f"\r\033[Kattempt {attempt}, {side} by {side}: {placed} of {total} gates placed, best {self.best}", end="", file=sys.stderr)
+            print(f"\r\033[Kattempt {attempt}, {side} by {side}: {placed} of {total} gates placed, best {self.best}", end="",
+                  file=sys.stderr)
 
     def clear(self) -> None:
         """Clears the line."""
@@ -118,5 +119,6 @@ def report_failure(circuit: Circuit, outcome: Outcome, options: argparse.Namespa
             write_text(options.output, found[0])
             answer = ask(program, "check", found[0].encode("latin-1"), options.timeout)
             verdict = next((line for line in answer.output.splitlines() if line.startswith("verdict")), "refused")
-            print(f"bbmlab: kept a bundle of the {found[1]} gates that were placed, whose other wires are outputs: {verdict}", file=sys.stderr)
+            print(f"bbmlab: kept a bundle of the {found[1]} gates that were placed, whose other wires are outputs: {verdict}",
+                  file=sys.stderr)
     return INTERRUPTED if outcome.is_interrupted else 1

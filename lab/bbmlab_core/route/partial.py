@@ -4,8 +4,8 @@ import time
 
 from ..circuits import Circuit
 from ..documents import read_document
-from .attempt import Attempt, Design, NoRouteError
-from .board import Step
+from .attempt import Attempt, Design
+from .board import NoRouteError, Step
 from .settings import Settings
 
 # The seconds that leading the balls of a part to the end may take, after an interrupt and after the time is over.

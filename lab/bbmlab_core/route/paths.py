@@ -20,7 +20,7 @@ SPARE_STEPS = 30
 STAIR_STEPS = 24
 
 
-@dataclass(frozen=True)
+@dataclass(frozen=True, eq=False)
 class Path:
     """A path of one ball: its wire, its first and last ball, its legs, and what it takes."""
 
@@ -33,6 +33,16 @@ class Path:
     def mirrors(self) -> list[Mirror]:
         """Returns the mirrors, in the order of time."""
         return follow(self.start, self.legs)[1]
+
+
+def joined_path(parts: list[Path]) -> Path:
+    """Returns the path of parts that follow one another."""
+    legs, items = list(parts[0].legs), [part.item for part in parts]
+    for part in parts[1:]:
+        legs[-1:] = [Leg(legs[-1].steps + part.legs[0].steps, part.legs[0].turn), *part.legs[1:]]
+    item = Item(set().union(*(own.mirrors for own in items)), set().union(*(own.touched for own in items)),
+                set().union(*(own.claims for own in items)))
+    return Path(parts[0].wire, parts[0].start, parts[-1].end, tuple(legs), item)
 
 
 class Option(NamedTuple):

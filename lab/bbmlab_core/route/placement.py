@@ -14,7 +14,7 @@ from ..layouts import Cell
 from .balls import BOUNCE_STEPS, Ball, Leg, Turn, bounce
 from .board import Board, Step, Waiting, box_of, tiles_in
 from .cells import PORTS, GateCell
-from .paths import PathFinder
+from .paths import Path, PathFinder
 from .settings import Settings
 from .world import MARGIN, TILE, Item, path_item, tiles_of
 
@@ -58,6 +58,8 @@ class Placer:
         # Waiting balls that cannot turn, and the ball that the last step or path would have enclosed.
         self.stuck: set[str] = set()
         self.enclosed = ""
+        # The earliest time for the gate that is being placed, by its delayed inputs that are never true.
+        self.least_time = 0
         # The estimated time at which all gates are done.
         self.horizon = 0
 
@@ -76,6 +78,8 @@ class Placer:
         self.blame.clear()
         self.stuck.clear()
         self.finder.known_departures.clear()
+        netlist = self.board.netlist
+        self.least_time = max((netlist.least_steps(wire) for wire in gate.ins if netlist.is_zero(wire)), default=0)
         best: Step | None = None
         found, inlets = 0, self.inlets(gate)
         for spot in self.spots(gate, inlets):
@@ -172,7 +176,7 @@ class Placer:
 
     def earliest(self, cell: GateCell, x: int, y: int, inlets: list[Inlet]) -> int:
         """Returns the earliest time for a cell at which each input can be there."""
-        time = 0
+        time = self.least_time
         meeting = min((cell.ins[inlet.port].time for inlet in inlets), default=0)
         for inlet in inlets:
             port = cell.ins[inlet.port]
@@ -295,6 +299,41 @@ class Placer:
         own = self.board.waiting.get(self.enclosed)
         if own and own.ball and not self.can_turn(own):
             self.stuck.add(self.enclosed)
+
+    def park_outputs(self, step: Step) -> None:
+        """Leads the outputs of the last gate that no gate consumes away, if there are good places for them to wait."""
+        board = self.board
+        for wire, waiting in list(step.outs.items()):
+            ball = ball_of(waiting)
+            end = min(ball.time + self.settings.parking_steps, self.horizon)
+            if wire in board.netlist.consumer or end - ball.time < self.settings.least_parking:
+                continue
+            board.stop_waiting(wire)
+            found = [own for own in (self.parking(wire, ball, end) for _ in range(self.settings.parking_choices)) if own]
+            if found:
+                _, path, parked = min(found, key=lambda own: own[0])
+                board.park(step, path, parked)
+            else:
+                board.wait(wire, waiting)
+
+    def parking(self, wire: str, ball: Ball, end: int) -> tuple[int, Path, Waiting] | None:
+        """Returns a path away from a gate and the ball that waits at its end, with the number of taken cells around this place."""
+        board = self.board
+        path = self.finder.lead_on(wire, ball, end)
+        if path is None or not board.has_room_for(wire, tiles_of(path.item.touched | path.item.mirrors)):
+            return None
+        board.add_path(path)
+        waiting = board.waiting_ball(path.end)
+        is_good = waiting is not None and self.leaves_others([(mirror.x, mirror.y) for mirror in path.mirrors()])
+        if waiting is not None and is_good:
+            board.wait(wire, waiting)
+            is_good = self.can_turn(waiting)
+            board.stop_waiting(wire)
+        board.remove_path(path)
+        if waiting is None or not is_good:
+            return None
+        far = path.end.flown(self.settings.reserved_steps[-1])
+        return board.world.taken_around(far.x, far.y), path, waiting
 
     def done(self, step: Step) -> int:
         """Returns an estimate of the time at which all that follows a step is done."""

@@ -14,8 +14,8 @@ from typing import Callable, Iterator
 
 from ..circuits import Circuit
 from ..layouts import MAX_SIDE
-from .attempt import Attempt, Design, NoRouteError, OutOfTimeError
-from .board import Step
+from .attempt import Attempt, Design, OutOfTimeError
+from .board import NoRouteError, Step
 from .certificate import Certifier, bundle_text, circuit_section
 from .netlist import Netlist
 from .partial import INTERRUPT_SECONDS, SECONDS, partial_design, partial_text
@@ -179,18 +179,31 @@ class Search:
 Message = tuple[str, int, object]
 
 
-def work(connection: Connection, circuit: Circuit, circuit_text: str, side: int, seed: int, settings: Settings, deadline: float,
-         keeps_partial: bool) -> None:
-    """Makes one attempt in a process of its own, and sends messages on it."""
+@dataclass(frozen=True)
+class Task:
+    """An attempt for a process of its own."""
+
+    circuit: Circuit
+    circuit_text: str
+    side: int
+    seed: int
+    settings: Settings
+    deadline: float
+    keeps_partial: bool
+
+
+def work(connection: Connection, task: Task) -> None:
+    """Makes one attempt, and sends messages on it. The process that started this one ends it."""
     signal.signal(signal.SIGINT, signal.SIG_IGN)
-    attempt = Attempt(circuit, side, seed, settings, deadline)
+    attempt = Attempt(task.circuit, task.side, task.seed, task.settings, task.deadline)
 
     def tell(placed: int, total: int) -> None:
-        is_best = keeps_partial and placed == attempt.most_placed
+        """Sends that gates were placed."""
+        is_best = task.keeps_partial and placed == attempt.most_placed
         connection.send(("placed", placed, attempt.best_steps if is_best else None))
 
     try:
-        connection.send(("routed", attempt.most_placed, routed_bundle(circuit_text, attempt.run(tell))))
+        connection.send(("routed", attempt.most_placed, routed_bundle(task.circuit_text, attempt.run(tell))))
     except NoRouteError as error:
         connection.send(("failed", attempt.most_placed, error))
     finally:
@@ -247,8 +260,8 @@ class Pool:
         """Starts the next attempt."""
         search, (index, (side, seed)) = self.search, next(self.attempts)
         here, there = multiprocessing.Pipe(duplex=False)
-        words = (there, search.circuit, search.circuit_text, side, seed, search.settings, search.deadline, search.options.keeps_partial)
-        process = multiprocessing.get_context("fork").Process(target=work, args=words, daemon=True)
+        task = Task(search.circuit, search.circuit_text, side, seed, search.settings, search.deadline, search.options.keeps_partial)
+        process = multiprocessing.get_context("fork").Process(target=work, args=(there, task), daemon=True)
         process.start()
         there.close()
         self.workers[here] = Worker(process, index, side)

@@ -35,8 +35,15 @@ class Settings:
     # The steps for which the way on of a waiting ball is kept free, the first that fit, and the mirrors that must have room there.
     reserved_steps: tuple[int, ...] = (14, 11, 8)
     escapes: int = 3
+    # The steps by which an output that no gate consumes is led away from its gate at most and at least, and the paths of which the
+    # one to the emptiest place is taken.
+    parking_steps: int = 140
+    least_parking: int = 50
+    parking_choices: int = 3
     # How often paths to the last time are taken back for others, and the tries for each of them.
     end_rips: int = 150
     end_tries: int = 6
+    # The most gates that are taken back out of the others' order.
+    most_taken_out: int = 4
     # Failures after which an attempt with a seed and a size is given up.
     failures: int = 12

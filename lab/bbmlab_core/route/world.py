@@ -24,6 +24,8 @@ MARGIN = 4
 # A certificate's boxes are squares of this side, or rectangles of such squares.
 TILE = 16
 TILE_BITS = 4
+# The square of `taken_around` has sides of twice this many cells.
+AROUND = 32
 BITS = [1 << index for index in range(ROW)]
 
 
@@ -249,3 +251,10 @@ class World:
                  + (lines[line + 1] >> low & mask).bit_count())
         return 3 * (high - low + 1) - taken
 
+    def taken_around(self, x: int, y: int) -> int:
+        """Returns how many cells are taken in a square around a cell."""
+        low, high = max(0, y - AROUND), min(self.size, y + AROUND)
+        left = max(0, x - AROUND)
+        mask = (1 << 2 * AROUND) - 1
+        outside = (2 * AROUND - (high - low)) * 2 * AROUND
+        return outside + sum((row >> left & mask).bit_count() for row in self.blocked[low:high])
