@@ -10,7 +10,8 @@ from typing import Iterable
 
 from .boxes import Box
 from .certificates import MAX_BOX_SIDE, MAX_BORDER_LINES, MAX_CUTS, MAX_MODULES, MAX_USES, BorderLine, Certificate, Module, StopLine
-from .circuits import Circuit, Gate, evaluate
+from .circuits import Circuit, Gate
+from .cones import fewest_cuts, keeping_cone
 from .documents import Document
 from .layouts import Cell, Layout, row_order
 from .observing import Observer, perimeter
@@ -200,11 +201,11 @@ class Maker:
 
     def add_keep(self, gate: Gate, modules: list[Module]) -> None:
         """Has a gate kept by the module that needs the fewest more wires for it."""
-        found = row_cone(self.circuit, gate)
+        found = keeping_cone(self.circuit, gate.number)
         if found is None:
             raise LabError(f"gate {gate.number} (`{gate.word}`, line {gate.line}) always has a row only if more than {MAX_CUTS} wires or "
                            f"{MAX_USES} gates are looked at: no certificate keeps it", 1)
-        cone: Wiring = found
+        cone = Wiring(*found)
         for module in sorted(modules, key=lambda module: len(set(cone.cuts) - set(module.cuts)) + len(module.cuts)):
             uses = sorted({*module.uses, *cone.uses})
             made = {name for number in uses for name in self.circuit.gates[number].outs}
@@ -269,49 +270,6 @@ class Maker:
         table = self.observer.values.tables[wire]
         cells = [cell for cell in (cell_of(key) for key, other in live.items() if other == table) if self.layout.has(cell)]
         return min(cells, key=lambda cell: (cell not in outs, row_order(cell))) if cells else None
-
-
-def fewest_cuts(circuit: Circuit, wires: Iterable[str], used: Iterable[int]) -> tuple[set[str], set[int]]:
-    """Returns wires to cut and gates to use so that all given wires are known; `used` are gates that must be used.
-
-    A gate whose outputs take more cuts than its inputs would is used, and its outputs are not cut.
-    """
-    gates, local = set(used), set(wires)
-    for number in gates:
-        local |= set(circuit.gates[number].ins)
-    cuts = local - {wire for number in gates for wire in circuit.gates[number].outs}
-    while True:
-        defined = cuts | {wire for number in gates for wire in circuit.gates[number].outs}
-        makers = {gate.number: gate for gate in map(circuit.maker.get, cuts) if gate}
-        gains = [(sum(wire in cuts for wire in gate.outs) - sum(wire not in defined for wire in gate.ins), -number) for number, gate in makers.items()]
-        gain, number = max(gains, default=(0, 0))
-        if gain <= 0:
-            return cuts, gates
-        gate = makers[-number]
-        gates.add(gate.number)
-        cuts = (cuts | {wire for wire in gate.ins if wire not in defined}) - set(gate.outs)
-
-
-def row_cone(circuit: Circuit, gate: Gate) -> Wiring | None:
-    """Returns the wires to cut and the gates to use under which an inverse gate always has a row, or None within the limits of a module."""
-    used = {gate.number}
-    while len(used) <= MAX_USES:
-        made = {name for number in used for name in circuit.gates[number].outs}
-        cuts = sorted({name for number in used for name in circuit.gates[number].ins} - made, key=circuit.rank)
-        if len(cuts) <= MAX_CUTS:
-            values = evaluate(circuit, cuts, sorted(used))
-            before = values.full
-            for number in sorted(used):
-                if number == gate.number and before & ~values.rows[number]:
-                    break
-                before = values.rows[number]
-            else:
-                return Wiring(cuts, sorted(used))
-        makers = [circuit.maker[name].number for name in cuts if name in circuit.maker]
-        if not makers:
-            return None
-        used.add(max(makers))
-    return None
 
 
 def grid_boxes(layout: Layout, width: int, height: int) -> list[Box]:

@@ -14,7 +14,7 @@ from unittest import mock
 import support
 from bbmlab_core.circuits import Circuit, evaluate, values_under
 from bbmlab_core.netlists import NetlistError, NetlistFormat, circuit_from_netlist, map_netlist, netlist_format
-from bbmlab_core.route.certificate import keeping_cone
+from bbmlab_core.cones import keeping_cone
 
 # Fewer tries than users get, which save time: each try is one that a search can end with.
 FEW_TRIES = mock.patch("bbmlab_core.netlists.search.MAX_TRIES", 60)

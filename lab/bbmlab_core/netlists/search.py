@@ -4,7 +4,7 @@ import random
 
 from ..circuits import MAX_GATES, MAX_WIRES, Circuit
 from ..documents import read_document
-from ..route.certificate import keeping_cone
+from ..cones import keeping_cone
 from .circuit_text import NamedCircuit, named
 from .graph import Graph
 from .mapping import Mapper, Preferences, Wiring

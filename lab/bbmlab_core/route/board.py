@@ -4,7 +4,7 @@ from dataclasses import dataclass, field, replace
 from typing import Iterable
 
 from ..certificates import MAX_CUTS
-from ..circuits import Circuit
+from ..cones import fewest_cuts
 from .balls import Ball, Leg
 from .cells import GateCell
 from .netlist import Netlist
@@ -78,32 +78,6 @@ def tiles_in(box: TileBox) -> list[int]:
     """Returns the tiles of a box."""
     column, row, columns, rows = box
     return [(row + j) * ROW + column + i for j in range(rows) for i in range(columns)]
-
-
-def fewest_cuts(circuit: Circuit, wires: Iterable[str], used: Iterable[int]) -> tuple[set[str], set[int]]:
-    """Returns wires to cut and gates to use so that all given wires are local; `used` are gates that must be used.
-
-    A gate with more outputs among the wires than inputs that are not is used in place of cutting its outputs.
-    """
-    gates, local = set(used), set(wires)
-    for number in gates:
-        local |= set(circuit.gates[number].ins)
-    cuts = local - {wire for number in gates for wire in circuit.gates[number].outs}
-    while len(cuts) > 1:
-        outs: dict[int, int] = {}
-        for wire in cuts:
-            gate = circuit.maker.get(wire)
-            if gate is not None and not gate.is_inverse:
-                outs[gate.number] = outs.get(gate.number, 0) + 1
-        defined = cuts | {wire for number in gates for wire in circuit.gates[number].outs}
-        gains = [(count - sum(wire not in defined for wire in circuit.gates[number].ins), -number) for number, count in outs.items()]
-        gain, number = max(gains, default=(0, 0))
-        if gain <= 0:
-            break
-        gate = circuit.gates[-number]
-        gates.add(gate.number)
-        cuts = (cuts | {wire for wire in gate.ins if wire not in defined}) - set(gate.outs)
-    return cuts, gates
 
 
 class Board:

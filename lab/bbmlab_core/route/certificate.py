@@ -10,11 +10,12 @@ from dataclasses import dataclass
 from ..boxes import Box
 from ..certificates import MAX_CUTS, MAX_USES, BorderLine, Certificate, Module, StopLine
 from ..certify import certificate_text
-from ..circuits import Circuit, evaluate
+from ..circuits import Circuit
+from ..cones import fewest_cuts, keeping_cone
 from ..layouts import Cell, row_order
 from .attempt import Design
 from .balls import Mirror, Run, mirror_cells, path_run
-from .board import NoRouteError, PlacedGate, fewest_cuts, tiles_in
+from .board import NoRouteError, PlacedGate, tiles_in
 from .cells import PORTS
 from .netlist import STOP_MARGIN, Netlist
 from .paths import Path, joined_path
@@ -65,26 +66,6 @@ def rectangles(cells: set[Cell]) -> list[Mirror]:
         left -= {(x + i, y + j) for i in range(width) for j in range(height)}
         found.append(Mirror(x, y, width, height))
     return found
-
-
-def keeping_cone(circuit: Circuit, number: int) -> tuple[list[str], list[int]] | None:
-    """Returns wires to cut and gates to use under which an inverse gate has a row whenever the gates before it have theirs."""
-    used = {number}
-    while len(used) <= MAX_USES:
-        defined = {wire for own in used for wire in circuit.gates[own].outs}
-        cuts = sorted({wire for own in used for wire in circuit.gates[own].ins} - defined)
-        if len(cuts) <= MAX_CUTS:
-            order = sorted(used)
-            values = evaluate(circuit, cuts, order)
-            index = order.index(number)
-            before = values.rows[order[index - 1]] if index else values.full
-            if values.rows[number] == before:
-                return cuts, order
-        makers = [circuit.maker[wire].number for wire in cuts if wire in circuit.maker]
-        if not makers:
-            return None
-        used.add(max(makers))
-    return None
 
 
 class Certifier:
