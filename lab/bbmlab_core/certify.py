@@ -5,6 +5,7 @@ and its own run has no fault. The wires of cells are found by their values in al
 many. So the certificate may be wrong where wires differ in no sample; the program decides.
 """
 
+import time as clock
 from dataclasses import dataclass, field
 from typing import Iterable
 
@@ -39,11 +40,12 @@ class Wiring:
 
 @dataclass
 class Plan:
-    """What the user asked for: the kind of cuts, and stops that are kept."""
+    """What the user asked for: the kind of cuts, stops that are kept, and the time of the monotonic clock at which the search ends."""
 
     version: int = 2
     cuts: str = "auto"
     stops: list[StopLine] = field(default_factory=list)
+    until: float | None = None
 
 
 class Maker:
@@ -76,6 +78,8 @@ class Maker:
 
     def divided(self, box: Box) -> list[Module]:
         """Returns the modules of a rectangle: itself, or those of its parts."""
+        if self.plan.until is not None and clock.monotonic() > self.plan.until:
+            raise LabError("no certificate was found in the time that was given", 1)
         why = ""
         if max(box.width, box.height) <= MAX_BOX_SIDE:
             try:

@@ -30,6 +30,8 @@ class FixForm:
     judge: str
     verdict: str
     words: list[str]
+    # Other fixes of the same size with the same verdict, each in sentences.
+    others: list[list[str]] = field(default_factory=list)
 
 
 @dataclass
@@ -194,7 +196,7 @@ def add_fixes(explanation: Explanation, diagnosis: Diagnosis, report: Report, tr
 
 def fix_form(before: Report, fix: Fix) -> FixForm:
     """Returns a fix as a document has it."""
-    return FixForm(fix.edits, fix.remakes, fix.judge, fix.report.verdict, [*fix.words, outcome_words(before, fix)])
+    return FixForm(fix.edits, fix.remakes, fix.judge, fix.report.verdict, [*fix.words, outcome_words(before, fix)], fix.others)
 
 
 def tried_words(fixer: Fixer, trial: Trial) -> list[str]:

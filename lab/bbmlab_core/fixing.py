@@ -1,5 +1,6 @@
 """Fixes: the search for edits after which a text is taken and gets a yes, each tried before it is named."""
 
+import time
 from dataclasses import dataclass, field
 from itertools import chain
 from typing import Iterable, Iterator
@@ -10,7 +11,7 @@ from .diagnosis import Diagnosis, Truth
 from .documents import Document, read_document
 from .edits import Edit, EditError, applied, edits_between
 from .layout_changes import (Bench, Change, ball_changes, circuit_changes, drop_changes, exchange_changes, larger_changes, mirror_changes,
-                             missing_port_changes, move_changes, port_changes, start_changes, step_changes)
+                             missing_port_changes, move_changes, port_changes, start_changes, step_changes, wrong_cells)
 from .layouts import Cell
 from .mirror_changes import mirror_place_changes
 from .refusal_edits import refusal_edits
@@ -24,6 +25,10 @@ MAX_TEXTS = 80
 # The most changed layouts that are kept for the program's verdict, and the most edits that a fix names one by one.
 MAX_KEPT = 6
 MAX_EDITS = 12
+# The most other fixes that are named.
+MAX_OTHERS = 3
+# The share of the seconds that are left which one certificate may take.
+CERTIFY_SHARE = 0.3
 
 
 @dataclass(frozen=True)
@@ -33,6 +38,8 @@ class Step:
     text: str
     report: Report
     remakes: bool = False
+    # Other texts that are as good, by changes of the same size.
+    others: tuple[str, ...] = ()
 
 
 @dataclass
@@ -48,6 +55,8 @@ class Fix:
     remakes: bool
     judge: str
     words: list[str] = field(default_factory=list)
+    # Other fixes that are as good, in words.
+    others: list[list[str]] = field(default_factory=list)
 
 
 def head_of(text: str) -> str:
@@ -88,7 +97,10 @@ class Fixer:
                 break
             steps.append(step)
         good = [step for step in steps[1:] if not step.report.refused]
-        return self.fix_of(good[-1], any(step.remakes for step in steps)) if good else None
+        fix = self.fix_of(good[-1], any(step.remakes for step in steps)) if good else None
+        if fix and len(steps) == 2:
+            fix.others = [step_words(self.text, edits_between(self.text, text) or [], False) for text in steps[1].others]
+        return fix
 
     def fix_of(self, step: Step, remakes: bool) -> Fix | None:
         """Returns a step as edits of the text; None if the edits do not lead to it."""
@@ -118,6 +130,9 @@ class Fixer:
         """Returns a text that is taken, or one that is refused at a later line: a yes if there is one, else one with the fewest faults."""
         if document.refusal is None or step.report.refused != (document.refusal.line, document.refusal.code):
             return None
+        changed = self.changed_head(step)
+        if changed:
+            return changed
         best: Step | None = None
         later: Step | None = None
         for text in self.texts_for(step.text, document):
@@ -128,7 +143,7 @@ class Fixer:
                 best = Step(text, report)
             elif report.refused and later is None and self.is_later(step, text, report):
                 later = Step(text, report)
-        return best or self.ported(step, document) or self.certified_step(step, document) or later
+        return best or self.ported(step, document) or self.certified_step(step) or later
 
     def is_later(self, step: Step, text: str, report: Report) -> bool:
         """Whether a text is refused at a later line than that of a step, counted from the ends of both texts."""
@@ -145,13 +160,21 @@ class Fixer:
             except EditError:
                 continue
 
-    def certified_step(self, step: Step, document: Document) -> Step | None:
-        """Returns a text whose certificate was made by the lab, if circuit and layout are taken and the certificate is what is refused."""
+    def changed_head(self, step: Step) -> Step | None:
+        """Returns a text with a changed design, if circuit and layout are taken and do not end as the layout asks."""
+        head = read_document(head_of(step.text), "design")
+        if head.refusal or head_of(step.text) == step.text:
+            return None
+        bench = self.bench(step, head)
+        is_right = bench.last is not None and not wrong_cells(bench.values, bench.layout, bench.last)
+        return None if is_right or bench.is_over() else self.changed_design(step, head)
+
+    def certified_step(self, step: Step) -> Step | None:
+        """Returns a text whose certificate was made by the lab, if circuit and layout are taken; if that fails, with a changed design."""
         head = read_document(head_of(step.text), "design")
         if head.refusal:
             return None
-        made = self.remade(head)
-        return made if made and is_yes(made.report) else self.changed_design(step, head)
+        return self.remade(head) or self.changed_design(step, head)
 
     def ported(self, step: Step, document: Document) -> Step | None:
         """Returns a text with cells for inputs or outputs without one."""
@@ -203,7 +226,8 @@ class Fixer:
             if self.trial.is_over():
                 return None
             try:
-                text = certified(document, boxes, Plan(version))
+                until = time.monotonic() + self.trial.seconds_left() * CERTIFY_SHARE
+                text = certified(document, boxes, Plan(version, until=until))
             except LabError:
                 continue
             report = self.trial.report(text)
@@ -228,7 +252,7 @@ class Fixer:
     def changed_design(self, step: Step, document: Document) -> Step | None:
         """Returns a text with a changed layout or circuit that gets a yes, with its certificate or with one that the lab makes."""
         bench = self.bench(step, document)
-        has_certificate = document.certificate is not None and document.refusal is None
+        has_certificate = head_of(step.text) != step.text
         kept: list[tuple[Change, str]] = []
         for change in design_changes(bench, self.kinds):
             if self.trial.is_over() or bench.is_over() or len(kept) >= MAX_KEPT:
@@ -240,12 +264,23 @@ class Fixer:
             report = self.trial.report(text) if has_certificate else None
             if is_yes(report):
                 assert report
-                return Step(text, report)
+                return Step(text, report, others=self.other_texts(bench, step.text, text))
         for _, text in kept:
             made = self.remade(read_document(head_of(text), "design"))
             if made:
                 return made
         return None
+
+    def other_texts(self, bench: Bench, text: str, found: str) -> tuple[str, ...]:
+        """Returns other texts with changes of names, ports and gates that get a yes too: which one is meant only the designer knows."""
+        texts = []
+        for change in chain(exchange_changes(bench), port_changes(bench, None, True), circuit_changes(bench)):
+            if len(texts) == MAX_OTHERS or self.trial.is_over() or bench.is_over():
+                break
+            other = applied(text, change.edits)
+            if other != found and other not in texts and bench.holds(change) and is_yes(self.trial.report(other)):
+                texts.append(other)
+        return tuple(texts)
 
     # ---- one line of the report
 
@@ -275,7 +310,9 @@ def design_changes(bench: Bench, kinds: dict[str, None]) -> Iterator[Change]:
         ("one more mirror", mirror_changes(bench, True)), ("ports moved by at most 2 cells", move_changes(bench, ("in", "ball"))),
         ("a mirror moved by at most 2 cells", move_changes(bench, ("mirror",))), ("a part left out", drop_changes(bench)),
         ("one more `ball`", ball_changes(bench)), ("outputs at any cell, and `waste`", port_changes(bench, None)),
-        ("one more mirror", mirror_changes(bench, False))]
+        ("a larger layout", larger_changes(bench)), ("one more mirror", mirror_changes(bench, False))]
+    if bench.near and bench.layout.is_rim(bench.near):
+        families.insert(0, ("a larger layout", larger_changes(bench)))
     for kind, changes in families:
         kinds[kind] = None
         yield from changes

@@ -50,7 +50,8 @@ def border_lines(layout: Layout, certificate: Certificate, module: Module) -> It
     others = certificate.neighbours(module)
     said = {(line.time, line.cell): line.signal for line in module.halos}
     told = {(line.time, line.cell): line.signal for other in others for line in other.edges if module.box.has_in_halo(line.cell)}
-    odd = sorted({time for time, _ in (*said, *told) if time is not None} | {1})
+    # A line with `*` can differ from lines with times first at 1, or two steps behind one of these.
+    odd = {1} | {time + later for time, _ in (*said, *told) if time is not None for later in (0, 2)}
     found = []
     for time in (time for time in odd if time < layout.steps):
         for cell in {cell for at, cell in (*said, *told) if at in (None, time)}:

@@ -52,14 +52,6 @@ def near_lines(words: list[str], forms: dict[str, Any]) -> Iterator[list[str]]:
     yield words[:-1] or words
 
 
-def sorted_edits(document: Document, number: int, _facts: dict[str, Any]) -> Iterator[Edits]:
-    """Yields the edits after which the lines are in their order, and the line left out."""
-    edits = edits_between(document.text, spelled(document.text).text)
-    if edits:
-        yield tuple(edits)
-    yield (delete(number),)
-
-
 def header_edits(_document: Document, number: int, facts: dict[str, Any]) -> Iterator[Edits]:
     """Yields a header that is missing."""
     header = {"certificate": "certificate 2", "layout": ""}.get(facts["section"], facts["section"])
@@ -200,8 +192,8 @@ def no_module_edits(document: Document, number: int, facts: dict[str, Any]) -> I
 
 
 FINDERS: dict[str, Finder] = {
-    "shape": shape_edits, "kind_after_later_kind": sorted_edits, "gate_not_rising": sorted_edits, "border_not_rising": sorted_edits,
-    "before_first_module": sorted_edits, "first_not_header": header_edits, "second_header": left_out,
+    "shape": shape_edits, "kind_after_later_kind": left_out, "gate_not_rising": left_out, "border_not_rising": left_out,
+    "before_first_module": left_out, "first_not_header": header_edits, "second_header": left_out,
     "wire_not_consumed": consumed_edits, "port_not_local": port_edits, "heard_not_local": heard_edits, "gap": gap_edits,
     "no_module": no_module_edits, "wire_not_local": unknown_wire_edits, "use_input_not_local": many_wires_edits, "keep_not_used": left_out,
     "wire_not_defined": name_edits, "wire_unknown": name_edits, "port_unknown": name_edits, "gate_unknown": number_edits,
@@ -218,6 +210,9 @@ def refusal_edits(document: Document) -> Iterator[Edits]:
     refusal = document.refusal
     if refusal is None:
         return
+    in_order = edits_between(document.text, spelled(document.text).text)
+    if in_order:
+        yield tuple(in_order)
     if refusal.cause == "use_output_local":
         yield from ((delete(at),) for at in dict.fromkeys(refusal.facts["at"]))
     finder = FINDERS.get(refusal.cause)

@@ -121,7 +121,8 @@ def text_of(explanation: Explanation) -> str:
 def fix_blocks(explanation: Explanation) -> list[str]:
     """Returns the fix of the whole text, or what was tried in vain."""
     if explanation.fix:
-        return ["\n".join(labelled("Fix:", explanation.fix.words))]
+        others = [line for words in explanation.fix.others for line in labelled("Or:", words)]
+        return ["\n".join(labelled("Fix:", explanation.fix.words) + others)]
     return ["\n".join(wrapped(line, "  ") for line in explanation.tried)] if explanation.tried else []
 
 

@@ -277,6 +277,7 @@
     for (const text of explanation.headline.slice(1)) box.append(appendWords(made("p", ""), text));
     const fix = explanation.fix ? explanation.fix.words.join(" ") : "";
     if (fix) box.append(appendWords(made("p", ""), `Fix: ${fix}`));
+    for (const words of explanation.fix?.others ?? []) box.append(appendWords(made("p", ""), `Or: ${words.join(" ")}`));
     for (const text of explanation.tried) box.append(appendWords(made("p", ""), text));
     for (const entry of explanation.entries) {
       const button = made("button", `${entry.is_against ? "✗" : "✓"} ${entry.report_line}`);
