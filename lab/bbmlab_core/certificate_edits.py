@@ -175,10 +175,10 @@ class CertificateEditor:
             yield from self.new_stop(gate.outs[0] if used else gate.ins[0], time)
         else:
             for time in range(self.diagnosis.layout.steps - wanted + 1):
-                for one in self.new_stop(gate.ins[0], time):
-                    for two in self.new_stop(gate.outs[0], time + wanted):
-                        yield Proposal("stops", one.edits + two.edits)
-                        return
+                pairs = [(first, last) for first in self.new_stop(gate.ins[0], time) for last in self.new_stop(gate.outs[0], time + wanted)]
+                if pairs:
+                    yield Proposal("stops", pairs[0][0].edits + pairs[0][1].edits)
+                    break
         if isinstance(found, int) and 1 <= found <= 4096:
             yield Proposal("the steps of a delay", (replace(gate.line, f"delay {found} {gate.ins[0]} -> {gate.outs[0]}"),))
 

@@ -90,6 +90,8 @@ class Diagnosis:
         self.layout = document.layout
         self.certificate = document.certificate
         self.mirrors = self.layout.mirror_cells()
+        # Whether a run of the whole layout took too long.
+        self.is_slow = False
         self._fields: dict[int, Field | None] = {}
         # The lines whose causes are looked for by runs; None stands for all.
         self.detailed: set[str] | None = None
@@ -192,6 +194,7 @@ class Diagnosis:
         run, end = WholeRun(self.layout, self.values.tables, self.values.full), clock.monotonic() + MAX_SECONDS
         while run.time < time and run.step():
             if clock.monotonic() > end:
+                self.is_slow = True
                 return None
         return run
 
@@ -211,7 +214,7 @@ class Diagnosis:
 
     def can_run_whole(self) -> bool:
         """Whether a run of the whole layout under all inputs, or under samples, takes seconds at most."""
-        return self.layout.steps <= MAX_STEPS
+        return self.layout.steps <= MAX_STEPS and not self.is_slow
 
     @cached_property
     def outcome(self) -> WholeOutcome:

@@ -56,6 +56,7 @@ class BorderCheck:
                 for key in keys & run.field.live.keys():
                     seen.setdefault(key, {})[run.time] = run.field.live[key]
             if not run.step() or clock.monotonic() > end:
+                self.diagnosis.is_slow = run.left is None
                 return None
         return {cell_of(key): times for key, times in seen.items()}
 

@@ -217,10 +217,9 @@ def whole_run_words(diagnosis: Diagnosis, faults: list[Finding]) -> list[str]:
     if outcome.is_right is Truth.NO:
         return [f"The layout itself does not do what the circuit asks: {outcome.fault}. No certificate gets a yes before the layout or the "
                 "circuit is changed."]
-    if outcome.is_right is Truth.UNKNOWN and diagnosis.whole_run_to(0) is None:
-        return [f"The whole run was not tried here: it is longer than {MAX_STEPS} steps."]
-    if diagnosis.whole_field(diagnosis.layout.steps) is None:
-        return ["The whole run was not tried to its end here: it takes too long."]
+    if not diagnosis.can_run_whole():
+        why = "it takes too long" if diagnosis.is_slow else f"it is longer than {MAX_STEPS} steps"
+        return [f"The whole run was not tried to its end here: {why}."]
     if values.defined != values.full:
         return [f"The circuit has no values under some choices of its inputs. Under the others that were tried ({diagnosis.scope}) the whole run "
                 "ends as the layout asks."]

@@ -3,7 +3,7 @@
 from dataclasses import dataclass, field
 from typing import Any
 
-from .certificates import BorderLine, Module
+from .certificates import BorderLine, Module, StopLine
 from .circuits import evaluate
 from .diagnosis import Diagnosis, Difference, Occurrence, Signal, Truth
 from .layouts import Cell
@@ -63,16 +63,19 @@ def wanted_of(diagnosis: Diagnosis, module: Module, finding: Finding) -> Wanted:
     assignment, kind = finding.number("assignment"), finding.values["kind"]
     if kind == "end":
         return wanted_at_end(diagnosis, module, cell, assignment)
-    line: Any = module.line_at("edge", time, cell) if kind == "edge" else next(
-        (stop for stop in module.stops if (stop.time, stop.cell) == (time, cell)), None)
+    line: BorderLine | StopLine | None
+    if kind == "edge":
+        line = module.line_at("edge", time, cell)
+    else:
+        line = next((stop for stop in module.stops if (stop.time, stop.cell) == (time, cell)), None)
     if line is None:
         rim = diagnosis.layout.is_rim(cell)
         why = "the cell is on the rim, where nothing may be live at odd times" if rim else \
             f"module {module.number} has no `edge` line for this cell at time {time}"
         return Wanted(False, why, None)
-    name = line.name if kind == "stop" else line.signal
+    name = line.name if isinstance(line, StopLine) else line.signal
     value = wire_value(diagnosis, module, name, assignment)
-    why = f"line {line.line} (`{line}`) says: live exactly where `{name}` is true, and `{name}` is {value} here"
+    why = f"line {line.line} (`{line}`) says: live if and only if `{name}` is true, and `{name}` is {value} here"
     if name == "1":
         why = f"line {line.line} (`{line}`) says: always live"
     return Wanted(bool(value), why, line.line, str(line))

@@ -273,7 +273,7 @@ class Fixer:
 
     def other_texts(self, bench: Bench, text: str, found: str) -> tuple[str, ...]:
         """Returns other texts with changes of names, ports and gates that get a yes too: which one is meant only the designer knows."""
-        texts = []
+        texts: list[str] = []
         for change in chain(exchange_changes(bench), port_changes(bench, None, True), circuit_changes(bench)):
             if len(texts) == MAX_OTHERS or self.trial.is_over() or bench.is_over():
                 break

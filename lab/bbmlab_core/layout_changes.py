@@ -241,7 +241,7 @@ def missing_port_changes(bench: Bench) -> Iterator[Change]:
         return
     wrong = wrong_cells(bench.values, bench.layout, bench.last)
     named = {part.name for part in bench.layout.of_kind("out")}
-    new = []
+    new: list[Part] = []
     for name in (name for name in bench.circuit.outputs if name not in named):
         cells = [cell_of(key) for key in sorted(wrong) if bench.last.get(key) == bench.values.tables[name] and bench.layout.has(cell_of(key))]
         new += [Part("out", name, *cell, 1, 1, 0) for cell in cells if cell not in {part.cell for part in new}]

@@ -151,6 +151,18 @@ def number_edits(document: Document, number: int, facts: dict[str, Any]) -> Iter
     yield (delete(number),)
 
 
+def place_edits(document: Document, number: int, facts: dict[str, Any]) -> Iterator[Edits]:
+    """Yields the line of a part at most 2 cells away, the nearest first, then with other numbers, then left out."""
+    words = document.line(number).split(" ")
+    at = 2 if words[0] in ("in", "out") else 1
+    steps = sorted(((dx, dy) for dx in range(-2, 3) for dy in range(-2, 3) if dx or dy), key=lambda step: abs(step[0]) + abs(step[1]))
+    for dx, dy in steps:
+        x, y = int(words[at]) + dx, int(words[at + 1]) + dy
+        if min(x, y) >= 0:
+            yield (replace(number, " ".join([*words[:at], str(x), str(y), *words[at + 2:]])),)
+    yield from number_edits(document, number, facts)
+
+
 def consumer_edits(document: Document, number: int, facts: dict[str, Any]) -> Iterator[Edits]:
     """Yields the line with wires that nothing consumes in the place of one that is consumed already."""
     assert document.circuit
@@ -200,7 +212,7 @@ FINDERS: dict[str, Finder] = {
     "keep_not_inverse": number_edits, "wire_defined": left_out, "wire_consumed": consumer_edits, "cut_twice": left_out,
     "use_output_local": left_out, "border_place": number_edits, "box_odd": number_edits, "box_outside": number_edits,
     "box_overlap": number_edits, "layout_side": number_edits, "box_side": number_edits, "certificate_version": number_edits,
-    "delay_limit": number_edits, "cell_outside": number_edits, "cell_taken": number_edits, "mirror_side": number_edits,
+    "delay_limit": number_edits, "cell_outside": place_edits, "cell_taken": place_edits, "mirror_side": number_edits,
     "cut_count": left_out, "text_ended": ended_edits, "line_not_ended": ended_edits, "text_goes_on": rest_edits,
 }
 
