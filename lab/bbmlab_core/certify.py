@@ -204,10 +204,11 @@ class Maker:
 
     def add_keep(self, gate: Gate, modules: list[Module]) -> None:
         """Has a gate kept by the module that needs the fewest more wires for it."""
-        cone = row_cone(self.circuit, gate)
-        if cone is None:
+        found = row_cone(self.circuit, gate)
+        if found is None:
             raise LabError(f"gate {gate.number} (`{gate.word}`, line {gate.line}) always has a row only if more than {MAX_CUTS} wires or "
                            f"{MAX_USES} gates are looked at: no certificate keeps it", 1)
+        cone: Wiring = found
         for module in sorted(modules, key=lambda module: len(set(cone.cuts) - set(module.cuts)) + len(module.cuts)):
             uses = sorted({*module.uses, *cone.uses})
             made = {name for number in uses for name in self.circuit.gates[number].outs}
@@ -271,7 +272,7 @@ class Maker:
         outs = {part.cell for part in self.layout.of_kind("out") if part.name == wire}
         table = self.observer.values.tables[wire]
         cells = [cell for cell in (cell_of(key) for key, other in live.items() if other == table) if self.layout.has(cell)]
-        return min(cells, key=lambda cell: (cell not in outs, row_order(cell)), default=None)
+        return min(cells, key=lambda cell: (cell not in outs, row_order(cell))) if cells else None
 
 
 def fewest_cuts(circuit: Circuit, wires: Iterable[str], used: Iterable[int]) -> tuple[set[str], set[int]]:

@@ -25,29 +25,6 @@ def late(module: str, function: str = "run") -> Callable[[argparse.Namespace], i
     return run
 
 
-def cells_command(options: argparse.Namespace) -> int:
-    """Runs `bbmlab cells`."""
-    from . import standard_cells  # Imported late: no other command reads the cells.
-    if options.cell is None:
-        if options.svg or options.bundle:
-            raise LabError("--svg and --bundle need the name of a cell", 2)
-        text = "\n\n".join(standard_cells.read_cell(name).text() for name in standard_cells.cell_names()) + "\n"
-    elif options.svg:
-        text = picture_of(str(standard_cells.cell_path(options.cell)), None, None)
-    elif options.bundle:
-        text = read_text(str(standard_cells.cell_path(options.cell)))
-    else:
-        text = standard_cells.read_cell(options.cell).text() + "\n"
-    write_text(options.output, text)
-    return 0
-
-
-def route_command(options: argparse.Namespace) -> int:
-    """Runs `bbmlab route`. Its modules are read only here, since other commands do not need them."""
-    from .route.command import route_command as route
-    return route(options)
-
-
 def grid_sides(word: str) -> tuple[int, int]:
     """Returns the sides of boxes, written W,H or WxH."""
     sides = word.lower().replace("x", ",").split(",")

@@ -3,19 +3,20 @@
 import argparse
 
 from .documents import Document, read_document
+from .layouts import Layout
 from .reports import Report, parse_report
 from .terminal import LabError, read_text
 
 
-def read_design(name: str, needs_circuit: bool = False) -> Document:
-    """Returns a text with a layout; raises LabError where it is refused. What stands behind circuit and layout may be missing."""
+def read_design(name: str) -> tuple[Document, Layout]:
+    """Returns a text and its layout; raises LabError if it is refused. Sections other than the layout may be missing."""
     document = read_document(read_text(name))
     if document.refusal:
         refusal = document.refusal
-        raise LabError(f"{name}: line {refusal.line} is refused with code {refusal.code}; bbmlab explain tells why", 1)
-    if document.layout is None or needs_circuit and document.circuit is None:
-        raise LabError(f"{name}: the text has no {'circuit and ' if needs_circuit else ''}layout", 1)
-    return document
+        raise LabError(f"{name}: line {refusal.line} is refused with code {refusal.code}; bbmlab explain says why", 1)
+    if document.layout is None:
+        raise LabError(f"{name}: the text has no layout", 1)
+    return document, document.layout
 
 
 def report_for(options: argparse.Namespace) -> Report | None:

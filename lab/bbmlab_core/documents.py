@@ -77,6 +77,7 @@ def read_sections(document: Document, lines: Lines) -> str:
         document.on = list(assign.on)
         return "assign"
     if command in BUNDLE_COMMANDS:
+        assert document.circuit is not None
         certificate = CertificateReader(lines, document.circuit, layout.layout)
         document.certificate = certificate.certificate
         certificate.read()

@@ -30,7 +30,8 @@ SEVERAL = 8
 STYLE = """text{font:7px sans-serif;fill:#222}.name{font-weight:bold;font-size:8px}.in{fill:none;stroke:#222}
 .out{fill:none;stroke:#222;stroke-dasharray:2 1.5}.waste{stroke:#222;fill:none}.mirror{fill:#9aa0aa}.ball{fill:#111}
 .box{fill:none;stroke:#7a3db8;stroke-width:1.2;stroke-dasharray:5 3}.number{fill:#7a3db8;font-size:8px}
-.faint{stroke-width:1;stroke-dasharray:none;stroke-opacity:.2}.fault{fill:none;stroke:#d00000;stroke-width:2.5}.way{fill:none;stroke-width:2.2;stroke-linecap:round}.way[stroke-dasharray]{stroke-linecap:butt}
+.faint{stroke-width:1;stroke-dasharray:none;stroke-opacity:.2}.fault{fill:none;stroke:#d00000;stroke-width:2.5}
+.way{fill:none;stroke-width:2.2;stroke-linecap:round}.way[stroke-dasharray]{stroke-linecap:butt}
 .back{fill:#fff}.plane{fill:#f7f7f4}.line{stroke:#dcdcd6;stroke-width:.4}.w8{stroke:#777}
 @media(prefers-color-scheme:dark){text{fill:#eee}.in,.out,.waste{stroke:#eee}.mirror{fill:#7c828c}.ball{fill:#fff}
 .box{stroke:#c79bff}.number{fill:#c79bff}.back{fill:#16181c}.plane{fill:#1e2126}.line{stroke:#343840}.w8{stroke:#999}}"""
@@ -58,6 +59,12 @@ def centre(cell: Cell) -> tuple[float, float]:
 def short(number: float) -> str:
     """Writes a coordinate with as few digits as it needs."""
     return f"{number:.1f}".rstrip("0").rstrip(".")
+
+
+def point(cell: Cell) -> str:
+    """Writes the middle of a cell for a path."""
+    x, y = centre(cell)
+    return f"{short(x)} {short(y)}"
 
 
 def rectangle(kind: str, x: int, y: int, width: int, height: int) -> str:
@@ -163,6 +170,17 @@ def wire_style(wires: list[str]) -> dict[str, tuple[int, str]]:
     return styles | {"": (SEVERAL, "1 2")}
 
 
+def runs_of(numbers: list[int]) -> list[tuple[int, int]]:
+    """Returns the first and the last number of each run of rising numbers without a gap."""
+    runs = [(numbers[0], numbers[0])]
+    for number in numbers[1:]:
+        if number == runs[-1][1] + 1:
+            runs[-1] = runs[-1][0], number
+        else:
+            runs.append((number, number))
+    return runs
+
+
 def merged(segments: list[tuple[Cell, Cell]]) -> list[tuple[Cell, Cell]]:
     """Joins segments of one diagonal that meet. Each goes from its left end to its right end."""
     lines: dict[tuple[int, int], list[int]] = {}
@@ -173,12 +191,8 @@ def merged(segments: list[tuple[Cell, Cell]]) -> list[tuple[Cell, Cell]]:
     joined = []
     for (slope, offset), starts in lines.items():
         ordered = sorted(set(starts))
-        first = last = ordered[0]
-        for x in [*ordered[1:], None]:
-            if x is None or x != last + 1:
-                joined.append(((first, slope * first + offset), (last + 1, slope * (last + 1) + offset)))
-                first = x
-            last = x
+        for first, last in runs_of(ordered):
+            joined.append(((first, slope * first + offset), (last + 1, slope * (last + 1) + offset)))
     return joined
 
 
@@ -203,9 +217,10 @@ def way_parts(drawing: Drawing, wires: list[str], widening: float) -> list[str]:
     styles = wire_style(order)
     for index, wire in enumerate(order):
         colour, dash = styles[wire]
-        # Later ways are thinner, so that one below another is still seen.
-        width = (5 - 3.4 * index / max(1, len(order) - 1)) * widening
-        path = "".join(f"M{short(centre(a)[0])} {short(centre(a)[1])}L{short(centre(b)[0])} {short(centre(b)[1])}" for a, b in merged(by_wire[wire]))
+        # Later ways are thinner, so that one below another is still seen. In a large layout the thinnest must still be seen itself.
+        thinnest = 1.6 if widening == 1 else 2.6
+        width = (5 - (5 - thinnest) * index / max(1, len(order) - 1)) * widening
+        path = "".join(f"M{point(first)}L{point(last)}" for first, last in merged(by_wire[wire]))
         dashes = f' stroke-dasharray="{" ".join(short(int(part) * widening) for part in dash.split())}"' if dash else ""
         title = escape(label_of(drawing, wire))
         parts.append(f'<path class="way w{colour}" style="stroke-width:{short(width)}"{dashes} d="{path}"><title>{title}</title></path>')
@@ -225,7 +240,8 @@ def legend(drawing: Drawing, wires: list[str], y: int, width: float) -> tuple[li
         if x > MARGIN and x + room > width - MARGIN:
             x, top = float(MARGIN), top + 12
         dashes = f' stroke-dasharray="{dash}"' if dash else ""
-        parts.append(f'<path class="way w{colour}"{dashes} d="M{short(x)} {top}h16"/><text x="{short(x + 20)}" y="{top + 2.5}">{escape(text)}</text>')
+        parts.append(f'<path class="way w{colour}"{dashes} d="M{short(x)} {top}h16"/>'
+                     f'<text x="{short(x + 20)}" y="{top + 2.5}">{escape(text)}</text>')
         x += room
     return parts, top - y + 12 if parts else 0
 

@@ -1,5 +1,7 @@
 """Small pictures of cells in text."""
 
+from typing import Collection
+
 from .layouts import Cell
 
 MAX_COLUMNS = 48
@@ -15,7 +17,7 @@ def window(low: int, size: int, focus: int, most: int) -> range:
     return range(first, first + most)
 
 
-def cell_sign(cell: Cell, live: set[Cell], mirrors: set[Cell], heard: set[Cell]) -> str:
+def cell_sign(cell: Cell, live: set[Cell], mirrors: set[Cell], heard: Collection[Cell]) -> str:
     """Returns the sign of a cell without a fault."""
     if cell in heard:
         return "+"
@@ -24,15 +26,16 @@ def cell_sign(cell: Cell, live: set[Cell], mirrors: set[Cell], heard: set[Cell])
     return "-" if cell in mirrors else "."
 
 
-def text_picture(box: tuple[int, int, int, int], live: set[Cell], mirrors: set[Cell], heard: set[Cell] = frozenset(),
+def text_picture(box: tuple[int, int, int, int], live: set[Cell], mirrors: set[Cell], heard: Collection[Cell] = (),
                  marked: Cell | None = None) -> list[str]:
     """Returns the rows of a picture of a box with the numbers of its columns and rows. Cells around the box show what is heard."""
     x, y, width, height = box
     focus = marked or (x + width // 2, y + height // 2)
     columns = window(x - 1, width + 2, focus[0], MAX_COLUMNS)
     rows = window(y - 1, height + 2, focus[1], MAX_ROWS)
-    heads = [f"     {''.join(sign(u) for u in columns)}" for sign in
-             (lambda u: str(u // 10 % 100).rjust(2)[1] if u >= 10 and u % 10 == 0 else " ", lambda u: str(u % 10) if u >= 0 else " ")]
+    tens = "".join(str(u // 10 % 10) if u >= 10 and u % 10 == 0 else " " for u in columns)
+    ones = "".join(str(u % 10) if u >= 0 else " " for u in columns)
+    heads = [f"     {tens}", f"     {ones}"]
     picture = heads if any(char != " " for char in heads[0]) else heads[1:]
     for v in rows:
         line = ""

@@ -4,6 +4,7 @@ import os
 import shutil
 import signal
 import subprocess
+import sys
 import threading
 from dataclasses import dataclass
 from pathlib import Path
@@ -34,11 +35,12 @@ def candidates(given: str | None) -> list[str]:
         return [given]
     if os.environ.get("BBMCHECK"):
         return [os.environ["BBMCHECK"]]
-    return [str(HERE.parent.parent / "bbmcheck"), "bbmcheck"]
+    own = [HERE.parent.parent / "bbmcheck", HERE.parent.parent.parent / "bin" / "bbmcheck", Path(sys.prefix) / "bin" / "bbmcheck"]
+    return [*(str(place) for place in own if place.is_file()), "bbmcheck"]
 
 
 def find_program(given: str | None = None) -> str:
-    """Returns the path of the program: `given`, else $BBMCHECK, else the repository's wrapper, else that on PATH."""
+    """Returns the path of the program: `given`, else $BBMCHECK, else the repository's wrapper or that of the same installation, else PATH's."""
     tried = candidates(given)
     for place in tried:
         found = shutil.which(place)

@@ -92,7 +92,8 @@ class WholeWriter:
 
     def begin(self, files: list[str]) -> None:
         """Keeps the order of the files."""
-        self.files, self.results = files, {}
+        self.files = files
+        self.results: dict[str, Result] = {}
 
     def add(self, result: Result) -> None:
         """Keeps a result."""

@@ -12,7 +12,9 @@ from .documents import Document, read_document
 from .layouts import Cell, Layout, row_order
 from .terminal import LabError
 
-FOLDER = Path(__file__).resolve().parent.parent / "cells"
+HERE = Path(__file__).resolve().parent
+# The cells of a clone or of `make install`, else those of a Python package.
+FOLDER = HERE.parent / "cells" if (HERE.parent / "cells").is_dir() else HERE / "cells"
 # What each cell does, in the order in which they are listed.
 ABOUT = {
     "turn_left": "turns a ball to its left by one mirror",

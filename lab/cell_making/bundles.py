@@ -3,7 +3,7 @@
 from dataclasses import dataclass, field
 
 from bbmlab_core.certificates import MAX_BOX_SIDE, Module
-from bbmlab_core.certify import certified
+from bbmlab_core.certify import Plan, certified, grid_boxes
 from bbmlab_core.circuits import Circuit, evaluate
 from bbmlab_core.documents import read_document
 from bbmlab_core.gates import Table
@@ -102,6 +102,7 @@ def bundle_text(machine: Machine) -> str:
     dx, dy, width, height = frame_of(machine, run)
 
     def shifted(ball: Ball) -> list[Cell]:
+        """Returns the cells of a ball in the layout."""
         return [(x + dx, y + dy) for x, y in ball.cells()]
 
     outs = {name: shifted(ball.at(machine.last)) for name, ball in machine.outs.items()}
@@ -126,7 +127,9 @@ def certificate_for(design: str, circuit: Circuit, width: int, height: int) -> s
         lines += [f"use {gate.number}" for gate in circuit.gates]
         lines += [f"keep {gate.number}" for gate in circuit.gates if gate.is_inverse]
         return design + "\n".join([*lines, "end", ""])
-    return certified(read_document(design, "design"), (MAX_BOX_SIDE, MAX_BOX_SIDE), 2, "safe")
+    document = read_document(design, "design")
+    assert document.layout is not None
+    return certified(document, grid_boxes(document.layout, MAX_BOX_SIDE, MAX_BOX_SIDE), Plan(2, "safe"))
 
 
 def with_stops(bundle: str, stops: list[tuple[int, str, Cell]]) -> str:

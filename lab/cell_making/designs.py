@@ -59,7 +59,10 @@ def gate_machine(name: str, cell: GateCell) -> Machine:
 
 
 def renamed(machine: Machine, name: str, names: dict[str, str], gates: list[str]) -> Machine:
-    """Returns a machine with other names and gate lines. An output whose name begins with `*` is garbage, and an input named `1` is a constant."""
+    """Returns a machine with other names and gate lines.
+
+    An output whose name begins with `*` is garbage, and an input named `1` is a constant.
+    """
     ins = {names[port]: ball for port, ball in machine.ins.items() if names[port] != "1"}
     constants = [ball for port, ball in machine.ins.items() if names[port] == "1"]
     outs = {names[port]: ball for port, ball in machine.outs.items() if not names[port].startswith("*")}
@@ -149,7 +152,8 @@ def all_machines() -> list[Machine]:
     """Returns the machines of all cells."""
     cells = base_cells()
     switch, fredkin = gate_machine("switch", cells["switch"][0]), gate_machine("fredkin", cells["fredkin"][0])
-    either = renamed(fredkin, "or", {"c": "a", "x": "1", "y": "b", "d": "*d", "u": "u", "v": "*v"}, ["source 1 -> k", "fredkin a k b -> d u v"])
+    either = renamed(fredkin, "or", {"c": "a", "x": "1", "y": "b", "d": "*d", "u": "u", "v": "*v"},
+                     ["source 1 -> k", "fredkin a k b -> d u v"])
     return [
         path_machine("turn_left", [Leg(4, FLAT), Leg(6, None)], [], "a"),
         path_machine("turn_right", [Leg(4, UPRIGHT), Leg(6, None)], [], "a"),

@@ -1,6 +1,7 @@
 """What the lab writes: certificates, spellings, JSON, pattern files and pictures."""
 
 import random
+import re
 import shutil
 import subprocess
 import tempfile
@@ -11,8 +12,9 @@ from pathlib import Path
 import support
 from bbmlab_core import golly, json_form
 from bbmlab_core.boxes import Box
+from bbmlab_core.certificates import Module
 from bbmlab_core.certify import Plan, certified, checked_boxes
-from bbmlab_core.drawing import merged
+from bbmlab_core.drawing import centre, merged, module_parts
 from bbmlab_core.program import ask
 from bbmlab_core.reports import parse_report
 from bbmlab_core.simulation import run_layout
@@ -197,6 +199,11 @@ def golly_run(document: support.Document, on: list[str], time: int) -> set:
         return golly.live_cells(golly.golly_states(f"#CXRLE Pos={-golly.MARGIN},{-golly.MARGIN}\n" + after.read_text())[0])
 
 
+def legend_of(picture: str) -> list[str]:
+    """Returns the names in the legend of a picture, which come last."""
+    return [part.text or "" for part in list(ET.fromstring(picture))[-1].iter() if part.tag.endswith("text")]
+
+
 class Pictures(unittest.TestCase):
     """`draw`."""
 
@@ -206,6 +213,28 @@ class Pictures(unittest.TestCase):
         root = ET.fromstring(ended.stdout)
         classes = [part.get("class") for part in root.iter() if part.get("class")]
         self.assertEqual((classes.count("mirror"), classes.count("in"), classes.count("out"), classes.count("ball")), (1, 2, 4, 2))
+
+    def test_equal_wires_share_a_way(self) -> None:
+        """The legend names the wires that are always equal: in a switch the output d is c. A ball of two cells has its name once."""
+        ended = support.lab("draw", "--ways", support.example("machine_switch"))
+        self.assertEqual(legend_of(ended.stdout), ["c, d", "x", "y", "z", "no wire"])
+        self.assertEqual([ended.stdout.count(f">{name}<") for name in ("→c", "→x", "d→", "y→", "z→")], [1] * 5)
+        # The tail of c, and the head of d, which flies left and up.
+        names = {part.text: (float(part.get("x")), float(part.get("y"))) for part in ET.fromstring(ended.stdout).iter() if part.get("class") == "name"}
+        layout = support.read_document((support.EXAMPLES / "machine_switch.txt").read_text()).layout
+        for mark, kind, best in (("→c", "in", min), ("d→", "out", min)):
+            cells = [part.cell for part in layout.of_kind(kind) if part.name == mark.strip("→")]
+            self.assertEqual(names[mark][0], centre(best(cells))[0])
+
+    def test_large_layouts_have_large_letters(self) -> None:
+        """Letters grow with the layout, and many modules have no numbers."""
+        small, large = (support.lab("draw", "--ways", support.example(name)).stdout for name in ("machine_fredkin", "machine_full_adder"))
+        self.assertNotIn("g.plan text{font-size", small)
+        size = float(re.search(r"g\.plan text\{font-size:([\d.]+)px", large)[1])
+        self.assertAlmostEqual(size, 7 * 144 / 64, delta=0.1)
+        modules = [Module(number, Box(2 * number, 0, 2, 2), 0) for number in range(65)]
+        self.assertIn("text", "".join(module_parts(modules[:64])))
+        self.assertNotIn("text", "".join(module_parts(modules)))
 
     def test_faults_are_marked(self) -> None:
         """The cells of a report's faults are marked."""

@@ -143,6 +143,24 @@ class Equivalence(unittest.TestCase):
                 with self.subTest(write):
                     self.compare(made.read_text(), sum_values, inputs, outputs)
 
+    def test_formats_agree_on_bits(self) -> None:
+        """BLIF and JSON name the bits of a port alike, whichever way its indices run."""
+        if shutil.which("yosys") is None:
+            self.skipTest("yosys is not installed (apt-get install yosys)")
+        with tempfile.TemporaryDirectory() as room:
+            source = Path(room) / "bits.v"
+            source.write_text("module bits (input [0:2] a, input [6:4] b, output [1:0] y);\n"
+                              "assign y = {a[0] & b[4], a[2] | b[6]};\nendmodule\n")
+            for write in ("write_blif", "write_json"):
+                made = Path(room) / write
+                subprocess.run(["yosys", "-q", "-p", YOSYS_STEPS.format(file=source, write=f"{write} {made}")], check=True, timeout=60)
+                circuit = circuit_of(made.read_text())
+                with self.subTest(write):
+                    self.assertEqual(set(circuit.inputs), {"a_0", "a_1", "a_2", "b_4", "b_5", "b_6"})
+                    for on, wanted in (({"a_0", "b_4"}, {"y_1"}), ({"a_2"}, {"y_0"}), ({"b_6"}, {"y_0"}), ({"a_0", "a_1", "b_5"}, set())):
+                        values, _ = values_under(circuit, on)
+                        self.assertEqual({wire for wire in circuit.outputs if values[wire]}, wanted, on)
+
     def test_wide_adder_at_samples(self) -> None:
         """A ripple adder of ten bits adds, at random inputs and at the extremes."""
         seed = random.SystemRandom().randrange(1 << 32)

@@ -66,6 +66,7 @@ def start_of(way: tuple[int, int], x: int = ORIGIN, y: int = ORIGIN) -> Cell:
 def is_broken(cells: set[Cell], steps: int) -> bool:
     """Whether the four cells of two balls, or the two of one, are no longer balls: some cell has no partner two apart in its direction."""
     def partners(cell: Cell) -> list[Cell]:
+        """Returns the cells two apart in the direction of a cell, if they are live."""
         (x, y), way = cell, [1 if (value + steps) % 2 == 0 else -1 for value in cell]
         return [other for other in ((x + 2 * way[0], y + 2 * way[1]), (x - 2 * way[0], y - 2 * way[1])) if other in cells]
     return any(not partners(cell) for cell in cells)

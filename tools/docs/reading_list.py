@@ -5,8 +5,9 @@ and how many of these are definitions that the statement reaches. A file comes a
 usage: tools/docs/reading_list.py [--definitions] [--check PAGE] [FILE]
 
 FILE is meaning/specs/Headline.antt if it is left out. --definitions names the definitions that are reached, and the definitions of the kit's
-library that these name. --check compares a page: it must have the table, line for line, and the number of each "N files" behind the name of
-this command with a FILE. It also looks for definitions of specs/ that this script does not find.
+library that these name. --check compares a page: it must have the tables of meaning/specs/Headline.antt and headline/specs/RightInFull.antt,
+line for line, and the number of each "N files" behind the name of this command with a FILE. It also looks for definitions of specs/ that
+this script does not find.
 """
 import re
 import sys
@@ -14,6 +15,8 @@ from pathlib import Path
 
 CRATES = Path(__file__).resolve().parent.parent.parent / "crates"
 STATEMENT = "meaning/specs/Headline.antt"
+# The statement with all that a yes means.
+FULL = "headline/specs/RightInFull.antt"
 HEAD = re.compile(r"^(?:(?:abbrev|unfoldable|pub|infixl|infixr)\s+)*(\S+)\s*(?:\{[^}]*\}|\([^)]*\)|\s)*:(?:\s|$)")
 # A record has its name before its parameters, which may take more lines and may have parentheses in parentheses.
 RECORD = re.compile(r"^(?:(?:abbrev|unfoldable|pub)\s+)*(?:record|data)\s+(\S+)")
@@ -189,24 +192,31 @@ def table_lines(needed, names):
     return [*lines, f"| {len(needed)} files | {sum(r[2] for r in needed)} | {sum(r[1] for r in needed)} |"]
 
 
-def main(words):
-    names = "--definitions" in words
-    table = words[words.index("--check") + 1] if "--check" in words else None
-    files = [w for w in words if not w.startswith("--") and w != table]
-    closure = Closure(files[0] if files else STATEMENT)
+def rows_of(closure):
+    """Returns for each file that is brought in: its path, its lines, how many of them are reached, and the definitions that are."""
     rows = []
     for path in closure.imported:
         total = len((CRATES / path).read_text().splitlines())
         reached = closure.reached.get(path, {})
         rows.append((path, total, sum(map(len, reached.values())), list(reached)))
-    needed = [r for r in rows if r[2]]
-    lines = table_lines(needed, names)
+    return rows
+
+
+def main(words):
+    names = "--definitions" in words
+    table = words[words.index("--check") + 1] if "--check" in words else None
+    files = [w for w in words if not w.startswith("--") and w != table]
+    closure = Closure(files[0] if files else STATEMENT)
+    rows = rows_of(closure)
+    lines = table_lines([row for row in rows if row[2]], names)
     if table:
         text = Path(table).read_text()
         wrong = 0
-        if "\n".join(lines) not in text:
-            wrong += 1
-            print(f"{table} has not this table:", *lines, sep="\n")
+        full = table_lines([row for row in rows_of(Closure(FULL)) if row[2]], False)
+        for wanted in (lines, full):
+            if "\n".join(wanted) not in text:
+                wrong += 1
+                print(f"{table} has not this table:", *wanted, sep="\n")
         for finding in (*wrong_numbers(text), *(f"not found: {lost}" for lost in lost_definitions())):
             wrong += 1
             print(finding)

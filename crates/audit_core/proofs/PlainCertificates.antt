@@ -284,7 +284,7 @@ none_unkept ms n (g ∷ gs) h =
     ap (keeping.is_kept ms) (omega arith) ∙ h (suc k) f at inverse))
 
 -- the one module
-only_module : (m k : ModuleLines) (n : ℕ) → slice_get (m ∷ []) n ≡ Some k → m ≡ k
+pub only_module : (m k : ModuleLines) (n : ℕ) → slice_get (m ∷ []) n ≡ Some k → m ≡ k
 only_module m k zero e = same_Some m k e
 only_module m k (suc n) e = absurd cc
 

@@ -29,7 +29,7 @@ same_bool true b f g = sym (f refl)
 same_bool false true f g = g refl
 same_bool false false f g = refl
 
-no_code : (b : Bool) (code : RefusalCode) → code_where (not b) code ≡ None → b ≡ true
+pub no_code : (b : Bool) (code : RefusalCode) → code_where (not b) code ≡ None → b ≡ true
 no_code true code e = refl
 no_code false code e = absurd cc
 
@@ -83,7 +83,7 @@ or-false : (b : Bool) → (b || false) ≡ b
 or-false true = refl
 or-false false = refl
 
-in_lines : (p : Pattern) (n : List ℕ) → list_any (is_in n) (parts_of p) ≡ has (map (λ q. q.name) p.ins) n
+pub in_lines : (p : Pattern) (n : List ℕ) → list_any (is_in n) (parts_of p) ≡ has (map (λ q. q.name) p.ins) n
 in_lines p n =
     five_parts (is_in n) (map Mirror p.mirrors) (map Ball p.balls) (map In p.ins) (map Out p.outs) (map Waste p.wastes)
     ∙ ap₂ (λ a b. a || b) (none_in (is_in n) Mirror (λ r. refl) p.mirrors)
@@ -92,7 +92,7 @@ in_lines p n =
     (ap₂ (λ a b. a || b) (none_in (is_in n) Out (λ q. refl) p.outs) (none_in (is_in n) Waste (λ c. refl) p.wastes))))
     ∙ or-false (has (map (λ q. q.name) p.ins) n)
 
-out_lines : (p : Pattern) (n : List ℕ) → list_any (is_out n) (parts_of p) ≡ has (map (λ q. q.name) p.outs) n
+pub out_lines : (p : Pattern) (n : List ℕ) → list_any (is_out n) (parts_of p) ≡ has (map (λ q. q.name) p.outs) n
 out_lines p n =
     five_parts (is_out n) (map Mirror p.mirrors) (map Ball p.balls) (map In p.ins) (map Out p.outs) (map Waste p.wastes)
     ∙ ap₂ (λ a b. a || b) (none_in (is_out n) Mirror (λ r. refl) p.mirrors)

@@ -132,11 +132,11 @@ two_each first last gs =
 
 -- ---- a circuit has at most 1024 gates
 
-first_none : (a b : Option RefusalCode) → or_else a b ≡ None → a ≡ None
+pub first_none : (a b : Option RefusalCode) → or_else a b ≡ None → a ≡ None
 first_none None b e = refl
 first_none (Some code) b e = absurd cc
 
-no_code : (b : Bool) (code : RefusalCode) → code_where b code ≡ None → b ≡ false
+pub no_code : (b : Bool) (code : RefusalCode) → code_where b code ≡ None → b ≡ false
 no_code true code e = absurd cc
 no_code false code e = refl
 

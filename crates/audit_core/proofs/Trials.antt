@@ -62,7 +62,7 @@ meets v Demanded.Live live = live
 meets v (Demanded.Wire w) live = beq live (v w)
 meets v Demanded.Any live = true
 
-meets_is : (v : Valuation) (d : Demand) (live : Bool) → meets v d live ≡ true → Meets v d live
+pub meets_is : (v : Valuation) (d : Demand) (live : Bool) → meets v d live ≡ true → Meets v d live
 meets_is v Demanded.Dead true e = absurd (false≢true e)
 meets_is v Demanded.Dead false e = refl
 meets_is v Demanded.Live live e = e
@@ -70,11 +70,11 @@ meets_is v (Demanded.Wire w) live e = (booleans_Decides live (v w)).0 e
 meets_is v Demanded.Any live e = tt
 
 -- where the first holds, so does the second
-implied : (a b : Bool) → (not a || b) ≡ true → a ≡ true → b ≡ true
+pub implied : (a b : Bool) → (not a || b) ≡ true → a ≡ true → b ≡ true
 implied true b e h = e
 implied false b e h = absurd (false≢true h)
 
-all_at : {A : Type 0} (test : A → Bool) (xs : List A) (i : ℕ) (a : A) → list_all test xs ≡ true →
+pub all_at : {A : Type 0} (test : A → Bool) (xs : List A) (i : ℕ) (a : A) → list_all test xs ≡ true →
     slice_get xs i ≡ Some a → test a ≡ true
 all_at test [] i a all e = absurd cc
 all_at test (x ∷ xs) zero a all e = let own : x ≡ a = cc in
@@ -87,7 +87,7 @@ range_at n a k lt = slice_get-get_or (range_with_len a n) k 0 (omega (arith, lt,
     ∙ ap Some (get_or-range_with_len a n k 0 lt)
 
 -- a test that all numbers below n pass
-all_below : (test : ℕ → Bool) (n k : ℕ) → list_all test (range_with_len 0 n) ≡ true → k < n → test k ≡ true
+pub all_below : (test : ℕ → Bool) (n k : ℕ) → list_all test (range_with_len 0 n) ≡ true → k < n → test k ≡ true
 all_below test n k all lt =
     all_at test (range_with_len 0 n) k k all (range_at n 0 k lt ∙ ap Some (omega arith))
 
@@ -95,7 +95,7 @@ all_below test n k all lt =
 abbrev pub at_odd_times : ℕ → (ℕ → Bool) → Bool
 at_odd_times steps test = list_all (λ k. test (2 * k + 1)) (range_with_len 0 (steps / 2))
 
-at_odd : (steps : ℕ) (test : ℕ → Bool) → at_odd_times steps test ≡ true → (t : ℕ) → t % 2 ≡ 1 → t < steps →
+pub at_odd : (steps : ℕ) (test : ℕ → Bool) → at_odd_times steps test ≡ true → (t : ℕ) → t % 2 ≡ 1 → t < steps →
     test t ≡ true
 at_odd steps test all t odd early =
     let is : 2 * (t / 2) + 1 ≡ t = omega (arith, odd) in
@@ -107,7 +107,7 @@ at_odd steps test all t odd early =
 abbrev pub every_cell : Box2 → (ℤ → ℤ → Bool) → Bool
 every_cell b test = list_all (λ c. test c.x c.y) (box_cells b)
 
-at_every : (b : Box2) (test : ℤ → ℤ → Bool) → every_cell b test ≡ true → (x y : ℤ) → in_box b x y ≡ true →
+pub at_every : (b : Box2) (test : ℤ → ℤ → Bool) → every_cell b test ≡ true → (x y : ℤ) → in_box b x y ≡ true →
     test x y ≡ true
 at_every b test all x y h = all_at (λ (c : Cell). test c.x c.y) (box_cells b) (place_in b x y)
     (record { x = x; y = y }) all (box_place b x y h)

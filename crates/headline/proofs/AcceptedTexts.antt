@@ -207,7 +207,8 @@ record AreRead : Type 0 where
   pub no_fails : Fails (meeting_bundle wrong_layout) wrong_layout one (cell 2 2) 1 (Meet 0 (Some 1) ∷ [])
 
 are_read : AreRead
-unfolding timed_modules there_and_back plain_yes plain_no bundle_of words.lines_of words.rest_of words.number_of words.name_of
+unfolding timed_modules there_and_back plain_yes plain_no bundle_of words.lines_of words.rest_of words.number_of
+    words.name_of
     words.number_at words.name_at words.names_at words.is_word_at words.lone words.lone_number words.lone_name
     section.section_of section.body_of circuit_forms.form_of circuit_forms.gate_entry circuit_forms.gate_names
     circuit_forms.gate_kind circuit_forms.bit_at circuit_rules.add_fault meaning.number meaning.place_of
@@ -222,7 +223,8 @@ unfolding timed_modules there_and_back plain_yes plain_no bundle_of words.lines_
     forms.form_of orders.rank_of orders.number_of orders.cell_of orders.line_cmp orders.is_cut orders.may_precede
     orders.may_follow rules.lacks_port rules.box_fault rules.module_fault rules.cut_fault rules.are_new rules.gate_fault
     rules.use_fault rules.keep_fault rules.is_time rules.is_edge_place rules.is_halo_place rules.is_stop_place
-    rules.signal_fault rules.border_fault rules.entry_fault rules.end_fault cell_cmp versions.meant start_signal end_demand
+    rules.signal_fault rules.border_fault rules.entry_fault rules.end_fault cell_cmp versions.meant start_signal
+    end_demand
     port_at places placed_gate placed_gates place_among numbered numbered_all_times numbered_event numbered_signals
     demanded placed_stop bit row evaluate job_start job_demand local_run local_step with_halo step partner turned
     signal_at all_times_at event_at times.numbered versions.beside versions.in_order versions.is_early
@@ -379,7 +381,7 @@ design_accepted =
       reported = subst (IsReportOf (plain_text meeting right_layout) r.0) yes r.2;
     }
 
-no_of : (outcome : Outcome) → outcome ≢ Yes → outcome ≢ Refused → outcome ≡ No
+pub no_of : (outcome : Outcome) → outcome ≢ Yes → outcome ≢ Refused → outcome ≡ No
 no_of Yes a b = absurd (a refl)
 no_of No a b = refl
 no_of Refused a b = absurd (b refl)

@@ -1,7 +1,7 @@
 -- A text is refuted by one `local` line if its one module passes tests, which a proof by computation can run.
 --
 -- By the tests a cell is not as asked at the end, and no fault comes before this one in the order of faults.
-use Rattle.std.proofs.Common.{◌≡◌, ℕ, zero, suc, ◌+◌, ◌*◌, ◌/◌, ◌%◌, ◌<◌, Bool, true, false, not, ◌||◌, ◌&&◌, refl}
+use Rattle.std.proofs.Common.{◌≡◌, ℕ, zero, suc, ◌<◌, Bool, true, false, not, ◌||◌, ◌&&◌, refl}
 use Rattle.std.proofs.Common.{sym, ap, ap₂, subst, ◌∙◌, arith, map, length, List, [], ◌∷◌, ◌++◌, Option, Some, None, Ok}
 use Rattle.std.proofs.Common.{Ordering, Less, Equal, Greater}
 use Rattle.std.specs.Prelude.{ℤ, ◌≢◌, codes, slice_get}
@@ -28,14 +28,11 @@ use Rattle.pattern.specs.Layout.{Pattern}
 use Rattle.module_box.specs.Locals.{is_among}
 use Rattle.module_box.specs.Boxes.{in_box, in_ring}
 use Rattle.module_box.specs.LocalValues.{IsLocalValuation}
-use Rattle.module_box.specs.Places.{place_in}
-use Rattle.module_box.specs.declared.boxes.Box2.{Box2}
 use Rattle.module_box.proofs.Neighbours.{halo_parts}
 use Rattle.certificate_lines.specs.Entries.{ModuleLines, Setting, modules_of}
 use Rattle.certificate_lines.specs.Modules.{AreModules}
-use Rattle.certificate_lines.specs.Rules.{box_cells, whole}
+use Rattle.certificate_lines.specs.Rules.{whole}
 use Rattle.certificate_lines.specs.Settings.{setting_of}
-use Rattle.certificate_lines.proofs.BoxPlaces.{box_place}
 use Rattle.certificate.specs.Grammars.{CertView, modules_in}
 use Rattle.certificate.specs.Jobs.{AreJobsOf}
 use Rattle.certificate.specs.Text.{certificate_text}
@@ -61,11 +58,13 @@ use Rattle.audit_core.specs.declared.verdict.ReportLine.{ReportLine}
 use Rattle.audit_core.specs.declared.verdict.ReportLine.TheVariants.{Local}
 use Rattle.audit_core.specs.declared.verdict.Verdict.{Verdict}
 use Rattle.audit_core.specs.declared.verdict.Verdict.TheVariants as verdict
+use Rattle.audit_core.proofs.FirstFaults.{ring_inside}
 use Rattle.audit_core.proofs.InputRuns.{read_layout-names}
-use Rattle.audit_core.proofs.PlainCertificates.{plain_lines}
+use Rattle.audit_core.proofs.PlainCertificates.{only_module, plain_lines}
 use Rattle.audit_core.proofs.SomeJobs.{are_jobs_of, job_of}
 use Rattle.audit_core.proofs.SomeVerdict.{IsVecOf, jobs_good, vec_of}
-use Rattle.audit_core.proofs.Trials.{at_odd_times, edge_test, every_cell, given_of, meets, range_at, stop_test}
+use Rattle.audit_core.proofs.Trials.{all_at, all_below, at_every, at_odd, at_odd_times, edge_test, every_cell, given_of}
+use Rattle.audit_core.proofs.Trials.{implied, meets, meets_is, stop_test}
 use Rattle.audit_core.proofs.YesMeansCorrect.{IsRead}
 use Rattle.report.specs.ReportText.{fault_line, opening_lines, report_lines}
 use Rattle.answers.specs.Answers.{Answered}
@@ -78,35 +77,9 @@ use Rattle.headline.proofs.YesIsRight.{bundle_good, known}
 
 -- ---- tests of all elements
 
-implied : (a b : Bool) → (not a || b) ≡ true → a ≡ true → b ≡ true
-implied true b e h = e
-implied false b e h = absurd (false≢true h)
-
 one_of : (a b : Bool) → (a || b) ≡ true → a ≡ false → b ≡ true
 one_of true b e h = absurd (true≢false h)
 one_of false b e h = e
-
-all_at : {A : Type 0} (test : A → Bool) (xs : List A) (i : ℕ) (a : A) → list_all test xs ≡ true →
-    slice_get xs i ≡ Some a → test a ≡ true
-all_at test [] i a all e = absurd cc
-all_at test (x ∷ xs) zero a all e = let own : x ≡ a = cc in
-    subst (λ x. test x ≡ true) own (and_parts (test x) (list_all test xs) all).0
-all_at test (x ∷ xs) (suc i) a all e = all_at test xs i a (and_parts (test x) (list_all test xs) all).1 e
-
-all_below : (test : ℕ → Bool) (n k : ℕ) → list_all test (range_with_len 0 n) ≡ true → k < n → test k ≡ true
-all_below test n k all lt = all_at test (range_with_len 0 n) k k all (range_at n 0 k lt ∙ ap Some (omega arith))
-
-at_odd : (steps : ℕ) (test : ℕ → Bool) → at_odd_times steps test ≡ true → (t : ℕ) → t % 2 ≡ 1 → t < steps →
-    test t ≡ true
-at_odd steps test all t odd early =
-    let is : 2 * (t / 2) + 1 ≡ t = omega (arith, odd) in
-    subst (λ t. test t ≡ true) is
-    (all_below (λ k. test (2 * k + 1)) (steps / 2) (t / 2) all (omega (arith, odd, early)))
-
-at_every : (b : Box2) (test : ℤ → ℤ → Bool) → every_cell b test ≡ true → (x y : ℤ) → in_box b x y ≡ true →
-    test x y ≡ true
-at_every b test all x y h = all_at (λ (c : Cell). test c.x c.y) (box_cells b) (place_in b x y)
-    (record { x = x; y = y }) all (box_place b x y h)
 
 -- ---- what is demanded
 
@@ -115,13 +88,6 @@ met v Demanded.Dead live h = ap not h
 met v Demanded.Live live h = h
 met v (Demanded.Wire w) live h = (booleans_Decides live (v w)).1 h
 met v Demanded.Any live h = refl
-
-is_met : (v : Valuation) (d : Demand) (live : Bool) → meets v d live ≡ true → Meets v d live
-is_met v Demanded.Dead true e = absurd (false≢true e)
-is_met v Demanded.Dead false e = refl
-is_met v Demanded.Live live e = e
-is_met v (Demanded.Wire w) live e = (booleans_Decides live (v w)).0 e
-is_met v Demanded.Any live e = tt
 
 -- ---- the first fault
 
@@ -178,10 +144,6 @@ found j a test ordered = by (evaluate (given_of j a) j.locals.netlist.gates) ref
           passes = h;
         }
 
-ring_inside : (b : Box2) (x y : ℤ) → in_ring b x y ≡ true → in_box b x y ≡ true
-unfolding in_ring
-ring_inside b x y h = (and_parts (in_box b x y) _ h).0
-
 no_later : (o : Ordering) → is_no_later o ≡ true → o ≢ Greater
 no_later Greater e h = false≢true e
 no_later Equal e h = cc
@@ -208,13 +170,14 @@ module _ (j : JobView) (is : IsJob j) (ordered : AreOrdered j.locals.netlist.giv
       let either = at_every j.area _ all x y g.inside in
       let missed : meets u (job_demand j x y) (local_run j u j.steps x y) ≡ false =
       by (meets u (job_demand j x y) (local_run j u j.steps x y)) refl in
-      subst (λ n. fault_cmp f (record { time = n; kind = End; cell = record { x = x; y = y }; assignment = a }) ≢ Greater)
+      subst (λ n. fault_cmp f (record { time = n; kind = End; cell = record { x = x; y = y }; assignment = a })
+      ≢ Greater)
       (sym g.last) (no_later _ (one_of _ _ either missed))
     where
       by : (b : Bool) → meets u (job_demand j x y) (local_run j u j.steps x y) ≡ b → b ≡ false
       by false e = refl
       by true e = absurd (g.differs (subst (λ n. Meets u (job_demand j x y) (local_run j u n x y)) (sym g.last)
-          (is_met u _ _ e)))
+          (meets_is u _ _ e)))
 
   first_is_least : (d : Cell) (a : ℕ) → IsFirstByTests j d a → IsLeastFault j (Some (end_fault_at j d a))
   first_is_least d a tests = (
@@ -234,10 +197,6 @@ module _ (j : JobView) (is : IsJob j) (ordered : AreOrdered j.locals.netlist.giv
   )
 
 -- ---- one module that is the whole rectangle
-
-only_module : (m k : ModuleLines) (n : ℕ) → slice_get (m ∷ []) n ≡ Some k → m ≡ k
-only_module m k zero e = cc
-only_module m k (suc n) e = absurd cc
 
 no_border : (g : Setting) (m : ModuleLines) → m.area ≡ whole g.size → (n : ℕ) (f : BorderFault) →
     ¬ IsBorderFault g (m ∷ []) n f

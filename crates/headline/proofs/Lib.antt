@@ -23,6 +23,12 @@ mod WrittenLayouts
 mod WrittenDesigns
 mod WrittenNames
 mod ReadDesigns
+mod MovedPlanes
+mod MovedLines
+mod MovedRuns
+mod MovedRims
+mod MovedDesigns
+mod StillMirrors
 mod Printed
 pub mod YesIsPrinted
 mod AcceptedMigrations

@@ -241,7 +241,8 @@ pub parts_read : (parts : List LayoutLine) → All IsForm (map part_form parts +
 parts_read [] h = (tt, tt)
 parts_read (part ∷ parts) h =
     let one = part_read part (All-head IsForm (part_form part) (map part_form parts ++ (codes "end", [], []) ∷ []) h) in
-    let more = parts_read parts (All-tail IsForm (part_form part) (map part_form parts ++ (codes "end", [], []) ∷ []) h) in
+    let more = parts_read parts (All-tail IsForm (part_form part)
+    (map part_form parts ++ (codes "end", [], []) ∷ []) h) in
     ((one.0, more.0), (one.1, more.1))
 
 circuit_whole : (circuit : List CircuitLine) →

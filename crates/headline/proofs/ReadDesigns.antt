@@ -1,15 +1,14 @@
 -- What a text says that is not refused keeps the rules of a design
-use Rattle.std.proofs.Common.{◌≡◌, ℕ, zero, suc, ◌+◌, Bool, true, cond, eqb, List, [], ◌∷◌, ◌++◌, ◌&&◌, length, Option, Some, None}
+use Rattle.std.proofs.Common.{◌≡◌, ℕ, zero, suc, ◌+◌, Bool, true, cond, eqb, List, [], ◌∷◌, ◌++◌, ◌&&◌, length, Option}
+use Rattle.std.proofs.Common.{Some, None}
 use Rattle.std.proofs.Common.{Result, Ok, Err, refl, sym, ap, ap₂, subst, inl, inr, map}
 use Rattle.std.specs.Prelude.{IsTrue, codes, slice_get}
 use Rattle.std.specs.List.{AllByRecursion, list_all}
 use Rattle.std.proofs.lemmas.Bool.{and_parts}
 use Rattle.std.proofs.lemmas.List.Elements.{All-from_recursion}
 use Rattle.std.proofs.lemmas.Option.{cond_some, option_and_then_some, same_Some}
-use Rattle.section_text.specs.Codes.{or_else}
 use Rattle.section_text.specs.SaidSection.{IsSection}
 use Rattle.section_text.specs.Words.{◌>>=◌, is_name, is_word_at, lone, lone_name, name_at, name_of, names_at, words_of}
-use Rattle.section_text.specs.declared.code.RefusalCode.{RefusalCode}
 use Rattle.section_text.specs.declared.fault.Refusal.{Refusal}
 use Rattle.section_text.specs.declared.section.Form.{Form}
 use Rattle.section_text.specs.declared.section.Form.TheVariants.{Header, Item, End}
@@ -30,6 +29,7 @@ use Rattle.pattern.specs.declared.layout_line.LayoutLine.{LayoutLine}
 use Rattle.pattern.proofs.Named.{faultless_named}
 use Rattle.audit_core.specs.Concluding.{port_names_of}
 use Rattle.audit_core.proofs.PortNames.{read_layout-is_named}
+use Rattle.audit_core.proofs.SomeVerdict.{first_none}
 use Rattle.answers.specs.Answers.{Answered}
 use Rattle.answers.specs.BundleText.{Bundle, bundle_of}
 use Rattle.answers.specs.CheckText.{SaysReport}
@@ -132,7 +132,8 @@ items_named : (items : List CircuitLine) (ls : List (List ℕ)) →
 items_named [] ls e = refl
 items_named (r ∷ items) ls e =
     let one = one_line form_of (Some (Item r)) (map (λ i. Some (Item i)) items ++ Some End ∷ []) ls e in
-    names_both r.outs (defined items) (line_named one.line r one.first_form) (items_named items one.rest one.other_forms)
+    names_both r.outs (defined items) (line_named one.line r one.first_form)
+    (items_named items one.rest one.other_forms)
 
 wires_named : (circuit : List CircuitLine) (ls : List (List ℕ)) → IsSection form_of ls tt circuit →
     AreNames (defined circuit)
@@ -145,10 +146,6 @@ wires_named circuit ls is =
 each_name : (ns : List (List ℕ)) → AreNames ns → AllByRecursion (λ n. IsTrue (is_name n)) ns
 each_name [] h = tt
 each_name (n ∷ ns) h = let both = and_parts (is_name n) (list_all is_name ns) h in (both.0, each_name ns both.1)
-
-first_none : (a b : Option RefusalCode) → or_else a b ≡ None → a ≡ None
-first_none None b e = refl
-first_none (Some code) b e = absurd cc
 
 in_order : (before rest : List CircuitLine) → AreFaultless circuit_grammar tt before rest → AreInOrder before rest
 in_order before [] good = tt

@@ -63,7 +63,7 @@ use Rattle.audit_core.specs.Concluding.{port_names_of}
 use Rattle.audit_core.specs.HeadlineLaws.{IsInputName}
 use Rattle.audit_core.specs.declared.verdict.Verdict.{Verdict}
 use Rattle.audit_core.proofs.InputRuns.{IsPlaced, placed, read_layout-names}
-use Rattle.audit_core.proofs.PortNames.{read_layout-is_named}
+use Rattle.audit_core.proofs.PortNames.{no_code, read_layout-is_named}
 use Rattle.audit_core.proofs.Trials.{range_at}
 use Rattle.answers.specs.Answers.{Answered}
 use Rattle.answers.specs.BundleText.{Bundle, bundle_of}
@@ -83,7 +83,6 @@ use Rattle.std.proofs.lemmas.Grind.{flat_map-append}
 use Rattle.std.proofs.lemmas.Bool.Decides.{nat_tests}
 use Rattle.std.proofs.Math.Bool.{and-false, or-true}
 use Rattle.module_box.specs.Moments.{cell_cmp}
-use Rattle.section_text.specs.declared.code.RefusalCode.{RefusalCode}
 use Rattle.section_text.specs.declared.code.RefusalCode.TheVariants.{PastLimit, UnknownName, DefinedTwice, OutOfOrder}
 use Rattle.section_text.specs.declared.code.RefusalCode.TheVariants.{MisplacedBox, NotLocal}
 use Rattle.section_text.specs.declared.code.RefusalCode.TheVariants.{SomethingMissing}
@@ -585,10 +584,6 @@ side_ok n side few =
     not_above : (n k : ℕ) → n ≤ k → nat_lt k n ≡ false
     not_above n k h = grind (arith, nat_tests, h)
 
-none_code : (a : Bool) (code : RefusalCode) → code_where (not a) code ≡ None → a ≡ true
-none_code true code e = refl
-none_code false code e = absurd cc
-
 module _ (circuit : List CircuitLine) (p : Pattern) (good : AreGood circuit)
     (layout_good : IsFaultless (layout_grammar (Some (port_names_of circuit))) p.size (parts_of p))
     (small : IsSmall circuit p) where
@@ -665,7 +660,7 @@ module _ (circuit : List CircuitLine) (p : Pattern) (good : AreGood circuit)
   sides : (is_side p.size.w ≡ true) × (is_side p.size.h ≡ true)
   unfolding size_fault
   sides =
-      let all = none_code (is_side p.size.w && is_side p.size.h && nat_le p.size.steps 65536) PastLimit
+      let all = no_code (is_side p.size.w && is_side p.size.h && nat_le p.size.steps 65536) PastLimit
       layout_good.header in
       let both = and_parts (is_side p.size.w && is_side p.size.h) (nat_le p.size.steps 65536) all in
       and_parts (is_side p.size.w) (is_side p.size.h) both.0

@@ -2,7 +2,6 @@
 use Rattle.std.proofs.Common.{◌≡◌, ◌++◌, ◌∷◌, ◌∙◌, [], ℕ, List, Option, Some, None, Ok, refl, sym, ap, subst}
 use Rattle.std.proofs.Common.{append-nil, append_assoc}
 use Rattle.section_text.proofs.Good.{AreFaultless, IsFaultless}
-use Rattle.section_text.specs.Codes.{or_else}
 use Rattle.section_text.specs.Ports.{Named}
 use Rattle.pattern.specs.Grammars.{layout_grammar, layout_value}
 use Rattle.pattern.specs.Layout.{Pattern, parts_of}
@@ -18,7 +17,7 @@ use Rattle.certificate_lines.specs.Settings.{setting_of}
 use Rattle.certificate.proofs.FullModules.{meant_modules}
 use Rattle.certificate.proofs.Soundness.{faultless_modules, read_complete}
 use Rattle.audit_core.specs.Concluding.{port_names_of}
-use Rattle.audit_core.proofs.SomeVerdict.{some_verdict}
+use Rattle.audit_core.proofs.SomeVerdict.{first_none, some_verdict}
 use Rattle.report.specs.ReportText.{report_lines}
 use Rattle.answers.specs.BundleText.{Bundle, bundle_of}
 use Rattle.answers.specs.CheckText.{IsReportOf, IsVerdictOn, SaysReport, verdict_outcome}
@@ -26,7 +25,6 @@ use Rattle.audit_core.specs.declared.verdict.Verdict.{Verdict}
 use Rattle.headline.specs.Laws.{HasAnAnswer}
 use Rattle.headline.proofs.SomeAnswer.{SaysSomething, answered_always}
 use Rattle.headline.proofs.YesIsRight.{bundle_good, certificate_faultless}
-use Rattle.section_text.specs.declared.code.RefusalCode.{RefusalCode}
 
 -- ---- a layout from its lines
 
@@ -47,10 +45,6 @@ with_part p (Out q) e = let more = p.outs ++ q ∷ [] in
     (record p { outs = more }, ap (λ l. (p.size, l)) (with_out p p refl (Out q) e q more refl refl))
 with_part p (Waste c) e = let more = p.wastes ++ c ∷ [] in
     (record p { wastes = more }, ap (λ l. (p.size, l)) (with_waste p p refl (Waste c) e c more refl refl))
-
-first_none : (a b : Option RefusalCode) → or_else a b ≡ None → a ≡ None
-first_none None b e = refl
-first_none (Some code) b e = absurd cc
 
 follows : (ports : Option Named) (s : LayoutHeader) (before : List LayoutLine) (part : LayoutLine) →
     part_fault ports s before part ≡ None → order_fault before part ≡ None

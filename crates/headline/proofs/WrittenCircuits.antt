@@ -1,6 +1,6 @@
 -- The lines of a good circuit can be written, if its wires have names
 use Rattle.std.proofs.Common.{◌≡◌, ℕ, ◌+◌, ◌<◌, ◌^◌, Bool, true, false, cond, List, [], ◌∷◌, ◌++◌, ◌&&◌}
-use Rattle.std.proofs.Common.{◌||◌, length, Option, Some, None, refl, sym, ap, ap₂, subst, ◌∙◌, inl, inr, arith}
+use Rattle.std.proofs.Common.{◌||◌, length, Some, None, refl, sym, ap, ap₂, subst, ◌∙◌, inl, inr, arith}
 use Rattle.std.proofs.Common.{append_assoc}
 use Rattle.std.specs.Prelude.{◌==◌, codes, nat_lt, slice_get}
 use Rattle.std.specs.Fmt.{decimal}
@@ -11,10 +11,8 @@ use Rattle.std.proofs.lemmas.Bool.Decides.{nat_tests}
 use Rattle.std.proofs.lemmas.List.{append-nil, length-append}
 use Rattle.std.proofs.lemmas.Option.{cond_some}
 use Rattle.std.proofs.lemmas.Slice.Eq.{bytes_eq-Decides}
-use Rattle.section_text.specs.Codes.{code_where, or_else}
 use Rattle.section_text.specs.Words.{◌>>=◌, has, is_digit, is_name, is_number, is_word, is_word_at, lone, lone_name}
 use Rattle.section_text.specs.Words.{name_at, name_of, names_at, number_at, number_of}
-use Rattle.section_text.specs.declared.code.RefusalCode.{RefusalCode}
 use Rattle.section_text.specs.declared.code.RefusalCode.TheVariants.{PastLimit}
 use Rattle.section_text.specs.declared.section.Form.TheVariants.{Header, Item, End}
 use Rattle.section_text.proofs.Numbers.{number_written}
@@ -32,6 +30,7 @@ use Rattle.circuit.specs.declared.circuit_line.Kind.{Kind}
 use Rattle.circuit.specs.declared.circuit_line.Kind.TheVariants.{Input, Gate, Output, Spill}
 use Rattle.circuit.proofs.Bridging.{names_pass}
 use Rattle.circuit.proofs.Places.{Have, consume_have}
+use Rattle.audit_core.proofs.SomeVerdict.{first_none, no_code}
 use Rattle.headline.proofs.Written.{HasLine, HasSection, IsWord, digits_word, has_section, line_by, name_word}
 
 -- ---- names and numbers
@@ -266,19 +265,12 @@ line_of Spill (n ∷ []) (x ∷ outs) fits i o right = absurd (let e = fits.1 in
 
 -- ---- the section
 
-first_none : (a b : Option RefusalCode) → or_else a b ≡ None → a ≡ None
-first_none None b e = refl
-first_none (Some code) b e = absurd cc
-
-no_code : (b : Bool) (code : RefusalCode) → code_where b code ≡ None → b ≡ false
-no_code true code e = absurd cc
-no_code false code e = refl
-
 either_false : (a b : Bool) → (a || b) ≡ false → a ≡ false
 either_false true b e = e
 either_false false b e = refl
 
-pub right_delay : (before : List CircuitLine) (r : CircuitLine) → add_fault before r ≡ None → is_wrong_delay r.kind ≡ false
+pub right_delay : (before : List CircuitLine) (r : CircuitLine) → add_fault before r ≡ None →
+    is_wrong_delay r.kind ≡ false
 unfolding add_fault
 right_delay before r e = either_false (is_wrong_delay r.kind) _
     (no_code (passes_limit before r) PastLimit (first_none (limit_fault before r) _ e))

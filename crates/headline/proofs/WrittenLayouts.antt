@@ -5,10 +5,8 @@ use Rattle.std.proofs.Common.{append-nil}
 use Rattle.std.specs.Prelude.{codes, nat_le, nat_lt, option_map, slice_get}
 use Rattle.std.specs.Fmt.{decimal}
 use Rattle.std.specs.List.{AllByRecursion, list_all, list_any}
-use Rattle.std.specs.Str.{bytes_eq}
 use Rattle.std.proofs.lemmas.Bool.{and_parts}
 use Rattle.std.proofs.lemmas.Bool.Decides.{nat_tests}
-use Rattle.std.proofs.lemmas.List.Folds.{list_any-append}
 use Rattle.std.proofs.lemmas.Option.{slice_get-map}
 use Rattle.section_text.specs.Codes.{code_where, or_else}
 use Rattle.section_text.specs.Ports.{Named}
@@ -40,17 +38,10 @@ use Rattle.pattern.specs.declared.layout_line.Rectangle.{Rectangle}
 use Rattle.certificate_lines.specs.Rules.{whole}
 use Rattle.certificate_lines.proofs.Lists.{any_at}
 use Rattle.audit_core.specs.Concluding.{port_names_of}
+use Rattle.audit_core.proofs.PortNames.{in_lines, no_code, out_lines}
 use Rattle.meaning.specs.Implements.{HaveNames, IsNamed}
 use Rattle.headline.proofs.Written.{HasLine, HasSection, has_section, line_by, name_word}
 use Rattle.headline.proofs.WrittenCircuits.{AreNames, decimal_word, has_name, named}
-
-no_code : (b : Bool) (code : RefusalCode) → code_where b code ≡ None → b ≡ false
-no_code true code e = absurd cc
-no_code false code e = refl
-
-no_not : (b : Bool) (code : RefusalCode) → code_where (not b) code ≡ None → b ≡ true
-no_not true code e = refl
-no_not false code e = absurd cc
 
 -- ---- sizes
 
@@ -68,7 +59,7 @@ side_below n h = grind (arith, nat_tests, h)
 pub has_limits : (s : LayoutHeader) → size_fault s ≡ None → HasLimits s
 unfolding size_fault
 has_limits s e =
-    let all = no_not (is_side s.w && is_side s.h && nat_le s.steps 65536) PastLimit e in
+    let all = no_code (is_side s.w && is_side s.h && nat_le s.steps 65536) PastLimit e in
     let both = and_parts (is_side s.w && is_side s.h) (nat_le s.steps 65536) all in
     let sides = and_parts (is_side s.w) (is_side s.h) both.0 in
     record {
@@ -204,7 +195,8 @@ module _ (s : LayoutHeader) (l : HasLimits s) where
   first_holds true b e = refl
   first_holds false b e = absurd cc
 
-  pub inside : (before : List LayoutLine) (part : LayoutLine) → cell_fault s before part ≡ None → is_inside s part ≡ true
+  pub inside : (before : List LayoutLine) (part : LayoutLine) → cell_fault s before part ≡ None →
+      is_inside s part ≡ true
   unfolding cell_fault
   inside before part e = first_holds (is_inside s part) (is_taken before part) e
 
@@ -306,47 +298,6 @@ faultless_on s l names before (part ∷ parts) order good n = (
 
 -- ---- the names of the ports
 
-none_in : {X : Type 0} (f : LayoutLine → Bool) (mk : X → LayoutLine) → ((x : X) → f (mk x) ≡ false) → (xs : List X) →
-    list_any f (map mk xs) ≡ false
-none_in f mk never [] = refl
-none_in f mk never (x ∷ xs) = ap₂ (λ a b. a || b) (never x) (none_in f mk never xs)
-
-all_in : (f : LayoutLine → Bool) (mk : Port → LayoutLine) (n : List ℕ) →
-    ((q : Port) → f (mk q) ≡ bytes_eq n q.name) → (ports : List Port) →
-    list_any f (map mk ports) ≡ has (map (λ q. q.name) ports) n
-all_in f mk n same [] = refl
-all_in f mk n same (q ∷ ports) = ap₂ (λ a b. a || b) (same q) (all_in f mk n same ports)
-
-five_parts : (f : LayoutLine → Bool) (a b c d e : List LayoutLine) →
-    list_any f (a ++ (b ++ (c ++ (d ++ e))))
-    ≡ (list_any f a || (list_any f b || (list_any f c || (list_any f d || list_any f e))))
-five_parts f a b c d e =
-    list_any-append f a _ ∙ ap (λ r. list_any f a || r)
-    (list_any-append f b _ ∙ ap (λ r. list_any f b || r)
-    (list_any-append f c _ ∙ ap (λ r. list_any f c || r) (list_any-append f d e)))
-
-or-false : (b : Bool) → (b || false) ≡ b
-or-false true = refl
-or-false false = refl
-
-in_parts : (p : Pattern) (n : List ℕ) → list_any (is_in n) (parts_of p) ≡ has (map (λ q. q.name) p.ins) n
-in_parts p n =
-    five_parts (is_in n) (map Mirror p.mirrors) (map Ball p.balls) (map In p.ins) (map Out p.outs) (map Waste p.wastes)
-    ∙ ap₂ (λ a b. a || b) (none_in (is_in n) Mirror (λ r. refl) p.mirrors)
-    (ap₂ (λ a b. a || b) (none_in (is_in n) Ball (λ c. refl) p.balls)
-    (ap₂ (λ a b. a || b) (all_in (is_in n) In n (λ q. refl) p.ins)
-    (ap₂ (λ a b. a || b) (none_in (is_in n) Out (λ q. refl) p.outs) (none_in (is_in n) Waste (λ c. refl) p.wastes))))
-    ∙ or-false (has (map (λ q. q.name) p.ins) n)
-
-out_parts : (p : Pattern) (n : List ℕ) → list_any (is_out n) (parts_of p) ≡ has (map (λ q. q.name) p.outs) n
-out_parts p n =
-    five_parts (is_out n) (map Mirror p.mirrors) (map Ball p.balls) (map In p.ins) (map Out p.outs) (map Waste p.wastes)
-    ∙ ap₂ (λ a b. a || b) (none_in (is_out n) Mirror (λ r. refl) p.mirrors)
-    (ap₂ (λ a b. a || b) (none_in (is_out n) Ball (λ c. refl) p.balls)
-    (ap₂ (λ a b. a || b) (none_in (is_out n) In (λ q. refl) p.ins)
-    (ap₂ (λ a b. a || b) (all_in (is_out n) Out n (λ q. refl) p.outs) (none_in (is_out n) Waste (λ c. refl) p.wastes))))
-    ∙ or-false (has (map (λ q. q.name) p.outs) n)
-
 all_have : (test : List ℕ → Bool) (names : List (List ℕ)) →
     ((k : ℕ) (n : List ℕ) → slice_get names k ≡ Some n → test n ≡ true) → list_all test names ≡ true
 all_have test [] h = refl
@@ -401,7 +352,8 @@ module _ (circuit : List CircuitLine) (p : Pattern) (limits : size_fault p.size 
       (all_last (IsPortName s l names) Waste p.wastes (λ k c at. tt)))))
 
   pub layout_written : HasSection form_of s (parts_of p)
-  layout_written = has_section form_of s (parts_of p) (size_line s (number s.w 512 l.wide (omega arith)) (number s.h 512 l.high (omega arith))
+  layout_written = has_section form_of s (parts_of p)
+      (size_line s (number s.w 512 l.wide (omega arith)) (number s.h 512 l.high (omega arith))
       (number s.steps 65536 l.long (omega arith)))
       end_line (lines_of s l names [] (parts_of p) good ports_named)
 
@@ -412,7 +364,7 @@ module _ (circuit : List CircuitLine) (p : Pattern) (limits : size_fault p.size 
     each = faultless_on s l names [] (parts_of p) (in_order p) good ports_named;
     end = ap₂ (λ a b. code_where (not (a && b)) SomethingMissing)
         (all_have (λ n. list_any (is_in n) (parts_of p)) names.ins (λ k n at.
-        in_parts p n ∙ each_port names.ins p.ins are.ins k n at))
+        in_lines p n ∙ each_port names.ins p.ins are.ins k n at))
         (all_have (λ n. list_any (is_out n) (parts_of p)) names.outs (λ k n at.
-        out_parts p n ∙ each_port names.outs p.outs are.outs k n at));
+        out_lines p n ∙ each_port names.outs p.outs are.outs k n at));
   }

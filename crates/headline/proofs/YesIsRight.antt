@@ -1,5 +1,5 @@
 -- A text that is reported with a yes is right.
-use Rattle.std.proofs.Common.{◌≡◌, ◌≤◌, ℕ, ◌+◌, Bool, true, false, cond, eqb, List, [], ◌∷◌, ◌++◌, length, take, drop}
+use Rattle.std.proofs.Common.{◌≡◌, ◌≤◌, ℕ, ◌+◌, cond, eqb, List, [], ◌∷◌, ◌++◌, length, take, drop}
 use Rattle.std.proofs.Common.{Option, Some, None, Result, Ok, Err, refl, sym, ap, ap₂, subst, ◌∙◌, append_assoc}
 use Rattle.std.proofs.Common.{take-append-drop, arith}
 use Rattle.std.specs.Prelude.{nat_lt, ◌≢◌}
@@ -7,7 +7,7 @@ use Rattle.std.specs.List.{All, flat_map}
 use Rattle.std.proofs.lemmas.Grind.{flat_map-append}
 use Rattle.std.proofs.lemmas.List.{append-nil}
 use Rattle.std.proofs.lemmas.Bool.{ltb-false}
-use Rattle.section_text.specs.Codes.{or_else, code_where}
+use Rattle.section_text.specs.Codes.{or_else}
 use Rattle.section_text.specs.Words.{lines_of, rest_of, words_of}
 use Rattle.section_text.specs.Section.{ended_line, unless, line_after, header_line, section_of, body_of}
 use Rattle.section_text.proofs.Lines.{whole_text as no_byte_lost}
@@ -49,6 +49,7 @@ use Rattle.certificate.proofs.MeantLines.{stops_meant}
 use Rattle.certificate.proofs.TimeLemmas.{all_in_modules}
 use Rattle.audit_core.specs.OnTime.{StopHolds}
 use Rattle.audit_core.specs.Concluding.{port_names_of}
+use Rattle.audit_core.proofs.SomeVerdict.{no_code}
 use Rattle.meaning.specs.Implements.{IsCorrect}
 use Rattle.audit_core.specs.Verdicts.{IsVerdict}
 use Rattle.report.specs.ReportText.{report_lines}
@@ -78,10 +79,6 @@ use Rattle.section_text.specs.declared.code.RefusalCode.TheVariants.{OutOfOrder}
 first_none : (a b : Option RefusalCode) → or_else a b ≡ None → (a ≡ None) × (b ≡ None)
 first_none None b e = (refl, e)
 first_none (Some code) b e = absurd cc
-
-no_code : (b : Bool) (code : RefusalCode) → code_where b code ≡ None → b ≡ false
-no_code true code e = absurd cc
-no_code false code e = refl
 
 -- where the last line is an input, there is no gate
 abbrev HasNoGateYet : List CircuitLine → Type 0

@@ -8,6 +8,7 @@ pub mod SmallDesigns
 pub mod ReportLines
 pub mod RightInFull
 pub mod PlainLaws
+pub mod MovedDesigns
 pub mod Witnesses
 pub mod Laws
 pub mod Migration

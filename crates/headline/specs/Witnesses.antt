@@ -20,9 +20,9 @@ use Rattle.headline.specs.PlainYes.{plain_yes}
 use Rattle.headline.specs.ReportLines.{SaysNoWith}
 use Rattle.headline.specs.SmallDesigns.{IsDesign, IsSmall, plain_text}
 
--- `plain_yes` is plain, has at least two steps, and is reported with the outcome yes. After the first step, whatever the
--- inputs, the ball of p is at (3, 3) if p has one, and that of q at (4, 4) if q has one. Both cells are of one block of
--- the next step, so the balls meet there if both are on.
+-- `plain_yes` is plain, has at least two steps, and is reported with the outcome yes. After the first step, whatever
+-- the inputs, the ball of p is at (3, 3) if p has one, and that of q at (4, 4) if q has one. Both cells are of one
+-- block of the next step, so the balls meet there if both are on.
 pub record PlainYesIsAccepted : Type 0 where
   pub plain : SaysPlain plain_yes
   pub steps : 2 ≤ plain.layout.size.steps

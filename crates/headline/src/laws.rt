@@ -3,6 +3,7 @@ ghost use Rattle.answers.specs.CheckText.{IsReportOf};
 ghost use Rattle.headline.specs.Laws.{BeginsWithOneDesign, FourthLineIsLine, FourthLineTells, HasAnAnswer, HasOneAnswer, PrintedIsRead, ReadIsPrinted, ReportsOnGoodDesigns, RightIsRightAsRead, SaysOneCertificate, SaysOneDesign, ThereAndBackIsAccepted, TimedModulesAreAccepted, YesHasOneValuation, YesMeansRight, YesMeansRightInFull, YesMeansRightStops};
 ghost use Rattle.headline.specs.PlainLaws.{DesignsAreRead, EachSmallDesignHasText, EachSmallDesignIsDecided, PlainIsDecided, PlainLinesDecide, PlainNoMeansWrong, RefusedIsNoSmallDesign, SmallDesignIsDecided, ThereAndBackIsPlain, ThereAndBackIsSmall, YesKeepsOffRim, NoLinesTell};
 ghost use Rattle.headline.specs.Witnesses.{PlainNoIsRefuted, PlainYesIsAccepted, SmallDesignIsAccepted, SmallDesignIsRefuted};
+ghost use Rattle.headline.specs.MovedDesigns.{EachCorrectDesignGetsYes, SomeDesignNeedsRoom};
 ghost use Rattle.headline.specs.Migration.{KeepsVersionTwo, MigratesOnce, MigrationIsAccepted, MigrationSaysTheSame};
 ghost use Rattle.answers.specs.MigrateText.{IsMigrationOf};
 ghost use Rattle.answers.specs.ModulesText.{IsModulesOf};
@@ -93,6 +94,18 @@ pub fn small_designs_are_decided()
     ensures text { EachSmallDesignHasText }
     ensures each { EachSmallDesignIsDecided }
     ensures read { DesignsAreRead }
+{}
+
+/// States that each small design that computes its circuit gets a yes, after its layout is moved away from the rim.
+///
+/// Take a design of at most 60 by 60 cells, 12 inputs and 64 gates that keeps the rules, computes its circuit, and has
+/// no delay. Move its layout by two columns and two rows, into a rectangle that is 4 cells wider and 4 cells higher. The
+/// moved layout keeps the rules, computes the circuit, and keeps off its rim. So each report on its plain text is a yes.
+///
+/// Some design needs this move, since it touches its rim: its own plain text is reported with a no.
+pub fn each_correct_design_gets_yes()
+    ensures each { EachCorrectDesignGetsYes }
+    ensures some { SomeDesignNeedsRoom }
 {}
 
 /// States what the lines of a no mean.

@@ -1,11 +1,11 @@
 -- Parts of lists whose blocks are turned, and blocks that stay
 use Rattle.std.proofs.Common.{◌≡◌, ℕ, Bool, true, false, ◌<◌, ◌≤◌, ◌+◌, ◌*◌, refl, arith, sym, ◌∙◌, ap}
-use Rattle.std.proofs.Common.{List, length, get_or, inl, inr, nat_eq, bit_and, bit_or}
+use Rattle.std.proofs.Common.{List, length, get_or, inl, inr, nat_eq, not, bit_and, bit_or, ◌↔◌}
 use Rattle.std.proofs.lemmas.Nat.{and_or_self, or_comm}
 use Rattle.std.specs.Int.Bits.{and_zero_l, xor_assoc, xor_self, xor_zero_l, xor_zero_r}
 use Rattle.std.specs.Int.{bit_at}
 use Rattle.std.specs.Prelude.{bit_xor}
-use Rattle.std.proofs.lemmas.Bool.{false≢true}
+use Rattle.std.proofs.lemmas.Bool.{eqb-true, false≢true, not-false}
 use Rattle.std.proofs.lemmas.Nat.Bits.{bit_at-lt, same_from_bits}
 use Rattle.std.proofs.lemmas.List.{get_or-take, get_or-drop}
 use Rattle.std.proofs.lemmas.Slice.{take-put_mid_below, drop-put_mid}
@@ -23,6 +23,17 @@ none_last a m h = sym (and_or_self m a) ∙ ap (λ (n : ℕ). bit_and n m) h ∙
 
 pub none_first : (a m : ℕ) → bit_or a m ≡ 0 → a ≡ 0
 none_first a m h = none_last m a (or_comm m a ∙ h)
+
+-- four words joined are zero if and only if each is
+pub four_zero : (a b d e : ℕ) → (not (nat_eq (bit_or (bit_or (bit_or a b) d) e) 0) ≡ false)
+    ↔ ((a ≡ 0) × (b ≡ 0) × (d ≡ 0) × (e ≡ 0))
+four_zero a b d e = (
+  λ h. let all = eqb-true _ _ (not-false _ h) in
+      let three = none_first _ _ all in
+      let two = none_first _ _ three in
+      (none_first _ _ two, none_last _ _ two, none_last _ _ three, none_last _ _ all),
+  λ z. rw (z.0, z.1, z.2, z.3) refl,
+)
 
 pub same_word : (a b : ℕ) → bit_xor a b ≡ 0 → a ≡ b
 same_word a b e = sym (xor_zero_r a) ∙ ap (λ (n : ℕ). bit_xor a n) (sym (xor_self b)) ∙ sym (xor_assoc a b b)

@@ -42,7 +42,6 @@ pub struct Planes {
 impl Planes {
     ghost use Rattle.local_run.specs.Calm.{AreDead};
     ghost use Rattle.local_run.specs.Lanes.{HasSize, lane};
-    ghost use Rattle.local_run.specs.Live.{AreZeroAt};
 
     /// Creates planes of dead cells, for a box of `width` by `height` cells.
     pub fn new(
@@ -340,6 +339,7 @@ fn part_changes(
 
 impl Planes {
     ghost use Rattle.local_run.specs.Lanes.{HasSize};
+    ghost use Rattle.local_run.specs.Live.{AreZeroAt};
 
     /// Returns how many cells a plane has. A block of the odd partition has the number of its cells, counted row by
     /// row.
@@ -432,7 +432,7 @@ impl Planes {
     /// Returns whether some cell with number u is live under one of the first 64 assignments.
     pub fn is_live_at_first(&self, u: usize) -> bool
         requires { u < self.now.stride * self.now.rows }
-        ensures { result ≡ false ↔ AreZeroAt (self.now.words * u) self.now }
+        ensures { (result ≡ false) ↔ AreZeroAt (self.now.words * u) self.now }
     {
         let at = self.words * u;
         (self.odd[at] | self.right[at] | self.down[at] | self.even[at]) != 0

@@ -13,7 +13,9 @@ def run(options: argparse.Namespace) -> int:
     """Checks all files. A signal ends all programs that run, and the results so far are written."""
     files = text_files(options.files)
     checker = Checker(find_program(options.program), options.jobs, options.timeout)
-    writer, progress, counts, stopped = WRITERS[options.format](), Progress(len(files)), {}, None
+    writer, progress = WRITERS[options.format](), Progress(len(files))
+    counts: dict[str, int] = {}
+    stopped: Stopped | None = None
     writer.begin(files)
     try:
         for result in checker.results(files):

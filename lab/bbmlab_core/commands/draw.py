@@ -10,8 +10,7 @@ from ..terminal import LabError, write_text
 
 def picture_of(file: str, names: str | None, time: int | None, report: Report | None = None) -> str:
     """Returns the picture of a text at a time, or without a time the ways of its balls."""
-    document = read_design(file)
-    layout = document.layout
+    document, layout = read_design(file)
     on = tracing.chosen_inputs(document, names)
     under = f" with {' '.join(on) or 'no input'} on"
     picture = drawing.Drawing(modules=document.certificate.modules if document.certificate else [])

@@ -9,10 +9,10 @@ from ..terminal import read_text, write_text
 
 def run(options: argparse.Namespace) -> int:
     """Writes the start of a layout for Golly."""
-    document = read_design(options.file)
+    document, layout = read_design(options.file)
     on = tracing.chosen_inputs(document, options.on)
-    start = tracing.trace_layout(document.layout, on, 0, 0).states[0]
-    write_text(options.output, golly.golly_text(document.layout, start, on, tracing.layout_lines(document)))
+    start = tracing.trace_layout(layout, on, 0, 0).states[0]
+    write_text(options.output, golly.golly_text(layout, start, on, tracing.layout_lines(document)))
     return 0
 
 

@@ -11,9 +11,7 @@ from ..terminal import LabError, write_text
 
 def run(options: argparse.Namespace) -> int:
     """Writes the live cells at each time."""
-    document = read_design(options.file)
-    layout = document.layout
-    assert layout is not None
+    document, layout = read_design(options.file)
     last = layout.steps if options.to is None else options.to
     if options.start > last:
         raise LabError(f"--from {options.start} is later than --to {last}", 2)

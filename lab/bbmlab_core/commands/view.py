@@ -13,7 +13,7 @@ from ..trials import Trial
 
 def run(options: argparse.Namespace) -> int:
     """Writes the page of a layout. A bundle is checked by the program, where there is one."""
-    document, explanation = read_design(options.file), None
+    (document, _), explanation = read_design(options.file), None
     if document.certificate:
         try:
             output = read_text(options.report) if options.report else ask(

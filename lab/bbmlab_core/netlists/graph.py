@@ -217,6 +217,7 @@ def symmetric_literal(graph: Graph, table: int, literals: list[Literal]) -> Lite
 def split_literal(graph: Graph, halves: list[tuple[tuple[int, int], list[Literal]]], literals: list[Literal]) -> Literal:
     """Returns the literal of a table as a choice by the input that leaves the fewest inputs to its two halves."""
     def weight(index: int) -> int:
+        """Returns on how many inputs the two halves depend."""
         (low, high), rest = halves[index]
         return sum(cofactor(half, other, len(rest), False) != cofactor(half, other, len(rest), True)
                    for half in (low, high) for other in range(len(rest)))

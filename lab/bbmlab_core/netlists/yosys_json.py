@@ -65,9 +65,8 @@ class ModuleReader:
                 raise NetlistError(f"The port `{name}` is `{direction}`. A port of a circuit is an input or an output.")
             if len(bits) > MAX_PORTS:
                 raise NetlistError(f"The port `{name}` has {len(bits)} bits. A circuit has at most {MAX_PORTS} wires.")
-            first = port.get("offset", 0) if isinstance(port.get("offset", 0), int) else 0
-            for index, bit in enumerate(bits, first):
-                named = name if len(bits) == 1 else f"{name}[{index}]"
+            for position, bit in enumerate(bits):
+                named = name if len(bits) == 1 else f"{name}[{bit_index(port, position, len(bits))}]"
                 net = self.net_of(bit, f"The port `{named}`")
                 if direction == "input":
                     self.add_input(named, net)
@@ -114,6 +113,12 @@ class ModuleReader:
             raise NetlistError(f"The table of the cell `{name}` has {width} inputs. At most {MAX_LUT_WIDTH} are read.")
         rows = tuple(f"{index:0{width}b}"[::-1] if width else "" for index in range(1 << width) if table >> index & 1)
         self.netlist.add(TableNode(self.bits(cell, name, "Y", 1)[0], tuple(self.bits(cell, name, "A", width)), rows, True))
+
+
+def bit_index(port: Any, position: int, width: int) -> int:
+    """Returns the index that Verilog has for a bit of a port: bits come from the lowest, whose index is the last one of `[0:3]`."""
+    offset = port.get("offset", 0)
+    return (offset if isinstance(offset, int) else 0) + (width - 1 - position if port.get("upto") else position)
 
 
 def parameter_number(value: Any) -> int:

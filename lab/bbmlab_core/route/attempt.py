@@ -7,13 +7,13 @@ from dataclasses import dataclass, field
 from typing import Callable
 
 from ..circuits import Circuit, Gate
-from .balls import Ball
+from .balls import Ball, Leg
 from .board import Board, Step, Waiting
 from .netlist import Netlist
 from .paths import Path
 from .placement import Placer
 from .settings import Settings
-from .world import tiles_of
+from .world import path_item, tiles_of
 
 
 class NoRouteError(Exception):
@@ -99,10 +99,11 @@ class Attempt:
         """
         netlist, waiting = self.netlist, self.board.waiting
 
-        def rank(gate: Gate) -> tuple[bool, float, int]:
+        def rank(gate: Gate) -> tuple[bool, bool, float, int]:
             balls = [waiting[netlist.root(wire)].ball for wire in gate.ins if not netlist.is_zero(wire)]
             times = [ball.time for ball in balls if ball is not None]
-            return not times, max(times, default=0) - self.weight * netlist.tails[gate.number], gate.number
+            is_alone = not times and self.placer.partner(gate, []) is None
+            return not times, is_alone, max(times, default=0) - self.weight * netlist.tails[gate.number], gate.number
 
         ready = [gate for gate in self.todo.values()
                  if all(netlist.is_zero(wire) or netlist.root(wire) in waiting for wire in gate.ins)]
@@ -142,39 +143,76 @@ class Attempt:
         return end
 
     def lead_to_the_end(self) -> str | None:
-        """Leads all waiting balls on to the last time; returns a sentence if that failed, and then takes the paths back."""
+        """Leads all waiting balls on to the last time; returns a sentence if that failed, and then takes the paths back.
+
+        If a ball cannot be led, the paths that cross its way are taken back, and led after it.
+        """
         board, end = self.board, self.end_time()
-        order = sorted(board.waiting, key=lambda root: self.begin(board.waiting[root]))
+        queue = sorted(board.waiting, key=lambda root: self.begin(board.waiting[root]))
         before: dict[str, Waiting] = {}
-        self.placer.blame.clear()
-        for root in order:
+        left = self.settings.end_rips
+        self.placer.stuck.clear()
+        while queue:
             self.check_time()
+            root = queue.pop(0)
             before[root] = board.stop_waiting(root)
             path = self.last_path(root, before[root].ball, end)
-            if path is None:
-                for other in board.ends:
-                    board.remove_path(other)
-                board.ends.clear()
-                for other_root, waiting in before.items():
-                    board.wait(other_root, waiting)
+            if path is not None:
+                board.ends.append(path)
+                continue
+            board.wait(root, before.pop(root))
+            enclosed = self.placer.enclosed
+            if enclosed in queue and left > 0:
+                # A path was found, but only one that would enclose this other ball: it goes first.
+                queue.remove(enclosed)
+                queue, left = [enclosed, root, *queue], left - 1
+                continue
+            crossing = self.ends_across(board.waiting[root].ball)
+            left -= 1 + len(crossing)
+            for other in crossing if left > 0 else list(board.ends):
+                board.ends.remove(other)
+                board.remove_path(other)
+                board.wait(other.wire, before.pop(other.wire))
+            if left <= 0 or not crossing:
+                self.placer.blame.clear()
                 self.placer.blame[root] += 1
+                self.clear_ends(before)
                 return f"the ball of wire {root} could not be led to the last time, {end}"
-            board.add_path(path)
-            board.ends.append(path)
+            queue = [root, *queue, *(other.wire for other in crossing)]
         return None
+
+    def clear_ends(self, before: dict[str, Waiting]) -> None:
+        """Takes all paths to the last time back."""
+        for other in self.board.ends:
+            self.board.remove_path(other)
+            self.board.wait(other.wire, before[other.wire])
+        self.board.ends.clear()
+
+    def ends_across(self, ball: Ball | None) -> list[Path]:
+        """Returns the paths to the last time that cross or touch the straight way of a ball that waits."""
+        if ball is None:
+            return []
+        room = self.board.world.free_flight(ball, 70) + 6
+        way = path_item(ball, [Leg(room, None)])
+        return [path for path in self.board.ends if way and not (way.touched.isdisjoint(path.item.touched)
+                                                                 and way.touched.isdisjoint(path.item.mirrors))]
 
     def begin(self, waiting: Waiting) -> tuple[bool, int]:
         """Returns the key by which balls are led to the end: those that wait since long come first."""
         return waiting.ball is None, waiting.ball.time if waiting.ball else 0
 
     def last_path(self, root: str, ball: Ball | None, end: int) -> Path | None:
-        """Returns a path from a waiting ball, or from any place, to the last time."""
+        """Adds a path from a waiting ball, or from any place, to the last time, and returns it. It encloses no other ball."""
         finder, board = self.placer.finder, self.board
-        for index in range(12 if ball else 60):
-            start = ball or self.free_start(index)
-            path = finder.lead_on(root, start, end)
+        self.placer.enclosed = ""
+        for index in range(self.settings.end_tries if ball else 5 * self.settings.end_tries):
+            path = finder.lead_on(root, ball or self.free_start(index), end)
             if path and board.has_room_for(root, tiles_of(path.item.touched | path.item.mirrors)):
-                return path
+                board.add_path(path)
+                if self.placer.leaves_others([(mirror.x, mirror.y) for mirror in path.mirrors()]):
+                    return path
+                board.remove_path(path)
+                self.placer.note_stuck()
         return None
 
     def free_start(self, index: int) -> Ball:

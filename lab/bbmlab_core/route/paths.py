@@ -8,7 +8,7 @@ import random
 from dataclasses import dataclass
 from typing import Callable, Iterator, NamedTuple, Sequence
 
-from .balls import BOUNCE_STEPS, Ball, Leg, Mirror, Turn, bounce, bounce_before
+from .balls import BOUNCE_STEPS, Ball, Leg, Mirror, Turn, bounce, bounce_before, follow
 from .settings import Settings
 from .world import Item, World, path_item
 
@@ -29,6 +29,10 @@ class Path:
     end: Ball
     legs: tuple[Leg, ...]
     item: Item
+
+    def mirrors(self) -> list[Mirror]:
+        """Returns the mirrors, in the order of time."""
+        return follow(self.start, self.legs)[1]
 
 
 class Option(NamedTuple):
@@ -204,7 +208,7 @@ class PathFinder:
         """Returns a path from a ball to a ball: the cheapest of some that were found."""
         settings, best, least = self.settings, None, 0.0
         total = goal.time - start.time
-        for _ in range(settings.path_choices if total <= settings.short_path else 1):
+        for _ in range(settings.path_choices if total <= settings.many_choices else 1):
             path = self.connect_once(wire, start, goal, tries)
             if path is None:
                 break
@@ -220,24 +224,31 @@ class PathFinder:
         return new + self.settings.mirror_cost * (len(path.legs) - 1)
 
     def connect_once(self, wire: str, start: Ball, goal: Ball, tries: int) -> Path | None:
-        """Returns a path from a ball to a ball. A long wait wanders first."""
-        settings = self.settings
-        if goal.time - start.time <= settings.short_path:
+        """Returns a path from a ball to a ball. If there is much time to spare, the ball wanders first."""
+        settings, total = self.settings, goal.time - start.time
+        spare = total - max(abs(start.x - goal.x), abs(start.y - goal.y))
+        if spare <= settings.direct_spare:
             legs = self.connect_short(start, goal, tries)
-            return self.complete(wire, start, goal, legs) if legs else None
-        for _ in range(max(3, tries // 60)):
-            trail = Trail(self.world, start)
-            stop = goal.time - self.chance.randint(*settings.wander_stop)
-            legs = None
-            if self.wander(trail, stop, goal):
-                before, rest = trail.legs(), self.connect_short(trail.ball, goal, tries)
-                if rest:
-                    legs = [*before[:-1], Leg(before[-1].steps + rest[0].steps, rest[0].turn), *rest[1:]]
-            trail.clear()
             path = self.complete(wire, start, goal, legs) if legs else None
+            if path or spare <= settings.least_wander:
+                return path
+        for _ in range(settings.wanders):
+            path = self.connect_by_wander(wire, start, goal, tries)
             if path:
                 return path
         return None
+
+    def connect_by_wander(self, wire: str, start: Ball, goal: Ball, tries: int) -> Path | None:
+        """Returns a path that wanders up to some time before the goal."""
+        trail = Trail(self.world, start)
+        stop = goal.time - self.chance.randint(*self.settings.wander_stop)
+        legs = None
+        if stop > start.time and self.wander(trail, stop, goal):
+            before, rest = trail.legs(), self.connect_short(trail.ball, goal, tries)
+            if rest:
+                legs = [*before[:-1], Leg(before[-1].steps + rest[0].steps, rest[0].turn), *rest[1:]]
+        trail.clear()
+        return self.complete(wire, start, goal, legs) if legs else None
 
     def connect_short(self, start: Ball, goal: Ball, tries: int) -> list[Leg] | None:
         """Returns legs from a ball to a ball.

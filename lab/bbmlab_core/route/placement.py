@@ -10,7 +10,8 @@ from dataclasses import dataclass
 from typing import Iterator
 
 from ..circuits import Gate
-from .balls import Ball, Leg, Turn, bounce
+from ..layouts import Cell
+from .balls import BOUNCE_STEPS, Ball, Leg, Turn, bounce
 from .board import Board, Step, Waiting, box_of, tiles_in
 from .cells import PORTS, GateCell
 from .paths import PathFinder
@@ -19,6 +20,8 @@ from .world import MARGIN, TILE, Item, path_item, tiles_of
 
 # Largest side of a box in tiles: boxes have at most 64 by 64 cells.
 MOST_TILES = 4
+# A waiting ball is looked at again if something new is nearer than this many columns and rows.
+NEAR = 100
 EVEN_BITS = sum(1 << index for index in range(0, 1024, 2))
 
 
@@ -52,6 +55,9 @@ class Placer:
         # Why tries failed, since the last call of `place_gate`; and for each wire how often no path was found.
         self.reasons: Counter[str] = Counter()
         self.blame: Counter[str] = Counter()
+        # Waiting balls that cannot turn, and the ball that the last step or path would have enclosed.
+        self.stuck: set[str] = set()
+        self.enclosed = ""
         # The estimated time at which all gates are done.
         self.horizon = 0
 
@@ -68,12 +74,14 @@ class Placer:
         """Returns the cheapest of some ways to place a gate, or None. Nothing is added yet."""
         self.reasons.clear()
         self.blame.clear()
+        self.stuck.clear()
         best: Step | None = None
         found, inlets = 0, self.inlets(gate)
         for spot in self.spots(gate, inlets):
             self.reasons["tries"] += 1
             step = self.try_spot(gate, spot, inlets)
             if step is None:
+                self.note_stuck()
                 if max(self.blame.values(), default=0) > 40:
                     break
                 continue
@@ -89,11 +97,11 @@ class Placer:
     def spots(self, gate: Gate, inlets: list[Inlet]) -> Iterator[Spot]:
         """Yields places and times for a gate, at which its mirrors have room and its box is free."""
         chance, tries = self.chance, self.settings.place_tries
-        cells = self.board.netlist.cells(gate)
+        cells, partner = self.board.netlist.cells(gate), self.partner(gate, inlets)
         for index in range(tries):
             cell, growth = cells[chance.randrange(len(cells))], index / tries
             left, top, right, bottom = cell.bounds
-            x, y, radius = self.centre(inlets, growth, (right - left) // 2)
+            x, y, radius = self.centre(inlets, partner, growth, (right - left) // 2)
             x, y = x - (left + right) // 2, y - (top + bottom) // 2
             row = y + chance.randint(-radius, radius)
             column = self.free_column(cell, row, x - radius, x + radius)
@@ -103,13 +111,26 @@ class Placer:
             if not self.is_box_free(cell, column, row):
                 self.reasons["box taken"] += 1
                 continue
-            time = self.earliest(cell, column, row, inlets) + chance.randint(2, chance.choice((12, 24, 50)) if growth < 0.5 else 110)
+            time = self.earliest(cell, column, row, inlets)
+            if partner:
+                time = max(time, partner.time - cell.length)
+            time += chance.randint(2, min(110, chance.choice((12, 24, 50)) + 3 * max(self.blame.values(), default=0)))
             yield Spot(cell, column, row, time + (time - column) % 2)
 
-    def centre(self, inlets: list[Inlet], growth: float, half: int) -> tuple[int, int, int]:
+    def partner(self, gate: Gate, inlets: list[Inlet]) -> Ball | None:
+        """Returns the ball that a gate's results wait for or meet later, if the gate's own inputs may all begin anywhere."""
+        netlist, waiting = self.board.netlist, self.board.waiting
+        if any(inlet.ball for inlet in inlets):
+            return None
+        consumers = [netlist.consumer[wire] for wire in gate.outs if wire in netlist.consumer]
+        others = [waiting.get(netlist.root(wire)) for consumer in consumers for wire in consumer.ins]
+        balls = [own.ball for own in others if own and own.ball]
+        return max(balls, key=lambda ball: ball.time) if balls else None
+
+    def centre(self, inlets: list[Inlet], partner: Ball | None, growth: float, half: int) -> tuple[int, int, int]:
         """Returns a place near the waiting balls for a cell of twice `half` cells, and how far around it the cell may be."""
         chance, size = self.chance, self.board.size
-        balls = [inlet.ball for inlet in inlets if inlet.ball]
+        balls = [inlet.ball for inlet in inlets if inlet.ball] or ([partner] if partner else [])
         if not balls:
             return chance.randrange(half, size - half), chance.randrange(half, size - half), 60
         radius = half + chance.choice((20, 40, 80, 30 + int(200 * growth)))
@@ -166,7 +187,7 @@ class Placer:
     def try_spot(self, gate: Gate, spot: Spot, inlets: list[Inlet]) -> Step | None:
         """Returns the step that places a gate at a spot, or None if something is in the way. The board stays as it is."""
         board, world = self.board, self.board.world
-        placed = board.place(spot.x, spot.y, spot.time, spot.cell, gate.number)
+        placed, self.enclosed = board.place(spot.x, spot.y, spot.time, spot.cell, gate.number), ""
         if not world.fits(placed.item):
             self.reasons["in the way"] += 1
             return None
@@ -175,7 +196,8 @@ class Placer:
             return None
         board.add_gate(placed)
         step = Step(placed, [])
-        done = self.reserve_outs(step, gate) and self.lead_inputs(step, inlets) and self.leaves_escapes(step)
+        done = (self.reserve_outs(step, gate) and self.leaves_others([(placed.x, placed.y)])
+                and self.lead_inputs(step, inlets) and self.leaves_escapes(step))
         for path in step.paths:
             board.remove_path(path)
         for own in step.outs.values():
@@ -248,16 +270,30 @@ class Placer:
 
     def leaves_escapes(self, step: Step) -> bool:
         """Whether each waiting ball can still turn. Adds the cost of time to the step."""
-        board = self.board
-        if not all(own.ball is None or self.can_turn(own) for own in board.waiting.values()):
+        places = [(step.gate.x, step.gate.y), *((mirror.x, mirror.y) for path in step.paths for mirror in path.mirrors())]
+        if not self.leaves_others(places):
             self.reasons["encloses another"] += 1
             return False
         if not all(self.can_turn(own) for own in step.outs.values()):
             self.reasons["enclosed"] += 1
             return False
         late = max(0, self.done(step) - self.horizon)
-        step.cost += 3 * len(board.waiting) * late + 0.3 * max(ball_of(own).time for own in step.outs.values())
+        step.cost += 3 * len(self.board.waiting) * late + 0.3 * max(ball_of(own).time for own in step.outs.values())
         return True
+
+    def leaves_others(self, places: list[Cell]) -> bool:
+        """Whether each ball that waits near new mirrors can still turn, but for those that could not turn before."""
+        waiting = self.board.waiting
+        near = [root for root, own in waiting.items() if own.ball and root not in self.stuck and any(
+            abs(own.ball.x - x) < NEAR and abs(own.ball.y - y) < NEAR for x, y in places)]
+        self.enclosed = next((root for root in near if not self.can_turn(waiting[root])), "")
+        return not self.enclosed
+
+    def note_stuck(self) -> None:
+        """Notes the ball that something would have enclosed, if it cannot turn without that either."""
+        own = self.board.waiting.get(self.enclosed)
+        if own and own.ball and not self.can_turn(own):
+            self.stuck.add(self.enclosed)
 
     def done(self, step: Step) -> int:
         """Returns an estimate of the time at which all that follows a step is done."""
@@ -270,18 +306,26 @@ class Placer:
     def can_turn(self, waiting: Waiting) -> bool:
         """Whether a waiting ball has enough places ahead at which it can turn."""
         world, ball, reserved = self.board.world, ball_of(waiting), item_of(waiting)
-        world.remove(reserved)
-        room, found = world.free_flight(ball, 70), 0
-        for steps in range(0, room + 1, 2 if room < 24 else 3):
+        room, least = world.free_flight(ball, 70), self.settings.escapes
+        found = self.count_turns(ball, range(self.settings.reserved_steps[0] + 3, room + 1, 3), least)
+        if found < least:
+            world.remove(reserved)
+            found += self.count_turns(ball, range(0, min(room, self.settings.reserved_steps[0] + 2) + 1, 2), least - found)
+            world.add(reserved)
+        return found >= least
+
+    def count_turns(self, ball: Ball, places: range, most: int) -> int:
+        """Returns how many mirrors, at most about `most`, have room after some numbers of steps, with a free way behind them."""
+        world, found = self.board.world, 0
+        for steps in places:
             at = ball.flown(steps)
             for turn in Turn:
                 after, mirror = bounce(at, turn)
-                if world.can_hold(mirror) and world.free_flight(after.flown(3), 20) >= 17:
+                if world.can_hold(mirror) and world.free_flight(after.flown(BOUNCE_STEPS), 20) >= 17:
                     found += 1
-            if found >= self.settings.escapes:
+            if found >= most:
                 break
-        world.add(reserved)
-        return found >= self.settings.escapes
+        return found
 
 
 def ball_of(waiting: Waiting) -> Ball:

@@ -11,9 +11,14 @@ class Settings:
     path_tries: int = 120
     path_choices: int = 3
     longest_leg: int = 160
-    # A wait longer than this begins with a wander, up to a time before the goal between the two other numbers.
-    short_path: int = 300
-    wander_stop: tuple[int, int] = (100, 260)
+    # Paths longer than this are not compared with others.
+    many_choices: int = 300
+    # With more steps to spare than the first number a ball wanders at once, and with more than the second if it found no other
+    # path. A wander ends at a time before the goal between the last two numbers.
+    direct_spare: int = 110
+    least_wander: int = 50
+    wanders: int = 4
+    wander_stop: tuple[int, int] = (50, 190)
     # The tries of a wander, and the ways on that it weighs at each bounce.
     wander_tries: int = 160
     wander_options: int = 10
@@ -26,5 +31,8 @@ class Settings:
     # The steps for which the way on of a waiting ball is kept free, the first that fit, and the mirrors that must have room there.
     reserved_steps: tuple[int, ...] = (14, 11, 8)
     escapes: int = 3
+    # How often paths to the last time are taken back for others, and the tries for each of them.
+    end_rips: int = 150
+    end_tries: int = 6
     # Failures after which an attempt with a seed and a size is given up.
     failures: int = 12

@@ -1,0 +1,217 @@
+-- The lines of a moved layout keep the rules of lines
+use Rattle.std.proofs.Common.{◌≡◌, ℕ, zero, suc, ◌+◌, ◌≤◌, ◌&&◌, ◌||◌, not, Bool, true, false, cond, List, [], ◌∷◌}
+use Rattle.std.proofs.Common.{◌++◌, map, None, refl, sym, ap, ap₂, subst, ◌∙◌, arith}
+use Rattle.std.specs.Prelude.{ℤ, pos, negsuc, ◌+ℤ◌, nat_le}
+use Rattle.std.specs.List.{flat_map, list_any, range_with_len}
+use Rattle.std.proofs.lemmas.Bool.{and_parts}
+use Rattle.std.proofs.lemmas.Bool.Decides.{nat_tests}
+use Rattle.std.proofs.lemmas.Int.{ints}
+use Rattle.std.proofs.lemmas.List.{map-append}
+use Rattle.bbm_rule.specs.Plane.{is_at}
+use Rattle.bbm_rule.specs.Spans.{in_span}
+use Rattle.bbm_rule.proofs.Spans.{in_span-negsuc, span_from, span_parts}
+use Rattle.section_text.specs.Codes.{code_where}
+use Rattle.section_text.specs.declared.code.RefusalCode.TheVariants.{PastLimit, TakenCell}
+use Rattle.pattern.specs.Layout.{Pattern, cell, in_layout, parts_of, rectangle_cells, row_cells}
+use Rattle.pattern.specs.Lines.{AreGoodAfter, begins, begun, cell_fault, cells_of, ended, ends, holds, is_inside}
+use Rattle.pattern.specs.Lines.{is_side, is_taken, limit_fault, size_fault}
+use Rattle.pattern.specs.declared.layout_line.LayoutHeader.{LayoutHeader}
+use Rattle.pattern.specs.declared.layout_line.LayoutLine.{LayoutLine}
+use Rattle.pattern.specs.declared.layout_line.LayoutLine.TheVariants.{Mirror, Ball, In, Out, Waste}
+use Rattle.headline.specs.MovedDesigns.{enlarged, moved, moved_by_two, moved_port, moved_rectangle}
+use Rattle.headline.proofs.MovedPlanes.{any_map, cells_moved}
+
+-- ---- lines
+
+-- the line of the moved layout in the place of this one
+abbrev moved_line : LayoutLine → LayoutLine
+moved_line (Mirror r) = Mirror (moved_rectangle r)
+moved_line (Ball c) = Ball (moved_by_two c)
+moved_line (In q) = In (moved_port q)
+moved_line (Out q) = Out (moved_port q)
+moved_line (Waste c) = Waste (moved_by_two c)
+
+abbrev moved_lines : List LayoutLine → List LayoutLine
+moved_lines parts = map moved_line parts
+
+map_both : {X Y Z W : Type 0} (f : X → Y) (g : Y → Z) (h : X → W) (k : W → Z) → ((x : X) → g (f x) ≡ k (h x)) →
+    (xs : List X) → map g (map f xs) ≡ map k (map h xs)
+map_both f g h k e [] = refl
+map_both f g h k e (x ∷ xs) = ap₂ (λ a b. a ∷ b) (e x) (map_both f g h k e xs)
+
+-- the lines of five lists are moved list by list
+all_moved : (a b c d e : List LayoutLine) → moved_lines (a ++ (b ++ (c ++ (d ++ e))))
+    ≡ moved_lines a ++ (moved_lines b ++ (moved_lines c ++ (moved_lines d ++ moved_lines e)))
+all_moved a b c d e =
+    map-append moved_line a (b ++ (c ++ (d ++ e)))
+    ∙ ap (λ l. moved_lines a ++ l) (map-append moved_line b (c ++ (d ++ e))
+    ∙ ap (λ l. moved_lines b ++ l) (map-append moved_line c (d ++ e)
+    ∙ ap (λ l. moved_lines c ++ l) (map-append moved_line d e)))
+
+parts_moved : (p : Pattern) → parts_of (moved p) ≡ moved_lines (parts_of p)
+parts_moved p =
+    ap₂ (λ a b. a ++ b) (map_both moved_rectangle Mirror Mirror moved_line (λ r. refl) p.mirrors)
+    (ap₂ (λ a b. a ++ b) (map_both moved_by_two Ball Ball moved_line (λ c. refl) p.balls)
+    (ap₂ (λ a b. a ++ b) (map_both moved_port In In moved_line (λ q. refl) p.ins)
+    (ap₂ (λ a b. a ++ b) (map_both moved_port Out Out moved_line (λ q. refl) p.outs)
+    (map_both moved_by_two Waste Waste moved_line (λ c. refl) p.wastes))))
+    ∙ sym (all_moved (map Mirror p.mirrors) (map Ball p.balls) (map In p.ins) (map Out p.outs) (map Waste p.wastes))
+
+-- ---- the cells of a line
+
+row_moved : (n x y : ℕ) → row_cells (x + 2) n (y + 2) ≡ map moved_by_two (row_cells x n y)
+row_moved zero x y = refl
+row_moved (suc n) x y =
+    ap (λ k. cell (x + 2) (y + 2) ∷ row_cells k n (y + 2)) (omega arith)
+    ∙ ap (λ l. cell (x + 2) (y + 2) ∷ l) (row_moved n (x + 1) y)
+
+rows_moved : (n x w y : ℕ) → flat_map (row_cells (x + 2) w) (range_with_len (y + 2) n)
+    ≡ map moved_by_two (flat_map (row_cells x w) (range_with_len y n))
+rows_moved zero x w y = refl
+rows_moved (suc n) x w y =
+    ap (λ k. row_cells (x + 2) w (y + 2) ++ flat_map (row_cells (x + 2) w) (range_with_len k n)) (omega arith)
+    ∙ ap₂ (λ a b. a ++ b) (row_moved w x y) (rows_moved n x w (y + 1))
+    ∙ sym (map-append moved_by_two (row_cells x w y) (flat_map (row_cells x w) (range_with_len (y + 1) n)))
+
+line_cells_moved : (part : LayoutLine) → cells_of (moved_line part) ≡ map moved_by_two (cells_of part)
+unfolding cells_of rectangle_cells
+line_cells_moved (Mirror r) = rows_moved r.h r.x r.w r.y
+line_cells_moved (Ball c) = refl
+line_cells_moved (In q) = refl
+line_cells_moved (Out q) = refl
+line_cells_moved (Waste c) = refl
+
+holds_moved : (part : LayoutLine) (x y : ℤ) → holds (moved_line part) (x +ℤ pos 2) (y +ℤ pos 2) ≡ holds part x y
+holds_moved part x y =
+    ap (list_any (λ c. is_at c (x +ℤ pos 2) (y +ℤ pos 2))) (line_cells_moved part) ∙ cells_moved (cells_of part) x y
+
+-- ---- cells that are taken
+
+begins_moved : (part : LayoutLine) → begins (moved_line part) ≡ begins part
+unfolding begins
+begins_moved (Mirror r) = refl
+begins_moved (Ball c) = refl
+begins_moved (In q) = refl
+begins_moved (Out q) = refl
+begins_moved (Waste c) = refl
+
+ends_moved : (part : LayoutLine) → ends (moved_line part) ≡ ends part
+unfolding ends
+ends_moved (Mirror r) = refl
+ends_moved (Ball c) = refl
+ends_moved (In q) = refl
+ends_moved (Out q) = refl
+ends_moved (Waste c) = refl
+
+begun_moved : (parts : List LayoutLine) (x y : ℤ) →
+    begun (moved_lines parts) (x +ℤ pos 2) (y +ℤ pos 2) ≡ begun parts x y
+unfolding begun
+begun_moved parts x y =
+    any_map moved_line _ _ (λ b. ap₂ (λ a c. a && c) (begins_moved b) (holds_moved b x y)) parts
+
+ended_moved : (parts : List LayoutLine) (x y : ℤ) →
+    ended (moved_lines parts) (x +ℤ pos 2) (y +ℤ pos 2) ≡ ended parts x y
+unfolding ended
+ended_moved parts x y =
+    any_map moved_line _ _ (λ b. ap₂ (λ a c. a && c) (ends_moved b) (holds_moved b x y)) parts
+
+taken_moved : (before : List LayoutLine) (part : LayoutLine) →
+    is_taken (moved_lines before) (moved_line part) ≡ is_taken before part
+unfolding is_taken
+taken_moved before part = λ i. cond (begins_moved part i) (at_start i) (at_end i)
+  where
+    at_start : list_any (λ c. begun (moved_lines before) c.x c.y) (cells_of (moved_line part))
+        ≡ list_any (λ c. begun before c.x c.y) (cells_of part)
+    at_start =
+        ap (list_any (λ c. begun (moved_lines before) c.x c.y)) (line_cells_moved part)
+        ∙ any_map moved_by_two _ _ (λ c. begun_moved before c.x c.y) (cells_of part)
+
+    at_end : list_any (λ c. ended (moved_lines before) c.x c.y) (cells_of (moved_line part))
+        ≡ list_any (λ c. ended before c.x c.y) (cells_of part)
+    at_end =
+        ap (list_any (λ c. ended (moved_lines before) c.x c.y)) (line_cells_moved part)
+        ∙ any_map moved_by_two _ _ (λ c. ended_moved before c.x c.y) (cells_of part)
+
+-- ---- cells inside
+
+span_enlarged : (n : ℕ) (x : ℤ) → in_span 0 n x ≡ true → in_span 0 (n + 4) (x +ℤ pos 2) ≡ true
+span_enlarged n (pos k) h =
+    let e : pos k +ℤ pos 2 ≡ pos (k + 2) = omega (arith, ints) in
+    let low = (span_parts 0 n k h).1 in
+    ap (in_span 0 (n + 4)) e ∙ span_from 0 (n + 4) (k + 2) (omega arith) (omega (arith, low))
+span_enlarged n (negsuc k) h = let no = sym (in_span-negsuc 0 n k) ∙ h in cc
+
+pub layout_enlarged : (s : LayoutHeader) (x y : ℤ) → in_layout s x y ≡ true →
+    in_layout (enlarged s) (x +ℤ pos 2) (y +ℤ pos 2) ≡ true
+layout_enlarged s x y h =
+    let both = and_parts (in_span 0 s.w x) (in_span 0 s.h y) h in
+    ap₂ (λ a b. a && b) (span_enlarged s.w x both.0) (span_enlarged s.h y both.1)
+
+inside_moved : (s : LayoutHeader) (part : LayoutLine) → is_inside s part ≡ true →
+    is_inside (enlarged s) (moved_line part) ≡ true
+unfolding is_inside
+inside_moved s (Mirror r) h =
+    let both = and_parts (nat_le (r.x + r.w) s.w) (nat_le (r.y + r.h) s.h) h in
+    ap₂ (λ a b. a && b) (side r.x r.w s.w both.0) (side r.y r.h s.h both.1)
+  where
+    side : (a n m : ℕ) → nat_le (a + n) m ≡ true → nat_le (a + 2 + n) (m + 4) ≡ true
+    side a n m h = grind (arith, nat_tests, h)
+inside_moved s (Ball c) h = layout_enlarged s c.x c.y h
+inside_moved s (In q) h = layout_enlarged s q.cell.x q.cell.y h
+inside_moved s (Out q) h = layout_enlarged s q.cell.x q.cell.y h
+inside_moved s (Waste c) h = layout_enlarged s c.x c.y h
+
+-- ---- the rules
+
+limit_moved : (part : LayoutLine) → limit_fault (moved_line part) ≡ limit_fault part
+unfolding limit_fault
+limit_moved (Mirror r) = refl
+limit_moved (Ball c) = refl
+limit_moved (In q) = refl
+limit_moved (Out q) = refl
+limit_moved (Waste c) = refl
+
+fault_none : (a a' b b' : Bool) → (a ≡ true → a' ≡ true) → b' ≡ b → code_where (not a || b) TakenCell ≡ None →
+    code_where (not a' || b') TakenCell ≡ None
+fault_none true a' false b' f e none = ap₂ (λ p q. code_where (not p || q) TakenCell) (f refl) e
+fault_none true a' true b' f e none = cc
+fault_none false a' b b' f e none = cc
+
+cell_moved : (s : LayoutHeader) (before : List LayoutLine) (part : LayoutLine) → cell_fault s before part ≡ None →
+    cell_fault (enlarged s) (moved_lines before) (moved_line part) ≡ None
+unfolding cell_fault
+cell_moved s before part none =
+    fault_none (is_inside s part) _ (is_taken before part) _ (inside_moved s part) (taken_moved before part) none
+
+lines_good : (s : LayoutHeader) (before parts : List LayoutLine) → AreGoodAfter s before parts →
+    AreGoodAfter (enlarged s) (moved_lines before) (moved_lines parts)
+lines_good s before [] good = tt
+lines_good s before (part ∷ parts) good = (
+  limit_moved part ∙ good.0,
+  cell_moved s before part good.1,
+  subst (λ l. AreGoodAfter (enlarged s) l (moved_lines parts)) (map-append moved_line before (part ∷ []))
+      (lines_good s (before ++ part ∷ []) parts good.2),
+)
+
+-- the lines of the moved layout are good, each after those before it
+pub moved_good : (p : Pattern) → AreGoodAfter p.size [] (parts_of p) →
+    AreGoodAfter (moved p).size [] (parts_of (moved p))
+moved_good p good =
+    subst (AreGoodAfter (enlarged p.size) []) (sym (parts_moved p)) (lines_good p.size [] (parts_of p) good)
+
+side_more : (n : ℕ) → is_side n ≡ true → n ≤ 60 → is_side (n + 4) ≡ true
+side_more n side few = grind (arith, nat_tests, side)
+
+no_code : (a : Bool) → code_where (not a) PastLimit ≡ None → a ≡ true
+no_code true e = refl
+no_code false e = cc
+
+-- and its size is within the limits
+pub enlarged_good : (s : LayoutHeader) → size_fault s ≡ None → s.w ≤ 60 → s.h ≤ 60 → size_fault (enlarged s) ≡ None
+unfolding size_fault
+enlarged_good s none wide high =
+    let all = no_code (is_side s.w && is_side s.h && nat_le s.steps 65536) none in
+    let both = and_parts (is_side s.w && is_side s.h) (nat_le s.steps 65536) all in
+    let sides = and_parts (is_side s.w) (is_side s.h) both.0 in
+    ap (λ b. code_where (not b) PastLimit)
+    (ap₂ (λ a b. a && b) (ap₂ (λ a b. a && b) (side_more s.w sides.0 wide) (side_more s.h sides.1 high)) both.1)

@@ -1,0 +1,75 @@
+-- The plane of a moved design is the moved plane, at each time
+use Rattle.std.proofs.Common.{◌≡◌, ℕ, zero, suc, ◌+◌, ◌&&◌, ◌||◌, Bool, List, [], ◌∷◌, map, refl}
+use Rattle.std.proofs.Common.{ap, ap₂, subst, arith}
+use Rattle.std.specs.Prelude.{ℤ, pos, ◌+ℤ◌, ◌-ℤ◌}
+use Rattle.std.specs.List.{list_any}
+use Rattle.std.specs.Ordering.{int_eq}
+use Rattle.std.proofs.lemmas.Int.{ints}
+use Rattle.bbm_rule.specs.Moves.{IsMoved}
+use Rattle.bbm_rule.specs.Plane.{is_at, run}
+use Rattle.bbm_rule.specs.declared.block.Cell.{Cell}
+use Rattle.bbm_rule.proofs.Moving.{step_moved}
+use Rattle.pattern.specs.Layout.{Pattern, in_cells, in_ports_on, in_rectangle, in_rectangles, start}
+use Rattle.pattern.specs.declared.layout_line.Port.{Port}
+use Rattle.pattern.specs.declared.layout_line.Rectangle.{Rectangle}
+use Rattle.module_box.proofs.MovedBoxes.{span_moved}
+use Rattle.headline.specs.MovedDesigns.{moved, moved_by_two, moved_port, moved_rectangle}
+
+-- ---- coordinates
+
+-- each number is two more than some number
+two_more : (x : ℤ) → (x -ℤ pos 2) +ℤ pos 2 ≡ x
+two_more x = omega (arith, ints)
+
+-- what holds of each moved cell holds of each cell
+pub by_moved : (P : ℤ → ℤ → Type 0) → ((x y : ℤ) → P (x +ℤ pos 2) (y +ℤ pos 2)) → (x y : ℤ) → P x y
+by_moved P h x y =
+    subst (λ a. P a y) (two_more x) (subst (P ((x -ℤ pos 2) +ℤ pos 2)) (two_more y) (h (x -ℤ pos 2) (y -ℤ pos 2)))
+
+eq_moved : (a b : ℤ) → int_eq (a +ℤ pos 2) (b +ℤ pos 2) ≡ int_eq a b
+eq_moved a b = grind (arith, ints)
+
+area_moved : (r : Rectangle) (x y : ℤ) →
+    in_rectangle (moved_rectangle r) (x +ℤ pos 2) (y +ℤ pos 2) ≡ in_rectangle r x y
+area_moved r x y = ap₂ (λ a b. a && b)
+    (span_moved r.x (r.x + 2) r.w r.w (pos 2) x (from r.x) refl)
+    (span_moved r.y (r.y + 2) r.h r.h (pos 2) y (from r.y) refl)
+  where
+    from : (k : ℕ) → pos (k + 2) ≡ pos k +ℤ pos 2
+    from k = omega (arith, ints)
+
+-- ---- sets of cells
+
+pub any_map : {X Y : Type 0} (f : X → Y) (test : Y → Bool) (test' : X → Bool) → ((x : X) → test (f x) ≡ test' x) →
+    (xs : List X) → list_any test (map f xs) ≡ list_any test' xs
+any_map f test test' h [] = refl
+any_map f test test' h (x ∷ xs) = ap₂ (λ a b. a || b) (h x) (any_map f test test' h xs)
+
+pub is_at_moved : (c : Cell) (x y : ℤ) → is_at (moved_by_two c) (x +ℤ pos 2) (y +ℤ pos 2) ≡ is_at c x y
+is_at_moved c x y = ap₂ (λ a b. a && b) (eq_moved c.x x) (eq_moved c.y y)
+
+pub cells_moved : (cs : List Cell) (x y : ℤ) →
+    in_cells (map moved_by_two cs) (x +ℤ pos 2) (y +ℤ pos 2) ≡ in_cells cs x y
+cells_moved cs x y = any_map moved_by_two _ _ (λ c. is_at_moved c x y) cs
+
+pub rectangles_moved : (rs : List Rectangle) (x y : ℤ) →
+    in_rectangles (map moved_rectangle rs) (x +ℤ pos 2) (y +ℤ pos 2) ≡ in_rectangles rs x y
+rectangles_moved rs x y = any_map moved_rectangle _ _ (λ r. area_moved r x y) rs
+
+ports_on_moved : (on : List ℕ → Bool) (qs : List Port) (x y : ℤ) →
+    in_ports_on on (map moved_port qs) (x +ℤ pos 2) (y +ℤ pos 2) ≡ in_ports_on on qs x y
+ports_on_moved on qs x y = any_map moved_port _ _ (λ q. ap (λ b. on q.name && b) (is_at_moved q.cell x y)) qs
+
+-- ---- the run
+
+start_moved : (p : Pattern) (on : List ℕ → Bool) → IsMoved (pos 2) (pos 2) (start p on) (start (moved p) on)
+unfolding start
+start_moved p on x y = λ i. rectangles_moved p.mirrors x y i || cells_moved p.balls x y i
+    || ports_on_moved on p.ins x y i
+
+pub run_moved : (p : Pattern) (on : List ℕ → Bool) (t : ℕ) →
+    IsMoved (pos 2) (pos 2) (run (start p on) t) (run (start (moved p) on) t)
+unfolding run
+run_moved p on zero = start_moved p on
+run_moved p on (suc t) =
+    step_moved t (pos 2) (pos 2) (run (start p on) t) (run (start (moved p) on) t) refl refl (run_moved p on t)

@@ -1,0 +1,44 @@
+-- A moved layout keeps off its rim
+use Rattle.std.proofs.Common.{◌≡◌, ℕ, ◌+◌, ◌&&◌, true, false, sym, ap, ap₂, ◌∙◌, arith}
+use Rattle.std.specs.Prelude.{ℤ, pos, negsuc, ◌+ℤ◌, ◌-ℤ◌}
+use Rattle.std.proofs.lemmas.Bool.{and_parts}
+use Rattle.std.proofs.lemmas.Int.{ints}
+use Rattle.bbm_rule.specs.Spans.{in_span}
+use Rattle.bbm_rule.proofs.Spans.{in_span-negsuc, span_from, span_parts}
+use Rattle.module_box.specs.Boxes.{in_box, in_ring}
+use Rattle.module_box.specs.Tiling.{rectangle_of}
+use Rattle.module_box.proofs.RingTests.{ring_read}
+use Rattle.pattern.specs.Layout.{in_layout}
+use Rattle.pattern.specs.declared.layout_line.LayoutHeader.{LayoutHeader}
+
+-- a number of the old span, and the two numbers next to it, are in the enlarged span
+record IsInner (n : ℕ) (x : ℤ) : Type 0 where
+  below : in_span 0 (n + 4) ((x +ℤ pos 2) -ℤ pos 1) ≡ true
+  at : in_span 0 (n + 4) (x +ℤ pos 2) ≡ true
+  above : in_span 0 (n + 4) ((x +ℤ pos 2) +ℤ pos 1) ≡ true
+
+inner : (n : ℕ) (x : ℤ) → in_span 0 n x ≡ true → IsInner n x
+inner n (pos k) h =
+    let low = (span_parts 0 n k h).1 in
+    let one : (pos k +ℤ pos 2) -ℤ pos 1 ≡ pos (k + 1) = omega (arith, ints) in
+    let two : pos k +ℤ pos 2 ≡ pos (k + 2) = omega (arith, ints) in
+    let three : (pos k +ℤ pos 2) +ℤ pos 1 ≡ pos (k + 3) = omega (arith, ints) in
+    record {
+      below = ap (in_span 0 (n + 4)) one ∙ span_from 0 (n + 4) (k + 1) (omega arith) (omega (arith, low));
+      at = ap (in_span 0 (n + 4)) two ∙ span_from 0 (n + 4) (k + 2) (omega arith) (omega (arith, low));
+      above = ap (in_span 0 (n + 4)) three ∙ span_from 0 (n + 4) (k + 3) (omega arith) (omega (arith, low));
+    }
+inner n (negsuc k) h = let no = sym (in_span-negsuc 0 n k) ∙ h in cc
+
+-- no cell of the old rectangle is in the new rim
+pub not_rim : (s : LayoutHeader) (x y : ℤ) → in_layout s x y ≡ true →
+    in_ring (rectangle_of (s.w + 4) (s.h + 4)) (x +ℤ pos 2) (y +ℤ pos 2) ≡ false
+unfolding in_box
+not_rim s x y h =
+    let both = and_parts (in_span 0 s.w x) (in_span 0 s.h y) h in
+    let across = inner s.w x both.0 in
+    let down = inner s.h y both.1 in
+    sym (ring_read (rectangle_of (s.w + 4) (s.h + 4)) (x +ℤ pos 2) (y +ℤ pos 2) true true true
+    (sym (ap₂ (λ a b. a && b) across.at down.at))
+    (sym (ap₂ (λ a b. a && b) across.below across.above))
+    (sym (ap₂ (λ a b. a && b) down.below down.above)))

@@ -1,0 +1,281 @@
+-- A mirror that touches the rim of its rectangle: its layout computes a circuit, and gets a yes after it is moved
+use Rattle.std.proofs.Common.{◌≡◌, ℕ, zero, suc, ◌+◌, ◌≤◌, ◌&&◌, ◌||◌, Bool, true, false, List, [], ◌∷◌, leb, ltb}
+use Rattle.std.proofs.Common.{refl, sym, ap, ap₂, subst, ◌∙◌, arith, inl, inr}
+use Rattle.std.specs.Prelude.{ℤ, pos, negsuc, ◌+ℤ◌, ◌-ℤ◌, IsTrue, None, codes, option_map, unwrap_or}
+use Rattle.std.proofs.lemmas.Bool.{and_parts}
+use Rattle.std.proofs.lemmas.Bool.Decides.{nat_tests}
+use Rattle.std.proofs.lemmas.Int.{ints}
+use Rattle.std.proofs.lemmas.List.Elements.{All-cons, All-nil}
+use Rattle.section_text.specs.Words.{is_name}
+use Rattle.bbm_rule.specs.Plane.{State, partner, run, step, turned}
+use Rattle.bbm_rule.specs.Spans.{in_area, in_span}
+use Rattle.bbm_rule.proofs.Spans.{even_span, in_span-negsuc, in_span-pos, more_one_negative, partner_near}
+use Rattle.bbm_rule.proofs.Spans.{span_from, span_parts}
+use Rattle.bbm_rule.proofs.Steps.{step_same}
+use Rattle.circuit.specs.Bridge.{AreGood, circuit_of, AreGoodAfter as AreGoodCircuit}
+use Rattle.circuit.specs.Rules.{add_fault}
+use Rattle.circuit.specs.Gates.{row}
+use Rattle.circuit.specs.Meaning.{Gate as Meant, HasRow, Satisfies, Valuation, number}
+use Rattle.circuit.specs.declared.circuit_line.CircuitLine.{CircuitLine}
+use Rattle.circuit.specs.declared.circuit_line.GateKind.{GateKind}
+use Rattle.circuit.specs.declared.circuit_line.GateKind.TheVariants.{Delay, Source}
+use Rattle.circuit.specs.declared.circuit_line.Kind.TheVariants.{Gate, Spill}
+use Rattle.pattern.specs.Lines.{AreGoodAfter, begins, begun, cell_fault, cells_of, is_inside, is_taken, limit_fault}
+use Rattle.pattern.specs.Lines.{size_fault}
+use Rattle.pattern.specs.Layout.{Pattern, in_layout, parts_of, plane_at, rectangle_cells}
+use Rattle.pattern.specs.Layout.{start}
+use Rattle.module_box.specs.Boxes.{in_box, in_ring, some_neighbour}
+use Rattle.audit_core.specs.PlainCertificates.{TouchesRim}
+use Rattle.answers.specs.CheckText.{IsReportOf}
+use Rattle.answers.specs.declared.outcome.Outcome.TheVariants.{No}
+use Rattle.meaning.specs.Implements.{IsCorrect, LooksAsAsked, run_under}
+use Rattle.headline.specs.MovedDesigns.{HasRoom, SomeDesignNeedsRoom}
+use Rattle.headline.specs.SmallDesigns.{HasNoDelay, IsDesign, IsSmall, plain_text}
+use Rattle.headline.proofs.AcceptedTexts.{no_of}
+use Rattle.headline.proofs.MovedDesigns.{each_gets_yes}
+use Rattle.headline.proofs.SomeReport.{some_report}
+use Rattle.headline.proofs.WrittenDesigns.{each_is_decided}
+
+-- a constant that is spilled
+abbrev constant : List CircuitLine
+constant =
+    record { kind = Gate (Source true); ins = []; outs = codes "a" ∷ [] }
+    ∷ record { kind = Spill; ins = codes "a" ∷ []; outs = [] } ∷ []
+
+-- a mirror of 2 by 2 cells at column 1 and row 0, for two steps, in a rectangle of 4 by 2 cells
+abbrev rim_mirror : Pattern
+rim_mirror = record {
+  size = record { w = 4; h = 2; steps = 2 };
+  mirrors = record { x = 1; y = 0; w = 2; h = 2 } ∷ [];
+  balls = [];
+  ins = [];
+  outs = [];
+  wastes = [];
+}
+
+-- ---- the mirror stays
+
+abbrev mirror : State
+mirror x y = in_area 1 0 2 2 x y
+
+-- the rows of a block are alike
+rows_stay : (a b c : Bool) → turned (a && b) (c && b) (c && b) (a && b) ≡ (a && b)
+unfolding turned
+rows_stay true true true = refl
+rows_stay true true false = refl
+rows_stay true false true = refl
+rows_stay true false false = refl
+rows_stay false true true = refl
+rows_stay false true false = refl
+rows_stay false false true = refl
+rows_stay false false false = refl
+
+-- its columns are alike
+columns_stay : (a b d : Bool) → turned (a && b) (a && d) (a && b) (a && d) ≡ (a && b)
+unfolding turned
+columns_stay true true true = refl
+columns_stay true true false = refl
+columns_stay true false true = refl
+columns_stay true false false = refl
+columns_stay false true true = refl
+columns_stay false true false = refl
+columns_stay false false true = refl
+columns_stay false false false = refl
+
+beyond : (k : ℕ) → in_span 1 2 (pos (3 + k)) ≡ false
+beyond k = in_span-pos 1 2 (3 + k) ∙ tests k
+  where
+    tests : (k : ℕ) → (leb 1 (3 + k) && ltb (3 + k) (1 + 2)) ≡ false
+    tests k = grind (arith, nat_tests)
+
+-- the partners of a number beyond the span are not in it
+far : (k : ℕ) → in_span 1 2 (partner 1 (pos (4 + k))) ≡ false
+far k = elim (partner_near 1 (pos (4 + k))) [
+  | inl up ↦ ap (in_span 1 2) (up ∙ above k) ∙ beyond (k + 2)
+  | inr down ↦ ap (in_span 1 2) (down ∙ below k) ∙ beyond k
+]
+  where
+    above : (k : ℕ) → pos (4 + k) +ℤ pos 1 ≡ pos (3 + (k + 2))
+    above k = omega (arith, ints)
+
+    below : (k : ℕ) → pos (4 + k) -ℤ pos 1 ≡ pos (3 + k)
+    below k = omega (arith, ints)
+
+negative : (k : ℕ) → in_span 1 2 (partner 1 (negsuc (suc k))) ≡ false
+negative k = elim (partner_near 1 (negsuc (suc k))) [
+  | inl up ↦ ap (in_span 1 2) (up ∙ more_one_negative k) ∙ in_span-negsuc 1 2 k
+  | inr down ↦ ap (in_span 1 2) (down ∙ below k) ∙ in_span-negsuc 1 2 (suc (suc k))
+]
+  where
+    below : (k : ℕ) → negsuc (suc k) -ℤ pos 1 ≡ negsuc (suc (suc k))
+    below k = omega (arith, ints)
+
+odd_span : (z : ℤ) → in_span 1 2 (partner 1 z) ≡ in_span 1 2 z
+unfolding partner in_span
+odd_span (pos zero) = refl
+odd_span (pos (suc zero)) = refl
+odd_span (pos (suc (suc zero))) = refl
+odd_span (pos (suc (suc (suc zero)))) = refl
+odd_span (pos (suc (suc (suc (suc k))))) =
+    let four : suc (suc (suc (suc k))) ≡ 4 + k = omega arith in
+    let three : suc (suc (suc (suc k))) ≡ 3 + (k + 1) = omega arith in
+    ap (λ n. in_span 1 2 (partner 1 (pos n))) four ∙ far k ∙ sym (beyond (k + 1))
+    ∙ ap (λ n. in_span 1 2 (pos n)) (sym three)
+odd_span (negsuc zero) = refl
+odd_span (negsuc (suc k)) = negative k ∙ sym (in_span-negsuc 1 2 (suc k))
+
+even_stays : (x y : ℤ) → step 0 mirror x y ≡ mirror x y
+unfolding step
+even_stays x y =
+    (λ i. turned (mirror x y) (in_span 1 2 (partner 0 x) && even_span 0 2 0 y refl refl refl i) (mirror (partner 0 x) y)
+    (in_span 1 2 x && even_span 0 2 0 y refl refl refl i))
+    ∙ rows_stay (in_span 1 2 x) (in_span 0 2 y) (in_span 1 2 (partner 0 x))
+
+odd_stays : (x y : ℤ) → step 1 mirror x y ≡ mirror x y
+unfolding step
+odd_stays x y =
+    (λ i. turned (mirror x y) (odd_span x i && in_span 0 2 (partner 1 y)) (odd_span x i && in_span 0 2 y)
+    (mirror x (partner 1 y)))
+    ∙ columns_stay (in_span 1 2 x) (in_span 0 2 y) (in_span 0 2 (partner 1 y))
+
+at_start : (on : List ℕ → Bool) (x y : ℤ) → start rim_mirror on x y ≡ mirror x y
+unfolding start
+at_start on x y = only (mirror x y)
+  where
+    only : (b : Bool) → ((b || false) || false || false) ≡ b
+    only true = refl
+    only false = refl
+
+-- a step of a plane that looks like the mirror
+next : (t : ℕ) (s : State) (x y : ℤ) → ((x y : ℤ) → s x y ≡ mirror x y) → step t s x y ≡ step t mirror x y
+next t s x y h = step_same t s mirror x y (h x y) (h (partner t x) (partner t y)) (h (partner t x) y)
+    (h x (partner t y))
+
+stays : (on : List ℕ → Bool) (t : ℕ) → t ≤ 2 → (x y : ℤ) → plane_at rim_mirror on t x y ≡ mirror x y
+unfolding run
+stays on zero few x y = at_start on x y
+stays on (suc zero) few x y = next 0 (start rim_mirror on) x y (at_start on) ∙ even_stays x y
+stays on (suc (suc zero)) few x y =
+    next 1 (step 0 (start rim_mirror on)) x y (λ x y. next 0 (start rim_mirror on) x y (at_start on) ∙ even_stays x y)
+    ∙ odd_stays x y
+stays on (suc (suc (suc t))) few x y = absurd (omega (arith, few))
+
+-- ---- the layout computes the circuit
+
+abbrev always_on : Valuation
+always_on w = true
+
+satisfied : (inputs : Valuation) → Satisfies (circuit_of constant).netlist inputs always_on
+unfolding number row
+satisfied inputs = record {
+  given = λ i lt. absurd (omega (arith, lt));
+  rows = All-cons (HasRow always_on) (record { kind = Source true; ins = []; outs = 0 ∷ [] }) [] refl
+      (All-nil (HasRow always_on));
+}
+
+looks : (value : List ℕ → Bool) (s : State) → ((x y : ℤ) → s x y ≡ mirror x y) → LooksAsAsked rim_mirror value s
+looks value s same = record {
+  mirrors = λ x y h. same x y ∙ one (mirror x y) h;
+  outputs = λ i q at. absurd cc;
+  elsewhere = λ x y h outs wastes. same x y ∙ none (mirror x y) h;
+}
+  where
+    one : (b : Bool) → (b || false) ≡ true → b ≡ true
+    one true e = refl
+    one false e = e
+
+    none : (b : Bool) → (b || false) ≡ false → b ≡ false
+    none true e = e
+    none false e = refl
+
+inside : (x y : ℤ) → mirror x y ≡ true → in_layout rim_mirror.size x y ≡ true
+inside x y h =
+    let both = and_parts (in_span 1 2 x) (in_span 0 2 y) h in
+    ap₂ (λ a b. a && b) (across x both.0) both.1
+  where
+    across : (x : ℤ) → in_span 1 2 x ≡ true → in_span 0 4 x ≡ true
+    across (pos k) h = let high = (span_parts 1 2 k h).1 in span_from 0 4 k (omega arith) (omega (arith, high))
+    across (negsuc k) h = let no = sym (in_span-negsuc 1 2 k) ∙ h in cc
+
+mirror_correct : IsCorrect constant rim_mirror
+mirror_correct = record {
+  named = record { ins = λ n. refl; outs = λ n. refl };
+  implements = λ inputs. record {
+    values = always_on;
+    satisfied = satisfied inputs;
+    looks = λ v ok. looks _ (run_under (circuit_of constant) rim_mirror inputs 2) (stays _ 2 (omega arith));
+  };
+  stays = λ inputs t few x y live. inside x y (sym (stays _ t few x y) ∙ live);
+}
+
+-- ---- its lines keep the rules
+
+constant_good : AreGood constant
+unfolding AreGoodCircuit add_fault
+constant_good = (
+  record { adds = refl; fits = (refl, refl); inputs_first = λ e. refl },
+  (record { adds = refl; fits = (refl, refl); inputs_first = λ e. cc }, tt),
+)
+
+mirror_size : size_fault rim_mirror.size ≡ None
+unfolding size_fault
+mirror_size = refl
+
+mirror_good : AreGoodAfter rim_mirror.size [] (parts_of rim_mirror)
+unfolding begins begun cell_fault cells_of is_inside is_taken limit_fault rectangle_cells
+mirror_good = (refl, refl, tt)
+
+mirror_design : IsDesign constant rim_mirror
+mirror_design = record {
+  circuit_lines = constant_good;
+  in_order = (refl, (refl, tt));
+  names = All-cons (λ n. IsTrue (is_name n)) (codes "a") [] refl (All-nil (λ n. IsTrue (is_name n)));
+  all_consumed = refl;
+  size = mirror_size;
+  layout_lines = mirror_good;
+  ports = mirror_correct.named;
+}
+
+no_delay : HasNoDelay constant
+no_delay zero steps a b e =
+    let kind : ◌≡◌ {A = GateKind} (Source true) (Delay steps) =
+    ap (λ o. unwrap_or (option_map (λ (g : Meant). g.kind) o) (Source true)) e in
+    cc
+no_delay (suc k) steps a b e = absurd cc
+
+room : HasRoom constant rim_mirror
+room = record { wide = omega arith; high = omega arith; inputs = omega arith; gates = omega arith }
+
+small : IsSmall constant rim_mirror
+small = record { wide = omega arith; high = omega arith; inputs = omega arith; gates = omega arith }
+
+-- ---- it touches its rim
+
+touches : TouchesRim constant rim_mirror
+unfolding in_span in_box in_ring some_neighbour
+touches = record {
+  inputs = always_on;
+  time = 1;
+  x = pos 1;
+  y = pos 0;
+  touch = record { odd = refl; early = omega arith; rim = refl; live = stays _ 1 (omega arith) (pos 1) (pos 0) };
+}
+
+pub needs_room : SomeDesignNeedsRoom
+needs_room =
+    let text = plain_text constant rim_mirror in
+    let r = some_report text in
+    let decided = each_is_decided constant rim_mirror r.0 r.1 mirror_design small r.2 in
+    let no : r.1 ≡ No = no_of r.1 (λ e. (decided.1.0 e).2 touches) decided.0 in
+    record {
+      circuit = constant;
+      layout = rim_mirror;
+      design = mirror_design;
+      room = room;
+      correct = mirror_correct;
+      no_delay = no_delay;
+      touches = touches;
+      output = r.0;
+      reported = subst (IsReportOf text r.0) no r.2;
+      gets_yes = each_gets_yes constant rim_mirror mirror_design room mirror_correct no_delay;
+    }

@@ -1,0 +1,221 @@
+"""How commands end: devices, pipes, signals, hostile names and numbers, and files that must not be lost."""
+
+import json
+import os
+import signal
+import subprocess
+import sys
+import tempfile
+import time
+import unittest
+import xml.etree.ElementTree as ET
+from pathlib import Path
+from typing import Callable
+
+import support
+from test_commands import fake_program
+
+LAB = [sys.executable, str(support.LAB / "bbmlab")]
+YES = r"printf 'bbmcheck 1\ncertificate %064d\nmodules 1\nverdict yes\n' 0" + "\n"
+
+
+def run(*words: str, **more: object) -> "subprocess.CompletedProcess[bytes]":
+    """Runs the lab's executable."""
+    return subprocess.run([*LAB, *words], stderr=subprocess.PIPE, check=False, **more)  # type: ignore[call-overload,no-any-return]
+
+
+class Devices(unittest.TestCase):
+    """Outputs and inputs that fail."""
+
+    def test_full_device(self) -> None:
+        """What can't be written ends with 4 and a line, for each command that writes, and never with a traceback."""
+        file = support.example("head_on_bundle")
+        for words in (("check", file), ("trace", file), ("draw", file), ("json", file), ("fmt", file), ("golly", file), ("explain", file)):
+            with open("/dev/full", "wb") as full, self.subTest(words[0]):
+                ended = run(*words, stdout=full, env={**os.environ, "BBMCHECK": support.program()})
+                self.assertEqual(ended.returncode, 4)
+                self.assertIn(b"No space left on device", ended.stderr)
+                self.assertNotIn(b"Traceback", ended.stderr)
+
+    def test_closed_streams(self) -> None:
+        """A closed standard output or input ends with 4."""
+        for redirection in (">&-", "<&-"):
+            script = f'exec "$@" {redirection}'
+            words = ["json", support.example("head_on")] if redirection == ">&-" else ["json", "-"]
+            ended = subprocess.run(["sh", "-c", script, "sh", *LAB, *words], capture_output=True, check=False)
+            with self.subTest(redirection):
+                self.assertEqual((ended.returncode, ended.stdout), (4, b""))
+                self.assertNotIn(b"Traceback", ended.stderr)
+
+    def test_closed_pipe(self) -> None:
+        """If the reader of a pipe is gone, the lab ends by SIGPIPE, as `cat` does."""
+        reader, writer = os.pipe()
+        os.close(reader)
+        ended = run("json", support.example("full_adder"), stdout=writer)
+        os.close(writer)
+        self.assertEqual(ended.returncode, -signal.SIGPIPE)
+        self.assertEqual(ended.stderr, b"")
+
+
+class Signals(unittest.TestCase):
+    """Ends that are asked for while programs run."""
+
+    def test_check_ends_at_once(self) -> None:
+        """SIGINT and SIGTERM kill the programs and write the results so far; the files that are left are not started."""
+        for number, status in ((signal.SIGINT, 130), (signal.SIGTERM, 143)):
+            for form in ("text", "json"):
+                with tempfile.TemporaryDirectory() as room, self.subTest(f"{number.name} {form}"):
+                    self.check_stopped(Path(room), number, status, form)
+
+    def check_stopped(self, room: Path, number: signal.Signals, status: int, form: str) -> None:
+        """Stops a check of five files, of which the first is quick and the others take a minute."""
+        for name in "abcde":
+            (room / f"{name}.txt").write_text("slow\n" if name > "a" else "quick\n")
+        body = f"cat >{room}/text.$$; grep -q slow {room}/text.$$ && {{ echo x >>{room}/begun; sleep 60; }}\n" + YES
+        program = fake_program(str(room), body)
+        ran = subprocess.Popen([*LAB, "check", "--jobs", "2", "--format", form, "--program", program, str(room)],
+                               stdout=subprocess.PIPE, stderr=subprocess.PIPE)
+        self.wait_for(lambda: (room / "begun").exists() and (room / "begun").read_text().count("x") == 2)
+        asked = time.monotonic()
+        ran.send_signal(number)
+        output, _ = ran.communicate(timeout=30)
+        self.assertLess(time.monotonic() - asked, 5)
+        self.assertEqual(ran.returncode, status)
+        self.assertEqual((room / "begun").read_text().count("x"), 2)
+        if form == "json":
+            document = json.loads(output)
+            self.assertEqual((document["stopped"], len(document["results"]), document["not_checked"]), (number.name, 1, 4))
+        else:
+            self.assertIn(f"1 file: 1 yes; stopped by {number.name}, 4 not checked".encode(), output)
+
+    def wait_for(self, holds: Callable[[], bool]) -> None:
+        """Waits until something holds, at most 20 seconds."""
+        for _ in range(400):
+            if holds():
+                return
+            time.sleep(0.05)
+        self.fail("it did not come to that")
+
+    def test_results_come_as_they_are_ready(self) -> None:
+        """A quick file's line is there while a slow one still runs, in each form that is written line by line."""
+        for form in ("text", "tap", "jsonl"):
+            with tempfile.TemporaryDirectory() as room, self.subTest(form):
+                for name in ("quick", "slow"):
+                    (Path(room) / f"{name}.txt").write_text(f"{name}\n")
+                body = f"read word; [ $word = quick ] || while [ ! -e {room}/go ]; do sleep 0.05; done\n" + YES
+                ran = subprocess.Popen([*LAB, "check", "--jobs", "2", "--format", form, "--program", fake_program(room, body), room],
+                                       stdout=subprocess.PIPE, stderr=subprocess.DEVNULL, text=True)
+                assert ran.stdout is not None
+                while "quick" not in ran.stdout.readline():
+                    pass
+                (Path(room) / "go").write_text("")
+                rest, _ = ran.communicate(timeout=30)
+                self.assertIn("slow", rest)
+                self.assertEqual(ran.returncode, 0)
+
+
+class Names(unittest.TestCase):
+    """Names and texts with control characters."""
+
+    def test_no_control_character_comes_out(self) -> None:
+        """A file whose name has control characters and bytes of no character is shown by escapes in each form, and the XML can be read."""
+        with tempfile.TemporaryDirectory() as room:
+            name = os.fsencode(room) + b"/a\x1b[31m\nok 1\xff.txt"
+            Path(os.fsdecode(name)).write_text("circuit\x1b[2J\n")
+            for form in ("text", "tap", "junit", "json", "jsonl"):
+                ended = run("check", "--format", form, "--program", support.program(), os.fsdecode(name), stdout=subprocess.PIPE)
+                with self.subTest(form):
+                    self.assertEqual(ended.returncode, 1)
+                    self.assertNotIn(b"\x1b", ended.stdout + ended.stderr)
+                    self.assertNotIn(b"\nok 1", ended.stdout)
+                    if form == "junit":
+                        self.assertEqual(ET.fromstring(ended.stdout).get("failures"), "1")
+            ended = run("explain", "--program", support.program(), os.fsdecode(name), stdout=subprocess.PIPE)
+            self.assertNotIn(b"\x1b", ended.stdout + ended.stderr)
+
+
+class Files(unittest.TestCase):
+    """Files that are written."""
+
+    def test_output_is_not_the_input(self) -> None:
+        """An output that is the input, also by a link, is refused, and the file stays."""
+        with tempfile.TemporaryDirectory() as room:
+            file, link = Path(room) / "a.txt", Path(room) / "b.txt"
+            text = (support.EXAMPLES / "not_gate.txt").read_text()
+            file.write_text(text)
+            link.symlink_to(file)
+            for words in (("certify", str(file), "-o", str(link)), ("fmt", str(file), "-o", str(file))):
+                with self.subTest(words[0]):
+                    self.assertEqual(run(*words, stdout=subprocess.PIPE, env={**os.environ, "BBMCHECK": support.program()}).returncode, 2)
+                    self.assertEqual(file.read_text(), text)
+            self.assertEqual(run("fmt", "-o", str(link), str(file), str(file), stdout=subprocess.PIPE).returncode, 2)
+
+    def test_old_file_stays_if_the_disk_is_full(self) -> None:
+        """If the new bytes cannot all be written, the old ones stay, and no part of a file is left behind."""
+        with tempfile.TemporaryDirectory() as room:
+            file = Path(room) / "out.svg"
+            file.write_text("old")
+            script = 'ulimit -f 1; trap "" XFSZ; exec "$@"'
+            ended = subprocess.run(["bash", "-c", script, "bash", *LAB, "draw", support.example("full_adder"), "-o", str(file)],
+                                   capture_output=True, check=False)
+            self.assertEqual(ended.returncode, 4, ended.stderr)
+            self.assertEqual((file.read_text(), [path.name for path in Path(room).iterdir()]), ("old", ["out.svg"]))
+
+    def test_fmt_keeps_comments_and_bytes(self) -> None:
+        """`fmt -i` loses comments only if that is asked for, and keeps bytes that are no ASCII as they are."""
+        with tempfile.TemporaryDirectory() as room:
+            file = Path(room) / "a.txt"
+            file.write_bytes(b"circuit   # caf\xe9\ninput  p\xff\nend\n")
+            self.assertEqual(run("fmt", "-i", str(file), stdout=subprocess.PIPE).returncode, 1)
+            self.assertEqual(file.read_bytes(), b"circuit   # caf\xe9\ninput  p\xff\nend\n")
+            run("fmt", "-i", "--strip-comments", str(file), stdout=subprocess.PIPE)
+            self.assertEqual(file.read_bytes(), b"circuit\ninput p\xff\nend\n")
+            self.assertEqual(run("fmt", str(file), stdout=subprocess.PIPE).stdout, b"circuit\ninput p\xff\nend\n")
+
+
+class Hostile(unittest.TestCase):
+    """Numbers and documents that are out of reach."""
+
+    def test_golly_header_of_a_billion(self) -> None:
+        """A run of 10^9 cells is refused at once, with a line."""
+        with tempfile.NamedTemporaryFile("w", suffix=".rle") as file:
+            file.write("x = 1000000000, y = 1, rule = B3/S23\n1000000000o!\n")
+            file.flush()
+            ended = support.lab("from-golly", file.name)
+            self.assertEqual((ended.returncode, ended.stdout), (4, ""))
+            self.assertIn("4096 rows or columns", ended.stderr)
+
+    def test_times_that_make_no_sense(self) -> None:
+        """Negative times, and a first time behind the last, are wrong words."""
+        for words in (("--from", "-3"), ("--from", "5", "--to", "2"), ("--from", "1e3"), ("--to", "-1")):
+            with self.subTest(words):
+                self.assertEqual(support.lab("trace", support.example("head_on"), *words).returncode, 2)
+
+    def test_json_names_the_wrong_member(self) -> None:
+        """A wrong member is named, and no name can smuggle a line into the text."""
+        document = json.loads(support.lab("json", support.example("timed_modules")).stdout)
+        changes = [(("circuit", "inputs", 0), "p\nend", "circuit.inputs[0]"), (("layout", "width"), -2, "layout.width"),
+                   (("layout", "balls", 0), [1], "layout.balls[0]"), (("certificate", "modules", 1, "cuts", 0), 7, "certificate.modules[1].cuts[0]"),
+                   (("circuit", "gates", 0, "gate"), "and", "circuit.gates[0].gate"), (("certificate", "version"), True, "certificate.version")]
+        document["layout"]["balls"] = [[0, 0]]
+        for path, value, name in changes:
+            changed = json.loads(json.dumps(document))
+            place = changed
+            for key in path[:-1]:
+                place = place[key]
+            place[path[-1]] = value
+            with self.subTest(name):
+                ended = support.lab("json", "--back", "-", text=json.dumps(changed))
+                self.assertEqual((ended.returncode, ended.stdout), (4, ""))
+                self.assertIn(f"bbmlab: {name} is ", ended.stderr)
+
+    def test_ways_of_many_inputs_are_sampled(self) -> None:
+        """With 360 inputs the ways are drawn from samples, and the picture says so."""
+        file = str(support.TOP / "conformance" / "data" / "trains_36_cut_v2.txt")
+        picture = support.lab("draw", "--ways", file).stdout
+        self.assertIn("in 256 sampled choices of the 360 inputs", picture)
+        self.assertGreater(picture.count('class="way'), 300)
+
+
+if __name__ == "__main__":
+    unittest.main()
