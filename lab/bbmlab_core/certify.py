@@ -5,7 +5,6 @@ and its own run has no fault. The wires of cells are found by their values in al
 many. So the certificate may be wrong where wires differ in no sample; the program decides.
 """
 
-import time as clock
 from dataclasses import dataclass, field
 from typing import Iterable
 
@@ -15,6 +14,7 @@ from .circuits import Circuit, Gate, evaluate
 from .documents import Document
 from .layouts import Cell, Layout, row_order
 from .observing import Observer, perimeter
+from .processor import processor_seconds
 from .simulation import ModuleRun, Table, cell_of, key_of
 from .terminal import LabError
 
@@ -40,7 +40,7 @@ class Wiring:
 
 @dataclass
 class Plan:
-    """What the user asked for: the kind of cuts, stops that are kept, and the time of the monotonic clock at which the search ends."""
+    """What the user asked for: the kind of cuts, stops that are kept, and the processor time at which the search ends."""
 
     version: int = 2
     cuts: str = "auto"
@@ -78,7 +78,7 @@ class Maker:
 
     def divided(self, box: Box) -> list[Module]:
         """Returns the modules of a rectangle: itself, or those of its parts."""
-        if self.plan.until is not None and clock.monotonic() > self.plan.until:
+        if self.plan.until is not None and processor_seconds() > self.plan.until:
             raise LabError("no certificate was found in the time that was given", 1)
         why = ""
         if max(box.width, box.height) <= MAX_BOX_SIDE:

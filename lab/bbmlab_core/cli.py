@@ -99,7 +99,7 @@ def add_explain(commands: Commands) -> None:
     parser.add_argument("--fix", action="store_true", help="write the text with the edits that were found, after trying them")
     parser.add_argument("-o", "--output", metavar="FILE", help="with --fix: write to this file (default: standard output)")
     parser.add_argument("-i", "--in-place", action="store_true", help="with --fix: write the file again")
-    parser.add_argument("--effort", type=seconds, default=30.0, metavar="SECONDS", help="how long fixes are looked for (default: 30)")
+    parser.add_argument("--effort", type=seconds, default=30.0, metavar="SECONDS", help="how much processor time the search for fixes takes (default: 30)")
     parser.add_argument("--command", dest="command_of_program", choices=["check", "run", "value", "modules", "migrate"],
                         help="the command of the program (default: by the sections of the text)")
     form = parser.add_mutually_exclusive_group()

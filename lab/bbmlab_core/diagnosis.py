@@ -4,7 +4,6 @@ What was not tried is `Truth.UNKNOWN`. Where the inputs are too many to try all 
 and so is that a wire differs from a cell in a sample. That no sample has a fault is no proof.
 """
 
-import time as clock
 from dataclasses import dataclass, field
 from enum import Enum
 from functools import cached_property
@@ -13,6 +12,7 @@ from .certificates import Module
 from .circuits import Circuit, Valuation, evaluate, evaluate_samples, evaluate_under
 from .documents import Document
 from .layouts import Cell, row_order
+from .processor import processor_seconds
 from .reports import Finding
 from .simulation import Fault, Field, ModuleRun, Table, WholeRun, cell_of, end_tables, key_of, local_values, lowest_bit
 
@@ -191,9 +191,9 @@ class Diagnosis:
         """Returns the whole run under the tried inputs at a time, or at the step that leaves the rectangle; None where it is too long."""
         if not self.can_run_whole():
             return None
-        run, end = WholeRun(self.layout, self.values.tables, self.values.full), clock.monotonic() + MAX_SECONDS
+        run, end = WholeRun(self.layout, self.values.tables, self.values.full), processor_seconds() + MAX_SECONDS
         while run.time < time and run.step():
-            if clock.monotonic() > end:
+            if processor_seconds() > end:
                 self.is_slow = True
                 return None
         return run

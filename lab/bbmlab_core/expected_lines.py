@@ -1,6 +1,5 @@
 """The lines about borders that a certificate should have: those of its text are compared with the whole run of the layout."""
 
-import time as clock
 from dataclasses import dataclass, field
 from functools import cached_property
 
@@ -8,6 +7,7 @@ from .certificates import BorderLine, Module
 from .diagnosis import MAX_SECONDS, Diagnosis
 from .edits import Edit, add, delete, place_in_module, replace
 from .layouts import Cell
+from .processor import processor_seconds
 from .simulation import Table, WholeRun, cell_of, key_of
 
 # The most lines that one cell gets.
@@ -48,14 +48,14 @@ class BorderCheck:
         if not self.diagnosis.can_run_whole():
             return None
         values = self.diagnosis.values
-        run, end = WholeRun(self.layout, values.tables, values.full), clock.monotonic() + MAX_SECONDS
+        run, end = WholeRun(self.layout, values.tables, values.full), processor_seconds() + MAX_SECONDS
         keys = {key_of(cell) for cell in self.owners}
         seen: dict[int, dict[int, Table]] = {}
         while run.time < self.layout.steps:
             if run.time % 2:
                 for key in keys & run.field.live.keys():
                     seen.setdefault(key, {})[run.time] = run.field.live[key]
-            if not run.step() or clock.monotonic() > end:
+            if not run.step() or processor_seconds() > end:
                 self.diagnosis.is_slow = run.left is None
                 return None
         return {cell_of(key): times for key, times in seen.items()}

@@ -1,6 +1,5 @@
 """Fixes: the search for edits after which a text is taken and gets a yes, each tried before it is named."""
 
-import time
 from dataclasses import dataclass, field
 from itertools import chain
 from typing import Iterable, Iterator
@@ -14,6 +13,7 @@ from .layout_changes import (Bench, Change, ball_changes, circuit_changes, drop_
                              missing_port_changes, move_changes, port_changes, start_changes, step_changes, wrong_cells)
 from .layouts import Cell
 from .mirror_changes import mirror_place_changes
+from .processor import processor_seconds
 from .refusal_edits import refusal_edits
 from .reports import Finding, Report
 from .terminal import LabError
@@ -226,7 +226,7 @@ class Fixer:
             if self.trial.is_over():
                 return None
             try:
-                until = time.monotonic() + self.trial.seconds_left() * CERTIFY_SHARE
+                until = processor_seconds() + self.trial.seconds_left() * CERTIFY_SHARE
                 text = certified(document, boxes, Plan(version, until=until))
             except LabError:
                 continue

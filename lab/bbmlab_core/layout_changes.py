@@ -4,7 +4,6 @@ Each kind of change is a generator. A change that passes `Bench.holds` ends as t
 tried; the program decides.
 """
 
-import time as clock
 from dataclasses import dataclass, replace as with_fields
 from functools import cached_property
 from typing import Iterable, Iterator
@@ -14,6 +13,7 @@ from .diagnosis import MAX_INPUTS, MAX_STEPS
 from .edits import Edit, add, delete, place_in_section, replace
 from .layouts import MAX_SIDE, Cell, Layout, Part, cells_of
 from .meeting_places import meeting_places, start_before
+from .processor import processor_seconds
 from .simulation import Table, WholeRun, cell_of, end_tables, key_of
 
 # How many choices of the inputs are tried first.
@@ -68,7 +68,7 @@ class Bench:
 
     def __init__(self, text: str, circuit: Circuit, layout: Layout, seconds: float = 20.0, near: Cell | None = None) -> None:
         self.circuit, self.layout, self.lines = circuit, layout, text.split("\n")
-        self.end = clock.monotonic() + seconds
+        self.end = processor_seconds() + seconds
         # The cell at which the first fault was found; what lies near it is tried first.
         self.near = near
         self.tried = 0
@@ -80,7 +80,7 @@ class Bench:
 
     def is_over(self) -> bool:
         """Whether the seconds are used up, or a run would be too long."""
-        return clock.monotonic() > self.end or self.layout.steps > MAX_STEPS
+        return processor_seconds() > self.end or self.layout.steps > MAX_STEPS
 
     def final(self, layout: Layout, values: Valuation, notes: bool = False) -> dict[int, Table] | None:
         """Returns the live cells after the last step, or None if a step leaves the rectangle or the seconds are used up."""

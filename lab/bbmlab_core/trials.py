@@ -1,20 +1,20 @@
 """Trials of edited texts: the program is asked whether a text is taken and what its report is, within a number of tries and seconds."""
 
-import time
 from dataclasses import dataclass
 
 from .documents import read_document
 from .own_report import own_report
+from .processor import processor_seconds
 from .program import ProgramError, ProgramTimeout, ask
 from .reports import Finding, Report, ReportError, parse_report
 
-# The most seconds for one run of the program, or of the lab in its place.
-MAX_RUN_SECONDS = 20.0
+# The most seconds for one run of the program.
+MAX_RUN_SECONDS = 60.0
 
 
 @dataclass(frozen=True)
 class Budget:
-    """How many texts are tried, and for how many seconds."""
+    """How many texts are tried, and for how many seconds of the processor, those of the program included."""
 
     tries: int = 600
     seconds: float = 30.0
@@ -27,7 +27,7 @@ class Trial:
         self.program = program
         self.budget = budget
         self.tries = 0
-        self.started = time.monotonic()
+        self.started = processor_seconds()
         self._known: dict[str, Report | None] = {}
 
     @property
@@ -37,7 +37,7 @@ class Trial:
 
     def seconds_left(self) -> float:
         """Returns how many seconds are left for trials."""
-        return self.budget.seconds - (time.monotonic() - self.started)
+        return self.budget.seconds - (processor_seconds() - self.started)
 
     def is_over(self) -> bool:
         """Whether the tries or the seconds are used up."""
@@ -57,7 +57,7 @@ class Trial:
         if self.program is None:
             return own_report(read_document(text, "check"))
         try:
-            answer = ask(self.program, "check", text.encode("latin-1"), max(0.1, min(MAX_RUN_SECONDS, self.seconds_left())))
+            answer = ask(self.program, "check", text.encode("latin-1"), MAX_RUN_SECONDS)
             return parse_report(answer.output) if answer.status in (0, 1, 3) else None
         except (ProgramError, ProgramTimeout, ReportError):
             return None

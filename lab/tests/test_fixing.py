@@ -289,7 +289,7 @@ class Measure(unittest.TestCase):
     def test_mutants_are_fixed(self) -> None:
         """At least 95 percent get a yes in at most two rounds, and no fix leads to a refusal."""
         program, texts = support.program(), right_texts(2000)
-        count = int(os.environ.get("BBMLAB_MUTANTS", "5"))
+        count = int(os.environ.get("BBMLAB_MUTANTS", "3"))
         total, failed = 0, []
         for family in FAMILIES:
             for name, text in mutants(family, texts, count, 7, lambda text: is_yes(Trial(program).report(text))):
