@@ -7,8 +7,8 @@ from typing import Iterable
 from .spelling import module_key, rank_of, SECTION_ORDERS
 
 ACTIONS = ("add", "replace", "delete")
-# The most lines of a text for which edits are found by comparing it with another one.
-MAX_COMPARED = 60_000
+# The most lines between the first and the last difference of two texts for which the fewest edits are looked for.
+MAX_COMPARED = 4000
 
 
 class EditError(Exception):
@@ -74,11 +74,9 @@ def applied(text: str, edits: Iterable[Edit]) -> str:
     return "\n".join(result)
 
 
-def edits_between(old: str, new: str) -> list[Edit] | None:
-    """Returns edits that make one text of another, or None if the texts are too long to compare."""
+def edits_between(old: str, new: str) -> list[Edit]:
+    """Returns edits that make one text of another."""
     before, after = old.split("\n"), new.split("\n")
-    if max(len(before), len(after)) > MAX_COMPARED:
-        return None
     first = 0
     while first < min(len(before), len(after)) and before[first] == after[first]:
         first += 1
@@ -86,6 +84,8 @@ def edits_between(old: str, new: str) -> list[Edit] | None:
     while last < min(len(before), len(after)) - first and before[-1 - last] == after[-1 - last]:
         last += 1
     middle, other = before[first:len(before) - last], after[first:len(after) - last]
+    if max(len(middle), len(other)) > MAX_COMPARED:
+        return hunk_edits(first, len(middle), other)
     edits: list[Edit] = []
     for _, low, high, start, end in difflib.SequenceMatcher(None, middle, other, autojunk=False).get_opcodes():
         if middle[low:high] != other[start:end]:

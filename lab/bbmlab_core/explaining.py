@@ -201,9 +201,10 @@ def fix_form(before: Report, fix: Fix) -> FixForm:
 
 def tried_words(fixer: Fixer, trial: Trial) -> list[str]:
     """Returns what was tried in vain."""
-    why = "the search was ended after its number of texts or seconds" if trial.is_over() else "all edits that the lab knows were tried"
-    return [f"No fix was found. {trial.tries} text{'s were' if trial.tries != 1 else ' was'} checked by {trial.judge}, and {why}.",
-            f"Tried: {'; '.join(fixer.kinds)}."]
+    is_cut_short = fixer.is_cut_short or trial.is_over()
+    end = " The search was ended by a limit, so some edits were not tried." if is_cut_short else ""
+    kinds = [f"Kinds of edits that the search came to: {'; '.join(fixer.kinds)}."] if fixer.kinds else []
+    return [f"No fix was found. {trial.tries} text{'s were' if trial.tries != 1 else ' was'} checked by {trial.judge}.{end}", *kinds]
 
 
 def is_on_rim(diagnosis: Diagnosis, finding: Finding) -> bool:

@@ -84,6 +84,8 @@ class Fixer:
         self.text, self.report, self.trial = text, report, trial
         # The kinds of edits that were tried, in words.
         self.kinds: dict[str, None] = {}
+        # Whether a limit ended some search before all edits of its kind were tried.
+        self.is_cut_short = False
         self._editor: CertificateEditor | None = None
 
     # ---- the whole text
@@ -99,7 +101,7 @@ class Fixer:
         good = [step for step in steps[1:] if not step.report.refused]
         fix = self.fix_of(good[-1], any(step.remakes for step in steps)) if good else None
         if fix and len(steps) == 2:
-            fix.others = [step_words(self.text, edits_between(self.text, text) or [], False) for text in steps[1].others]
+            fix.others = [step_words(self.text, edits_between(self.text, text), False) for text in steps[1].others]
         return fix
 
     def fix_of(self, step: Step, remakes: bool) -> Fix | None:
@@ -108,7 +110,7 @@ class Fixer:
         if remakes and old == self.text:
             old, new = (text.rstrip("\n") for text in (old, new))
         edits = edits_between(old, new)
-        if edits is None or applied(old, edits) != new:
+        if applied(old, edits) != new:
             return None
         return Fix(step.text, step.report, edits, remakes, self.trial.judge, step_words(self.text, edits, remakes))
 
@@ -154,7 +156,10 @@ class Fixer:
     def texts_for(self, text: str, document: Document) -> Iterator[str]:
         """Yields texts with edits for a refusal."""
         self.kinds["edits of the refused line and of lines that it needs"] = None
-        for _, edits in zip(range(MAX_TEXTS), refusal_edits(document)):
+        for count, edits in enumerate(refusal_edits(document)):
+            if count == MAX_TEXTS:
+                self.is_cut_short = True
+                return
             try:
                 yield applied(text, edits)
             except EditError:
@@ -203,6 +208,7 @@ class Fixer:
             if text and report and best is None and removes(step.report, report, None):
                 best = Step(text, report)
             if self.trial.is_over():
+                self.is_cut_short = True
                 break
         if best:
             return best
@@ -256,6 +262,7 @@ class Fixer:
         kept: list[tuple[Change, str]] = []
         for change in design_changes(bench, self.kinds):
             if self.trial.is_over() or bench.is_over() or len(kept) >= MAX_KEPT:
+                self.is_cut_short = True
                 break
             if not bench.holds(change):
                 continue

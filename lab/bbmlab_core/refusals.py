@@ -78,7 +78,8 @@ def _text_ended(facts: Facts) -> Explained:
     """Explains a text that ends before its last section does."""
     section = facts["section"]
     return Explained([f"The text ends before the {section} section is complete: no line is left."],
-                     [f"Write the {section} section up to its line `end`. The file may have been cut off."])
+                     [f"Write the {section} section up to its line `end`. The file may have been cut off.",
+                      *(["`bbmlab certify` makes a certificate."] if section == "certificate" else [])])
 
 
 @tells("line_not_ended")

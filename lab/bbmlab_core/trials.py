@@ -10,6 +10,8 @@ from .reports import Finding, Report, ReportError, parse_report
 
 # The most seconds for one run of the program.
 MAX_RUN_SECONDS = 60.0
+# The most steps of all modules together that the lab runs in the place of the program.
+MAX_OWN_STEPS = 50_000
 
 
 @dataclass(frozen=True)
@@ -55,12 +57,20 @@ class Trial:
     def answer(self, text: str) -> Report | None:
         """Asks about one text."""
         if self.program is None:
-            return own_report(read_document(text, "check"))
+            return self.own_answer(text)
         try:
             answer = ask(self.program, "check", text.encode("latin-1"), MAX_RUN_SECONDS)
             return parse_report(answer.output) if answer.status in (0, 1, 3) else None
         except (ProgramError, ProgramTimeout, ReportError):
             return None
+
+    def own_answer(self, text: str) -> Report | None:
+        """Returns the lab's own report, or None if the runs of its modules would take too long."""
+        document = read_document(text, "check")
+        layout, certificate = document.layout, document.certificate
+        if layout and certificate and not document.refusal and len(certificate.modules) * layout.steps > MAX_OWN_STEPS:
+            return None
+        return own_report(document)
 
 
 def is_yes(report: Report | None) -> bool:

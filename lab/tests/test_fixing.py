@@ -53,7 +53,7 @@ class Edits(unittest.TestCase):
         """What is found by comparing two texts makes one of the other."""
         for one, two in (("a\nb\nc\n", "a\nc\nd\n"), ("a\n", "a\n"), ("", "x\ny\n"), ("p\nq\nr\n", "r\nq\np\n"), ("a\na\na\n", "a\n")):
             with self.subTest(one=one, two=two):
-                self.assertEqual(applied(one, edits_between(one, two) or []), two)
+                self.assertEqual(applied(one, edits_between(one, two)), two)
 
 
 class Mirrors(unittest.TestCase):
@@ -276,11 +276,13 @@ class Command(unittest.TestCase):
 
     def test_no_fix_says_what_was_tried(self) -> None:
         """If nothing is found, standard error says how many texts were tried and which kinds of edits; nothing is written."""
-        text = "circuit\ninput p\nsource 1 -> k\noutput p\noutput k\nend\nlayout 8 8 2\nin p 2 2\nout p 4 4\nout k 6 6\nend\n" \
-               "certificate 2\nmodule 0 0 8 8\ncut p\nuse 0\nend\n"
-        ended = support.lab("explain", "--fix", "-", "--effort", "0.001", text=text, BBMCHECK=support.program())
+        lines = ["circuit", "input c", "input x", "input y", "fredkin c x y -> d u v", "output d", "output u", "output v", "end", "layout 8 8 1",
+                 "in c 2 2", "in x 4 4", "in y 2 5", "out d 3 3", "out u 5 5", "out v 3 4", "end",
+                 "certificate 2", "module 0 0 8 8", "cut c", "cut x", "cut y", "use 0", "end", ""]
+        ended = support.lab("explain", "--fix", "-", text="\n".join(lines), BBMCHECK=support.program())
         self.assertEqual((ended.returncode, ended.stdout), (1, ""))
         self.assertIn("No fix was found", ended.stderr)
+        self.assertIn("one gate line", ended.stderr)
 
 
 class Measure(unittest.TestCase):

@@ -61,8 +61,7 @@ def write_fix(text: str, command: str, program: str | None, options: argparse.Na
         raise LabError("--fix takes a text with a circuit and a layout", 2)
     if options.in_place and (options.output or options.file == "-"):
         raise LabError("-i writes the file itself: it goes with a file, and without -o", 2)
-    trial = Trial(program, Budget(seconds=options.effort))
-    report = trial.report(text)
+    report, trial = Trial(program).report(text), Trial(program, Budget(seconds=options.effort))
     if report is None:
         raise LabError(f"{trial.judge} gave no answer")
     fixer = Fixer(text, report, trial)

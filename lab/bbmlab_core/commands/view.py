@@ -8,7 +8,7 @@ from .. import explaining, viewing
 from ..designs import read_design
 from ..program import ProgramError, ProgramTimeout, ask, find_program
 from ..terminal import read_text, write_text
-from ..trials import Trial
+from ..trials import Budget, Trial
 
 
 def run(options: argparse.Namespace) -> int:
@@ -28,6 +28,6 @@ def run(options: argparse.Namespace) -> int:
 def trial_of(options: argparse.Namespace) -> Trial | None:
     """Returns who tries fixes: the program, if it is found."""
     try:
-        return Trial(find_program(options.program))
+        return Trial(find_program(options.program), Budget(200, 10.0))
     except ProgramError:
         return None
