@@ -15,6 +15,7 @@ from .cones import fewest_cuts, keeping_cone
 from .documents import Document
 from .layouts import Cell, Layout, row_order
 from .observing import Observer, perimeter
+from .processor import processor_seconds
 from .simulation import ModuleRun, Table, cell_of, key_of
 from .terminal import LabError
 
@@ -40,11 +41,12 @@ class Wiring:
 
 @dataclass
 class Plan:
-    """What the user asked for: the kind of cuts, and stops that are kept."""
+    """What the user asked for: the kind of cuts, stops that are kept, and the processor time at which the search ends."""
 
     version: int = 2
     cuts: str = "auto"
     stops: list[StopLine] = field(default_factory=list)
+    until: float | None = None
 
 
 class Maker:
@@ -77,6 +79,8 @@ class Maker:
 
     def divided(self, box: Box) -> list[Module]:
         """Returns the modules of a rectangle: itself, or those of its parts."""
+        if self.plan.until is not None and processor_seconds() > self.plan.until:
+            raise LabError("no certificate was found in the time that was given", 1)
         why = ""
         if max(box.width, box.height) <= MAX_BOX_SIDE:
             try:

@@ -81,6 +81,14 @@ class Valuation:
         return [name for name in self.free if self.tables[name] >> column & 1]
 
     @property
+    def defined(self) -> Table:
+        """The columns at which all gates have a row."""
+        defined = self.full
+        for table in self.rows.values():
+            defined &= table
+        return defined
+
+    @property
     def scope(self) -> str:
         """In how many choices of the inputs something was tried, in words."""
         count = self.full.bit_length()

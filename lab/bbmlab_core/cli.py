@@ -95,7 +95,11 @@ def add_explain(commands: Commands) -> None:
     parser = commands.add("explain", late("explain"), "Tell each line of the report, or the refusal, in plain English.",
                           "Example: bbmlab explain examples/wrong_edge.txt")
     parser.add_argument("file", metavar="FILE", help="the text that the program answers, or - for standard input")
-    parser.add_argument("--report", metavar="FILE", help="explain this answer in place of running the program")
+    parser.add_argument("--report", metavar="FILE", help="explain this answer of the program, which must be of this text")
+    parser.add_argument("--fix", action="store_true", help="write the text with the edits that were found, after trying them")
+    parser.add_argument("-o", "--output", metavar="FILE", help="with --fix: write to this file (default: standard output)")
+    parser.add_argument("-i", "--in-place", action="store_true", help="with --fix: write the file again")
+    parser.add_argument("--effort", type=seconds, default=30.0, metavar="SECONDS", help="how much processor time the search for fixes takes (default: 30)")
     parser.add_argument("--command", dest="command_of_program", choices=["check", "run", "value", "modules", "migrate"],
                         help="the command of the program (default: by the sections of the text)")
     form = parser.add_mutually_exclusive_group()

@@ -1,25 +1,50 @@
-"""What can be found out about a line of a report: the module's own run, the whole run, and which inputs give an assignment."""
+"""What can be found out about a line of a report: the module's own run, the whole run, and which inputs give an assignment.
+
+What was not tried is `Truth.UNKNOWN`. Where the inputs are too many to try all choices, samples are tried: a fault in a sample is certain,
+and so is that a wire differs from a cell in a sample. That no sample has a fault is no proof.
+"""
 
 from dataclasses import dataclass, field
+from enum import Enum
 from functools import cached_property
 
 from .certificates import Module
-from .circuits import Circuit, Valuation, evaluate
+from .circuits import Circuit, Valuation, evaluate, evaluate_samples, evaluate_under
 from .documents import Document
 from .layouts import Cell, row_order
+from .processor import processor_seconds
 from .reports import Finding
-from .simulation import Field, ModuleRun, Table, WholeRun, cell_of, end_tables, key_of, lowest_bit
+from .simulation import Fault, Field, ModuleRun, Table, WholeRun, cell_of, end_tables, key_of, local_values, lowest_bit
 
 MAX_INPUTS = 12
-# The most steps for which the whole run is made under all inputs.
+# How many choices of the inputs are tried where they are more than MAX_INPUTS.
+SAMPLES = 256
+# The most steps for which the whole run is made under all inputs or samples, and the most seconds that it takes.
 MAX_STEPS = 5000
+MAX_SECONDS = 20.0
+
+
+class Truth(Enum):
+    """Whether something holds: found out that it does, found out that it does not, or not found out."""
+
+    YES = "yes"
+    NO = "no"
+    UNKNOWN = "unknown"
+
+    @property
+    def json(self) -> bool | None:
+        """The value in a JSON document: `null` stands for unknown."""
+        return None if self is Truth.UNKNOWN else self is Truth.YES
 
 
 @dataclass
 class Occurrence:
-    """Whether an assignment of a module's cuts occurs in the circuit. `inputs` is a choice of inputs that gives it, if there is one."""
+    """Whether an assignment of a module's cuts occurs in the circuit.
 
-    occurs: bool | None
+    `inputs` is a choice of inputs that gives it, if one was found; `count` of `total` choices do, if all were tried, else both are 0.
+    """
+
+    occurs: Truth
     inputs: dict[str, int] = field(default_factory=dict)
     count: int = 0
     total: int = 0
@@ -36,6 +61,25 @@ class Difference:
     unheard: list[tuple[Cell, bool]]
 
 
+@dataclass(frozen=True)
+class Signal:
+    """The signal of a cell at a time: its name if `known` is YES; NO if no wire has the cell's values.
+
+    With samples a name is that of a wire which agrees in all samples.
+    """
+
+    known: Truth
+    name: str = ""
+
+
+@dataclass(frozen=True)
+class WholeOutcome:
+    """Whether the whole run ends as the layout asks. `fault` says how it does not, where `is_right` is NO."""
+
+    is_right: Truth
+    fault: str = ""
+
+
 class Diagnosis:
     """Runs of one document that explain its report. Runs are kept, since several lines ask for the same ones."""
 
@@ -46,37 +90,63 @@ class Diagnosis:
         self.layout = document.layout
         self.certificate = document.certificate
         self.mirrors = self.layout.mirror_cells()
-        self._valuation: Valuation | None = None
+        # Whether a run of the whole layout took too long.
+        self.is_slow = False
         self._fields: dict[int, Field | None] = {}
         # The lines whose causes are looked for by runs; None stands for all.
         self.detailed: set[str] | None = None
 
-    def is_small(self) -> bool:
-        """Whether all assignments of the inputs can be tried."""
-        return len(self.circuit.inputs) <= MAX_INPUTS
+    @cached_property
+    def values(self) -> Valuation:
+        """The tables of all wires over all choices of the inputs, or over samples of them."""
+        if len(self.circuit.inputs) <= MAX_INPUTS:
+            return evaluate(self.circuit, self.circuit.inputs, [gate.number for gate in self.circuit.gates])
+        return evaluate_samples(self.circuit, SAMPLES)
 
-    def valuation(self) -> Valuation:
-        """Returns the tables of all wires over all assignments of the inputs."""
-        if self._valuation is None:
-            self._valuation = evaluate(self.circuit, self.circuit.inputs, [gate.number for gate in self.circuit.gates])
-        return self._valuation
+    @property
+    def scope(self) -> str:
+        """In how many choices of the inputs the whole run was tried, in words."""
+        return self.values.scope
 
     def occurrence(self, module: Module, assignment: int) -> Occurrence:
         """Returns whether the circuit gives the module's cuts these values, and for which inputs."""
         inputs, gates = self.circuit.cone(module.cuts)
-        if len(inputs) > MAX_INPUTS:
-            return Occurrence(None)
-        values = evaluate(self.circuit, inputs, gates)
+        is_all = len(inputs) <= MAX_INPUTS
+        values = evaluate(self.circuit, inputs, gates) if is_all else self.values
         table = values.full
         for name, value in module.assignment_names(assignment).items():
             table &= values.tables[name] if value else values.full ^ values.tables[name]
-        for rows in values.rows.values():
-            table &= rows
-        total = 1 << len(inputs)
+        for number in gates:
+            table &= values.rows[number]
+        total = 1 << len(inputs) if is_all else 0
         if not table:
-            return Occurrence(False, total=total)
+            return Occurrence(Truth.NO if is_all else Truth.UNKNOWN, total=total)
         chosen = lowest_bit(table)
-        return Occurrence(True, {name: chosen >> index & 1 for index, name in enumerate(inputs)}, table.bit_count(), total)
+        given = {name: values.tables[name] >> chosen & 1 for name in inputs}
+        return Occurrence(Truth.YES, given, table.bit_count() if is_all else 0, total)
+
+    def occurring(self, module: Module) -> Table:
+        """Returns a table of assignments of the module's cuts that occur: all of them, or those that occur in the samples."""
+        inputs, gates = self.circuit.cone(module.cuts)
+        values = evaluate(self.circuit, inputs, gates) if len(inputs) <= MAX_INPUTS else self.values
+        columns = values.full
+        for number in gates:
+            columns &= values.rows[number]
+        groups = [(columns, 0)]
+        for index, name in enumerate(module.cuts):
+            table = values.tables[name]
+            groups = [(part, assignment | bit << index) for group, assignment in groups
+                      for part, bit in ((group & table, 1), (group & ~table, 0)) if part]
+        found = 0
+        for _, assignment in groups:
+            found |= 1 << assignment
+        return found
+
+    def occurring_fault(self, module: Module) -> Fault | None:
+        """Returns the least fault of a module's own run under assignments that are known to occur, or None if there is none."""
+        run = ModuleRun(self.circuit, self.layout, self.certificate, module)
+        run.restrict(self.occurring(module))
+        return run.least_fault() if run.full else None
 
     def module_state(self, module: Module, assignment: int, time: int) -> tuple[set[Cell], set[Cell]]:
         """Returns the live cells of a module's own run, and the cells of its halo that it hears to be live then."""
@@ -107,91 +177,76 @@ class Diagnosis:
                            if bool(whole.field.live.get(key_of(cell))) != bool(said.get(key_of(cell), 0) >> assignment & 1)]
             if time < until:
                 own.step()
-                if not whole.step():
-                    return None
+                whole.step()
         return None
 
     def whole_field(self, time: int) -> Field | None:
-        """Returns the whole run under all assignments of the inputs at a time, or None where that is too much."""
+        """Returns the whole run under the tried inputs at a time, or None where it is too long or leaves the rectangle before."""
         if time not in self._fields:
-            run = None
-            if self.can_run_whole():
-                values = self.valuation()
-                run = WholeRun(self.layout, values.tables, values.full)
-                run.run_to(time)
-            self._fields[time] = run.field if run and run.time == time and run.left is None else None
+            run = self.whole_run_to(time)
+            self._fields[time] = run.field if run and run.left is None else None
         return self._fields[time]
 
-    def wires_with(self, table: Table) -> list[str]:
-        """Returns the wires that have a table over all assignments of the inputs."""
-        return [name for name, other in self.valuation().tables.items() if other == table]
-
-    def signal_for(self, table: Table) -> str | None:
-        """Returns the signal that is true under just these assignments: `1`, a wire, `0` where it is never true, or None."""
-        if not table:
-            return "0"
-        if table == self.valuation().full:
-            return "1"
-        return next(iter(self.wires_with(table)), None)
-
-    def signal_of(self, cell: Cell, time: int) -> str | None:
-        """Returns the signal of a cell in the whole run at a time, or None where it is that of no wire or is not known."""
-        field_ = self.whole_field(time)
-        return None if field_ is None else self.signal_for(field_.live.get(key_of(cell), 0))
-
-    @cached_property
-    def good_steps(self) -> list[int]:
-        """Returns the numbers of steps, up to twice those of the layout, after which the whole run is as the layout asks."""
+    def whole_run_to(self, time: int) -> WholeRun | None:
+        """Returns the whole run under the tried inputs at a time, or at the step that leaves the rectangle; None where it is too long."""
         if not self.can_run_whole():
-            return []
-        values = self.valuation()
-        wanted = {key_of(cell): table for cell, table in end_tables(self.layout, values.tables, values.full).items()}
-        free = {key for key, table in wanted.items() if table is None}
-        asked = {key: table for key, table in wanted.items() if table}
-        run, good = WholeRun(self.layout, values.tables, values.full), []
-        for _ in range(min(2 * self.layout.steps + 8, 2000)):
-            if {key: table for key, table in run.field.live.items() if key not in free} == {
-                    key: table for key, table in asked.items() if key not in free}:
-                good.append(run.time)
-            if not run.step():
-                break
-        return good
+            return None
+        run, end = WholeRun(self.layout, self.values.tables, self.values.full), processor_seconds() + MAX_SECONDS
+        while run.time < time and run.step():
+            if processor_seconds() > end:
+                self.is_slow = True
+                return None
+        return run
+
+    def signal_for(self, table: Table) -> Signal:
+        """Returns the signal that is true in just these choices of the inputs: `1`, a wire, or `0` where it is never true."""
+        if not table:
+            return Signal(Truth.YES, "0")
+        if table == self.values.full:
+            return Signal(Truth.YES, "1")
+        name = next((name for name, other in self.values.tables.items() if other == table), None)
+        return Signal(Truth.NO) if name is None else Signal(Truth.YES, name)
+
+    def signal_of(self, cell: Cell, time: int) -> Signal:
+        """Returns the signal of a cell in the whole run at a time."""
+        field_ = self.whole_field(time)
+        return Signal(Truth.UNKNOWN) if field_ is None else self.signal_for(field_.live.get(key_of(cell), 0))
 
     def can_run_whole(self) -> bool:
-        """Whether a run of the whole layout under all inputs takes seconds at most."""
-        return self.is_small() and self.layout.steps <= MAX_STEPS
+        """Whether a run of the whole layout under all inputs, or under samples, takes seconds at most."""
+        return self.layout.steps <= MAX_STEPS and not self.is_slow
 
     @cached_property
-    def whole_fault(self) -> str | None:
-        """Returns how the whole run goes against the layout, whatever the certificate says, or None where it does not."""
-        values = self.valuation()
-        run = WholeRun(self.layout, values.tables, values.full)
-        if not run.run_to(self.layout.steps):
-            assert run.left is not None
+    def outcome(self) -> WholeOutcome:
+        """Whether the whole run ends as the layout asks, whatever the certificate says."""
+        values, run = self.values, self.whole_run_to(self.layout.steps)
+        if run is None:
+            return WholeOutcome(Truth.UNKNOWN)
+        if run.left is not None:
             inputs = self.inputs_of(lowest_bit(run.left[1]))
-            return f"with {inputs} step {run.left[0]} makes the cell ({run.left[2][0]}, {run.left[2][1]}) outside the rectangle live"
+            return WholeOutcome(Truth.NO, f"with {inputs} step {run.left[0]} makes the cell ({run.left[2][0]}, {run.left[2][1]}) "
+                                          "outside the rectangle live")
         wanted = {key_of(cell): table for cell, table in end_tables(self.layout, values.tables, values.full).items()}
         for key in sorted(wanted.keys() | run.field.live.keys()):
             table = wanted.get(key, 0)
-            differs = 0 if table is None else table ^ run.field.live.get(key, 0)
+            differs = 0 if table is None else (table ^ run.field.live.get(key, 0)) & values.defined
             if differs:
                 inputs, (x, y) = self.inputs_of(lowest_bit(differs)), cell_of(key)
                 is_live = run.field.live.get(key, 0) >> lowest_bit(differs) & 1
-                return f"with {inputs} the cell ({x}, {y}) is {'live' if is_live else 'dead'} at the end and should be {'dead' if is_live else 'live'}"
-        return None
+                found, asked = ("live", "dead") if is_live else ("dead", "live")
+                return WholeOutcome(Truth.NO, f"with {inputs} the cell ({x}, {y}) is {found} at the end and should be {asked}")
+        return WholeOutcome(Truth.YES if values.is_all else Truth.UNKNOWN)
 
-    def inputs_of(self, assignment: int) -> str:
-        """Returns a choice of inputs as `p=1 q=0`."""
-        return " ".join(f"{name}={assignment >> index & 1}" for index, name in enumerate(self.circuit.inputs)) or "no inputs"
-
-    def is_always_live(self, cell: Cell) -> bool:
-        """Whether a cell is live at each odd time below the steps, whatever the inputs."""
-        values = self.valuation()
-        run = WholeRun(self.layout, values.tables, values.full)
-        while run.time < self.layout.steps:
-            if run.time % 2 and run.field.live.get(key_of(cell), 0) != values.full or not run.step():
-                return False
-        return True
+    def inputs_of(self, column: int) -> str:
+        """Returns a tried choice of inputs as `p=1 q=0`; of many inputs only those that are on."""
+        names = self.circuit.inputs
+        if not names:
+            return "no inputs"
+        if len(names) <= MAX_INPUTS:
+            return " ".join(f"{name}={self.values.tables[name] >> column & 1}" for name in names)
+        on = self.values.names_of(column)
+        shown = " ".join(f"{name}=1" for name in on[:MAX_INPUTS])
+        return f"{len(on)} of the {len(names)} inputs on" + (f" ({shown}{' ..' if len(on) > MAX_INPUTS else ''})" if on else "")
 
     def module_of(self, finding: Finding) -> Module:
         """Returns the module of a line of a report."""

@@ -2,17 +2,36 @@
 
 import json
 from dataclasses import asdict, dataclass, field
-from typing import Any
 
-from .diagnosis import Diagnosis
+from .certificates import StopLine
+from .diagnosis import MAX_STEPS, Diagnosis, Truth
 from .documents import Document, read_document
-from .faults import Entry, assignment_words, explain_border, explain_keep, explain_local
+from .edits import Edit
+from .faults import Entry, assignment_words, explain_border, explain_keep, explain_local, shown
+from .fixing import Fix, Fixer, outcome_words
+from .mirrors import falling_mirrors
+from .own_report import certificate_digest
 from .refusals import Explained, explain_code, explain_refusal, listed
-from .reports import Finding, Report, parse_report
+from .reports import Finding, Report, ReportError, parse_report
+from .trials import Trial
 
-
-# Of how many modules the faults are told in full, with runs and pictures.
+# Of how many modules the faults are told in full, with runs and pictures, and for how many lines of a report a fix is looked for.
 MAX_DETAILED = 12
+# How many mirrors that fall apart are named.
+MAX_MIRRORS = 3
+
+
+@dataclass
+class FixForm:
+    """A fix as a document has it: its edits, whether the certificate is made again after them, who was asked, the verdict, and sentences."""
+
+    edits: list[Edit]
+    certificate_again: bool
+    judge: str
+    verdict: str
+    words: list[str]
+    # Other fixes of the same size with the same verdict, each in sentences.
+    others: list[list[str]] = field(default_factory=list)
 
 
 @dataclass
@@ -28,11 +47,15 @@ class Explanation:
     line: int = 0
     code: int = 0
     line_text: str = ""
+    # A fix of the whole text, and what was tried if there is none.
+    fix: FixForm | None = None
+    tried: list[str] = field(default_factory=list)
 
 
-def stops_of(diagnosis: Diagnosis, wire: str) -> list[Any]:
+def stops_of(diagnosis: Diagnosis, wire: str) -> list[StopLine]:
     """Returns the stops of a wire in all modules, in order of time."""
-    return sorted((stop for module in diagnosis.certificate.modules for stop in module.stops if stop.name == wire), key=lambda stop: stop.place)
+    found = [stop for module in diagnosis.certificate.modules for stop in module.stops if stop.name == wire]
+    return sorted(found, key=lambda stop: stop.place)
 
 
 def stop_words(diagnosis: Diagnosis, wire: str, which: int) -> str:
@@ -55,16 +78,11 @@ def explain_delay(diagnosis: Diagnosis, finding: Finding) -> Entry:
         entry.what.append(f"So the delay takes {found} steps, as it says.")
     elif found == "missing":
         missing = [wire for wire in (used, made) if not stops_of(diagnosis, wire)]
-        entry.what.append("So nothing shows how long the delay takes.")
-        entry.cures.append(f"Add a stop for {listed(missing)}, in a module that knows it and has a cell on its way.")
+        entry.what.append(f"So nothing shows how long the delay takes: there is no stop for {listed(missing)}.")
     elif found == "before":
         entry.what.append("So the output is seen before the input.")
-        entry.cures.append("The two stops may have each other's names: exchange them, or move one.")
     else:
         entry.what.append(f"So the delay takes {found} steps by its stops, and {wanted} by the circuit.")
-        gap = abs(int(found) - int(wanted))
-        entry.cures.append(f"Write `delay {found} {used} -> {made}`, or make the way {gap} step{'s' if gap > 1 else ''} "
-                           f"{'shorter' if int(found) > int(wanted) else 'longer'}, or move a stop.")
     return entry
 
 
@@ -79,7 +97,6 @@ def explain_meet(diagnosis: Diagnosis, finding: Finding) -> Entry:
         entry.what.append(f"So they meet at time {finding.values['found']}.")
         return entry
     entry.what.append("So they do not meet at one time.")
-    entry.cures.append("Give each of these inputs its last stop at the time at which the balls of the gate meet; or leave only one input with stops.")
     return entry
 
 
@@ -89,8 +106,8 @@ def explain_unkept(diagnosis: Diagnosis, finding: Finding) -> Entry:
     users = [module.number for module in diagnosis.certificate.modules if gate.number in module.uses]
     entry = Entry(finding.text, True, [f"No module has a line `keep {gate.number}` for the inverse gate {gate.number} (`{gate.word}`, line {gate.line})."],
                   line=gate.line, cause="unkept", facts={"gate": gate.number, "modules_that_use_it": users})
-    where = f"module {users[0]}, which uses the gate" if users else f"a module, after `use {gate.number}`"
-    entry.cures.append(f"Add `keep {gate.number}` to {where}, behind its `use` lines. The module needs to know where {listed(gate.ins)} come from.")
+    used = f"Modules that use it: {', '.join(map(str, users))}." if users else "No module uses it."
+    entry.what.append(used)
     return entry
 
 
@@ -98,24 +115,96 @@ EXPLAINERS = {"local": explain_local, "keep": explain_keep, "border": explain_bo
               "delay": explain_delay, "meet": explain_meet}
 
 
-def explain_report(document: Document, report: Report, file: str) -> Explanation:
-    """Returns a report in words."""
+def explain_report(document: Document, report: Report, file: str, trial: Trial | None = None) -> Explanation:
+    """Returns a report in words, with fixes if there is somebody who tries them."""
     if report.refused:
-        return explain_refused(document, *report.refused, file)
+        return explain_refused(document, report, file, trial)
+    if document.certificate is None or document.refusal:
+        raise ReportError("the report is not of this text: the lab's reader refuses the text")
+    require_digest(document, report)
     diagnosis = Diagnosis(document)
     faults = sorted((finding for finding in report.faults if finding.word == "local"), key=lambda finding: finding.number("time"))
     diagnosis.detailed = {finding.text for finding in faults[:MAX_DETAILED]}
     entries = [EXPLAINERS[finding.word](diagnosis, finding) for finding in report.findings]
     count = len(report.faults)
     if report.verdict == "yes":
-        headline = [f"The verdict is yes: for each choice of the {len(diagnosis.circuit.inputs)} inputs the layout computes the circuit."]
+        headline = [yes_words(len(diagnosis.circuit.inputs))]
     else:
         headline = [f"The verdict is no, for {count} reason{'s' if count != 1 else ''}."]
         if len(faults) > 1:
             headline.append(f"Begin with `{faults[0].text}`, which has the least time: others may come of it.")
+        headline += mirror_words(diagnosis)
         headline += whole_run_words(diagnosis, report.faults)
     headline.append(f"The certificate has {report.modules} module{'s' if report.modules != 1 else ''}; its digest is {report.digest[:16]}..")
-    return Explanation(file, "check", headline, report.verdict, entries)
+    explanation = Explanation(file, "check", headline, report.verdict, entries)
+    if trial and report.verdict == "no":
+        add_fixes(explanation, diagnosis, report, trial)
+    return explanation
+
+
+def require_digest(document: Document, report: Report) -> None:
+    """Refuses a report whose digest is not that of the text's certificate, or whose lines name modules or gates that there are not."""
+    digest = certificate_digest(document.text)
+    if digest != report.digest:
+        raise ReportError(f"the report is not of this text: its certificate has the digest {report.digest[:16]}.., and the text's has {digest[:16]}..")
+    modules = len(document.certificate.modules) if document.certificate else 0
+    gates = len(document.circuit.gates) if document.circuit else 0
+    for finding in report.findings:
+        if int(finding.values.get("module", -1)) >= modules or int(finding.values.get("gate", -1)) >= gates:
+            raise ReportError(f"the report is not of this text: `{finding.text}` names a module or a gate that the text does not have")
+
+
+def yes_words(count: int) -> str:
+    """Returns what a yes means for a circuit with a number of inputs."""
+    if count == 0:
+        return "The verdict is yes: the layout computes the circuit, which has no inputs."
+    if count == 1:
+        return "The verdict is yes: for both values of its input the layout computes the circuit."
+    return f"The verdict is yes: for each choice of the {count} inputs the layout computes the circuit."
+
+
+def mirror_words(diagnosis: Diagnosis) -> list[str]:
+    """Returns which mirrors fall apart by themselves."""
+    fallen = falling_mirrors(diagnosis.layout)
+    words = [f"The mirror of line {mirror.part.line} (`{diagnosis.document.line(mirror.part.line)}`) falls apart by itself: step {mirror.step} "
+             f"moves its cell {shown(mirror.cell)}." for mirror in fallen[:MAX_MIRRORS]]
+    if len(fallen) > MAX_MIRRORS:
+        words.append(f"{len(fallen) - MAX_MIRRORS} more mirrors do.")
+    if fallen:
+        words.append("A mirror stays if its width and height are even and its upper left cell has exactly one odd coordinate.")
+    return words
+
+
+def add_fixes(explanation: Explanation, diagnosis: Diagnosis, report: Report, trial: Trial) -> None:
+    """Adds a fix of the whole text and fixes of lines of the report; each was tried."""
+    fixer = Fixer(diagnosis.document.text, report, trial)
+    whole = fixer.find()
+    if whole:
+        explanation.fix = fix_form(report, whole)
+    else:
+        explanation.tried = tried_words(fixer, trial)
+    left = {finding.text for finding in whole.report.faults} if whole else set()
+    detailed = [finding for finding in report.faults if finding.word != "local" or finding.text in (diagnosis.detailed or ())][:MAX_DETAILED]
+    entries = {entry.report_line: entry for entry in explanation.entries}
+    for finding in detailed:
+        fix = fixer.find_for(diagnosis, finding)
+        if fix and not (whole and whole.text == fix.text):
+            entries[finding.text].fixes = fix_form(report, fix).words
+        elif whole and finding.text not in left and explanation.fix:
+            entries[finding.text].fixes = explanation.fix.words
+
+
+def fix_form(before: Report, fix: Fix) -> FixForm:
+    """Returns a fix as a document has it."""
+    return FixForm(fix.edits, fix.remakes, fix.judge, fix.report.verdict, [*fix.words, outcome_words(before, fix)], fix.others)
+
+
+def tried_words(fixer: Fixer, trial: Trial) -> list[str]:
+    """Returns what was tried in vain."""
+    is_cut_short = fixer.is_cut_short or trial.is_over()
+    end = " The search was ended by a limit, so some edits were not tried." if is_cut_short else ""
+    kinds = [f"Kinds of edits that the search came to: {'; '.join(fixer.kinds)}."] if fixer.kinds else []
+    return [f"No fix was found. {trial.tries} text{'s were' if trial.tries != 1 else ' was'} checked by {trial.judge}.{end}", *kinds]
 
 
 def is_on_rim(diagnosis: Diagnosis, finding: Finding) -> bool:
@@ -124,26 +213,42 @@ def is_on_rim(diagnosis: Diagnosis, finding: Finding) -> bool:
 
 
 def whole_run_words(diagnosis: Diagnosis, faults: list[Finding]) -> list[str]:
-    """Returns whether the whole run ends as the layout asks, under all inputs, where that can be tried."""
+    """Returns whether the whole run ends as the layout asks: a sentence for yes, no, and what was not found out."""
+    outcome, values = diagnosis.outcome, diagnosis.values
+    if outcome.is_right is Truth.NO:
+        return [f"The layout itself does not do what the circuit asks: {outcome.fault}. No certificate gets a yes before the layout or the "
+                "circuit is changed."]
     if not diagnosis.can_run_whole():
-        return ["The whole run was not tried here: too many inputs or steps."]
-    fault = diagnosis.whole_fault
-    if fault:
-        return [f"The layout itself does not do what the circuit asks: {fault}. No certificate mends that: mend the layout, or the circuit, first."]
-    tried = "The whole run was tried here under all inputs: it ends as the layout asks"
+        why = "it takes too long" if diagnosis.is_slow else f"it is longer than {MAX_STEPS} steps"
+        return [f"The whole run was not tried to its end here: {why}."]
+    if values.defined != values.full:
+        return [f"The circuit has no values under some choices of its inputs. Under the others that were tried ({diagnosis.scope}) the whole run "
+                "ends as the layout asks."]
+    tried = f"The whole run was tried here {diagnosis.scope}: it ends as the layout asks"
     if any(is_on_rim(diagnosis, finding) for finding in faults):
-        return [f"{tried}, but a cell of its rim may be live at an odd time. No certificate mends that: make the layout larger."]
+        return [f"{tried}."]
+    if outcome.is_right is Truth.UNKNOWN:
+        return [f"{tried}. The other choices were not tried."]
     is_certificate = any(finding.word in ("local", "border") for finding in faults)
-    return [f"{tried}, so mend the certificate." if is_certificate else f"{tried}."]
+    return [f"{tried}, so the fault is in the certificate." if is_certificate else f"{tried}."]
 
 
-def explain_refused(document: Document, line: int, code: int, file: str) -> Explanation:
+def explain_refused(document: Document, report: Report, file: str, trial: Trial | None = None) -> Explanation:
     """Returns a refusal in words. Where the lab's reader does not come to the same line and code, only these are told."""
-    refusal = document.refusal
+    assert report.refused
+    (line, code), refusal = report.refused, document.refusal
     same = refusal is not None and (refusal.line, refusal.code) == (line, code)
     told = explain_refusal(document, refusal) if same and refusal else explain_code(line, code)
-    return Explanation(file, document.command, [f"The text was refused: line {line}, code {code}."], "refused", refused=told, line=line,
-                       code=code, line_text=document.line(line))
+    explanation = Explanation(file, document.command, [f"The text was refused: line {line}, code {code}."], "refused", refused=told, line=line,
+                              code=code, line_text=document.line(line))
+    if trial and same and document.command == "check":
+        fixer = Fixer(document.text, report, trial)
+        fix = fixer.find()
+        if fix:
+            explanation.fix = fix_form(report, fix)
+        else:
+            explanation.tried = tried_words(fixer, trial)
+    return explanation
 
 
 def explain_run(document: Document, output: str, file: str) -> Explanation:
@@ -181,11 +286,11 @@ def explain_listing(command: str, output: str, file: str) -> Explanation:
     return Explanation(file, command, ["The text is read, and the program wrote it with a certificate of version 2."], "read")
 
 
-def explain_answer(text: str, command: str, output: str, file: str) -> Explanation:
-    """Returns what a command of the program wrote, in words."""
+def explain_answer(text: str, command: str, output: str, file: str, trial: Trial | None = None) -> Explanation:
+    """Returns what a command of the program wrote, in words. Fixes are looked for only if there is a trial."""
     document = read_document(text, command)
     if output.startswith("refused ") or command == "check":
-        return explain_report(document, parse_report(output), file)
+        return explain_report(document, parse_report(output), file, trial)
     if command in ("modules", "migrate"):
         return explain_listing(command, output, file)
     return explain_run(document, output, file) if command == "run" else explain_value(document, output, file)
@@ -199,13 +304,18 @@ def own_answer(text: str, command: str) -> str | None:
 
 def as_json(explanation: Explanation) -> str:
     """Writes an explanation as one JSON document."""
-    return json.dumps({"format": "bbmlab explanation 1", **asdict(explanation)}, indent=2, ensure_ascii=True)
+    return json.dumps({"format": "bbmlab explanation 2", **asdict(explanation)}, indent=2, ensure_ascii=True)
 
 
 def as_gcc(explanation: Explanation) -> list[str]:
     """Writes an explanation as `file:line: error: text` lines for editors."""
     if explanation.refused:
-        text = " ".join([*explanation.refused.what, *explanation.refused.cures])
+        text = " ".join([*explanation.refused.what, *fix_words(explanation.fix.words if explanation.fix else [])])
         return [f"{explanation.file}:{explanation.line}: error: {text} [code {explanation.code}]"]
-    return [f"{explanation.file}:{entry.line or 1}: error: {' '.join([*entry.what, *entry.cures])} [{entry.report_line}]"
+    return [f"{explanation.file}:{entry.line or 1}: error: {' '.join([*entry.what, *fix_words(entry.fixes)])} [{entry.report_line}]"
             for entry in explanation.entries if entry.is_against]
+
+
+def fix_words(fixes: list[str]) -> list[str]:
+    """Returns the sentences of a fix with the word `Fix:` before the first."""
+    return [f"Fix: {fixes[0]}", *fixes[1:]] if fixes else []

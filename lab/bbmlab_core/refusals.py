@@ -1,4 +1,4 @@
-"""Refusals in plain English: for each cause that the lab's reader finds, what is wrong, which rule it breaks, and the cure."""
+"""Refusals in plain English: for each cause that the lab's reader finds, what is wrong, which rule it breaks, and a hint."""
 
 import difflib
 from dataclasses import dataclass, field
@@ -26,10 +26,10 @@ RULES = {
 
 @dataclass
 class Explained:
-    """A refusal in words: what is wrong, the rule, the cures, and the names and lines that are meant."""
+    """A refusal in words: what is wrong, the rule, hints that were not tried, and the names and lines that are meant."""
 
     what: list[str]
-    cures: list[str]
+    hints: list[str]
     rule: str = ""
     names: list[str] = field(default_factory=list)
     lines: list[int] = field(default_factory=list)
@@ -78,7 +78,8 @@ def _text_ended(facts: Facts) -> Explained:
     """Explains a text that ends before its last section does."""
     section = facts["section"]
     return Explained([f"The text ends before the {section} section is complete: no line is left."],
-                     [f"Write the {section} section up to its line `end`. The file may have been cut off."])
+                     [f"Write the {section} section up to its line `end`. The file may have been cut off.",
+                      *(["`bbmlab certify` makes a certificate."] if section == "certificate" else [])])
 
 
 @tells("line_not_ended")
@@ -143,13 +144,13 @@ def _border_not_rising(facts: Facts) -> Explained:
     """Explains an `edge`, `halo` or `stop` line that is out of order."""
     new, last = facts["new"], facts["last"]
     if new.place == last.place:
-        what, cure = "names the same time and cell as", "Keep one of the two lines."
+        what, hint = "names the same time and cell as", "Keep one of the two lines."
     elif new.place[0] == -1:
-        what, cure = "has `*`, and lines with `*` come first; it is out of order with", "Move it up. `bbmlab fmt` sorts."
+        what, hint = "has `*`, and lines with `*` come first; it is out of order with", "Move it up. `bbmlab fmt` sorts."
     else:
         part = next(name for name, a, b in zip(("time", "y", "x"), new.place, last.place) if a != b)
-        what, cure = f"has a smaller {part} than", "Sort by time, then y, then x. `bbmlab fmt` does."
-    return Explained([f"`{new}` {what} the line before it in the list, `{last}` (line {last.line})."], [cure], lines=[last.line])
+        what, hint = f"has a smaller {part} than", "Sort by time, then y, then x. `bbmlab fmt` does."
+    return Explained([f"`{new}` {what} the line before it in the list, `{last}` (line {last.line})."], [hint], lines=[last.line])
 
 
 # ---- code 11
@@ -168,13 +169,13 @@ def _wire_not_consumed(facts: Facts) -> Explained:
 @tells("port_without_cell")
 def _port_without_cell(facts: Facts) -> Explained:
     """Explains inputs or outputs without a cell at the end of a layout."""
-    what, cures = [], []
+    what, hints = [], []
     for kind, side in (("in", "inputs"), ("out", "outputs")):
         names = facts[side]
         if names:
             what.append(f"The layout has no `{kind}` cell for {side[:-1] if len(names) == 1 else side} {listed(names)} of the circuit.")
-            cures.append(f"Add a line `{kind} {names[0]} X Y`.")
-    return Explained(what, cures, names=facts["inputs"] + facts["outputs"])
+            hints.append(f"Add a line `{kind} {names[0]} X Y`.")
+    return Explained(what, hints, names=facts["inputs"] + facts["outputs"])
 
 
 @tells("port_not_local")
@@ -182,9 +183,9 @@ def _port_not_local(facts: Facts) -> Explained:
     """Explains a port in a box whose wire the module does not know."""
     what = [f"Module {facts['module']} (line {facts['at']}) has the cell of `{port.kind} {port.name} {port.x} {port.y}` (line {port.line}) "
             f"in its box, and does not know the wire `{port.name}`." for port in facts["ports"][:8]]
-    cures = [make_local(port.name, facts["makers"][port.name]) for port in facts["ports"][:8]]
+    hints = [make_local(port.name, facts["makers"][port.name]) for port in facts["ports"][:8]]
     names = list(dict.fromkeys(port.name for port in facts["ports"]))
-    return Explained(what, list(dict.fromkeys(cures)), names=names, lines=[facts["at"]] + [port.line for port in facts["ports"]])
+    return Explained(what, list(dict.fromkeys(hints)), names=names, lines=[facts["at"]] + [port.line for port in facts["ports"]])
 
 
 def make_local(name: str, gate: Any) -> str:
@@ -222,16 +223,16 @@ def _heard_not_local(facts: Facts) -> Explained:
     what = [f"Module {module} does not know the wire `{line.signal}`: line {line.line} (`{line}`, of module {other}) speaks of a cell "
             f"beside its box." for module, line, other in missing[:4]]
     more = [f"There are {len(missing) - 4} more lines of that kind."] if len(missing) > 4 else []
-    cures = [f"Add `cut {line.signal}` to module {module}, or `use` the gate that makes it." for module, line, _ in missing[:4]]
-    return Explained(what + more, list(dict.fromkeys(cures)), names=list(dict.fromkeys(line.signal for _, line, _ in missing)),
+    hints = [f"Add `cut {line.signal}` to module {module}, or `use` the gate that makes it." for module, line, _ in missing[:4]]
+    return Explained(what + more, list(dict.fromkeys(hints)), names=list(dict.fromkeys(line.signal for _, line, _ in missing)),
                      lines=[line.line for _, line, _ in missing])
 
 
 # ---- code 2
 
-def limit(what: str, cure: str) -> Explained:
+def limit(what: str, hint: str) -> Explained:
     """Returns a refusal for a limit."""
-    return Explained([what], [cure])
+    return Explained([what], [hint])
 
 
 @tells("layout_side")
@@ -479,14 +480,14 @@ def _keep_not_used(facts: Facts) -> Explained:
                      [f"Add `use {gate.number}` before it, with the wires {listed(gate.ins)} local."], names=[str(gate.number)], lines=[gate.line])
 
 
-def even_time_cure(time: int, steps: int) -> str:
-    """Returns the cure for an edge or halo line at an even time: the odd times beside it that are below the steps."""
+def even_time_hint(time: int, steps: int) -> str:
+    """Returns a hint for an edge or halo line at an even time: the odd times beside it that are below the steps."""
     times = [str(odd) for odd in (time - 1, time + 1) if 0 < odd < steps]
     return f"Take the odd time at which the cell is live: {' or '.join(times)}." if times else "Remove the line."
 
 
 def place_words(fault: str, facts: Facts) -> tuple[str, str]:
-    """Returns what is wrong with a time or a cell, and the cure."""
+    """Returns what is wrong with a time or a cell, and a hint."""
     new, box, steps = facts["new"], facts["box"], facts["steps"]
     cell, last = f"({new.x}, {new.y})", steps - 1 if steps % 2 == 0 else steps - 2
     corner = f"({box.x + box.width - 1}, {box.y + box.height - 1})"
@@ -499,7 +500,7 @@ def place_words(fault: str, facts: Facts) -> tuple[str, str]:
                         "Name a cell that touches the box from outside."),
         "halo_outside": (f"The cell {cell} is outside the rectangle.", "Remove the line."),
         "even_time": (f"The time {new.time} is even; edge and halo lines have odd times.",
-                      even_time_cure(new.time or 0, steps)),
+                      even_time_hint(new.time or 0, steps)),
         "time_not_below_steps": (f"The time {new.time} is not below the steps, {steps}.",
                                  f"The last odd time below the steps is {last}." if last > 0 else "There is no odd time below the steps: remove the line."),
         "star_cell": (f"The cell {cell} has a line with `*` already (line {facts['star']}).", "Remove one of the two lines."),
@@ -514,7 +515,7 @@ def _border_place(facts: Facts) -> Explained:
     """Explains a time or a cell at which no line may be."""
     told = [place_words(fault, facts) for fault in facts["faults"]]
     star = [facts["star"]] if facts["star"] else []
-    return Explained([what for what, _ in told], [cure for _, cure in told], lines=star)
+    return Explained([what for what, _ in told], [hint for _, hint in told], lines=star)
 
 
 # ---- all
@@ -524,7 +525,7 @@ def explain_refusal(document: Document, refusal: Refusal) -> Explained:
     if refusal.cause == "shape":
         line = document.line(refusal.line)
         hints = shape_hints(line, refusal.facts["section"], refusal.facts["begun"], refusal.facts["forms"])
-        explained = Explained([what for what, _ in hints], list(dict.fromkeys(cure for _, cure in hints)))
+        explained = Explained([what for what, _ in hints], list(dict.fromkeys(hint for _, hint in hints)))
     else:
         explained = TELLERS[refusal.cause]({"here": refusal.line, **refusal.facts})
     explained.rule = RULES[refusal.code]

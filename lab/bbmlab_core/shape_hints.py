@@ -1,4 +1,4 @@
-"""Why a line has none of the forms of its section: the usual causes of code 1, each with its cure."""
+"""Why a line has none of the forms of its section: the usual causes of code 1, each with a hint."""
 
 import difflib
 import re
@@ -12,7 +12,7 @@ SECTION_OF = {
     "assign": ["on"],
     "certificate": "module cut use keep edge halo stop".split(),
 }
-SEVERAL = "`bbmlab fmt` mends this."
+SEVERAL = "`bbmlab fmt` fixes this."
 
 
 def character_hints(line: str) -> list[Hint]:
@@ -137,5 +137,5 @@ def shape_hints(line: str, section: str, begun: bool, forms: dict[str, Form]) ->
     if form is None:
         return [*hints, keyword_hint(words[0], section, begun, forms)]
     hint = form_hint(words, form, section)
-    is_mended = len(words) == len(form) and all(word_hint(word, place) is None for word, place in zip(words[1:], form[1:]))
-    return hints if hints and is_mended else [*hints, hint]
+    is_fixed = len(words) == len(form) and all(word_hint(word, place) is None for word, place in zip(words[1:], form[1:]))
+    return hints if hints and is_fixed else [*hints, hint]

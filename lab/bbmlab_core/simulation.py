@@ -164,7 +164,7 @@ class ModuleRun:
     """The run of a module by itself, under all assignments of its cuts or under some of them."""
 
     def __init__(self, circuit: Circuit, layout: Layout, certificate: Certificate, module: Module) -> None:
-        self.layout, self.module = clipped(layout, module.box), module
+        self.layout, self.module, self.certificate = clipped(layout, module.box), module, certificate
         self.values = local_values(circuit, module)
         # The assignments that count: those under which each used gate has a row.
         self.full = self.values.full
@@ -180,6 +180,14 @@ class ModuleRun:
         for stop in module.stops:
             self.stops.setdefault(stop.time, []).append((stop.cell, stop.name))
         self.heard: list[int] = []
+
+    def restrict(self, assignments: Table) -> None:
+        """Leaves only some assignments. It is called before the first step."""
+        self.full &= assignments
+        self.tables = {name: table & self.full for name, table in self.tables.items()}
+        self.field = Field(start_tables(self.layout, self.tables, self.full))
+        self.edges = self.borders(self.module.edges)
+        self.halos = self.borders(self.certificate.halo_lines(self.module))
 
     def borders(self, lines: list[BorderLine]) -> Borders:
         """Returns what edge or halo lines say, by the tables of the wires that are local here."""

@@ -8,9 +8,11 @@ import unittest
 import support
 from bbmlab_core.certify import Plan, certified, checked_boxes
 from bbmlab_core.circuits import values_under
-from bbmlab_core.diagnosis import Diagnosis
+from bbmlab_core.diagnosis import Diagnosis, Truth
 from bbmlab_core.explaining import as_gcc, explain_answer
+from bbmlab_core.own_report import certificate_digest
 from bbmlab_core.reports import parse_report
+from bbmlab_core.trials import Trial
 
 
 def small_noes() -> list:
@@ -28,7 +30,7 @@ class Reports(unittest.TestCase):
     """Lines of reports in words."""
 
     def test_each_line_is_told(self) -> None:
-        """Each line of each worked no has sentences, and each reason a cure; cells and module numbers are those of the line."""
+        """Each line of each worked no has sentences; cells and module numbers are those of the line."""
         count = 0
         for case, _ in small_noes():
             told = explain_answer(support.decode(case.input), "check", case.output.decode(), case.name)
@@ -37,8 +39,6 @@ class Reports(unittest.TestCase):
             for entry, finding in zip(told.entries, report.findings):
                 words = " ".join(entry.what)
                 count += 1
-                if finding.is_against:
-                    self.assertTrue(entry.cures, f"{case.name}: {finding.text}")
                 if finding.word in ("local", "border"):
                     self.assertIn(f"({finding.values['x']}, {finding.values['y']})", words, case.name)
                     self.assertRegex(words, rf"[Mm]odules? {finding.values['module']}\b|{finding.values['module']} and", case.name)
@@ -58,14 +58,14 @@ class Reports(unittest.TestCase):
                 all_inputs = itertools.product((0, 1), repeat=len(document.circuit.inputs))
                 found = any(gives(document, dict(zip(document.circuit.inputs, bits)), wanted) for bits in all_inputs)
                 tried += 1
-                self.assertEqual(occurrence.occurs, found, f"{case.name}: {finding.text}")
+                self.assertIs(occurrence.occurs, Truth.YES if found else Truth.NO, f"{case.name}: {finding.text}")
                 if found:
                     self.assertTrue(gives(document, occurrence.inputs, wanted), f"{case.name}: {finding.text}")
         self.assertGreater(tried, 50)
 
     def test_examples_name_their_cause(self) -> None:
-        """The causes of the examples are those that docs/CERTIFICATES.md tells, with the lines that mend them."""
-        for name, report_line, cause, cure in [
+        """The causes of the examples are those that docs/CERTIFICATES.md tells, with the lines that fix them."""
+        for name, report_line, cause, fix in [
                 ("extra_cut", "local 0 edge 3 7 4 3", "never_occurs", "use 0"),
                 ("wrong_edge", "local 1 edge 5 8 8 2", "line", "edge 5 8 8 c"),
                 ("wrong_edge", "local 0 end 6 7 7 1", "not_heard", "edge 5 8 8 c"),
@@ -79,10 +79,10 @@ class Reports(unittest.TestCase):
             entry = next(entry for entry in told.entries if entry.report_line == report_line)
             with self.subTest(f"{name}: {report_line}"):
                 self.assertEqual(entry.cause, cause)
-                self.assertIn(f"`{cure}`", " ".join(entry.cures))
+                self.assertIn(f"`{fix}`", " ".join(entry.fixes))
 
     def test_keep_of_many_inputs_has_no_cause(self) -> None:
-        """With 13 inputs it is not tried whether the values occur, so a `keep` line names no cause."""
+        """With 13 inputs only samples are tried. None of them gives these values, so a `keep` line names no cause."""
         inputs = [f"i{number}" for number in range(1, 14)]
         chain = [f"interact {'i1' if number == 2 else f'x{number - 1}'} i{number} -> x{number} b{number} c{number} d{number}"
                  for number in range(2, 14)]
@@ -94,11 +94,13 @@ class Reports(unittest.TestCase):
                  *(f"spill {name}" for name in [*left_over, "u", "v"]), "end", "layout 12 4 0", *cells, "end", "certificate 1",
                  *modules[0], *modules[1], *modules[2], "cut x13", "cut b13", "cut c13", "use 12", "keep 12", "end", ""]
         assignment = 0b101 << (len(modules[2]) - 1)
-        report = f"bbmcheck 1\ncertificate {'0' * 64}\nmodules 3\nverdict no\nkeep 2 12 {assignment}\n"
-        entry = explain_answer("\n".join(lines), "check", report, "many_inputs").entries[0]
+        text = "\n".join(lines)
+        report = f"bbmcheck 1\ncertificate {certificate_digest(text)}\nmodules 3\nverdict no\nkeep 2 12 {assignment}\n"
+        entry = explain_answer(text, "check", report, "many_inputs").entries[0]
         self.assertIsNone(entry.facts["occurs"])
         self.assertEqual(entry.cause, "")
-        self.assertIn("was not tried", " ".join(entry.cures))
+        self.assertIn("in 256 sampled choices of the inputs", " ".join(entry.what))
+        self.assertIn("was not tried", " ".join(entry.what))
 
     def test_line_numbers_are_right(self) -> None:
         """The line of the text that a fault names is the one that says what was wanted."""
@@ -120,24 +122,24 @@ class Reports(unittest.TestCase):
         self.assertEqual(ended.returncode, 1)
 
 
-class Cures(unittest.TestCase):
-    """Cures that are carried out."""
+class Fixes(unittest.TestCase):
+    """Fixes of certificates."""
 
     def test_lines_that_are_left_out_come_back(self) -> None:
-        """Where one edge line of a good bundle is left out, the cure of the first fault is that line."""
+        """If one edge line of a good bundle is left out, the fix of the first fault is that line."""
         document = support.read_document((support.EXAMPLES / "gate_and_mirror.txt").read_text(), "check")
         text = document.text
         for line in re.findall(r"^edge \d+ .*$", text, re.M):
             broken = text.replace(line + "\n", "", 1)
             output = self.answer(broken)
-            told = explain_answer(broken, "check", output, "broken")
+            told = explain_answer(broken, "check", output, "broken", Trial(support.program()))
             first = min((entry for entry in told.entries if entry.facts.get("time") is not None), key=lambda entry: entry.facts["time"])
             wires = {"a": "ad", "d": "ad"}.get(line[-1], line[-1])
             with self.subTest(line):
-                self.assertTrue(any(f"`{line[:-1]}{wire}`" in " ".join(first.cures) for wire in wires), first.cures)
+                self.assertTrue(any(f"`{line[:-1]}{wire}`" in " ".join(first.fixes) for wire in wires), first.fixes)
 
     def test_cut_certificates_get_a_yes(self) -> None:
-        """A design whose certificate `certify` makes anew gets a yes."""
+        """A design whose certificate `certify` makes again gets a yes."""
         document = support.read_document((support.EXAMPLES / "wrong_edge.txt").read_text())
         self.assertIn("verdict yes", self.answer(certified(document, checked_boxes(document.layout, 8, 12), Plan())))
 
@@ -173,7 +175,7 @@ def explained_example(name: str):
     sys.path.insert(0, str(support.TOP / "tools" / "oracle"))
     import reference_reports
     data = (support.EXAMPLES / f"{name}.txt").read_bytes()
-    return explain_answer(data.decode(), "check", reference_reports.answer(data)[1].decode(), name)
+    return explain_answer(data.decode(), "check", reference_reports.answer(data)[1].decode(), name, Trial(support.program()))
 
 
 if __name__ == "__main__":

@@ -30,12 +30,12 @@ class Refusals(unittest.TestCase):
                 cls.told.append((case, document, document.refusal, explain_refusal(document, document.refusal)))
 
     def test_each_has_sentences(self) -> None:
-        """Each refusal has a sentence on what is wrong, the rule of its code and a cure."""
+        """Each refusal has a sentence on what is wrong, the rule of its code and a hint."""
         self.assertGreater(len(self.told), 900)
         for case, _, refusal, told in self.told:
-            self.assertTrue(told.what and told.cures, case.name)
+            self.assertTrue(told.what and told.hints, case.name)
             self.assertEqual(told.rule, RULES[refusal.code])
-            for sentence in [*told.what, *told.cures]:
+            for sentence in [*told.what, *told.hints]:
                 self.assertRegex(sentence, r"[.?]$")
                 self.assertNotIn("None", sentence)
 
@@ -59,7 +59,7 @@ class Refusals(unittest.TestCase):
             if found and found[1] in KEYWORDS and words[0] == found[1] and refusal.cause != "shape":
                 count += 1
                 kind = "gate" if refusal.facts.get("kind") == "gate" else found[1]
-                self.assertIn(kind, " ".join(told.what) + " ".join(told.cures))
+                self.assertIn(kind, " ".join(told.what) + " ".join(told.hints))
         self.assertGreater(count, 50)
 
     def test_names_are_those_of_the_line(self) -> None:

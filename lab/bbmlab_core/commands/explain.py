@@ -1,37 +1,83 @@
 """Runs `bbmlab explain`."""
 
 import argparse
+import sys
 
 from .. import explaining
 from ..documents import command_for
 from ..explaining import Explanation
+from ..fixing import Fixer, outcome_words
 from ..pictures import LEGEND
 from ..program import ProgramError, ask, find_program
-from ..terminal import LabError, painted, plain, read_text, wrapped
+from ..terminal import LabError, painted, plain, read_text, wrapped, write_bytes
+from ..trials import Budget, Trial
 
 
 def run(options: argparse.Namespace) -> int:
     """Explains the answer of the program, or of the lab's reader where there is no program."""
+    if not options.fix and (options.output or options.in_place):
+        raise LabError("-o and -i need --fix", 2)
     text = read_text(options.file)
     command = options.command_of_program or {"design": "check", "layout": "run", "circuit": "value"}.get(command_for(text), command_for(text))
+    program = program_of(options)
+    if options.fix:
+        return write_fix(text, command, program, options)
     by_lab = False
     if options.report:
         output = read_text(options.report)
+    elif program:
+        output = asked(program, command, text, options)
     else:
-        try:
-            answer = ask(find_program(options.program), command, text.encode("latin-1"), options.timeout)
-            if answer.status >= 4:
-                raise LabError(f"the program answered: {answer.errors}")
-            output = answer.output
-        except ProgramError as error:
-            own = explaining.own_answer(text, command)
-            if own is None:
-                raise LabError(f"{error}. The lab's reader takes the text, but only the program gives a verdict.") from error
-            output, by_lab = own, True
-    explanation = explaining.explain_answer(text, command, output, options.file)
+        own = explaining.own_answer(text, command)
+        if own is None:
+            find_program(options.program)
+            raise LabError("The lab's reader takes the text, but only the program gives a verdict.")
+        output, by_lab = own, True
+    explanation = explaining.explain_answer(text, command, output, options.file, Trial(program, Budget(seconds=options.effort)))
     if by_lab:
         explanation.headline.append("The program was not found: this is the lab's reading, and no verdict.")
     return show_explanation(explanation, options)
+
+
+def program_of(options: argparse.Namespace) -> str | None:
+    """Returns the path of the program, or None if it is not found."""
+    try:
+        return find_program(options.program)
+    except ProgramError:
+        return None
+
+
+def asked(program: str, command: str, text: str, options: argparse.Namespace) -> str:
+    """Returns what a command of the program writes."""
+    answer = ask(program, command, text.encode("latin-1"), options.timeout)
+    if answer.status >= 4:
+        raise LabError(f"the program answered: {answer.errors}")
+    return answer.output
+
+
+def write_fix(text: str, command: str, program: str | None, options: argparse.Namespace) -> int:
+    """Writes the text with a fix; what it changes goes to standard error. Returns 0 only if the program says yes to it."""
+    if command != "check":
+        raise LabError("--fix takes a text with a circuit and a layout", 2)
+    if options.in_place and (options.output or options.file == "-"):
+        raise LabError("-i writes the file itself: it goes with a file, and without -o", 2)
+    report, trial = Trial(program).report(text), Trial(program, Budget(seconds=options.effort))
+    if report is None:
+        raise LabError(f"{trial.judge} gave no answer")
+    fixer = Fixer(text, report, trial)
+    fix = None if report.verdict == "yes" else fixer.find()
+    if fix is None and report.verdict != "yes":
+        print("\n".join(f"bbmlab: {line}" for line in explaining.tried_words(fixer, trial)), file=sys.stderr)
+        return 1
+    words = [*fix.words, outcome_words(report, fix)] if fix else [f"{trial.judge} says yes already: there is nothing to fix."]
+    print("\n".join(f"bbmlab: {plain(line)}" for line in words), file=sys.stderr)
+    data = (fix.text if fix else text).encode("latin-1")
+    if options.in_place:
+        if fix:
+            write_bytes(options.file, data)
+    else:
+        write_bytes(options.output, data, [options.file])
+    return 0 if fix is None or (fix.report.verdict == "yes" and program) else 1
 
 
 def show_explanation(explanation: Explanation, options: argparse.Namespace) -> int:
@@ -55,14 +101,31 @@ def text_of(explanation: Explanation) -> str:
         blocks.append(f"  line {explanation.line}: {explanation.line_text!r}"[:160] if explanation.line_text else f"  line {explanation.line}")
         blocks.append("\n".join(wrapped(what, "  ") for what in told.what))
         blocks.append(wrapped(f"Rule: {told.rule}", "  "))
-        blocks.append("\n".join(wrapped(cure, f"  {painted('Cure:', 'bold')} ", "        ") for cure in told.cures))
+        if explanation.fix is None:
+            blocks.append("\n".join(wrapped(hint, f"  {painted('Hint:', 'bold')} ", "        ") for hint in told.hints))
+    blocks += fix_blocks(explanation)
     for entry in explanation.entries:
         lines = [painted(entry.report_line, "bold" if entry.is_against else "dim")]
         lines += [wrapped(what, "  ") for what in entry.what]
-        lines += [wrapped(cure, f"  {painted('Cure:', 'bold')} ", "        ") for cure in entry.cures]
+        if explanation.fix is None or entry.fixes != explanation.fix.words:
+            lines += labelled("Fix:", entry.fixes)
         if entry.picture:
             lines += ["", *(f"    {row}" for row in entry.picture)]
         blocks.append("\n".join(lines))
     if any(entry.picture for entry in explanation.entries):
         blocks.append(painted(LEGEND, "dim"))
     return "\n\n".join(blocks)
+
+
+def fix_blocks(explanation: Explanation) -> list[str]:
+    """Returns the fix of the whole text, or what was tried in vain."""
+    if explanation.fix:
+        others = [line for words in explanation.fix.others for line in labelled("Or:", words)]
+        return ["\n".join(labelled("Fix:", explanation.fix.words) + others)]
+    return ["\n".join(wrapped(line, "  ") for line in explanation.tried)] if explanation.tried else []
+
+
+def labelled(label: str, sentences: list[str]) -> list[str]:
+    """Returns sentences, one a line, with a label before the first."""
+    margin = " " * (len(label) + 3)
+    return [wrapped(sentence, margin if index else f"  {painted(label, 'bold')} ", margin) for index, sentence in enumerate(sentences)]

@@ -8,6 +8,7 @@ from .. import explaining, viewing
 from ..designs import read_design
 from ..program import ProgramError, ProgramTimeout, ask, find_program
 from ..terminal import read_text, write_text
+from ..trials import Budget, Trial
 
 
 def run(options: argparse.Namespace) -> int:
@@ -17,8 +18,16 @@ def run(options: argparse.Namespace) -> int:
         try:
             output = read_text(options.report) if options.report else ask(
                 find_program(options.program), "check", document.text.encode("latin-1"), options.timeout).output
-            explanation = explaining.explain_answer(document.text, "check", output, options.file)
+            explanation = explaining.explain_answer(document.text, "check", output, options.file, trial_of(options))
         except (ProgramError, ProgramTimeout) as error:
             print(f"bbmlab: the page has no report: {error}", file=sys.stderr)
     write_text(options.output, viewing.page(document, explanation, os.path.basename(options.file)))
     return 0
+
+
+def trial_of(options: argparse.Namespace) -> Trial | None:
+    """Returns who tries fixes: the program, if it is found."""
+    try:
+        return Trial(find_program(options.program), Budget(200, 10.0))
+    except ProgramError:
+        return None

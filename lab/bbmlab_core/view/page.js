@@ -275,6 +275,10 @@
     verdict.textContent = `${isGood ? "✓" : "✗"} ${explanation.headline[0]}`;
     verdict.className = isGood ? "good" : "bad";
     for (const text of explanation.headline.slice(1)) box.append(appendWords(made("p", ""), text));
+    const fix = explanation.fix ? explanation.fix.words.join(" ") : "";
+    if (fix) box.append(appendWords(made("p", ""), `Fix: ${fix}`));
+    for (const words of explanation.fix?.others ?? []) box.append(appendWords(made("p", ""), `Or: ${words.join(" ")}`));
+    for (const text of explanation.tried) box.append(appendWords(made("p", ""), text));
     for (const entry of explanation.entries) {
       const button = made("button", `${entry.is_against ? "✗" : "✓"} ${entry.report_line}`);
       button.type = "button";
@@ -282,7 +286,8 @@
       button.addEventListener("click", () => showEntry(entry, button));
       box.append(button);
       for (const text of entry.what) box.append(appendWords(made("p", ""), text));
-      for (const text of entry.cures) box.append(appendWords(made("p", ""), `Cure: ${text}`));
+      const own = entry.fixes.join(" ");
+      if (own && own !== fix) box.append(appendWords(made("p", ""), `Fix: ${own}`));
     }
   }
 

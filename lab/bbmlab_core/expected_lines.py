@@ -1,0 +1,154 @@
+"""The lines about borders that a certificate should have: those of its text are compared with the whole run of the layout."""
+
+from dataclasses import dataclass, field
+from functools import cached_property
+
+from .certificates import BorderLine, Module
+from .diagnosis import MAX_SECONDS, Diagnosis
+from .edits import Edit, add, delete, place_in_module, replace
+from .layouts import Cell
+from .processor import processor_seconds
+from .simulation import Table, WholeRun, cell_of, key_of
+
+# The most lines that one cell gets.
+MAX_LINES = 40
+
+
+@dataclass
+class Group:
+    """The edits for one cell of a border: the first time at which its lines are wrong, and the modules whose lines change."""
+
+    cell: Cell
+    time: int
+    modules: set[int]
+    edits: list[Edit] = field(default_factory=list)
+
+
+@dataclass(frozen=True)
+class UnnamedCell:
+    """A cell of a border that is live at a time, and no wire has its values."""
+
+    cell: Cell
+    time: int
+
+
+class BorderCheck:
+    """Compares the `edge` and `halo` lines of a certificate with the whole run."""
+
+    def __init__(self, diagnosis: Diagnosis) -> None:
+        self.diagnosis = diagnosis
+        self.certificate, self.circuit, self.layout = diagnosis.certificate, diagnosis.circuit, diagnosis.layout
+        self.lines = diagnosis.document.text.split("\n")
+        self.unnamed: list[UnnamedCell] = []
+        self.owners = {cell: module for module in self.certificate.modules for cell in module.box.ring() if not self.layout.is_rim(cell)}
+
+    @cached_property
+    def seen(self) -> dict[Cell, dict[int, Table]] | None:
+        """The tables of the cells of all rings at the odd times at which they are live, or None if the run is too long or leaves."""
+        if not self.diagnosis.can_run_whole():
+            return None
+        values = self.diagnosis.values
+        run, end = WholeRun(self.layout, values.tables, values.full), processor_seconds() + MAX_SECONDS
+        keys = {key_of(cell) for cell in self.owners}
+        seen: dict[int, dict[int, Table]] = {}
+        while run.time < self.layout.steps:
+            if run.time % 2:
+                for key in keys & run.field.live.keys():
+                    seen.setdefault(key, {})[run.time] = run.field.live[key]
+            if not run.step() or processor_seconds() > end:
+                self.diagnosis.is_slow = run.left is None
+                return None
+        return {cell_of(key): times for key, times in seen.items()}
+
+    def table_of(self, signal: str) -> Table:
+        """Returns the table of a signal."""
+        return self.diagnosis.values.full if signal == "1" else self.diagnosis.values.tables[signal]
+
+    def groups(self) -> list[Group]:
+        """Returns the edits of all cells whose lines are wrong, in order of the first wrong time."""
+        if self.seen is None:
+            return []
+        lines: dict[Cell, list[tuple[Module, BorderLine]]] = {}
+        for module in self.certificate.modules:
+            for line in (*module.edges, *module.halos):
+                lines.setdefault(line.cell, []).append((module, line))
+        found = [self.group(cell, lines.get(cell, [])) for cell in sorted(self.seen.keys() | lines.keys())]
+        return sorted((group for group in found if group), key=lambda group: group.time)
+
+    def group(self, cell: Cell, lines: list[tuple[Module, BorderLine]]) -> Group | None:
+        """Returns the edits for one cell, or None if its lines are right or no lines would be."""
+        owner = self.owners.get(cell)
+        if owner is None or self.seen is None:
+            return None
+        actual = self.seen.get(cell, {})
+        hearers = [other for other in self.certificate.neighbours(owner) if other.box.has_in_halo(cell)]
+        wrong = self.wrong_time(owner, "edge", actual, lines)
+        if self.certificate.version == 1:
+            wrong += [time for hearer in hearers for time in self.wrong_time(hearer, "halo", actual, lines)]
+        if not wrong:
+            return None
+        signals = self.signals(cell, actual, [owner, *hearers], lines)
+        if signals is None or len(signals) > MAX_LINES:
+            return None
+        group = Group(cell, min(wrong), {module.number for module in (owner, *hearers)})
+        self.write(group, owner, "edge", signals)
+        for hearer in hearers:
+            if self.certificate.version == 1:
+                self.write(group, hearer, "halo", signals)
+            self.make_local(group, hearer, signals)
+        self.make_local(group, owner, signals)
+        return group
+
+    def wrong_time(self, module: Module, kind: str, actual: dict[int, Table], lines: list[tuple[Module, BorderLine]]) -> list[int]:
+        """Returns the first odd time at which the lines of a module about a cell differ from the run, in a list that may be empty."""
+        own = {line.time: self.table_of(line.signal) for other, line in lines if other is module and line.kind == kind}
+        if None in own:
+            return next(([time] for time in range(1, self.layout.steps, 2) if actual.get(time, 0) != own[None]), [])
+        times = sorted(time for time in actual.keys() | own.keys() if time is not None)
+        return next(([time] for time in times if actual.get(time, 0) != own.get(time, 0)), [])
+
+    def signals(self, cell: Cell, actual: dict[int, Table], modules: list[Module],
+                lines: list[tuple[Module, BorderLine]]) -> dict[int | None, str] | None:
+        """Returns the signals that a cell should have by time, or None if no wire has its values."""
+        full = self.diagnosis.values.full
+        if actual and all(actual.get(time) == full for time in range(1, self.layout.steps, 2)):
+            return {None: "1"}
+        signals: dict[int | None, str] = {}
+        for time, table in sorted(actual.items()):
+            told = [line.signal for _, line in lines if line.time in (None, time) and self.table_of(line.signal) == table]
+            name = next(iter(told), None) or ("1" if table == full else self.best_wire(table, modules))
+            if name is None:
+                self.unnamed.append(UnnamedCell(cell, time))
+                return None
+            signals[time] = name
+        return signals
+
+    def best_wire(self, table: Table, modules: list[Module]) -> str | None:
+        """Returns the wire with a table that the most of some modules know."""
+        wires = [name for name, other in self.diagnosis.values.tables.items() if other == table]
+        return max(wires, key=lambda name: sum(name in module.local for module in modules), default=None)
+
+    def write(self, group: Group, module: Module, kind: str, signals: dict[int | None, str]) -> None:
+        """Adds the edits after which a module has just these lines about a cell."""
+        old = {line.time: line for line in module.border_lines(kind) if line.cell == group.cell}
+        for time, line in old.items():
+            if time not in signals:
+                group.edits.append(delete(line.line))
+        for time, signal in signals.items():
+            text = str(BorderLine(kind, time, group.cell[0], group.cell[1], signal, 0))
+            if time not in old:
+                group.edits.append(add(place_in_module(self.lines, module.line, text), text))
+            elif str(old[time]) != text:
+                group.edits.append(replace(old[time].line, text))
+
+    def make_local(self, group: Group, module: Module, signals: dict[int | None, str]) -> None:
+        """Adds the edits after which a module knows the wires of some signals: a gate that it can use, or else a cut."""
+        for name in dict.fromkeys(signals.values()):
+            if name == "1" or name in module.local:
+                continue
+            gate = self.circuit.maker.get(name)
+            is_made = gate is not None and all(wire in module.local for wire in gate.ins) and not any(wire in module.local for wire in gate.outs)
+            text = f"use {gate.number}" if gate is not None and is_made else f"cut {name}"
+            edit = add(place_in_module(self.lines, module.line, text), text)
+            if edit not in group.edits:
+                group.edits.append(edit)

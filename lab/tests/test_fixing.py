@@ -1,0 +1,326 @@
+"""Fixes: edits that `explain` names were tried, the usual mistakes lead to their fix, and what was not tried is unknown."""
+
+import os
+import tempfile
+import unittest
+from pathlib import Path
+
+import support
+from bbmlab_core.diagnosis import Diagnosis, Truth
+from bbmlab_core.edits import EditError, add, applied, delete, edits_between, replace
+from bbmlab_core.explaining import Explanation, explain_answer
+from bbmlab_core.fixing import Fixer
+from bbmlab_core.layouts import Part
+from bbmlab_core.mirrors import stays
+from bbmlab_core.own_report import certificate_digest, own_report
+from bbmlab_core.program import ask
+from bbmlab_core.reports import ReportError, parse_report
+from bbmlab_core.simulation import Field, key_of
+from bbmlab_core.trials import Budget, Trial, is_yes
+from measure_fixes import right_texts, rounds_to_yes
+from mutations import FAMILIES, mutants
+
+
+def text_of(name: str) -> str:
+    """Returns the text of an example."""
+    return (support.EXAMPLES / f"{name}.txt").read_text()
+
+
+def explained(text: str, command: str = "check") -> Explanation:
+    """Returns the program's answer to a text in words, with fixes that the program tried."""
+    output = ask(support.program(), command, text.encode("latin-1")).output
+    return explain_answer(text, command, output, "text", Trial(support.program()))
+
+
+def says_yes(text: str) -> bool:
+    """Whether the program says yes to a text."""
+    return "verdict yes" in ask(support.program(), "check", text.encode("latin-1")).output
+
+
+class Edits(unittest.TestCase):
+    """Edits of whole lines."""
+
+    def test_lines_count_in_the_text_before(self) -> None:
+        """Edits do not shift each other's lines, and two lines that are added at one place keep their order."""
+        text = "a\nb\nc\nd\n"
+        edits = [delete(1), add(2, "x"), add(2, "y"), replace(4, "z"), add(0, "first")]
+        self.assertEqual(applied(text, edits), "first\nb\nx\ny\nc\nz\n")
+        for wrong in ([delete(9)], [delete(0)], [delete(2), replace(2, "q")]):
+            with self.assertRaises(EditError):
+                applied(text, wrong)
+
+    def test_edits_between_lead_from_one_to_the_other(self) -> None:
+        """What is found by comparing two texts makes one of the other."""
+        for one, two in (("a\nb\nc\n", "a\nc\nd\n"), ("a\n", "a\n"), ("", "x\ny\n"), ("p\nq\nr\n", "r\nq\np\n"), ("a\na\na\n", "a\n")):
+            with self.subTest(one=one, two=two):
+                self.assertEqual(applied(one, edits_between(one, two)), two)
+
+
+class Mirrors(unittest.TestCase):
+    """Which mirrors fall apart."""
+
+    def test_stays_is_what_two_steps_do(self) -> None:
+        """A rectangle alone stays if it is as it was after one and two steps of the automaton."""
+        for x in (4, 5):
+            for y in (4, 5):
+                for width in range(1, 6):
+                    for height in range(1, 6):
+                        part = Part("mirror", None, x, y, width, height, 1)
+                        start = {key_of(cell): 1 for cell in part.cells()}
+                        field = Field(start)
+                        kept = []
+                        for _ in (1, 2):
+                            field.step()
+                            kept.append(set(field.live) == set(start))
+                        self.assertEqual(stays(part), all(kept), part)
+
+    def test_the_headline_names_it(self) -> None:
+        """A mirror that was moved by one cell is named before anything else, though the fault is at an output."""
+        text = text_of("machine_delay")
+        line = next(line for line in text.split("\n") if line.startswith("mirror "))
+        words = line.split(" ")
+        told = explained(text.replace(line, " ".join([words[0], str(int(words[1]) + 1), *words[2:]])))
+        self.assertIn("falls apart by itself", " ".join(told.headline))
+
+
+class Mistakes(unittest.TestCase):
+    """The usual mistakes of designers, each with its fix in one look."""
+
+    def fixed(self, text: str, broken: str) -> Explanation:
+        """Returns the words on a broken text, after checking that its fix gets a yes and is about the edited lines."""
+        self.assertNotEqual(text, broken)
+        told = explained(broken)
+        self.assertIsNotNone(told.fix, told.tried)
+        assert told.fix
+        self.assertEqual((told.fix.verdict, told.fix.judge), ("yes", "the program"))
+        if not told.fix.certificate_again:
+            self.assertTrue(says_yes(applied(broken, told.fix.edits)))
+        return told
+
+    def test_the_text_comes_back(self) -> None:
+        """Where only one text is near and right, the fix gives it back."""
+        plain, modules, adder = (text_of(name) for name in ("head_on_bundle", "four_modules", "machine_half_adder"))
+        for name, text, old, new in [
+                ("swapped outputs", plain, "out b 2 2\nout c 5 5", "out c 2 2\nout b 5 5"),
+                ("comma for a space", plain, "in p 2 2", "in p 2,2"),
+                ("comma after a word", plain, "in p 2 2", "in p, 2, 2"),
+                ("arrow in UTF-8", plain, "->", "\xe2\x86\x92"),
+                ("use out of order", adder, "use 0\nuse 1", "use 1\nuse 0"),
+                ("moved in", modules, "in q 5 5", "in q 6 5"),
+                ("phantom ball", plain, "in p 2 2", "ball 1 6\nin p 2 2"),
+                ("capital letters", plain, "in p 2 2", "IN p 2 2")]:
+            with self.subTest(name):
+                self.assertIn(old, text)
+                broken = text.replace(old, new)
+                told = self.fixed(text, broken)
+                assert told.fix
+                self.assertEqual(applied(broken, told.fix.edits), text)
+
+    def test_kinds_of_edits(self) -> None:
+        """Where several texts are near and right, the fix is an edit of the line that is wrong."""
+        delay, adder = text_of("machine_delay"), text_of("machine_half_adder")
+        for name, text, old, new, word in [
+                ("mirror parity", delay, "mirror 11 16 2 2", "mirror 12 16 2 2", "mirror"),
+                ("missing mirror", adder, first_line(adder, "mirror "), "", "mirror"),
+                ("missing ball", adder, first_line(adder, "ball "), "", "ball"),
+                ("wrong constant", adder, "source 1 ->", "source 0 ->", "source 1")]:
+            with self.subTest(name):
+                self.assertIn(old, text)
+                told = self.fixed(text, text.replace(old, new, 1))
+                assert told.fix
+                self.assertIn(f"`{word} ", " ".join(edit.text and f"`{edit.text}`" for edit in told.fix.edits))
+
+    def test_two_fixes(self) -> None:
+        """If two outputs of a gate are exchanged, both the gate and the `out` lines can be changed: each is named, and the program tried both."""
+        text = text_of("fredkin_gate")
+        for old, new in (("-> d u v", "-> d v u"), ("out u 8 11\nout v 11 8", "out v 8 11\nout u 11 8")):
+            told = self.fixed(text, text.replace(old, new))
+            assert told.fix
+            words = " ".join([*told.fix.words, *(sentence for other in told.fix.others for sentence in other)])
+            self.assertRegex(words, r"by `fredkin c x y -> d (u v|v u)`")
+            self.assertRegex(words, r"by `out [uv] 8 11`")
+
+    def test_no_certificate(self) -> None:
+        """A design without a certificate leads to `bbmlab certify`."""
+        told = self.fixed(text_of("head_on_bundle"), text_of("not_gate"))
+        assert told.fix
+        self.assertTrue(told.fix.certificate_again)
+        self.assertIn("`bbmlab certify`", " ".join(told.fix.words))
+
+    def test_one_input(self) -> None:
+        """A yes to a circuit with one input is written in good English."""
+        for name in ("one_wire", "mirror_bundle"):
+            self.assertNotIn("the 1 inputs", " ".join(explained(text_of("mirror_bundle")).headline), name)
+        self.assertIn("both values of its input", " ".join(explained(text_of("mirror_bundle")).headline))
+
+
+def first_line(text: str, beginning: str) -> str:
+    """Returns the first line of a text with a beginning, with its line feed."""
+    return next(line for line in text.split("\n") if line.startswith(beginning)) + "\n"
+
+
+class Reports(unittest.TestCase):
+    """Reports that are not of the text, and the lab's own reports."""
+
+    def test_another_report_is_refused(self) -> None:
+        """`explain --report` and `view --report` refuse a report with another digest, and one that names a module that there is not."""
+        text, other = text_of("wrong_edge"), text_of("extra_cut")
+        report = ask(support.program(), "check", other.encode()).output
+        with self.assertRaisesRegex(ReportError, "not of this text"):
+            explain_answer(text, "check", report, "text")
+        own = ask(support.program(), "check", text.encode()).output
+        with self.assertRaisesRegex(ReportError, "not of this text"):
+            explain_answer(text, "check", own.replace("local 1", "local 9"), "text")
+        with tempfile.TemporaryDirectory() as room:
+            path = Path(room) / "report"
+            path.write_text(report)
+            for command in ("explain", "view"):
+                ended = support.lab(command, support.example("wrong_edge"), "--report", str(path))
+                self.assertEqual(ended.returncode, 4)
+                self.assertIn("not of this text", ended.stderr)
+
+    def test_digest_is_the_program_s(self) -> None:
+        """The digest of a certificate is that of the program's report."""
+        for name in ("wrong_edge", "four_modules", "without_halos"):
+            text = text_of(name)
+            self.assertEqual(certificate_digest(text), parse_report(ask(support.program(), "check", text.encode()).output).digest)
+
+    def test_own_reports_are_the_program_s(self) -> None:
+        """The report that the lab makes without the program is the program's, for each worked case that is small."""
+        count = 0
+        for case in support.worked_cases():
+            if case.words[0] == "check" and case.output and len(case.input) < 6000 and not case.output.startswith(b"refused"):
+                document = support.document_of(case)
+                report, own = parse_report(case.output.decode()), own_report(document)
+                count += 1
+                self.assertEqual((own.verdict, [finding.text for finding in own.findings]),
+                                 (report.verdict, [finding.text for finding in report.findings]), case.name)
+        self.assertGreater(count, 100)
+
+
+class ThreeValues(unittest.TestCase):
+    """What was not tried is unknown, and a sentence that rests on samples names them."""
+
+    def many_inputs(self, is_right: bool) -> str:
+        """Returns a bundle with 13 inputs, each of whose balls flies straight on; one `out` is at a wrong cell if it is not right."""
+        names = [f"i{number}" for number in range(13)]
+        spots = [(2 + 4 * (number % 7), 2 + 4 * (number // 7)) for number in range(13)]
+        ins = [f"in {name} {x} {y}" for name, (x, y) in zip(names, spots)]
+        outs = [f"out {name} {x + 2} {y + 2}" for name, (x, y) in zip(names, spots)]
+        if not is_right:
+            outs[4] = "out i4 20 2"
+        modules = [["module 0 0 32 6", *(f"cut {name}" for name in names[:7])], ["module 0 6 32 6", *(f"cut {name}" for name in names[7:])]]
+        return "\n".join(["circuit", *(f"input {name}" for name in names), *(f"output {name}" for name in names), "end", "layout 32 12 2",
+                          *ins, *outs, "end", "certificate 2", *modules[0], *modules[1], "end", ""])
+
+    def test_samples_are_named(self) -> None:
+        """With 13 inputs a fault in a sample is certain, and no fault in the samples is unknown."""
+        for is_right in (True, False):
+            text = self.many_inputs(is_right)
+            document = support.read_document(text, "check")
+            self.assertIsNone(document.refusal)
+            outcome = Diagnosis(document).outcome
+            self.assertIs(outcome.is_right, Truth.UNKNOWN if is_right else Truth.NO)
+        told = explained(self.many_inputs(False))
+        self.assertIn("The layout itself does not do what the circuit asks", " ".join(told.headline))
+        assert told.fix
+        self.assertEqual([edit.text for edit in told.fix.edits], ["out i4 20 4"])
+
+    def test_right_layout_with_a_wrong_certificate(self) -> None:
+        """Of a right layout with 13 inputs it is never said that it is wrong, only that samples were tried."""
+        lines = self.many_inputs(True).split("\n")
+        lines.insert(lines.index("cut i6") + 1, "edge 1 5 5 1")
+        told = explained("\n".join(lines))
+        words = " ".join(told.headline)
+        self.assertEqual(told.verdict, "no")
+        self.assertIn("in 256 sampled choices of the inputs", words)
+        self.assertNotIn("The layout itself does not", words)
+        assert told.fix
+        self.assertEqual([(edit.action, edit.line) for edit in told.fix.edits], [("delete", lines.index("edge 1 5 5 1") + 1)])
+
+    def test_never_occurs_does_not_mask_a_missing_line(self) -> None:
+        """With a cut that never occurs so and a missing line too, the missing line is the cause."""
+        text = text_of("extra_cut").replace("edge 3 7 7 c\n", "", 1)
+        told = explained(text)
+        entry = told.entries[0]
+        self.assertIs(entry.facts["occurs"], False)
+        self.assertEqual(entry.cause, "line")
+        self.assertIn("Under values that do occur the module has a fault too", " ".join(entry.what))
+
+
+class Command(unittest.TestCase):
+    """`explain --fix`."""
+
+    def test_files(self) -> None:
+        """The text goes to standard output or to another file, and over the input only with -i."""
+        with tempfile.TemporaryDirectory() as room:
+            path, other = Path(room) / "text.txt", Path(room) / "fixed.txt"
+            path.write_text(text_of("wrong_edge"))
+            program = support.program()
+            ended = support.lab("explain", "--fix", str(path), "--program", program)
+            self.assertEqual((ended.returncode, says_yes(ended.stdout), path.read_text()), (0, True, text_of("wrong_edge")))
+            self.assertEqual(support.lab("explain", "--fix", str(path), "-o", str(path), "--program", program).returncode, 2)
+            self.assertEqual(path.read_text(), text_of("wrong_edge"))
+            support.lab("explain", "--fix", str(path), "-o", str(other), "--program", program)
+            self.assertTrue(says_yes(other.read_text()))
+            self.assertEqual(support.lab("explain", "--fix", "-i", str(path), "--program", program).returncode, 0)
+            self.assertTrue(says_yes(path.read_text()))
+            self.assertEqual(support.lab("explain", "-o", str(other), str(path), "--program", program).returncode, 2)
+
+    def test_without_the_program(self) -> None:
+        """Without the program the lab tries the edits by its own runs, says so, and ends with 1: it gives no verdict."""
+        ended = support.lab("explain", "--fix", support.example("wrong_edge"), "--program", "/no/such/program")
+        self.assertEqual(ended.returncode, 1)
+        self.assertIn("only the program gives a verdict", ended.stderr)
+        self.assertTrue(says_yes(ended.stdout))
+
+    def test_no_fix_says_what_was_tried(self) -> None:
+        """If nothing is found, standard error says how many texts were tried and which kinds of edits; nothing is written."""
+        lines = ["circuit", "input c", "input x", "input y", "fredkin c x y -> d u v", "output d", "output u", "output v", "end", "layout 8 8 1",
+                 "in c 2 2", "in x 4 4", "in y 2 5", "out d 3 3", "out u 5 5", "out v 3 4", "end",
+                 "certificate 2", "module 0 0 8 8", "cut c", "cut x", "cut y", "use 0", "end", ""]
+        ended = support.lab("explain", "--fix", "-", text="\n".join(lines), BBMCHECK=support.program())
+        self.assertEqual((ended.returncode, ended.stdout), (1, ""))
+        self.assertIn("No fix was found", ended.stderr)
+        self.assertIn("one gate line", ended.stderr)
+
+
+class Measure(unittest.TestCase):
+    """Faulty texts made of right ones by one edit."""
+
+    def test_mutants_are_fixed(self) -> None:
+        """At least 95 percent get a yes in at most two rounds, and no fix leads to a refusal."""
+        program, texts = support.program(), right_texts(2000)
+        count = int(os.environ.get("BBMLAB_MUTANTS", "3"))
+        total, failed = 0, []
+        for family in FAMILIES:
+            for name, text in mutants(family, texts, count, 7, lambda text: is_yes(Trial(program).report(text))):
+                rounds, refused = rounds_to_yes(text, program)
+                total += 1
+                self.assertEqual(refused, [], f"{family} {name}")
+                if rounds is None:
+                    failed.append(f"{family} {name}")
+        self.assertGreaterEqual(total, 6 * count)
+        self.assertLessEqual(len(failed), total // 20, failed)
+
+    def test_each_printed_fix_was_tried(self) -> None:
+        """Each fix of a line of a report, applied to the text, leads to no refusal, and the line is gone."""
+        program, tried = support.program(), 0
+        for name in ("wrong_edge", "wrong_border", "wrong_times", "wrong_stop", "extra_cut", "two_names", "outside_domain", "not_kept"):
+            text = text_of(name)
+            trial = Trial(program, Budget(200, 20))
+            report = trial.report(text)
+            assert report
+            fixer, diagnosis = Fixer(text, report, trial), Diagnosis(support.read_document(text, "check"))
+            for finding in report.faults:
+                fix = fixer.find_for(diagnosis, finding)
+                if fix:
+                    tried += 1
+                    after = ask(program, "check", applied(text, fix.edits).encode()).output
+                    self.assertNotIn("refused", after)
+                    self.assertNotIn(finding.text, after.split("\n"))
+        self.assertGreater(tried, 6)
+
+
+if __name__ == "__main__":
+    unittest.main()
