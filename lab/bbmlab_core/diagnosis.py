@@ -9,12 +9,12 @@ from enum import Enum
 from functools import cached_property
 
 from .certificates import Module
-from .circuits import Circuit, Valuation, evaluate, evaluate_samples, evaluate_under
+from .circuits import Circuit, Valuation, evaluate, evaluate_samples
 from .documents import Document
 from .layouts import Cell, row_order
 from .processor import processor_seconds
 from .reports import Finding
-from .simulation import Fault, Field, ModuleRun, Table, WholeRun, cell_of, end_tables, key_of, local_values, lowest_bit
+from .simulation import Fault, Field, ModuleRun, Table, WholeRun, cell_of, end_tables, key_of, lowest_bit
 
 MAX_INPUTS = 12
 # How many choices of the inputs are tried where they are more than MAX_INPUTS.

@@ -6,7 +6,7 @@ import unittest
 import support  # noqa: F401
 from bbmlab_core.circuits import Gate
 from bbmlab_core.gates import gate_row, input_tables
-from bbmlab_core.route.balls import (BOUNCE_STEPS, Ball, Leg, Turn, bounce, bounce_before, follow, mirror_cells, path_run, run_exactly,
+from bbmlab_core.route.balls import (BOUNCE_STEPS, Ball, Leg, Turn, bounce, bounce_before, follow, path_run, run_exactly,
                                      start_state)
 from bbmlab_core.route.cells import PORTS, GateCell, base_cells, library
 

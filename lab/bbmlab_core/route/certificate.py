@@ -10,11 +10,10 @@ from dataclasses import dataclass
 from ..boxes import Box
 from ..certificates import MAX_CUTS, MAX_USES, BorderLine, Certificate, Module, StopLine
 from ..certify import certificate_text
-from ..circuits import Circuit
 from ..cones import fewest_cuts, keeping_cone
 from ..layouts import Cell, row_order
 from .attempt import Design
-from .balls import Mirror, Run, mirror_cells, path_run
+from .balls import Mirror, Run, path_run
 from .board import NoRouteError, PlacedGate, tiles_in
 from .cells import PORTS
 from .netlist import STOP_MARGIN, Netlist

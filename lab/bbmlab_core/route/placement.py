@@ -234,7 +234,7 @@ class Placer:
 
     def lead_inputs(self, step: Step, inlets: list[Inlet]) -> bool:
         """Leads the inputs to a gate: first those that failed most often, and then those that come last."""
-        board, world = self.board, self.board.world
+        world = self.board.world
         order = sorted(inlets, key=lambda inlet: (-self.blame[inlet.root], -inlet.ball.time if inlet.ball else 1))
         ways = {inlet.root: self.way_in(step.gate.into(inlet.port)) for inlet in order}
         kept = {root: item for root, item in ways.items() if item}
