@@ -11,7 +11,7 @@ from .signals import Stopped, end_by_pipe, listen
 from .terminal import LabError, plain
 
 EPILOG = """Nothing here is proved, and nothing here is trusted: the verdict is always the program's.
-Exit statuses: 0 done or all yes, 1 a no or a refusal, 2 wrong words, 4 a file or the program is missing or failed."""
+Exit statuses: 0 done or all yes, 1 a no or a refusal, 2 wrong arguments, 4 a file or the program is missing or failed."""
 FORMATS = ["json", "jsonl", "junit", "tap", "text"]
 
 
@@ -92,7 +92,7 @@ def add_check(commands: Commands) -> None:
 
 def add_explain(commands: Commands) -> None:
     """Adds `explain`."""
-    parser = commands.add("explain", late("explain"), "Tell each line of the report, or the refusal, in plain English.",
+    parser = commands.add("explain", late("explain"), "Explain each line of the report, or the refusal, in plain English.",
                           "Example: bbmlab explain examples/wrong_edge.txt")
     parser.add_argument("file", metavar="FILE", help="the text that the program answers, or - for standard input")
     parser.add_argument("--report", metavar="FILE", help="explain this answer of the program, which must be of this text")
@@ -212,7 +212,7 @@ def add_route(commands: Commands) -> None:
     parser.add_argument("--size", type=positive, metavar="N", help="the side of the layout, a multiple of 16 up to 512 (default: as needed)")
     parser.add_argument("--effort", type=seconds, default=60.0, metavar="SECONDS", help="how long to search (default: 60)")
     parser.add_argument("--jobs", type=positive, default=1, metavar="N", help="attempts at a time, each in a process (default: 1)")
-    parser.add_argument("--compact", action="store_true", help="try on for a smaller layout and fewer steps")
+    parser.add_argument("--compact", action="store_true", help="make more attempts, and take the smallest layout with the fewest steps")
     parser.add_argument("--no-certificate", action="store_true", help="write the circuit and the layout alone")
     parser.add_argument("--circuit-only", action="store_true", help="write the circuit section to which a netlist is mapped, and route nothing")
     parser.add_argument("--keep-partial", action="store_true", help="if there is no route, write a bundle of the gates that were placed")

@@ -86,8 +86,7 @@ def write_bytes(name: str | None, data: bytes, sources: Iterable[str] = ()) -> N
         output.write(data)
         output.flush()
         return
-    if any(is_same_file(name, source) for source in sources):
-        raise LabError(f"{name}: the output is the input; write to another file", 2)
+    require_other_file(name, sources)
     try:
         replace_file(name, data)
     except OSError as error:
@@ -97,6 +96,12 @@ def write_bytes(name: str | None, data: bytes, sources: Iterable[str] = ()) -> N
 def write_text(name: str | None, text: str, sources: Iterable[str] = ()) -> None:
     """Writes a text in UTF-8 to a file, or to standard output for None and `-`."""
     write_bytes(name, text.encode("utf-8"), sources)
+
+
+def require_other_file(name: str | None, sources: Iterable[str]) -> None:
+    """Raises LabError if an output is one of the files that were read."""
+    if name is not None and any(is_same_file(name, source) for source in sources):
+        raise LabError(f"{name}: the output is the input; write to another file", 2)
 
 
 def is_same_file(one: str, other: str) -> bool:

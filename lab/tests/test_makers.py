@@ -87,6 +87,18 @@ class Certificates(unittest.TestCase):
         stops = [sorted(line for line in one.splitlines() if line.startswith("stop ")) for one in (text, ended.stdout)]
         self.assertEqual(stops[0], stops[1])
 
+    def test_status_without_a_verdict(self) -> None:
+        """Without a yes of the program the status is not 0, even if the program ends with status 0. The bundle is written all the same."""
+        for program, message in (("/no/such/program", "was not checked"), (shutil.which("true"), "gave no verdict")):
+            if program is None:
+                self.skipTest("there is no command `true`")
+            ended = support.lab("certify", "--program", program, support.example("not_gate"))
+            with self.subTest(program):
+                self.assertEqual(ended.returncode, 4)
+                self.assertIn(message, ended.stderr)
+                self.assertNotIn("says yes", ended.stderr)
+                self.assertIn("\ncertificate 2\n", ended.stdout)
+
 
 def by_grid(name: str, grid: tuple[int, int], plan: Plan) -> str:
     """Returns an example with a certificate whose boxes are those of a grid."""

@@ -8,11 +8,12 @@ from ..certify import Plan, certified, checked_boxes
 from ..documents import Document, read_document
 from ..layouts import Layout
 from ..program import ProgramError, ProgramTimeout, ask, find_program
-from ..terminal import LabError, plain, read_text, write_text
+from ..terminal import LabError, plain, read_text, require_other_file, write_text
 
 
 def run(options: argparse.Namespace) -> int:
     """Makes a certificate, and has the program check it if there is one. An old certificate is left out, apart from stops that hold."""
+    require_other_file(options.output, [options.file])
     text = read_text(options.file)
     document, plan = design_of(text, options.file), Plan(options.version_of_text, "safe" if options.plain else options.cuts)
     old = read_document(text, "check")
@@ -62,16 +63,23 @@ def boxes_of(file: str) -> list[Box]:
 
 
 def verdict_status(bundle: str, options: argparse.Namespace) -> int:
-    """Says on standard error what the program says of the bundle. Returns 0 for a yes or without a program, and else 1."""
+    """Prints on standard error what the program says of the bundle.
+
+    Returns 0 after a yes, 1 after a no or a refusal, and 4 without an answer. A yes is status 0 and the line `verdict yes` together.
+    """
     try:
         answer = ask(find_program(options.program), "check", bundle.encode("latin-1"), options.timeout)
     except (ProgramError, ProgramTimeout) as error:
         print(f"bbmlab: the certificate was not checked: {plain(str(error))}", file=sys.stderr)
-        return 0
+        return 4
     lines = answer.output.split("\n")
-    if answer.status == 0:
+    verdict = lines[3] if len(lines) > 3 else ""
+    if (answer.status, verdict) == (0, "verdict yes"):
         print("bbmlab: the program says yes", file=sys.stderr)
         return 0
-    what = lines[0] if answer.status == 3 else f"no: {lines[4] if len(lines) > 4 else ''}" if answer.status == 1 else answer.errors
-    print(f"bbmlab: the program does not say yes: {plain(what)}", file=sys.stderr)
-    return 1
+    if answer.status == 3 or (answer.status, verdict) == (1, "verdict no"):
+        what = lines[0] if answer.status == 3 else f"no: {lines[4]}"
+        print(f"bbmlab: the program does not say yes: {plain(what)}", file=sys.stderr)
+        return 1
+    print(f"bbmlab: the program gave no verdict: status {answer.status} {plain(answer.errors)}".rstrip(), file=sys.stderr)
+    return 4

@@ -21,6 +21,10 @@ from .paths import Path, joined_path
 from .world import ROW, TILE
 
 
+# What is said of an inverse gate for which no module can show a row, however long the search is.
+NO_ROW = f"cannot be kept: no {MAX_CUTS} wires show its row"
+
+
 @dataclass(frozen=True)
 class Track:
     """A path with its exact run, and the wires that its ball carries, each from a time on."""
@@ -259,7 +263,7 @@ class Certifier:
         """Has a module without a gate keep an inverse gate."""
         gate = self.circuit.gates[number]
         if cone is None:
-            raise NoRouteError(f"gate {number} ({gate.word} {' '.join(gate.ins)}) cannot be kept: no {MAX_CUTS} wires show its row")
+            raise NoRouteError(f"gate {number} ({gate.word} {' '.join(gate.ins)}) {NO_ROW}")
         gates = {own.number: own for own in self.gates}
         boxes = {self.module_of(own).number for own in gates.values()}
         for module in sorted(self.modules, key=lambda own: (len(self.needed[own.number]), own.number)):

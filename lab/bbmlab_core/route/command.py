@@ -8,9 +8,9 @@ from ..circuits import Circuit
 from ..documents import read_document
 from ..layouts import MAX_SIDE
 from ..netlists import map_netlist, netlist_format
-from ..program import ask, find_program
-from ..terminal import LabError, painted, read_text, write_text
-from .certificate import circuit_section
+from ..program import Answer, ask, find_program
+from ..terminal import LabError, painted, read_text, require_other_file, write_text
+from .certificate import NO_ROW, circuit_section
 from .search import LEAST_SIDE, Options, Outcome, Routed, Search, partial_bundle
 from .settings import Settings
 from .world import TILE
@@ -58,7 +58,7 @@ def circuit_of(name: str) -> tuple[str, Circuit]:
     if document.refusal is not None or document.circuit is None:
         refusal = document.refusal
         where = f"line {refusal.line} is refused with code {refusal.code}" if refusal else "there is no circuit"
-        raise LabError(f"{name}: {where}; bbmlab explain shows why", 1)
+        raise LabError(f"{name}: {where}; bbmlab explain says why", 1)
     return text, document.circuit
 
 
@@ -71,6 +71,7 @@ def check_side(side: int | None) -> None:
 def route_command(options: argparse.Namespace) -> int:
     """Runs `bbmlab route`."""
     check_side(options.size)
+    require_other_file(options.output, [options.file])
     text, circuit = circuit_of(options.file)
     if options.circuit_only:
         write_text(options.output, text)
@@ -85,21 +86,36 @@ def route_command(options: argparse.Namespace) -> int:
     routed = outcome.routed
     answer = ask(program, "check", routed.text.encode("latin-1"), options.timeout)
     write_text(options.output, routed.layout_text if options.no_certificate else routed.text)
-    return report_verdict(routed, outcome, answer.output, time.monotonic() - begun)
+    return report_verdict(routed, outcome, answer, time.monotonic() - begun)
 
 
-def report_verdict(routed: Routed, outcome: Outcome, report: str, seconds: float) -> int:
+def verdict_of(answer: Answer) -> str:
+    """Returns the line that says what the program decided: a verdict or a refusal. Raises LabError if it is neither."""
+    lines = answer.output.splitlines()
+    if answer.status == 3 and lines and lines[0].startswith("refused "):
+        return lines[0]
+    wanted = {0: "verdict yes", 1: "verdict no"}.get(answer.status)
+    if wanted is None or lines[3:4] != [wanted]:
+        raise LabError(f"the program gave no verdict (status {answer.status}): {answer.errors or 'no message'}")
+    return wanted
+
+
+def report_verdict(routed: Routed, outcome: Outcome, answer: Answer, seconds: float) -> int:
     """Prints the summary of a bundle and the program's verdict; returns 0 only if the verdict is yes."""
     print(f"size {routed.size} by {routed.size}, steps {routed.steps}, gates placed {routed.gates}, mirror cells {routed.mirrors}, "
           f"modules {routed.modules}, most cuts {routed.most_cuts}, attempts {outcome.attempts}, seconds {seconds:.1f}", file=sys.stderr)
-    lines = report.splitlines()
-    is_yes = "verdict yes" in lines
-    verdict = next((line for line in lines if line.startswith(("verdict", "refused"))), "no verdict")
+    verdict = verdict_of(answer)
+    is_yes = verdict == "verdict yes"
     print(painted(verdict, "green" if is_yes else "red", sys.stderr), file=sys.stderr)
     if not is_yes:
         print("bbmlab: the program does not accept this bundle: this is an error of the router. Please report the circuit and the seed.",
               file=sys.stderr)
     return 0 if is_yes else 1
+
+
+def advice_for(reason: str) -> str:
+    """Returns what may help, which is nothing if the circuit itself is the reason."""
+    return "" if NO_ROW in reason else " A larger --effort or another --seed may help."
 
 
 def report_failure(circuit: Circuit, outcome: Outcome, options: argparse.Namespace, program: str) -> int:
@@ -109,16 +125,14 @@ def report_failure(circuit: Circuit, outcome: Outcome, options: argparse.Namespa
     else:
         reason = outcome.reason or "the time was over before the first attempt ended"
         print(f"bbmlab: no route in {outcome.attempts} attempts and {options.effort:g} seconds. At most {outcome.placed} of "
-              f"{outcome.total} gates were placed. {reason[:1].upper()}{reason[1:]}. A larger --effort or another --seed may help.",
-              file=sys.stderr)
+              f"{outcome.total} gates were placed. {reason[:1].upper()}{reason[1:]}.{advice_for(reason)}", file=sys.stderr)
     if options.keep_partial:
         found = partial_bundle(circuit, outcome, Settings())
         if found is None:
-            print("bbmlab: there is no part to keep", file=sys.stderr)
+            print("bbmlab: no part is kept: no gate was placed, or the placed gates have no certificate", file=sys.stderr)
         else:
             write_text(options.output, found[0])
             answer = ask(program, "check", found[0].encode("latin-1"), options.timeout)
-            verdict = next((line for line in answer.output.splitlines() if line.startswith("verdict")), "refused")
-            print(f"bbmlab: kept a bundle of the {found[1]} gates that were placed, whose other wires are outputs: {verdict}",
+            print(f"bbmlab: kept a bundle of the {found[1]} gates that were placed, whose other wires are outputs: {verdict_of(answer)}",
                   file=sys.stderr)
     return INTERRUPTED if outcome.is_interrupted else 1
