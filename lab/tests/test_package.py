@@ -24,6 +24,8 @@ class Package(unittest.TestCase):
 
     def test_installed_package(self) -> None:
         """The installed `bbmlab` lists and checks its cells, writes a page, and finds a program beside itself."""
+        if not Path(PYTHON).exists():
+            self.skipTest(f"there is no {PYTHON}")
         needs = subprocess.run([PYTHON, "-c", "import setuptools, wheel, venv, ensurepip"], capture_output=True, check=False)
         if needs.returncode:
             self.skipTest("/usr/bin/python3 lacks setuptools, wheel or venv")

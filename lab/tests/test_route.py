@@ -155,7 +155,7 @@ class Mistakes(Routing):
 
     def assert_found(self, text: str) -> None:
         """Asserts that the command ends with 1 and says that something is wrong with the router."""
-        status, _, said = self.route(text, "--effort", "20")
+        status, _, said = self.route(text, "--effort", "60")
         self.assertEqual(status, 1, said)
         self.assertIn("error of the router", said)
 
