@@ -85,9 +85,9 @@ pub fn no_means_wrong()
 ///
 /// A text that says a design of at most 64 by 64 cells, 12 inputs and 64 gates, and then `plain_lines`, is not refused.
 /// `check` says yes to it exactly if the layout computes the circuit, the stops are right, and the layout keeps off its
-/// rim. Each such design that keeps the rules of both sections has a text, `plain_text`. So `check` says yes to this text
-/// exactly if the layout computes the circuit and keeps off its rim, and the circuit has no delay. Each text that is not
-/// refused says a design that keeps these rules.
+/// rim. Each such design that keeps the rules of both sections has a text, `plain_text`. So `check` says yes to this
+/// text exactly if the layout computes the circuit and keeps off its rim, and the circuit has no delay. Each text that
+/// is not refused says a design that keeps these rules.
 pub fn small_designs_are_decided()
     ensures decided { SmallDesignIsDecided }
     ensures refused { RefusedIsNoSmallDesign }
@@ -99,8 +99,8 @@ pub fn small_designs_are_decided()
 /// States that each small design that computes its circuit gets a yes, after its layout is moved away from the rim.
 ///
 /// Take a design of at most 60 by 60 cells, 12 inputs and 64 gates that keeps the rules, computes its circuit, and has
-/// no delay. Move its layout by two columns and two rows, into a rectangle that is 4 cells wider and 4 cells higher. The
-/// moved layout keeps the rules, computes the circuit, and keeps off its rim. So each report on its plain text is a yes.
+/// no delay. Move its layout by two columns and two rows, into a rectangle that is 4 cells wider and 4 higher. The
+/// moved layout keeps the rules, computes the circuit and keeps off its rim. So each report on its plain text is a yes.
 ///
 /// Some design needs this move, since it touches its rim: its own plain text is reported with a no.
 pub fn each_correct_design_gets_yes()
@@ -144,8 +144,8 @@ pub fn says_one_design()
 ///
 /// - One is of four modules with a gate, a delay and stops.
 /// - One is of a switch and its inverse gate, and its certificate is plain.
-/// - One is plain and has three steps, in which two balls meet. The same design has a plain text without stops, which is
-///   reported with a yes too.
+/// - One is plain and has three steps, in which two balls meet. The same design has a plain text without stops, which
+///   is reported with a yes too.
 pub fn something_is_accepted()
     ensures timed { TimedModulesAreAccepted }
     ensures inverse { ThereAndBackIsAccepted }

@@ -61,7 +61,7 @@ pub fn start_at(job: &Job, x: usize, y: usize) -> Signal
     job.start(inner_cell(job.area(), x, y))
 }
 
-/// Returns a column from `x` on, at most the box's width. All cells of row `y` from `x` to before it are dead at time 0.
+/// Returns a column from `x` on, at most the box width. All cells of row `y` from `x` to before it are dead at time 0.
 ///
 /// Contracts do not exclude that the cell at the result is dead too.
 pub fn next_start(job: &Job, x: usize, y: usize) -> usize
@@ -86,8 +86,8 @@ pub fn demand_at(job: &Job, x: usize, y: usize) -> Demand
     job.demand(inner_cell(job.area(), x, y))
 }
 
-/// Returns a column from `x` on, at most the box's width. All cells of row `y` from `x` to before it must be dead at the
-/// last time.
+/// Returns a column from `x` on, at most the box's width. All cells of row `y` from `x` to before it must be dead at
+/// the last time.
 ///
 /// Contracts do not exclude that the cell at the result must be dead too.
 pub fn next_demand(job: &Job, x: usize, y: usize) -> usize
