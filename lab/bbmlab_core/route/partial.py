@@ -9,7 +9,7 @@ from .board import NoRouteError, Step
 from .settings import Settings
 
 # The seconds that leading the balls of a part to the end may take, after an interrupt and after the time is over.
-INTERRUPT_SECONDS = 0.7
+INTERRUPT_SECONDS = 0.4
 SECONDS = 8.0
 
 
@@ -46,16 +46,40 @@ def partial_design(circuit: Circuit, steps: list[Step], size: int, settings: Set
     """Returns a design of the gates of some steps, the most for which all balls can be led to the end, or None."""
     deadline = time.monotonic() + seconds
     while steps and time.monotonic() < deadline:
-        part = partial_circuit(circuit, {step.gate.number for step in steps})
-        attempt = Attempt(part, size, 1, settings, deadline)
-        attempt.adopt(renumbered(circuit, part, steps))
         try:
-            if attempt.lead_to_the_end() is None:
-                return attempt.design()
+            design = led_design(circuit, steps, size, settings, deadline)
         except NoRouteError:
             return None
+        if design is not None:
+            return design
         steps = steps[:len(steps) - max(1, len(steps) // 4)]
     return None
+
+
+def hurried_design(circuit: Circuit, steps: list[Step], size: int, settings: Settings, seconds: float) -> Design | None:
+    """Returns a design of the first gates of some steps: 1, 2, 4 and so on, as far as the time goes; or None."""
+    deadline = time.monotonic() + seconds
+    best, count = None, 1
+    while count < 2 * len(steps) and time.monotonic() < deadline:
+        try:
+            design = led_design(circuit, steps[:count], size, settings, deadline)
+        except NoRouteError:
+            break
+        if design is None:
+            break
+        best, count = design, 2 * count
+    return best
+
+
+def led_design(circuit: Circuit, steps: list[Step], size: int, settings: Settings, deadline: float) -> Design | None:
+    """Returns the design of the gates of these steps, or None if not all balls can be led to the end.
+
+    Raises OutOfTimeError, which is a NoRouteError, at the deadline.
+    """
+    part = partial_circuit(circuit, {step.gate.number for step in steps})
+    attempt = Attempt(part, size, 1, settings, deadline)
+    attempt.adopt(renumbered(circuit, part, steps))
+    return attempt.design() if attempt.lead_to_the_end() is None else None
 
 
 def renumbered(circuit: Circuit, part: Circuit, steps: list[Step]) -> list[Step]:

@@ -18,7 +18,7 @@ from .attempt import Attempt, Design, OutOfTimeError
 from .board import NoRouteError, Step
 from .certificate import Certifier, bundle_text, circuit_section
 from .netlist import Netlist
-from .partial import INTERRUPT_SECONDS, SECONDS, partial_design, partial_text
+from .partial import INTERRUPT_SECONDS, SECONDS, hurried_design, partial_design, partial_text
 from .settings import Settings
 from .world import TILE
 
@@ -296,8 +296,8 @@ class Pool:
 
 def partial_bundle(circuit: Circuit, outcome: Outcome, settings: Settings) -> tuple[str, int] | None:
     """Returns a bundle of the part of a circuit that was placed, and its count of gates, or None if there is none."""
-    seconds = INTERRUPT_SECONDS if outcome.is_interrupted else SECONDS
-    found = partial_design(circuit, outcome.partial, outcome.partial_size, replace(settings, wander_tries=80), seconds)
+    make, seconds = (hurried_design, INTERRUPT_SECONDS) if outcome.is_interrupted else (partial_design, SECONDS)
+    found = make(circuit, outcome.partial, outcome.partial_size, replace(settings, wander_tries=80), seconds)
     if found is None:
         return None
     try:
