@@ -9,7 +9,7 @@
 #   make deb          dist/bbmcheck_VERSION_amd64.deb (needs dpkg-deb)
 #   make prove        proves and builds the program here, and compares it with the released one (needs the kit)
 #   make release      renews release/ from the program that `make prove` or the gate built here (needs Python 3)
-#   make mostlyclean  removes dist/, the stamp of the wrapper in this checkout, and what Python kept; proofs stay
+#   make mostlyclean  removes dist/, the program that ./bbmcheck built here, and what Python kept; proofs stay
 #   make clean        removes that, and all proofs and programs that were made here
 PREFIX ?= /usr/local
 DESTDIR ?=
