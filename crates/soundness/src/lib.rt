@@ -8,9 +8,9 @@
 //! 3. `InputRuns`: the run depends on the values of the inputs alone.
 //! 4. `YesMeansCorrect`: so a layout whose certificate is accepted computes the circuit, with its stops at their times.
 //!
-//! What a no says is in `FirstFaults` and `EarliestLines` for any certificate, and in `PlainCertificates` for plain
-//! ones. `ModuleJobs`, `SomeJobs` and `SomeVerdict` show that modules have jobs and a verdict, and `Migrated` that
-//! migration keeps what is accepted.
+//! `FirstFaults` and `EarliestLines` show what a no says for any certificate, and `PlainCertificates` for plain ones.
+//! `ModuleJobs`, `SomeJobs` and `SomeVerdict` show that modules have jobs and a verdict, and `Migrated` that migration
+//! keeps what is accepted.
 #![tactic(auto)]
 
 pub mod laws;
