@@ -15,7 +15,7 @@ use crate::fault::{BorderFault, is_less, lesser};
 use crate::surroundings::{Leaps, Window, after_far, cell_around, place_from};
 use bbm_rule::Cell;
 use certificate::Job;
-use module_box::{AllTimes, Box2, TimedSignal, Moment, Owners, Signal, moved_cell};
+use module_box::{AllTimes, Box2, Moment, Owners, Signal, TimedSignal, moved_cell};
 use module_job::{Shape, shift_to_origin};
 use std::alloc::{AllocError, Global};
 use std::cmp::Ordering;

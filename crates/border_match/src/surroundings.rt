@@ -8,7 +8,7 @@ ghost use Rattle.module_box.specs.Schedules.{IsRising, moment_of};
 ghost use Rattle.border_match.specs.Surroundings.{AreFar, AreFarBetween, IsAroundFrom, IsFarAt, IsFirstFrom, IsSeen, IsWindow};
 
 use bbm_rule::Cell;
-use module_box::{Box2, TimedSignal, Moment};
+use module_box::{Box2, Moment, TimedSignal};
 use std::cmp::Ordering;
 
 // How many far events in a row the search looks at before it leaps, as long as its leaps are long.
@@ -268,7 +268,12 @@ pub(crate) fn place_from(events: &[TimedSignal], from: usize, guess: usize, at: 
 /// Returns a place after that of an event at a far cell. The events between the two are at far cells or even times.
 // Most runs of far events are short, and then a call would take longer than the step to the next event.
 #[inline(always)]
-pub(crate) fn after_far(window: Window, events: &[TimedSignal], place: usize, leaps: &mut Leaps) -> usize
+pub(crate) fn after_far(
+    window: Window,
+    events: &[TimedSignal],
+    place: usize,
+    leaps: &mut Leaps,
+) -> usize
     requires within { place < length events.now }
     requires rising { IsRising moment_cmp moment_of events.now }
     requires far { IsFarAt window events.now place }

@@ -16,7 +16,7 @@ ghost use Rattle.certificate_lines.specs.declared.certificate_line.BorderLine.{B
 use crate::named_wires::{NamedWire, SLOT_COUNT, empty_slots, slot_wire};
 use certificate_lines::{StoredBorder, StoredLine};
 use circuit::Circuit;
-use module_box::{AllTimes, TimedSignal, Locals, Moment, Schedule, Signal};
+use module_box::{AllTimes, Locals, Moment, Schedule, Signal, TimedSignal};
 use section_text::Name;
 use std::alloc::{AllocError, Global};
 

@@ -247,7 +247,12 @@ fn is_good_time(steps: u32, starred: bool, time: Option<u32>) -> bool
 
 /// Returns whether an edge line may have its cell and time.
 #[tactic(auto, unfolding(crate::specs::Rules::is_edge_place))]
-pub(crate) fn may_be_edge(size: LayoutHeader, area: Box2, starred: bool, border: &BorderLine) -> bool
+pub(crate) fn may_be_edge(
+    size: LayoutHeader,
+    area: Box2,
+    starred: bool,
+    border: &BorderLine,
+) -> bool
     ensures { result ≡ is_edge_place size area starred border.now }
 {
     if !area.in_ring(border.cell) {
@@ -261,7 +266,12 @@ pub(crate) fn may_be_edge(size: LayoutHeader, area: Box2, starred: bool, border:
 
 /// Returns whether a halo line may have its cell and time.
 #[tactic(auto, unfolding(crate::specs::Rules::is_halo_place))]
-pub(crate) fn may_be_halo(size: LayoutHeader, area: Box2, starred: bool, border: &BorderLine) -> bool
+pub(crate) fn may_be_halo(
+    size: LayoutHeader,
+    area: Box2,
+    starred: bool,
+    border: &BorderLine,
+) -> bool
     ensures { result ≡ is_halo_place size area starred border.now }
 {
     if !area.in_halo(border.cell) {

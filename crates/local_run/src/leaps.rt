@@ -6,7 +6,7 @@ ghost use Rattle.module_box.specs.Schedules.{IsRising, moment_of};
 ghost use Rattle.local_run.specs.Leaps.{HasNoEvents, IsLeap, IsSteady, IsTimeBetween};
 ghost use Rattle.local_run.specs.Scans.{IsNextStop};
 
-use module_box::{TimedSignal, Schedule};
+use module_box::{Schedule, TimedSignal};
 use module_job::{Job, Shape};
 
 /// Returns the place of the first event at the time or after it, or how many events there are.

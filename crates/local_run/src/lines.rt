@@ -11,7 +11,7 @@ ghost use Rattle.std.specs.Prelude.{ℕ, ◌≢◌, MatchOption, ◌≡◌, ◌<
 use crate::leaps::first_event_from;
 use bbm_rule::Cell;
 use bbm_rule::marks::mark;
-use module_box::{AllTimes, Box2, TimedSignal, Moment, Schedule, Signal};
+use module_box::{AllTimes, Box2, Moment, Schedule, Signal, TimedSignal};
 use module_job::{Job, Shape};
 use std::alloc::{AllocError, Global};
 

@@ -11,7 +11,7 @@ ghost use Rattle.local_run.specs.Scans.{IsFirst, IsFound, IsFree, IsLeastBelow, 
 
 use crate::fault::{Fault, Kind};
 use crate::marked_planes::MarkedPlanes;
-use crate::places::{demand_at, edge_at, inner_cell, is_ring, skip_dead_demands, place_of};
+use crate::places::{demand_at, edge_at, inner_cell, is_ring, place_of, skip_dead_demands};
 use crate::values::Values;
 use module_box::Signal;
 use module_job::{Demand, Job, Stop};

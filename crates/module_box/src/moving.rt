@@ -4,7 +4,7 @@ ghost use Rattle.std.specs.Prelude.{◌≡◌, IfOk, OnOk, map};
 ghost use Rattle.std.specs.List.{All};
 ghost use Rattle.module_box.specs.Moves.{IsNear, IsSmallShift, moved_cell, moved_event, moved_all_times, moved_signals};
 
-use crate::schedules::{AllTimes, TimedSignal, Moment, Schedule};
+use crate::schedules::{AllTimes, Moment, Schedule, TimedSignal};
 use bbm_rule::Cell;
 use std::alloc::{AllocError, Global};
 
@@ -64,7 +64,12 @@ fn moved_all_times_list(
     Ok(moved)
 }
 
-fn moved_events(alloc: Global, events: &[TimedSignal], dx: i32, dy: i32) -> Result<Vec<TimedSignal>, AllocError>
+fn moved_events(
+    alloc: Global,
+    events: &[TimedSignal],
+    dx: i32,
+    dy: i32,
+) -> Result<Vec<TimedSignal>, AllocError>
     requires cells { All (λ e. IsNear e.at.cell) events.now }
     requires by { IsSmallShift dx × IsSmallShift dy }
     ensures { IfOk result (λ v. v.items ≡ map (moved_event dx dy) events.now) }

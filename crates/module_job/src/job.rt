@@ -13,7 +13,7 @@ use crate::stops::moved_stop;
 use bbm_rule::Cell;
 use circuit::{GateNo, WireNo};
 use indexmap::IndexSet;
-use module_box::{Box2, TimedSignal, Moment, Signal, Wiring, moved_cell, moved_event, place_in};
+use module_box::{Box2, Moment, Signal, TimedSignal, Wiring, moved_cell, moved_event, place_in};
 use std::marker::Model;
 use std::sync::Arc;
 

@@ -7,7 +7,7 @@ ghost use Rattle.module_job.specs.Keys.{cell_numbers, cells_numbers, demand_numb
 use crate::job::{Demand, Stop};
 use crate::shape::Shape;
 use bbm_rule::Cell;
-use module_box::{AllTimes, TimedSignal, Schedule, Signal};
+use module_box::{AllTimes, Schedule, Signal, TimedSignal};
 use sha2::{Digest, Sha256};
 use std::alloc::{AllocError, Global};
 

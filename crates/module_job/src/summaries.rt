@@ -5,7 +5,7 @@ ghost use Rattle.module_job.specs.Summaries.{last_all_times, last_event, shape_s
 use crate::keys::{integer_number, signal_number};
 use crate::shape::Shape;
 use bbm_rule::Cell;
-use module_box::{AllTimes, TimedSignal, Moment, Signal};
+use module_box::{AllTimes, Moment, Signal, TimedSignal};
 
 // The cell of a signal that a list does not have.
 const CORNER: Cell = Cell { x: 0, y: 0 };

@@ -1,7 +1,7 @@
 //! Puts a case through the program.
 
 use case_text::Case;
-use check_main::{OpenGate, Watched, Streams, program};
+use check_main::{OpenGate, Streams, Watched, program};
 use std::alloc::Global;
 use std::fmt;
 use std::sync::Wait;

@@ -2,11 +2,11 @@
 #![tactic(auto)]
 
 mod awaited;
-mod watched;
 mod retrying;
 mod streams;
+mod watched;
 
 pub use awaited::Awaited;
-pub use watched::Watched;
 pub use retrying::Retrying;
 pub use streams::{Sink, Source};
+pub use watched::Watched;
