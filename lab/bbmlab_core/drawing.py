@@ -36,7 +36,7 @@ stroke-linejoin:round;paint-order:stroke}.leader{stroke:#222;stroke-width:.7}.in
 .faint{stroke-width:1;stroke-dasharray:none;stroke-opacity:.2}.fault{fill:none;stroke:#d00000;stroke-width:2.5}
 .way{fill:none;stroke-width:2.2;stroke-linecap:round}.way[stroke-dasharray]{stroke-linecap:butt}
 .back{fill:#fff}.plane{fill:#f7f7f4}.line{stroke:#dcdcd6;stroke-width:.4}.w8{stroke:#777}
-@media(prefers-color-scheme:dark){text{fill:#eee}.name{stroke:#1e2126}.leader{stroke:#eee}.in,.out,.waste{stroke:#eee}.mirror{fill:#7c828c}.ball{fill:#fff}
+@media(prefers-color-scheme:dark){text{fill:#eee}.name{stroke:#1e2126}.leader{stroke:#eee}.fault{stroke:#ff5a52}.in,.out,.waste{stroke:#eee}.mirror{fill:#7c828c}.ball{fill:#fff}
 .box{stroke:#c79bff}.number{fill:#c79bff}.back{fill:#16181c}.plane{fill:#1e2126}.line{stroke:#343840}.w8{stroke:#999}}"""
 LIGHT_WAYS = "".join(f".w{index}{{stroke:{colour}}}" for index, colour in enumerate(COLOURS))
 DARK_WAYS = "".join(f".w{index}{{stroke:{colour}}}" for index, colour in enumerate(DARK_COLOURS))
