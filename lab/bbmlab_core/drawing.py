@@ -138,17 +138,17 @@ def port_labels(layout: Layout, scale: float) -> list[str]:
     bare = [rect for rect in ports if (rect.x, rect.y) not in named]
     signs = [cell_rect(*part.cell) for part in layout.parts if part.kind in ("waste", "ball")]
     walls = [cell_rect(part.x, part.y, part.width, part.height) for part in layout.of_kind("mirror")]
-    room, parts = MARGIN * scale, []
+    room, lines, parts = MARGIN * scale, [], []
     bounds = Rect(MARGIN - room, MARGIN - room, layout.width * CELL + 2 * room, layout.height * CELL + 2 * room)
     for (cell, _, mark), place in zip(labels, place_names(names, signs + walls, bare, bounds)):
         line = leader(place, cell)
         if line:
             (x, y), (u, v) = line
-            parts.append(f'<path class="leader" d="M{short(x)} {short(y)}L{short(u)} {short(v)}"/>')
+            lines.append(f'<path class="leader" d="M{short(x)} {short(y)}L{short(u)} {short(v)}"/>')
         box = place.box
         parts.append(f'<text class="name" x="{short(box.x + box.width / 2)}" y="{short(box.y + box.height * 0.84)}" '
                      f'text-anchor="middle">{escape(mark)}</text>')
-    return parts
+    return lines + parts
 
 
 def layout_parts(layout: Layout) -> list[str]:

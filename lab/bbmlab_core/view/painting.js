@@ -11,6 +11,9 @@
   const INKS = ["ink", "soft", "paper", "plane", "grid", "border", "mirror", "ball", "box", "good", "bad", "edge", "halo", "stop", "wave"];
   const MARKS = { edge: "E", halo: "H", stop: "S" };
   const RULER = { wide: 32, high: 18 };
+  // How many lines of text a name may be away from its cell, and the scales from which a few and many ports have names: 2,520 names take
+  // 200 ms to place at scale 6, and 15 ms at scale 10.
+  const MAX_AWAY = 2, NAMED_SCALE = 6, MANY_PORTS = 400, MANY_SCALE = 10;
 
   /** Returns the colours of the page as it is shown now. */
   function inksNow() {
@@ -145,19 +148,16 @@
     return placed.places;
   }
 
-  /** Writes the name of a port at its place, with a line to its cell if it is away from it. */
-  function portName(place, text, found, cell, ink) {
-    const { pen } = place, box = found.box, left = px(place, 0), top = py(place, 0);
-    if (found.away > 0) {
-      const x = (cell[0] + 0.5) * place.scale, y = (cell[1] + 0.5) * place.scale;
-      pen.strokeStyle = ink;
-      pen.lineWidth = 1;
-      pen.beginPath();
-      pen.moveTo(left + Math.min(Math.max(x, box.x), box.x + box.width), top + Math.min(Math.max(y, box.y), box.y + box.height));
-      pen.lineTo(left + x, top + y);
-      pen.stroke();
-    }
-    label(place, text, left + box.x + box.width / 2, top + box.y + box.height - 4, ink, "center");
+  /** Draws a line from the place of a name to its cell, if it is away from it. */
+  function leader(place, { box, away }, cell, ink) {
+    if (away === 0) return;
+    const { pen } = place, left = px(place, 0), top = py(place, 0), x = (cell[0] + 0.5) * place.scale, y = (cell[1] + 0.5) * place.scale;
+    pen.strokeStyle = ink;
+    pen.lineWidth = 1;
+    pen.beginPath();
+    pen.moveTo(left + Math.min(Math.max(x, box.x), box.x + box.width), top + Math.min(Math.max(y, box.y), box.y + box.height));
+    pen.lineTo(left + x, top + y);
+    pen.stroke();
   }
 
   /** Returns the colour and the sign of an output at the last time. */
@@ -168,20 +168,29 @@
 
   /** Draws ports with their names, and waste cells. `good` says of out cells whether they are as they should be, at the last time. */
   function ports(place, layout, good) {
-    const { pen, inks, scale } = place, size = Math.max(9, Math.min(14, scale * 0.8));
+    const { inks, scale } = place;
     for (const { cell } of layout.ins) outline(place, [...cell, 1, 1], inks.ink, [], 1, 1.5);
     for (const { cell } of layout.outs) {
       const { ink, width } = stateOf(inks, good, cell);
       outline(place, [...cell, 1, 1], ink, [4, 3], -1, width);
     }
     wastes(place, layout.wastes);
-    if (scale < 6) return;
+    const isMany = layout.ins.length + layout.outs.length > MANY_PORTS;
+    if (scale >= (isMany ? MANY_SCALE : NAMED_SCALE)) names(place, layout, good);
+  }
+
+  /** Writes the names of ports above the lines to their cells. Where ports are crowded, names show when the reader zooms in. */
+  function names(place, layout, good) {
+    const { pen, inks, scale } = place, size = Math.max(9, Math.min(14, scale * 0.8)), left = px(place, 0), top = py(place, 0);
     pen.font = `600 ${size}px system-ui, sans-serif`;
     const places = namePlaces(place, layout, size);
-    portNames(layout).forEach(({ name, cell, isIn }, index) => {
-      const { ink, sign } = isIn ? { ink: inks.ink, sign: "" } : stateOf(inks, good, cell);
-      if (isSeen(place, ...cell)) portName(place, sign + name, places[index], cell, ink);
-    });
+    const shown = portNames(layout).map((port, index) => ({ ...port, at: places[index],
+      ...(port.isIn ? { ink: inks.ink, sign: "" } : stateOf(inks, good, port.cell)) }))
+      .filter(({ cell, at }) => isSeen(place, ...cell) && at.away <= MAX_AWAY);
+    for (const { at, cell, ink } of shown) leader(place, at, cell, ink);
+    for (const { at: { box }, sign, name, ink } of shown) {
+      label(place, sign + name, left + box.x + box.width / 2, top + box.y + box.height - 4, ink, "center");
+    }
   }
 
   /** Draws a cross in each cell. */
@@ -275,8 +284,10 @@
     const columns = numbers(x0, x1, width, 30), rows = numbers(y0, y1, height, 18);
     const column = (x, isPointed) => { if (px(place, x + 0.5) > RULER.wide + 8) rulerNumber(place, x, px(place, x + 0.5), RULER.high - 5, isPointed); };
     const row = (y, isPointed) => { if (py(place, y + 0.5) > RULER.high + 6) rulerNumber(place, y, RULER.wide / 2, py(place, y + 0.5) + 4, isPointed); };
-    columns.forEach((x) => column(x, false));
-    rows.forEach((y) => row(y, false));
+    // A number that the plate of the pointed cell would cover in part is left out.
+    const isFree = (number, at, distance) => at === undefined || Math.abs(number - at) * scale >= distance;
+    columns.filter((x) => isFree(x, pointed?.[0], 28)).forEach((x) => column(x, false));
+    rows.filter((y) => isFree(y, pointed?.[1], 15)).forEach((y) => row(y, false));
     if (pointed) { column(pointed[0], true); row(pointed[1], true); }
   }
 

@@ -8,7 +8,7 @@
 
 {
   const { keyOf, xOf, yOf, CELLS } = bbmlab;
-  const ROW_HEIGHT = 20, AXIS_HEIGHT = 18, MAX_NAMES = 190;
+  const ROW_HEIGHT = 20, AXIS_HEIGHT = 18, MAX_NAMES = 260;
 
   /** Returns the cells to watch, in the order of the circuit's wires, and of one wire in the order of time. @type {(data: Data) => Probe[]} */
   function probesOf(data) {
@@ -27,6 +27,16 @@
     for (const probe of found.values()) probe.marks.sort((one, other) => one.time - other.time);
     return [...found.values()].sort((one, other) => places.get(one.wire) - places.get(other.wire) || one.marks[0].time - other.marks[0].time
       || one.key - other.key);
+  }
+
+  /** Returns how many of some rising times are at most a time. */
+  function countUntil(times, time) {
+    let least = 0, most = times.length;
+    while (least < most) {
+      const middle = (least + most) >> 1;
+      if (times[middle] <= time) least = middle + 1; else most = middle;
+    }
+    return least;
   }
 
   /** Which probes' cells changed at which times. */
@@ -56,7 +66,7 @@
     isLive(key, time) {
       if (time > this.until) return undefined;
       const { isLive, changes } = this.signalOf(key);
-      return (changes.filter((change) => change <= time).length % 2 === 1) !== isLive;
+      return (countUntil(changes, time) % 2 === 1) !== isLive;
     }
   }
 
@@ -71,12 +81,12 @@
   function axisOf(place, probes, steps) {
     place.pen.font = "12px ui-monospace, monospace";
     const widest = probes.slice(0, 400).reduce((most, probe) => Math.max(most, place.pen.measureText(nameOf(probe)).width), 0);
-    const left = Math.min(MAX_NAMES, place.wide / 3, Math.ceil(widest) + 14);
+    const left = Math.min(MAX_NAMES, place.wide * 0.42, Math.ceil(widest) + 14);
     return { left, unit: Math.max(0.0001, place.wide - left - 10) / (steps + 1) };
   }
 
   /** Writes what a row is of. */
-  const nameOf = ({ wire, key }) => `${wire} (${xOf(key)}, ${yOf(key)})`;
+  const nameOf = ({ wire, key, marks }) => `${wire} ${[...new Set(marks.map((mark) => mark.kind))].join("/")} (${xOf(key)}, ${yOf(key)})`;
 
   /** Draws the times below the rows. */
   function paintAxis(place, { left, unit }, steps) {
@@ -95,7 +105,7 @@
 
   /** Draws when a cell is live. Spans that are nearer than a pixel become one. */
   function paintSpans(place, spans, { left, unit }, top) {
-    const { pen, inks } = place, low = top + ROW_HEIGHT - 4;
+    const { pen, inks } = place, low = top + ROW_HEIGHT - 5;
     let last = null;
     const bars = [];
     for (const [start, end] of spans) {
@@ -105,23 +115,21 @@
     pen.fillStyle = inks.border;
     pen.fillRect(left, low, place.wide - left - 10, 1);
     pen.fillStyle = inks.wave;
-    for (const [x, wide] of bars) pen.fillRect(x, top + 4, wide, ROW_HEIGHT - 8);
+    for (const [x, wide] of bars) pen.fillRect(x, top + 3, wide, ROW_HEIGHT - 8);
   }
 
-  /** Draws a mark: a filled ring if the cell is as its wire at that time, a cross if it is not, an open ring if that is not known. */
+  /**
+   * Draws a mark on the line below the bars, where it hides none: a disc if the cell is as its wire at that time, a cross if it is not, a
+   * ring if that is not known.
+   */
   function paintMark(place, x, y, isGood) {
     const { pen, inks } = place;
-    // A disc below, so that the mark is readable on a bar.
-    pen.fillStyle = inks.paper;
-    pen.beginPath();
-    pen.arc(x, y, 6, 0, 2 * Math.PI);
-    pen.fill();
     pen.strokeStyle = isGood === undefined ? inks.ink : isGood ? inks.good : inks.bad;
     pen.fillStyle = isGood ? inks.good : inks.paper;
     pen.lineWidth = isGood === false ? 2.5 : 1.5;
     pen.beginPath();
     if (isGood === false) { pen.moveTo(x - 4, y - 4); pen.lineTo(x + 4, y + 4); pen.moveTo(x + 4, y - 4); pen.lineTo(x - 4, y + 4); }
-    else { pen.arc(x, y, 3.5, 0, 2 * Math.PI); pen.fill(); }
+    else { pen.arc(x, y, 3, 0, 2 * Math.PI); pen.fill(); }
     pen.stroke();
   }
 
@@ -139,14 +147,14 @@
       for (const { time } of probe.marks) {
         const isLive = recorder.isLive(probe.key, time);
         const isGood = isLive === undefined || wanted === undefined ? undefined : isLive === wanted;
-        paintMark(place, axis.left + (time + 0.5) * axis.unit, top + ROW_HEIGHT / 2, isGood);
+        paintMark(place, axis.left + (time + 0.5) * axis.unit, top + ROW_HEIGHT - 5, isGood);
       }
       place.pen.fillStyle = place.inks.paper;
       place.pen.fillRect(0, top, axis.left - 4, ROW_HEIGHT);
       place.pen.fillStyle = place.inks.ink;
       place.pen.font = "12px ui-monospace, monospace";
       place.pen.textAlign = "left";
-      place.pen.fillText(nameOf(probe), 6, top + ROW_HEIGHT - 6);
+      place.pen.fillText(nameOf(probe), 6, top + ROW_HEIGHT - 6, axis.left - 12);
     }
     paintAxis(place, axis, steps);
     return axis;
