@@ -298,6 +298,18 @@ class Phone(Page):
         self.assertGreater(float(self.hash().split("z=")[1].split(",")[0]), 15)
         self.assertEqual(self.run_script("return scrollY"), 0)
 
+    def test_two_fingers_move(self) -> None:
+        """Two fingers that go up together move the picture by as much, and not the page."""
+        self.open("adder", "#z=10,20,17", size=PHONE)
+        x, y = self.run_script("const box = document.getElementById('whole').getBoundingClientRect();"
+                               "return [box.left + box.width / 2, box.top + box.height / 2]")
+        self.drag([[(x - 30, y - up), (x + 30, y - up)] for up in range(0, 101, 10)])
+        self.wait(lambda: self.hash() != "#z=10,20,17", "the place is in the address")
+        scale, _, row = map(float, self.hash().split("z=")[1].split(","))
+        self.assertAlmostEqual(scale, 10, delta=1)
+        self.assertAlmostEqual(row, 27, delta=2)
+        self.assertEqual(self.run_script("return scrollY"), 0)
+
     def drag(self, places: list[list[tuple[float, float]]]) -> None:
         """Puts fingers at the first places, moves them over the others, and lifts them."""
         for number, fingers in enumerate(places):

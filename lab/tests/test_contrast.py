@@ -70,7 +70,9 @@ class Contrast(unittest.TestCase):
         style = viewing.piece("page.css")
         names = set(re.findall(r"border(?:-top|-color)?: *(?:\d+px solid )?var\(--(\w+)\)", style))
         self.assertLessEqual({"border", "box"}, names)
-        self.assertEqual(len(re.findall(r"border(?:-\w+)?: *[^;}]*var\(", style)), len(re.findall(r"border(?:-top|-color)?: *(?:\d+px solid )?var\(", style)))
+        borders, understood = (len(re.findall(form, style)) for form in (r"border(?:-\w+)?: *[^;}]*var\(",
+                                                                          r"border(?:-top|-color)?: *(?:\d+px solid )?var\("))
+        self.assertEqual(borders, understood)
         for scheme, colours in page_colours().items():
             for name in names:
                 for ground in ("paper", "plane"):

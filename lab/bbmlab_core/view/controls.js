@@ -42,7 +42,8 @@
     if (player.direction !== 0) return;
     shown.addressTimer = setTimeout(() => {
       const text = address.write(stateNow()), [page] = location.href.split("#");
-      try { history.replaceState(null, "", text ? `${page}#${text}` : page); } catch { /* A page that a frame shows may have no address of its own. */ }
+      // A page that a frame shows may have no address of its own.
+      try { history.replaceState(null, "", text ? `${page}#${text}` : page); } catch { return; }
     }, ADDRESS_DELAY);
   }
 
@@ -222,10 +223,10 @@
     event.preventDefault();
   }
 
-  /** Moves and zooms by mouse, wheel and fingers. On a phone one finger scrolls the page up and down (touch-action), and two zoom. */
+  /** Moves and zooms by mouse, wheel and fingers. On a phone one finger scrolls the page up and down (touch-action); two move and zoom. */
   function listenToFingers(canvas) {
     const fingers = new Map();
-    const gap = () => { const [a, b] = [...fingers.values()]; return Math.hypot(a[0] - b[0], a[1] - b[1]); };
+    const spread = () => { const [[x, y], [u, v]] = fingers.values(); return { gap: Math.hypot(x - u, y - v), x: (x + u) / 2, y: (y + v) / 2 }; };
     canvas.addEventListener("pointerdown", (event) => {
       fingers.set(event.pointerId, [event.offsetX, event.offsetY]);
       canvas.setPointerCapture(event.pointerId);
@@ -234,10 +235,13 @@
     canvas.addEventListener("pointermove", (event) => {
       const from = fingers.get(event.pointerId);
       if (!from) return;
-      const before = fingers.size === 2 ? gap() : 0;
+      const before = fingers.size === 2 ? spread() : null;
       fingers.set(event.pointerId, [event.offsetX, event.offsetY]);
-      if (before > 0) stage.zoom(gap() / before, event.offsetX, event.offsetY);
-      else if (fingers.size === 1) stage.pan(from[0] - event.offsetX, from[1] - event.offsetY);
+      if (fingers.size === 1) stage.pan(from[0] - event.offsetX, from[1] - event.offsetY);
+      if (!before) return;
+      const after = spread();
+      stage.pan(before.x - after.x, before.y - after.y);
+      if (before.gap > 0) stage.zoom(after.gap / before.gap, after.x, after.y);
     });
     canvas.addEventListener("touchmove", (event) => { if (event.touches.length > 1) event.preventDefault(); }, { passive: false });
     canvas.addEventListener("wheel", (event) => {

@@ -133,7 +133,8 @@
       ...layout.outs.map(({ name, cell }) => ({ name: `${name}→`, cell, isIn: false }))];
   }
 
-  // The places of the names of a layout, as they were last asked for. They move with the picture, and change with the scale only.
+  // The places of the names of a layout, as they were last asked for. They move with the picture, and change with the scale only. A layout
+  // that was changed has to be another object.
   let placed = { layout: null, scale: 0, places: [] };
 
   /** Returns the places of the names of ports in pixels from cell (0, 0). There is room for a sign before the name of an output. */
@@ -283,7 +284,8 @@
       .map((index) => index + Math.max(0, first)).filter((number) => number % rulerStep(scale, distance) === 0);
     const columns = numbers(x0, x1, width, 30), rows = numbers(y0, y1, height, 18);
     const column = (x, isPointed) => { if (px(place, x + 0.5) > RULER.wide + 8) rulerNumber(place, x, px(place, x + 0.5), RULER.high - 5, isPointed); };
-    const row = (y, isPointed) => { if (py(place, y + 0.5) > RULER.high + 6) rulerNumber(place, y, RULER.wide / 2, py(place, y + 0.5) + 4, isPointed); };
+    const isWhole = (y) => py(place, y + 0.5) > RULER.high + 6 && py(place, y + 0.5) < high - 6;
+    const row = (y, isPointed) => { if (isWhole(y)) rulerNumber(place, y, RULER.wide / 2, py(place, y + 0.5) + 4, isPointed); };
     // A number that the plate of the pointed cell would cover in part is left out.
     const isFree = (number, at, distance) => at === undefined || Math.abs(number - at) * scale >= distance;
     columns.filter((x) => isFree(x, pointed?.[0], 28)).forEach((x) => column(x, false));
