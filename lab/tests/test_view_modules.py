@@ -141,7 +141,10 @@ class Pictures(unittest.TestCase):
         mirrors = example("full_adder").layout.mirror_cells()
         # A disc is two half circles.
         self.assertEqual(balls[0].get("d").count("a"), 2 * len(state - mirrors))
-        self.assertEqual(len([part for part in root.iter(f"{SVG}path") if part.get("fill") == "var(--mirror)"]), 2 + 2)
+        found = [part for part in root.iter(f"{SVG}path") if part.get("fill") == "var(--mirror)"]
+        rects = re.findall(r"M([\d.]+) ([\d.]+)h([\d.]+)v([\d.]+)h-", found[0].get("d"))
+        wanted = [[12 * part.x, 12 * part.y, 12 * part.width + 0.5, 12 * part.height + 0.5] for part in example("full_adder").layout.of_kind("mirror")]
+        self.assertEqual((len(found), sorted([float(part) for part in rect] for rect in rects)), (1, sorted(wanted)))
 
 
 class Runs(unittest.TestCase):

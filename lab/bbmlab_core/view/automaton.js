@@ -137,6 +137,8 @@ const bbmlab = {};
       this.every = snapshotStep(layout.steps);
       this.snapshots = new Map([[0, Int32Array.from(this.live.keys())]]);
       this.leftAt = null;
+      // The moves of some steps, which `trail` notes.
+      this.moves = new Map();
     }
 
     /** Returns a run that goes its own way from here. The snapshots are shared. @returns {WholeRun} */
@@ -217,11 +219,22 @@ const bbmlab = {};
     return moves;
   }
 
+  /**
+   * Notes the moves of steps before the present, down to the lowest one of the last `length` steps that is not noted yet. If it is older
+   * than those that are, the run goes backwards, and as many steps again are noted for the times to come.
+   */
+  function noteMoves(run, length) {
+    const { moves, time } = run, missing = [...Array(Math.min(length, time)).keys()].map((age) => time - 1 - age).filter((step) => !moves.has(step));
+    if (missing.length === 0) return;
+    const until = moves.has(time - 1) ? Math.max(0, missing.at(-1) - length) : missing.at(-1), past = run.copy();
+    while (past.time > until && past.backward()) if (!moves.has(past.time)) moves.set(past.time, movesOf(past.recent[1], past.live));
+    for (const step of moves.keys()) if (Math.abs(step - time) > 3 * length) moves.delete(step);
+  }
+
   /** Returns the moves of the last steps up to the present, the latest step first. @type {(run: WholeRun, length: number) => number[][]} */
   function trail(run, length) {
-    const past = run.copy(), steps = [];
-    while (steps.length < length && past.backward()) steps.push(movesOf(past.recent[1], past.live));
-    return steps;
+    noteMoves(run, length);
+    return [...Array(Math.min(length, run.time)).keys()].map((age) => run.moves.get(run.time - 1 - age));
   }
 
   /** The rows of the gates: the outputs for some inputs, or null where a gate has none (docs/FORMATS.md). */

@@ -65,20 +65,31 @@
       Math.min(514, Math.ceil(top + high / scale))];
   }
 
-  /** Draws the live cells that can be seen: a bar for neighbours of mirrors in a row, a disc or a dot for each ball. */
-  function cells(place, live, mirrors) {
-    const { pen, scale, inks } = place, [x0, y0, x1, y1] = seenRange(place), balls = [], bytes = live.bytes;
-    pen.fillStyle = inks.mirror;
+  /** Returns the live cells that can be seen: mirrors as rectangles x, y, w, h, and balls as x, y, x, y… */
+  function seenCells(place, live, mirrors) {
+    const [x0, y0, x1, y1] = seenRange(place), balls = [], bars = [], open = new Map(), bytes = live.bytes;
     for (let y = y0; y < y1; y += 1) {
       for (let x = x0, key = keyOf(x0, y); x < x1; x += 1, key += 1) {
         if (bytes[key] === 0) continue;
         if (!mirrors.has(key)) { balls.push(x, y); continue; }
         const start = x;
         while (x + 1 < x1 && bytes[key + 1] === 1 && mirrors.has(key + 1)) { x += 1; key += 1; }
-        // Half a pixel more, so that no seam shows between the rows of one mirror.
-        pen.fillRect(px(place, start), py(place, y), Math.max(1.5, (x + 1 - start) * scale + 0.5), Math.max(1.5, scale + 0.5));
+        // A row of mirror cells below an equal one makes that one higher: fewer rectangles take less time.
+        const size = start * 1024 + x + 1 - start, above = open.get(size);
+        if (above && above[1] + above[3] === y) above[3] += 1; else { open.set(size, [start, y, x + 1 - start, 1]); bars.push(open.get(size)); }
       }
     }
+    return { bars, balls };
+  }
+
+  /** Draws the live cells that can be seen: mirrors, and a disc or a dot for each ball. */
+  function cells(place, live, mirrors) {
+    const { pen, scale, inks } = place, { bars, balls } = seenCells(place, live, mirrors);
+    pen.fillStyle = inks.mirror;
+    pen.beginPath();
+    // Half a pixel more, so that no seam shows between the parts of one mirror.
+    for (const [x, y, w, h] of bars) pen.rect(px(place, x), py(place, y), Math.max(1.5, w * scale + 0.5), Math.max(1.5, h * scale + 0.5));
+    pen.fill();
     discs(place, balls);
   }
 
@@ -169,12 +180,13 @@
 
   /** Draws ports with their names, and waste cells. `good` says of out cells whether they are as they should be, at the last time. */
   function ports(place, layout, good) {
-    const { inks, scale } = place;
-    for (const { cell } of layout.ins) outline(place, [...cell, 1, 1], inks.ink, [], 1, 1.5);
-    for (const { cell } of layout.outs) {
-      const { ink, width } = stateOf(inks, good, cell);
-      outline(place, [...cell, 1, 1], ink, [4, 3], -1, width);
-    }
+    const { inks, scale } = place, isSmall = scale < 4;
+    const outs = layout.outs.map(({ cell }) => ({ cell, ...stateOf(inks, good, cell) }));
+    const show = ({ cell, ink, width }) => outline(place, [...cell, 1, 1], ink, isSmall ? [] : [4, 3], isSmall ? 0 : -1, width);
+    for (const { cell } of layout.ins) outline(place, [...cell, 1, 1], inks.ink, [], isSmall ? 0 : 1, isSmall ? scale / 3 : 1.5);
+    // Where cells are small, thick outlines would cover each other: only those that differ are thick, and come last.
+    for (const out of outs.filter(({ ink }) => ink !== inks.bad)) show(isSmall ? { ...out, width: scale / 3 } : out);
+    for (const out of outs.filter(({ ink }) => ink === inks.bad)) show(out);
     wastes(place, layout.wastes);
     const isMany = layout.ins.length + layout.outs.length > MANY_PORTS;
     if (scale >= (isMany ? MANY_SCALE : NAMED_SCALE)) names(place, layout, good);

@@ -4,7 +4,8 @@
 {
   const { Cells, SvgPen, startKeys, trail, keyOf, xOf, yOf, painting, waveform, address } = bbmlab;
   const { RULER } = painting;
-  const TRAIL_STEPS = 24, FIT_SCALE = 60;
+  // A trail has so many steps, and fewer if the balls are many: 24,000 moves take 15 ms of a frame to draw without a graphics processor.
+  const TRAIL_STEPS = 24, MAX_MOVES = 8000, FIT_SCALE = 60;
 
   /** Writes a number with its noun. */
   const counted = (count, one, several) => `${count} ${count === 1 ? one : several}`;
@@ -107,11 +108,18 @@
       });
     }
 
+    /** Returns the moves to draw as trails, by steps. */
+    trails() {
+      if (!this.hasTrails) return [];
+      let room = MAX_MOVES;
+      return trail(this.player.run, TRAIL_STEPS).filter((moves) => { room -= moves.length / 2; return room >= 0; });
+    }
+
     /** Draws the whole layout with a pen. */
     paintWhole(place, pointed = this.pointed) {
       const { run, modules, layout } = this.player, { mirrors, fault, mark, module } = this;
-      painting.scene(place, { layout, modules, live: run.live, mirrors, odd: run.time % 2, trail: this.hasTrails ? trail(run, TRAIL_STEPS) : [],
-        chosen: module, lines: this.player.linesNow(module), fault, mark, good: run.time === layout.steps ? this.good : null, pointed });
+      painting.scene(place, { layout, modules, live: run.live, mirrors, odd: run.time % 2, trail: this.trails(), chosen: module,
+        lines: this.player.linesNow(module), fault, mark, good: run.time === layout.steps ? this.good : null, pointed });
     }
 
     /** Returns what is seen as the text of an SVG file. */
