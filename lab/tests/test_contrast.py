@@ -6,12 +6,13 @@ The ratio is that of the Web Content Accessibility Guidelines 2.1: (L1 + 0.05) /
 import re
 import unittest
 
-import support  # noqa: F401
-from bbmlab_core import drawing, viewing
+import support
+from bbmlab_core import drawing
 
 SHAPES, TEXTS = 3.0, 4.5
 # The lines of blocks are no borders: they are faint on purpose, and nothing but them has their colour.
 FAINT = {"grid"}
+STYLE = (support.LAB / "bbmlab_core" / "view" / "page.css").read_text()
 Style = dict[str, str]
 
 
@@ -32,7 +33,7 @@ def contrast(one: str, other: str) -> float:
 
 def page_colours() -> dict[str, Style]:
     """Returns the colours of the page by their names, in light and dark."""
-    found = [dict(re.findall(r"--([\w-]+): *(#\w+)", block)) for block in re.findall(r":root *\{([^}]*)\}", viewing.piece("page.css"))]
+    found = [dict(re.findall(r"--([\w-]+): *(#\w+)", block)) for block in re.findall(r":root *\{([^}]*)\}", STYLE)]
     return {"light": found[0], "dark": found[0] | found[1]}
 
 
@@ -67,10 +68,9 @@ class Contrast(unittest.TestCase):
 
     def test_borders_of_the_page(self) -> None:
         """Each border of the style has a colour with enough contrast to the paper outside and to the plane inside."""
-        style = viewing.piece("page.css")
-        names = set(re.findall(r"border(?:-top|-color)?: *(?:\d+px solid )?var\(--(\w+)\)", style))
+        names = set(re.findall(r"border(?:-top|-color)?: *(?:\d+px solid )?var\(--(\w+)\)", STYLE))
         self.assertLessEqual({"border", "box"}, names)
-        borders, understood = (len(re.findall(form, style)) for form in (r"border(?:-\w+)?: *[^;}]*var\(",
+        borders, understood = (len(re.findall(form, STYLE)) for form in (r"border(?:-\w+)?: *[^;}]*var\(",
                                                                           r"border(?:-top|-color)?: *(?:\d+px solid )?var\("))
         self.assertEqual(borders, understood)
         for scheme, colours in page_colours().items():
@@ -81,7 +81,7 @@ class Contrast(unittest.TestCase):
 
     def test_texts_of_the_page(self) -> None:
         """Each colour of texts can be read on paper and plane."""
-        named = set(re.findall(r"(?<![\w-])color: var\(--(\w+)\)", viewing.piece("page.css")))
+        named = set(re.findall(r"(?<![\w-])color: var\(--(\w+)\)", STYLE))
         self.assertLessEqual({"ink", "soft", "good", "bad", "edge", "halo", "stop"}, named)
         self.assertFalse(named & FAINT)
         for scheme, colours in page_colours().items():

@@ -126,13 +126,13 @@
     pen.globalAlpha = 1;
   }
 
-  /** Writes a text on a small plate, so that it is readable on any cell. */
-  function label(place, text, x, y, ink, align) {
+  /** Writes a text on a small plate, so that it is readable on any cell. The plate has a top and a height. */
+  function label(place, text, x, y, ink, align, [top, high] = [y - 10, 13]) {
     const { pen, inks } = place, width = pen.measureText(text).width;
     pen.textAlign = align;
     pen.globalAlpha = 0.85;
     pen.fillStyle = inks.plane;
-    pen.fillRect(align === "center" ? x - width / 2 - 2 : x - 2, y - 10, width + 4, 13);
+    pen.fillRect(align === "center" ? x - width / 2 - 2 : x - 2, top, width + 4, high);
     pen.globalAlpha = 1;
     pen.fillStyle = ink;
     pen.fillText(text, x, y);
@@ -153,7 +153,9 @@
     if (placed.layout === layout && placed.scale === place.scale) return placed.places;
     const side = place.scale;
     const rect = ([x, y], w = 1, h = 1) => ({ x: x * side, y: y * side, width: w * side, height: h * side });
-    const names = portNames(layout).map(({ name, cell, isIn }) => ({ cell: rect(cell), isAbove: isIn, height: size + 3,
+    // The outline of an output is up to three pixels outside its cell.
+    const port = (cell) => { const { x, y, width, height } = rect(cell); return { x: x - 2, y: y - 2, width: width + 4, height: height + 4 }; };
+    const names = portNames(layout).map(({ name, cell, isIn }) => ({ cell: port(cell), isAbove: isIn, height: size + 3,
       width: place.pen.measureText(isIn ? name : `✓ ${name}`).width + 4 }));
     const signs = [...layout.wastes, ...layout.balls].map((cell) => rect(cell)).concat(layout.mirrors.map(([x, y, w, h]) => rect([x, y], w, h)));
     placed = { layout, scale: side, places: placeNames(names, signs, []) };
@@ -202,7 +204,8 @@
       .filter(({ cell, at }) => isSeen(place, ...cell) && at.away <= MAX_AWAY);
     for (const { at, cell, ink } of shown) leader(place, at, cell, ink);
     for (const { at: { box }, sign, name, ink } of shown) {
-      label(place, sign + name, left + box.x + box.width / 2, top + box.y + box.height - 4, ink, "center");
+      const bottom = top + box.y + box.height;
+      label(place, sign + name, left + box.x + box.width / 2, bottom - 0.25 * size - 1, ink, "center", [bottom - box.height, box.height]);
     }
   }
 
