@@ -7,11 +7,13 @@ from .certificates import Module
 from .circuits import evaluate, evaluate_samples, sampled_tables
 from .documents import Document
 from .gates import input_tables
+from .label_places import Name, Rect, leader, place_names
 from .layouts import Cell, Layout, Part
 from .simulation import DIAGONAL, ROW, Table, WholeRun, block_of, cell_of
 
 CELL = 12
 MARGIN = 30
+NAME_SIZE = 8
 # Up to this many inputs all choices are tried, and else so many samples of them.
 MAX_INPUTS = 12
 SAMPLES = 256
@@ -27,13 +29,14 @@ DARK_COLOURS = ["#4aa8e0", "#f0803c", "#2cc79a", "#e3a1c4", "#f5b942", "#8fd0f5"
 DASHES = ["", "6 2", "2 2", "8 2 2 2", "4 4", "1 3", "10 3", "6 2 1 2 1 2"]
 SEVERAL = 8
 
-STYLE = """text{font:7px sans-serif;fill:#222}.name{font-weight:bold;font-size:8px}.in{fill:none;stroke:#222}
-.out{fill:none;stroke:#222;stroke-dasharray:2 1.5}.waste{stroke:#222;fill:none}.mirror{fill:#9aa0aa}.ball{fill:#111}
+STYLE = """text{font:7px sans-serif;fill:#222}.name{font-weight:bold;font-size:8px;stroke:#f7f7f4;stroke-width:2px;
+stroke-linejoin:round;paint-order:stroke}.leader{stroke:#222;stroke-width:.7}.in{fill:none;stroke:#222}
+.out{fill:none;stroke:#222;stroke-dasharray:2 1.5}.waste{stroke:#222;fill:none}.mirror{fill:#7f8691}.ball{fill:#111}
 .box{fill:none;stroke:#7a3db8;stroke-width:1.2;stroke-dasharray:5 3}.number{fill:#7a3db8;font-size:8px}
 .faint{stroke-width:1;stroke-dasharray:none;stroke-opacity:.2}.fault{fill:none;stroke:#d00000;stroke-width:2.5}
 .way{fill:none;stroke-width:2.2;stroke-linecap:round}.way[stroke-dasharray]{stroke-linecap:butt}
 .back{fill:#fff}.plane{fill:#f7f7f4}.line{stroke:#dcdcd6;stroke-width:.4}.w8{stroke:#777}
-@media(prefers-color-scheme:dark){text{fill:#eee}.in,.out,.waste{stroke:#eee}.mirror{fill:#7c828c}.ball{fill:#fff}
+@media(prefers-color-scheme:dark){text{fill:#eee}.name{stroke:#1e2126}.leader{stroke:#eee}.fault{stroke:#ff5a52}.in,.out,.waste{stroke:#eee}.mirror{fill:#7c828c}.ball{fill:#fff}
 .box{stroke:#c79bff}.number{fill:#c79bff}.back{fill:#16181c}.plane{fill:#1e2126}.line{stroke:#343840}.w8{stroke:#999}}"""
 LIGHT_WAYS = "".join(f".w{index}{{stroke:{colour}}}" for index, colour in enumerate(COLOURS))
 DARK_WAYS = "".join(f".w{index}{{stroke:{colour}}}" for index, colour in enumerate(DARK_COLOURS))
@@ -113,15 +116,39 @@ def direction(cell: Cell, time: int) -> tuple[int, int]:
     return -1 if (cell[0] + time) % 2 else 1, -1 if (cell[1] + time) % 2 else 1
 
 
+def label_width(text: str, size: float) -> float:
+    """Estimates the width of bold letters of a size. An arrow is as wide as it is high."""
+    return size * (0.64 * len(text) + 0.5)
+
+
+def cell_rect(x: int, y: int, width: int = 1, height: int = 1) -> Rect:
+    """Returns the place of some cells in the picture."""
+    return Rect(MARGIN + x * CELL, MARGIN + y * CELL, width * CELL, height * CELL)
+
+
 def port_labels(layout: Layout, scale: float) -> list[str]:
-    """Returns the names of ports. Names of one cell are in one place, inputs above it and outputs below."""
-    parts = []
-    for (cell, kind), names in labelled_cells(layout).items():
-        x, y = centre(cell)
-        mark = "→" + names[0] if kind == "in" else names[0] + "→"
-        place = y - CELL / 2 - 2 if kind == "in" else y + CELL / 2 + 7.5 * scale
-        parts.append(f'<text class="name" x="{short(x)}" y="{short(place)}" text-anchor="middle">{escape(mark)}</text>')
-    return parts
+    """Returns the names of ports, inputs above and outputs below if they cover no other port there. Names of one cell are in one place."""
+    size = NAME_SIZE * scale
+    labels = [(cell_rect(*cell), kind, "→" + names[0] if kind == "in" else names[0] + "→")
+              for (cell, kind), names in labelled_cells(layout).items()]
+    names = [Name(cell, label_width(mark, size), size, kind == "in") for cell, kind, mark in labels]
+    named = {(name.cell.x, name.cell.y) for name in names}
+    # The second cell of a ball of two cells has no name of its own, and is a port too.
+    ports = [cell_rect(*part.cell) for part in layout.parts if part.kind in ("in", "out")]
+    bare = [rect for rect in ports if (rect.x, rect.y) not in named]
+    signs = [cell_rect(*part.cell) for part in layout.parts if part.kind in ("waste", "ball")]
+    walls = [cell_rect(part.x, part.y, part.width, part.height) for part in layout.of_kind("mirror")]
+    room, lines, parts = MARGIN * scale, [], []
+    bounds = Rect(MARGIN - room, MARGIN - room, layout.width * CELL + 2 * room, layout.height * CELL + 2 * room)
+    for (cell, _, mark), place in zip(labels, place_names(names, signs + walls, bare, bounds)):
+        line = leader(place, cell)
+        if line:
+            (x, y), (u, v) = line
+            lines.append(f'<path class="leader" d="M{short(x)} {short(y)}L{short(u)} {short(v)}"/>')
+        box = place.box
+        parts.append(f'<text class="name" x="{short(box.x + box.width / 2)}" y="{short(box.y + box.height * 0.84)}" '
+                     f'text-anchor="middle">{escape(mark)}</text>')
+    return lines + parts
 
 
 def layout_parts(layout: Layout) -> list[str]:

@@ -1,5 +1,7 @@
 """`bbmlab view`: one HTML file that shows a layout and its report in a browser, without a network."""
 
+import base64
+import hashlib
 import json
 from dataclasses import asdict
 from html import escape
@@ -10,6 +12,9 @@ from .documents import Document
 from .explaining import Explanation
 
 TEMPLATE = Path(__file__).resolve().parent / "view"
+# The scripts: the engine runs without a page, the others need one. The order is that in which they use each other.
+ENGINE = ["automaton.js"]
+PAGE = ["svg_pen.js", "labels.js", "address.js", "painting.js", "waveform.js", "player.js", "stage.js", "panels.js", "controls.js"]
 
 
 def page_data(document: Document, explanation: Explanation | None) -> str:
@@ -24,12 +29,24 @@ def piece(*names: str) -> str:
     return "".join((TEMPLATE / name).read_text(encoding="utf-8") for name in names)
 
 
+def source_word(text: str) -> str:
+    """Returns the word of a Content-Security-Policy that allows just this text of a script or style."""
+    return f"'sha256-{base64.b64encode(hashlib.sha256(text.encode()).digest()).decode()}'"
+
+
+def policy(style: str, scripts: list[str]) -> str:
+    """Returns the page's Content-Security-Policy: its own style and scripts, and nothing else from anywhere."""
+    return (f"default-src 'none'; style-src {source_word(style)}; script-src {' '.join(map(source_word, scripts))}; "
+            "base-uri 'none'; form-action 'none'")
+
+
 def page(document: Document, explanation: Explanation | None, title: str) -> str:
     """Writes the page: the template with its style, its scripts and its data in place."""
     assert document.layout
     before, after = piece("page.html").split("DATA")
-    for mark, text in (("STYLE", piece("page.css")), ("TITLE", escape(title))):
+    style, scripts = piece("page.css"), {"ENGINE": f"\n{piece(*ENGINE)}", "PAGE": f"\n{piece(*PAGE)}"}
+    for mark, text in (("POLICY", policy(style, list(scripts.values()))), ("STYLE", style), ("TITLE", escape(title))):
         before = before.replace(mark, text)
-    for mark, text in (("AUTOMATON", piece("automaton.js")), ("PAGE", piece("painting.js", "page.js"))):
-        after = after.replace(f"<script>{mark}</script>", f"<script>\n{text}</script>")
+    for mark, text in scripts.items():
+        after = after.replace(f"<script>{mark}</script>", f"<script>{text}</script>")
     return before + page_data(document, explanation) + after

@@ -114,8 +114,14 @@ def use_wrong(page: Page) -> None:
     page.shoot("wrong")
 
 
+FRAMES = """const done = arguments[arguments.length - 1], start = performance.now();
+let count = 0;
+const next = () => { count += 1; if (performance.now() - start < 3000) requestAnimationFrame(next); else done(count / 3); };
+requestAnimationFrame(next);"""
+
+
 def use_large(page: Page) -> None:
-    """Goes to the last of 65,536 times of 512 by 512 cells, and back, while the page still answers."""
+    """Goes to the last of 65,536 times of 512 by 512 cells with 1,024 balls, and back, while the page still answers, and plays smoothly."""
     page.open("large")
     page.wait(lambda: page.text("time") == "0 of 65536", "the page answers while it runs ahead")
     page.keys(Keys.END)
@@ -124,6 +130,13 @@ def use_large(page: Page) -> None:
     page.wait(lambda: page.text("time") == "65535 of 65536", "a step back is quick", 2)
     page.browser.execute_script("const s = document.getElementById('slider'); s.value = 30001; s.dispatchEvent(new Event('input'));")
     page.wait(lambda: page.text("time") == "30001 of 65536", "the slider is quick", 5)
+    page.wait(lambda: "Running" not in page.text("outputs-count"), "the run to the end comes to it", 60)
+    page.keys("b")
+    # 30 and more on a machine with nothing else to do; less than 10 would be seen as jerks.
+    frames = page.browser.execute_async_script(FRAMES)
+    page.keys(" ")
+    assert frames >= 10, f"{frames} frames a second with trails"
+    assert int(page.text("time").split()[0]) < 30001 - 20, page.text("time")
     page.shoot("large")
 
 

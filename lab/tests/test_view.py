@@ -1,8 +1,11 @@
 """The page: its runs under node against worked cases and the lab's runs, and the page itself in a browser where there is one."""
 
+import base64
+import hashlib
 import json
 import os
 import random
+import re
 import shutil
 import subprocess
 import tempfile
@@ -98,6 +101,18 @@ class Page(unittest.TestCase):
         for word in ("http://", "https://", "src=", "@import", "<link"):
             self.assertNotIn(word, ended.stdout.replace("http://www.w3.org/2000/svg", ""))
         self.assertEqual(ended.stdout.count("</script>"), 3)
+
+    def test_runs_its_own_scripts_only(self) -> None:
+        """The Content-Security-Policy allows the page's own style and scripts by their digests, and nothing else from anywhere."""
+        text = support.lab("view", support.example("one_wire"), "--program", support.program()).stdout
+        said = re.search(r'<meta http-equiv="Content-Security-Policy" content="([^"]*)">', text)[1]
+        rules = {words[0]: words[1:] for words in map(str.split, said.split(";"))}
+        self.assertEqual((rules.pop("default-src"), rules.pop("base-uri"), rules.pop("form-action")), (["'none'"],) * 3)
+        found = {"style-src": re.findall(r"<style>(.*?)</style>", text, re.DOTALL), "script-src": re.findall(r"<script>(.*?)</script>", text, re.DOTALL)}
+        self.assertEqual(rules, {rule: [f"'sha256-{base64.b64encode(hashlib.sha256(part.encode()).digest()).decode()}'" for part in parts]
+                                 for rule, parts in found.items()})
+        self.assertEqual((len(rules["style-src"]), len(rules["script-src"])), (1, 2))
+        self.assertIsNone(re.search(r"<[^>]* (?:style|on\w+)=", text.split("<script")[0]))
 
     def test_in_a_browser(self) -> None:
         """Load, step, toggle an input, click a fault: no console error, and the page shows what it should."""

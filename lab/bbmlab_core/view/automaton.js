@@ -13,7 +13,9 @@
  */
 "use strict";
 
-const bbmlab = (() => {
+const bbmlab = {};
+
+{
   // A cell is one number, so that a block's other cells are 1, 1024 and 1025 further. Sides are at most 512.
   const ROW = 1024;
   const CELLS = 520 * ROW;
@@ -39,6 +41,13 @@ const bbmlab = (() => {
     constructor(keys) {
       this.bytes = new Uint8Array(CELLS);
       for (const key of keys) this.bytes[key] = 1;
+    }
+
+    /** @returns {Cells} */
+    copy() {
+      const same = new Cells([]);
+      same.bytes.set(this.bytes);
+      return same;
     }
 
     /** @type {(key: number) => boolean} */
@@ -128,6 +137,13 @@ const bbmlab = (() => {
       this.every = snapshotStep(layout.steps);
       this.snapshots = new Map([[0, Int32Array.from(this.live.keys())]]);
       this.leftAt = null;
+      // The moves of some steps, which `trail` notes.
+      this.moves = new Map();
+    }
+
+    /** Returns a run that goes its own way from here. The snapshots are shared. @returns {WholeRun} */
+    copy() {
+      return Object.assign(Object.create(WholeRun.prototype), this, { live: this.live.copy(), recent: [...this.recent] });
     }
 
     /** Whether a cell lies in the rectangle. */
@@ -183,6 +199,42 @@ const bbmlab = (() => {
       while (this.time < time && this.forward());
       while (this.time > time && this.backward());
     }
+  }
+
+  /**
+   * Returns the moves of a step, as cells from, to, from, to… A collision goes by the sides of its block.
+   * @param {number[]} changed the cells that the step changed, by the diagonals of their blocks
+   * @param {Cells} before the cells that were live before it
+   */
+  function movesOf(changed, before) {
+    const moves = [];
+    for (let index = 0; index < changed.length; index += 2) {
+      const one = changed[index], two = changed[index + 1], isOne = before.has(one);
+      if (isOne !== before.has(two)) { moves.push(isOne ? one : two, isOne ? two : one); continue; }
+      // Both cells of this diagonal changed, and those of the other one come next.
+      const across = [changed[index + 2], changed[index + 3]];
+      moves.push(...(isOne ? [one, across[0], two, across[1]] : [across[0], one, across[1], two]));
+      index += 2;
+    }
+    return moves;
+  }
+
+  /**
+   * Notes the moves of steps before the present, down to the lowest one of the last `length` steps that is not noted yet. If it is older
+   * than those that are, the run goes backwards, and as many steps again are noted for the times to come.
+   */
+  function noteMoves(run, length) {
+    const { moves, time } = run, missing = [...Array(Math.min(length, time)).keys()].map((age) => time - 1 - age).filter((step) => !moves.has(step));
+    if (missing.length === 0) return;
+    const until = moves.has(time - 1) ? Math.max(0, missing.at(-1) - length) : missing.at(-1), past = run.copy();
+    while (past.time > until && past.backward()) if (!moves.has(past.time)) moves.set(past.time, movesOf(past.recent[1], past.live));
+    for (const step of moves.keys()) if (Math.abs(step - time) > 3 * length) moves.delete(step);
+  }
+
+  /** Returns the moves of the last steps up to the present, the latest step first. @type {(run: WholeRun, length: number) => number[][]} */
+  function trail(run, length) {
+    noteMoves(run, length);
+    return [...Array(Math.min(length, run.time)).keys()].map((age) => run.moves.get(run.time - 1 - age));
   }
 
   /** The rows of the gates: the outputs for some inputs, or null where a gate has none (docs/FORMATS.md). */
@@ -289,7 +341,7 @@ const bbmlab = (() => {
     }
   }
 
-  return { WholeRun, ModuleRun, circuitValues, startKeys, keyOf, xOf, yOf };
-})();
+  Object.assign(bbmlab, { Cells, WholeRun, ModuleRun, circuitValues, startKeys, trail, keyOf, xOf, yOf, CELLS });
+}
 
 if (typeof module !== "undefined") module.exports = bbmlab;

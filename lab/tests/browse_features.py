@@ -1,0 +1,332 @@
+#!/usr/bin/python3
+"""browse_features.py FOLDER: tries what FOLDER/adder.html, FOLDER/faults.html and FOLDER/outputs.html do in headless Chromium.
+
+The pages are of full_adder.txt, wrong_edge.txt and of a layout with 48 outputs of which three are wrong. It runs with Debian's
+python3-selenium. Each test opens its page anew. BBMLAB_ONLY names one test.
+"""
+import os
+import sys
+import time
+import unittest
+import xml.etree.ElementTree as ET
+from pathlib import Path
+from typing import Any, Callable
+
+from selenium import webdriver
+from selenium.webdriver.chrome.service import Service
+from selenium.webdriver.common.by import By
+from selenium.webdriver.common.keys import Keys
+
+FOLDER = Path(sys.argv.pop(1)).resolve()
+WIDE, PHONE = (1280, 800), (390, 844)
+# Counts what changes in live regions, which screen readers speak.
+WATCH = """window.spoken = []; for (const part of document.querySelectorAll('[role=status],[role=alert],[aria-live],output'))
+  new MutationObserver(() => window.spoken.push(part.textContent)).observe(part, {childList: true, characterData: true, subtree: true});"""
+
+
+class Page(unittest.TestCase):
+    """A page in a browser."""
+
+    browser: webdriver.Chrome
+
+    @classmethod
+    def setUpClass(cls) -> None:
+        options = webdriver.ChromeOptions()
+        for word in ("--headless", "--no-sandbox", "--hide-scrollbars", "--touch-events=enabled"):
+            options.add_argument(word)
+        options.set_capability("goog:loggingPrefs", {"browser": "ALL"})
+        cls.browser = webdriver.Chrome(service=Service("/usr/bin/chromedriver"), options=options)
+        cls.browser.execute_cdp_cmd("Browser.setDownloadBehavior", {"behavior": "allow", "downloadPath": str(FOLDER)})
+
+    @classmethod
+    def tearDownClass(cls) -> None:
+        cls.browser.quit()
+
+    def open(self, name: str, hash_text: str = "", size: tuple[int, int] = WIDE) -> None:
+        """Opens a page with an address, as new."""
+        width, height = size
+        self.browser.get("about:blank")
+        self.browser.execute_cdp_cmd("Emulation.setDeviceMetricsOverride", {"width": width, "height": height, "deviceScaleFactor": 1,
+                                                                            "mobile": size == PHONE})
+        self.browser.execute_cdp_cmd("Emulation.setTouchEmulationEnabled", {"enabled": size == PHONE, "maxTouchPoints": 2})
+        self.browser.get((FOLDER / f"{name}.html").as_uri() + hash_text)
+        self.browser.get_log("browser")
+        time.sleep(0.2)
+
+    def tearDown(self) -> None:
+        """The console has no error, whatever was done."""
+        self.assertEqual([entry["message"] for entry in self.browser.get_log("browser") if entry["level"] in ("SEVERE", "WARNING")], [])
+
+    def run_script(self, text: str, *words: Any) -> Any:
+        """Runs a script on the page."""
+        return self.browser.execute_script(text, *words)
+
+    def text(self, name: str) -> str:
+        """Returns the text of an element."""
+        return self.browser.find_element(By.ID, name).text
+
+    def click(self, selector: str, which: int = 0) -> None:
+        """Clicks an element."""
+        self.browser.find_elements(By.CSS_SELECTOR, selector)[which].click()
+
+    def keys(self, *keys: str) -> None:
+        """Presses keys where the focus is."""
+        self.browser.switch_to.active_element.send_keys(*keys)
+
+    def hash(self) -> str:
+        """Returns the part of the address behind "#"."""
+        return self.run_script("return location.hash")
+
+    def wait(self, test: Callable[[], Any], what: str, seconds: float = 8) -> None:
+        """Waits until something holds."""
+        until = time.monotonic() + seconds
+        while not test():
+            self.assertLess(time.monotonic(), until, what)
+            time.sleep(0.05)
+
+    def point(self, x: float, y: float, kind: str = "mouseMoved", selector: str = "#whole") -> None:
+        """Moves the mouse to a place of an element, in pixels from its corner."""
+        left, top = self.run_script("const box = document.querySelector(arguments[0]).getBoundingClientRect(); return [box.left, box.top]", selector)
+        button = {} if kind == "mouseMoved" else {"button": "left", "clickCount": 1, "buttons": 1}
+        self.browser.execute_cdp_cmd("Input.dispatchMouseEvent", {"type": kind, "x": left + x, "y": top + y, **button})
+
+
+class Picture(Page):
+    """The picture and what is below it."""
+
+    def test_cell_under_the_pointer(self) -> None:
+        """The cell is shown as messages write it, with what there is."""
+        self.open("adder", "#z=20,20,17")
+        width, height = self.run_script("const c = document.getElementById('whole'); return [c.clientWidth, c.clientHeight]")
+        # The middle, beside the rulers of 32 and 18 pixels, is the place (20, 17): `in a 15 19` is 4.5 cells to the left and 2.5 below.
+        middle = 32 + (width - 32) / 2, 18 + (height - 18) / 2
+        self.point(middle[0] - 4.5 * 20, middle[1] + 2.5 * 20)
+        self.wait(lambda: self.text("cell") == "(15, 19): ball, in a", f"the cell and what there is: {self.text('cell')}")
+        self.point(middle[0] + 10.5 * 20, middle[1] + 2.5 * 20)
+        self.wait(lambda: self.text("cell") == "(30, 19): mirror", f"a mirror: {self.text('cell')}")
+        self.point(2, 2)
+        self.wait(lambda: self.text("cell") == "", "no cell at a ruler")
+
+    def test_go_to_a_cell(self) -> None:
+        """A cell can be typed as messages write it."""
+        self.open("adder")
+        self.browser.find_element(By.ID, "go-to-cell").send_keys("(26, 13)", Keys.ENTER)
+        self.wait(lambda: self.text("cell") == "(26, 13): mirror", "the cell is shown")
+
+    def test_trails(self) -> None:
+        """Trails are drawn, and a key switches them off and on, which the address keeps."""
+        self.open("adder", "#t=6")
+        ink = "const c = document.getElementById('whole'); return c.toDataURL().length"
+        self.wait(lambda: self.text("time") == "6 of 8", "the time of the address")
+        time.sleep(0.3)
+        before = self.run_script(ink)
+        self.keys("t")
+        time.sleep(0.5)
+        self.assertNotEqual(self.run_script(ink), before)
+        self.assertFalse(self.browser.find_element(By.ID, "trails").is_selected())
+        self.wait(lambda: self.hash() == "#t=6&trails=0", self.hash())
+        self.click("#trails")
+        time.sleep(0.5)
+        self.assertEqual(self.run_script(ink), before)
+
+    def test_play_backwards(self) -> None:
+        """From the end the key b plays to the start and stops there, and from the start it begins at the end."""
+        self.open("adder", "#t=8")
+        self.keys("b")
+        self.wait(lambda: self.text("time") == "0 of 8" and "reverse" in self.text("reverse"), "it comes to the start")
+        self.click("#reverse")
+        self.wait(lambda: self.text("time").startswith(("7", "6")), "it begins at the end")
+        self.keys(" ")
+        self.wait(lambda: "reverse" in self.text("reverse"), "space stops")
+
+    def test_waveform(self) -> None:
+        """The waveform is drawn under the picture, and a click on it goes to that time."""
+        self.open("adder", "#on=a")
+        time.sleep(0.3)
+        box = self.run_script("const b = document.getElementById('wave').getBoundingClientRect(); return [b.width, b.height, b.top]")
+        self.assertGreater(box[2], self.run_script("return document.getElementById('whole').getBoundingClientRect().bottom"))
+        line = "return parseFloat(document.getElementById('wave-cursor').style.left)"
+        first = self.run_script(line)
+        self.point(box[0] * 0.7, 20, "mousePressed", "#wave")
+        self.point(box[0] * 0.7, 20, "mouseReleased", "#wave")
+        self.wait(lambda: self.text("time") in ("5 of 8", "6 of 8"), f"the time there: {self.text('time')}")
+        self.assertGreater(self.run_script(line), first + 100)
+
+    def test_files(self) -> None:
+        """PNG and SVG have what is seen: the size of the picture, and its texts."""
+        self.open("adder", "#t=8")
+        time.sleep(0.3)
+        for kind in ("png", "svg"):
+            self.click(f"#{kind}")
+            self.wait(lambda: (FOLDER / f"adder_8.{kind}").exists(), f"the {kind} file comes")
+        time.sleep(0.3)
+        width, height = self.run_script("const c = document.getElementById('whole'); return [c.clientWidth, c.clientHeight]")
+        png, svg = (FOLDER / "adder_8.png").read_bytes(), ET.parse(FOLDER / "adder_8.svg").getroot()
+        self.assertEqual((png[:8], int.from_bytes(png[16:20]), int.from_bytes(png[20:24])), (b"\x89PNG\r\n\x1a\n", width, height))
+        self.assertEqual((float(svg.get("width")), float(svg.get("height"))), (width, height))
+        texts = [part.text for part in svg.iter("{http://www.w3.org/2000/svg}text")]
+        self.assertLessEqual({"✓ sum→", "→carry", "→a", "12"}, set(texts))
+
+
+class Report(Page):
+    """The report, the outputs and the inputs."""
+
+    def test_wrong_outputs_first(self) -> None:
+        """The count is shown, and the outputs that differ come first."""
+        self.open("outputs")
+        self.wait(lambda: self.text("outputs-count") == "3 of 48 outputs differ", self.text("outputs-count"))
+        shown = [part.text for part in self.browser.find_elements(By.CSS_SELECTOR, "#outputs > span")]
+        self.assertEqual([text.split()[:2] for text in shown[:4]], [["✗", "w5=1"], ["✗", "w17=1"], ["✗", "w40=1"], ["✓", "w0=1"]])
+        self.assertTrue(all(part.is_displayed() for part in self.browser.find_elements(By.CSS_SELECTOR, "#outputs .bad")))
+        self.click("#none")
+        self.wait(lambda: self.text("outputs-count") == "All 48 outputs are as the circuit says.", self.text("outputs-count"))
+
+    def test_all_and_none(self) -> None:
+        """Two buttons put all inputs on and off."""
+        self.open("outputs")
+        boxes = self.browser.find_elements(By.CSS_SELECTOR, "#inputs input")
+        self.click("#none")
+        self.assertEqual(sum(box.is_selected() for box in boxes), 0)
+        self.click("#all")
+        self.assertEqual(sum(box.is_selected() for box in boxes), 48)
+
+    def test_begin_with_is_a_link(self) -> None:
+        """The report's words name the line to begin with, and a click on it goes there."""
+        self.open("faults")
+        links = self.browser.find_elements(By.CSS_SELECTOR, "#report p a")
+        begin = next(link for link in links if link.text.startswith("local"))
+        self.assertIn(f"Begin with {begin.text}", begin.find_element(By.XPATH, "..").text)
+        begin.click()
+        pressed = self.browser.find_elements(By.CSS_SELECTOR, "#report button[aria-pressed=true]")
+        self.assertEqual([button.text for button in pressed], [f"✗ {begin.text}"])
+        self.assertIn("by itself", self.text("beside-title"))
+
+    def test_faults_by_key(self) -> None:
+        """n and p go through the lines that are against the design, and round."""
+        self.open("faults")
+        count = len([button for button in self.browser.find_elements(By.CSS_SELECTOR, "#report button") if button.text.startswith("✗")])
+        pressed = lambda: [at for at, part in enumerate(self.browser.find_elements(By.CSS_SELECTOR, "#report button"))  # noqa: E731
+                           if part.get_attribute("aria-pressed") == "true"]
+        self.assertEqual((count, pressed()), (2, []))
+        for key, wanted in (("n", 0), ("n", 1), ("n", 0), ("p", 1), ("p", 0), ("p", 1)):
+            self.keys(key)
+            self.assertEqual(pressed(), [wanted], key)
+
+    def test_skip_link(self) -> None:
+        """The report is three keys away, however many inputs there are."""
+        self.open("faults")
+        self.keys(Keys.TAB)
+        self.assertIn("Skip", self.browser.switch_to.active_element.text)
+        self.assertGreaterEqual(self.run_script("return document.activeElement.getBoundingClientRect().top"), 0)
+        self.keys(Keys.ENTER)
+        self.keys(Keys.TAB)
+        self.assertTrue(self.run_script("return document.getElementById('report-box').contains(document.activeElement)"))
+
+    def test_speaks_when_it_stops(self) -> None:
+        """While it plays no live region changes; when it has stopped one says the time and the outputs, once."""
+        self.open("adder")
+        time.sleep(1)
+        self.run_script(WATCH)
+        self.keys(" ")
+        self.wait(lambda: self.text("time") == "7 of 8", "it plays")
+        self.assertEqual(self.run_script("return window.spoken"), [])
+        self.wait(lambda: self.run_script("return window.spoken.length"), "it speaks")
+        time.sleep(0.8)
+        self.assertEqual(self.run_script("return window.spoken"), ["Time 8 of 8. The last time. All 2 outputs are as the circuit says."])
+
+
+class State(Page):
+    """The state in the address."""
+
+    def test_is_restored(self) -> None:
+        """Time, inputs, zoom and the line of the report come back when the address is opened again."""
+        self.open("faults")
+        self.keys("n")
+        self.click("#inputs input")
+        self.keys("+", "+", Keys.ARROW_RIGHT)
+        look = ("return [document.getElementById('time').textContent, [...document.querySelectorAll('#inputs input')].map((box) => box.checked),"
+                "document.getElementById('beside-title').textContent, document.getElementById('cell').textContent]")
+        self.wait(lambda: "z=" in self.hash() and "fault=1" in self.hash() and "on=" in self.hash(), "the address has the state")
+        self.point(200, 100)
+        time.sleep(0.5)
+        before, kept = self.run_script(look), self.hash()
+        self.assertRegex(before[-1], r"\(\d+, \d+\)")
+        self.open("faults", kept)
+        self.point(201, 101)
+        time.sleep(0.5)
+        self.assertEqual(self.run_script(look), before)
+        self.assertEqual(self.hash(), kept)
+
+    def test_follows_the_address(self) -> None:
+        """An address that is typed into an open page is followed."""
+        self.open("adder")
+        self.run_script("location.hash = '#t=3&on=b'")
+        self.wait(lambda: self.text("time") == "3 of 8", self.text("time"))
+        on = self.run_script("return [...document.querySelectorAll('#inputs input')].filter((box) => box.checked).map((box) => box.value)")
+        self.assertEqual(on, ["b"])
+
+    def test_a_hostile_address(self) -> None:
+        """Nothing of an address becomes part of the page, and the page is as without it."""
+        for text in ("#t=<img src=x onerror=alert(1)>&on=__proto__,<b>x</b>&z=1e9,NaN,0&fault=99", "#%E0%A4%A", "#" + "t=9&" * 20000,
+                     "#z=0,0,0&t=99999999999999999999", "#constructor=1&__proto__=2&fault=constructor", "#t=4;z=javascript:alert(1)"):
+            self.open("adder", text)
+            self.wait(lambda: self.text("outputs-count").startswith("All 2 outputs"), f"the page works at {text[:60]}")
+            self.assertEqual(self.text("time"), "0 of 8")
+            self.assertEqual(self.run_script("return document.querySelectorAll('img, b, iframe').length"), 0)
+            self.assertNotIn("NaN", self.run_script("return document.body.textContent.split('Lines of the certificate')[0]"))
+
+
+class Phone(Page):
+    """The page on a phone."""
+
+    def test_scrolls_from_the_picture(self) -> None:
+        """A finger that moves up on the picture scrolls the page."""
+        self.open("adder", size=PHONE)
+        self.assertEqual(self.run_script("return [scrollX, scrollY]"), [0, 0])
+        x, y = self.run_script("const box = document.getElementById('whole').getBoundingClientRect();"
+                               "return [box.left + box.width / 2, box.top + box.height / 2]")
+        self.drag([[(x, y - up)] for up in range(0, 201, 10)])
+        self.wait(lambda: self.run_script("return scrollY") > 100, "the page is scrolled")
+
+    def test_two_fingers_zoom(self) -> None:
+        """Two fingers that part on the picture zoom it, and leave the page where it is."""
+        self.open("adder", size=PHONE)
+        x, y = self.run_script("const box = document.getElementById('whole').getBoundingClientRect();"
+                               "return [box.left + box.width / 2, box.top + box.height / 2]")
+        self.drag([[(x - 20 - apart, y), (x + 20 + apart, y)] for apart in range(0, 61, 5)])
+        self.wait(lambda: "z=" in self.hash(), "the zoom is in the address")
+        self.assertGreater(float(self.hash().split("z=")[1].split(",")[0]), 15)
+        self.assertEqual(self.run_script("return scrollY"), 0)
+
+    def test_two_fingers_move(self) -> None:
+        """Two fingers that go up together move the picture by as much, and not the page."""
+        self.open("adder", "#z=10,20,17", size=PHONE)
+        x, y = self.run_script("const box = document.getElementById('whole').getBoundingClientRect();"
+                               "return [box.left + box.width / 2, box.top + box.height / 2]")
+        self.drag([[(x - 30, y - up), (x + 30, y - up)] for up in range(0, 101, 10)])
+        self.wait(lambda: self.hash() != "#z=10,20,17", "the place is in the address")
+        scale, _, row = map(float, self.hash().split("z=")[1].split(","))
+        self.assertAlmostEqual(scale, 10, delta=1)
+        self.assertAlmostEqual(row, 27, delta=2)
+        self.assertEqual(self.run_script("return scrollY"), 0)
+
+    def drag(self, places: list[list[tuple[float, float]]]) -> None:
+        """Puts fingers at the first places, moves them over the others, and lifts them."""
+        for number, fingers in enumerate(places):
+            points = [{"x": x, "y": y, "id": at} for at, (x, y) in enumerate(fingers)]
+            self.browser.execute_cdp_cmd("Input.dispatchTouchEvent", {"type": "touchMove" if number else "touchStart", "touchPoints": points})
+            time.sleep(0.01)
+        self.browser.execute_cdp_cmd("Input.dispatchTouchEvent", {"type": "touchEnd", "touchPoints": []})
+
+    def test_fits(self) -> None:
+        """Nothing is wider than the window, and the buttons are large enough for a finger."""
+        for name in ("adder", "faults", "outputs"):
+            self.open(name, size=PHONE)
+            self.assertFalse(self.run_script("return document.documentElement.scrollWidth > innerWidth"), name)
+        small = self.run_script("return [...document.querySelectorAll('#transport button, #tools button')].filter((part) => part.offsetHeight < 30)"
+                                ".map((part) => part.id)")
+        self.assertEqual(small, [])
+
+
+if __name__ == "__main__":
+    unittest.main(argv=[sys.argv[0], *os.environ.get("BBMLAB_ONLY", "").split()])

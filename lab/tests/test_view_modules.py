@@ -1,0 +1,223 @@
+"""The page's modules under node: the address, names of ports, trails, the waveform, outputs, and pictures as SVG."""
+
+import json
+import random
+import re
+import shutil
+import subprocess
+import unittest
+import xml.etree.ElementTree as ET
+from typing import Any
+
+import support
+from bbmlab_core import json_form, tracing, viewing
+from bbmlab_core.documents import Document
+from bbmlab_core.drawing import block_moves
+from bbmlab_core.label_places import Name, Rect, place_names
+from bbmlab_core.simulation import block_of, cell_of, key_of
+
+SCRIPT = support.LAB / "tests" / "run_modules.js"
+FILES = [*viewing.ENGINE, "svg_pen.js", "labels.js", "address.js", "painting.js", "waveform.js", "player.js"]
+SVG = "{http://www.w3.org/2000/svg}"
+LIMITS = {"steps": 30, "names": ["p", "q", "constructor"], "faults": 2}
+MAX_FUNCTION_LINES = 40
+
+
+def node(jobs: list[list[Any]]) -> list[Any]:
+    """Returns what the page's modules make of some jobs."""
+    if shutil.which("node") is None:
+        raise unittest.SkipTest("node is not installed (apt-get install nodejs)")
+    ended = subprocess.run(["node", str(SCRIPT), str(viewing.TEMPLATE), *FILES], input=json.dumps(jobs), text=True, capture_output=True, check=False)
+    if ended.returncode:
+        raise AssertionError(ended.stderr)
+    return json.loads(ended.stdout)
+
+
+def example(name: str) -> Document:
+    """Returns an example."""
+    return support.read_document((support.EXAMPLES / f"{name}.txt").read_text())
+
+
+def data_of(document: Document) -> dict[str, Any]:
+    """Returns the page's data of a text."""
+    return json.loads(json_form.document_json(document, None))
+
+
+def many_outputs(count: int, wrong: list[int]) -> Document:
+    """Returns a circuit and a layout of one step with wires that go from inputs to outputs, of which some have their output beside the ball."""
+    lines = ["circuit", *(f"input w{index}" for index in range(count)), *(f"output w{index}" for index in range(count)), "end",
+             f"layout {4 * count + 4} 8 1"]
+    lines += [f"in w{index} {4 * index + 2} 2" for index in range(count)]
+    lines += [f"out w{index} {4 * index + 3} {4 if index in wrong else 3}" for index in range(count)]
+    return support.read_document("\n".join([*lines, "end"]) + "\n")
+
+
+class Address(unittest.TestCase):
+    """The part of the address behind "#"."""
+
+    def test_what_is_written_is_read(self) -> None:
+        """Each part comes back, and all of them together."""
+        states = [{}, {"time": 7}, {"on": []}, {"on": ["p"]}, {"zoom": [2.5, 10, -3.25]}, {"fault": 2}, {"trails": False},
+                  {"time": 30, "on": ["p", "q"], "zoom": [80, 0, 512], "fault": 1, "trails": False}]
+        written = node([["write", state] for state in states])
+        self.assertEqual(node([["read", f"#{text}", LIMITS] for text in written]), states)
+
+    def test_a_hostile_address(self) -> None:
+        """What is no time, input, zoom or line of the report is left out."""
+        nothing = ["", "#", "#t=31", "#t=-1", "#t=1e1", "#t=NaN", "#t=0x1", "#t=1.5", "#t=Infinity", "#t= 1", "#t=%31", "#t", "#=", "#t=1=2", "#T=1",
+                   "#z=1,2", "#z=0,0,0", "#z=-1,0,0", "#z=81,0,0", "#z=1,NaN,0", "#z=1,1e300,0", "#z=,,", "#z=1,2,3,4", "#z=1,99999,0",
+                   "#fault=0", "#fault=3", "#fault=-1", "#fault=__proto__", "#trails=2", "#trails=true", "#__proto__=1", "#constructor=1",
+                   "#toString=1", "#<img src=x onerror=alert(1)>", "#%E0%A4%A", "#&&&===&&&", "#t=" + "9" * 60000, "#t=1&" + "x" * 70000]
+        self.assertEqual(node([["read", text, LIMITS] for text in nothing]), [{}] * len(nothing))
+        some = {"#t=3&t=99": {}, "#on=r,<b>,__proto__,toString": {"on": []}, "#on=constructor,p,p%00": {"on": ["constructor", "p"]},
+                "#t=30&z=1,2&fault=2&javascript:alert(1)": {"time": 30, "fault": 2}}
+        self.assertEqual(node([["read", text, LIMITS] for text in some]), list(some.values()))
+
+
+class Names(unittest.TestCase):
+    """The names of ports on the page."""
+
+    def test_same_places_as_in_pictures(self) -> None:
+        """The page and `draw` place names by the same rules."""
+        chooser, jobs, wanted = random.Random(7), [], []
+        for _ in range(20):
+            cells = [Rect(12 * chooser.randrange(20), 12 * chooser.randrange(20), 12, 12) for _ in range(40)]
+            names = [Name(cell, chooser.randrange(10, 70), 8, chooser.random() < 0.5) for cell in cells[:20]]
+            found = place_names(names, cells[20:30], cells[30:])
+            wanted.append([[place.box.x, place.box.y, place.away] for place in found])
+            jobs.append(["places", [{"cell": vars(name.cell), "width": name.width, "height": name.height, "isAbove": name.is_above} for name in names],
+                         [vars(cell) for cell in cells[20:30]], [vars(cell) for cell in cells[30:]]])
+        for found, places in zip(node(jobs), wanted):
+            for one, other in zip(found, places):
+                self.assertEqual([round(part, 6) for part in one], [round(part, 6) for part in other])
+
+    def test_no_name_covers_a_port(self) -> None:
+        """At the end of `full_adder`, at three scales, each name of the page is off each port and each other name."""
+        document = example("full_adder")
+        for scale in (8, 14, 24):
+            picture = node([["scene", data_of(document), ["a"], 8, {"scale": scale, "left": 2, "top": 2, "pointed": None}]])[0]
+            names = [(part.text, part_box(part)) for part in ET.fromstring(picture).iter(f"{SVG}text") if "→" in (part.text or "")]
+            self.assertEqual(sorted(text for text, _ in names), ["→a", "→b", "→carry", "✓ carry_out→", "✓ carry_out→", "✓ sum→"])
+            cells = [part.cell for part in document.layout.parts if part.kind in ("in", "out")]
+            ports = [Rect((x - 2) * scale, (y - 2) * scale, scale, scale) for x, y in cells]
+            self.assertEqual([text for text, box in names for port in ports if box.shared(port) > 1], [], scale)
+            self.assertEqual([text for index, (text, box) in enumerate(names) for _, other in names[:index] if box.shared(other) > 1], [], scale)
+
+
+def part_box(part: ET.Element) -> Rect:
+    """Returns the room of a text whose letters are 0.6 of their size wide."""
+    size = float(re.search(r"([\d.]+)px", part.get("style", ""))[1])
+    width = 0.6 * size * len(part.text or "")
+    left = {"start": 0.0, "middle": width / 2, "end": width}[part.get("text-anchor", "start")]
+    return Rect(float(part.get("x", "0")) - left, float(part.get("y", "0")) - 0.75 * size, width, 0.75 * size)
+
+
+class Pictures(unittest.TestCase):
+    """What is seen as SVG."""
+
+    def test_rulers(self) -> None:
+        """Numbers of columns and rows are at the middle of their cells, and the cell under the pointer has its numbers on plates."""
+        place = {"scale": 20, "left": 5, "top": 3, "pointed": [11, 8]}
+        root = ET.fromstring(node([["scene", data_of(example("full_adder")), [], 0, place]])[0])
+        columns = {part.text: float(part.get("x")) for part in root.iter(f"{SVG}text") if (part.text or "").isdigit() and float(part.get("y")) < 18}
+        rows = {part.text: float(part.get("y")) for part in root.iter(f"{SVG}text") if (part.text or "").isdigit() and float(part.get("x")) < 32}
+        self.assertGreaterEqual(len(columns), 10)
+        self.assertGreaterEqual(len(rows), 10)
+        for text, x in columns.items():
+            self.assertEqual(x, (int(text) + 0.5 - 5) * 20)
+        for text, y in rows.items():
+            self.assertAlmostEqual(y, (int(text) + 0.5 - 3) * 20, delta=5)
+        self.assertEqual(("11" in columns, "8" in rows), (True, True))
+        plates = [part for part in root.iter(f"{SVG}path") if part.get("fill") == "var(--box)"]
+        self.assertEqual(len(plates), 2)
+
+    def test_is_svg(self) -> None:
+        """The picture is XML with the balls and mirrors of the layout, and signs of XML in texts are texts."""
+        picture = node([["scene", data_of(example("full_adder")), ["a", "b"], 3, {"scale": 12, "left": 0, "top": 0, "pointed": None}]])[0]
+        root = ET.fromstring(picture)
+        self.assertEqual(root.find(f"{SVG}title").text, 'a <title> & "more"')
+        balls = [part for part in root.iter(f"{SVG}path") if part.get("fill") == "var(--ball)"]
+        state = tracing.trace_layout(example("full_adder").layout, ["a", "b"], 3, 3).states[0]
+        mirrors = example("full_adder").layout.mirror_cells()
+        # A disc is two half circles.
+        self.assertEqual(balls[0].get("d").count("a"), 2 * len(state - mirrors))
+        found = [part for part in root.iter(f"{SVG}path") if part.get("fill") == "var(--mirror)"]
+        rects = re.findall(r"M([\d.]+) ([\d.]+)h([\d.]+)v([\d.]+)h-", found[0].get("d"))
+        wanted = [[12 * part.x, 12 * part.y, 12 * part.width + 0.5, 12 * part.height + 0.5] for part in example("full_adder").layout.of_kind("mirror")]
+        self.assertEqual((len(found), sorted([float(part) for part in rect] for rect in rects)), (1, sorted(wanted)))
+
+
+class Runs(unittest.TestCase):
+    """Trails, the waveform and the outputs."""
+
+    def test_trails(self) -> None:
+        """Trails are the moves of the last steps, as the lab's pictures have them, also through collisions and off mirrors."""
+        jobs, wanted = [], []
+        for name in ("full_adder", "head_on", "gate_and_mirror", "off_a_mirror", "machine_fredkin"):
+            document = example(name)
+            layout, on = document.layout, tracing.port_names(document.layout)
+            states = tracing.trace_layout(layout, on, 0, layout.steps).states
+            time = min(len(states) - 1, 30)
+            moves = []
+            for at in range(time - 1, max(-1, time - 13), -1):
+                before = {key_of(cell): 1 for cell in states[at]}
+                corners = {block_of(key, at % 2) for key in before}
+                found = [(cell_of(start), cell_of(end)) for corner in corners for start, end, _ in block_moves(before, corner)]
+                # What stays is no move: `block_moves` is asked of changed blocks only, and so names moves of mirrors too.
+                changed = states[at] ^ states[at + 1]
+                moves.append(sorted([list(start), list(end)] for start, end in found if start in changed and end in changed))
+            wanted.append(moves)
+            jobs.append(["trail", data_of(document), on, time, 12])
+        for job, found, moves in zip(jobs, node(jobs), wanted):
+            pairs = [sorted([step[index], step[index + 1]] for index in range(0, len(step), 2)) for step in found]
+            self.assertEqual(pairs, moves, job[1]["layout"]["steps"])
+        self.assertGreater(sum(len(step) for moves in wanted for step in moves), 100)
+
+    def test_waveform(self) -> None:
+        """The waveform has each port and stop, and each cell is live when the lab's trace says so."""
+        for name in ("full_adder", "timed_modules", "machine_switch", "wrong_stop"):
+            document = example(name)
+            on = document.circuit.inputs[:1]
+            found, states = node([["waves", data_of(document), on]])[0], tracing.trace_layout(document.layout, on, 0, 10 ** 6).states
+            marks = [(wave["wire"], tuple(wave["cell"]), *mark) for wave in found for mark in wave["marks"]]
+            ports = [(part.name, part.cell, 0 if part.kind == "in" else document.layout.steps, part.kind)
+                     for part in document.layout.parts if part.kind in ("in", "out")]
+            stops = [(stop.name, (stop.x, stop.y), stop.time, "stop") for module in document.certificate.modules for stop in module.stops]
+            self.assertEqual(sorted(marks), sorted({*ports, *stops}), name)
+            for wave in found:
+                self.assertEqual(wave["live"], [tuple(wave["cell"]) in state for state in states], (name, wave["wire"]))
+                spans = [any(start <= time < end for start, end in wave["spans"]) for time in range(len(states))]
+                self.assertEqual(wave["live"], spans)
+
+    def test_wrong_outputs_come_first(self) -> None:
+        """The outputs that differ come before those that don't, each in the order of the layout."""
+        document = many_outputs(48, [5, 17, 40])
+        found = node([["results", data_of(document), document.circuit.inputs]])[0]
+        self.assertEqual(found[:4], [["w5", False], ["w17", False], ["w40", False], ["w0", True]])
+        self.assertEqual(len(found), 48)
+
+
+class Sources(unittest.TestCase):
+    """The sources of the page."""
+
+    def test_functions_are_short(self) -> None:
+        """No function has 40 lines. One begins at a line that ends with a brace, and ends at the first one that is not indented more."""
+        begins, count = re.compile(r"^( *)(?! )(?:/\*\*.*\*/ )?(?!(?:if|for|while|switch|class|else|try|\} else)\b).*(?:\)|=>|constructor.*) \{$"), 0
+        for path in sorted(viewing.TEMPLATE.glob("*.js")):
+            lines = path.read_text().splitlines()
+            for number, line in enumerate(lines):
+                if not (found := begins.match(line)):
+                    continue
+                end = next(at for at in range(number + 1, len(lines)) if lines[at].startswith(found[1] + "}"))
+                count += 1
+                self.assertLess(end - number + 1, MAX_FUNCTION_LINES, f"{path.name}:{number + 1}")
+        self.assertGreater(count, 100)
+
+    def test_no_html_from_texts(self) -> None:
+        """No script makes HTML or code from a text."""
+        for path in viewing.TEMPLATE.glob("*.js"):
+            self.assertIsNone(re.search(r"innerHTML|outerHTML|insertAdjacentHTML|document\.write|\beval\(|new Function|DOMParser|srcdoc", path.read_text()))
+
+
+if __name__ == "__main__":
+    unittest.main()
