@@ -190,8 +190,8 @@ class Checker:
 def summary(counts: dict[str, int]) -> str:
     """Returns how many files have each result."""
     total = sum(counts.values())
-    told = ", ".join(f"{counts[word]:,} {WORDS[word]}" for word in WORDS if counts.get(word))
-    return f"{total:,} file{'s' if total != 1 else ''}: {told or 'none was checked'}"
+    told = ", ".join(f"{counts[word]} {WORDS[word]}" for word in WORDS if counts.get(word))
+    return f"{total} file{'s' if total != 1 else ''}: {told or 'none was checked'}"
 
 
 def counted(results: Iterable[Result]) -> dict[str, int]:

@@ -8,9 +8,7 @@ import json
 import os
 import re
 import time
-from dataclasses import dataclass, replace
-from functools import cached_property
-from pathlib import Path
+from dataclasses import dataclass
 from typing import Any
 from urllib.parse import quote
 
@@ -55,7 +53,7 @@ class Receipt:
     """What a program said of a text.
 
     `name` is the name under which the text was checked, `size` its length in bytes. `status` is the program's. `seconds` is the time of the
-    processor, and `date` the end of the run in UTC; all other members are the same at each run.
+    processor, and `date` the end of the run in UTC; all other members are the same at each run. `said` is the result that the report stands for.
     """
 
     name: str
@@ -69,6 +67,7 @@ class Receipt:
     workers: int
     seconds: float
     date: str
+    said: Result
 
     def __str__(self) -> str:
         """Returns the document. The date and the seconds have lines of their own, at the end."""
@@ -80,17 +79,13 @@ class Receipt:
                     "processor_seconds": round(self.seconds, 3), "date": self.date}
         return json.dumps(document, indent=1) + "\n"
 
-    @cached_property
-    def said(self) -> Result:
-        """The result that the report stands for."""
-        return result_of_report(self.name, self.status, self.report)
 
 
 def receipt_of(text: bytes, result: Result, program: Program, seconds: float) -> Receipt:
     """Returns the receipt of a result that is a verdict or a refusal."""
     date = time.strftime("%Y-%m-%dT%H:%M:%SZ", time.gmtime())
     return Receipt(result.file, len(text), sha256(text), section_digests(text), result.output, result.result, STATUS_OF[result.result], program,
-                   1, seconds, date)
+                   1, seconds, date, result)
 
 
 def member(document: Any, name: str, kind: Any) -> Any:
@@ -122,13 +117,14 @@ def parse_receipt(data: bytes) -> Receipt:
     text, program = member(document, "text", dict), member(document, "program", dict)
     sections = member(document, "sections", dict)
     nothing = type(None)
+    name, report, status = member(text, "name", str), member(document, "report", str), member(document, "status", int)
     receipt = Receipt(
-        member(text, "name", str), member(text, "bytes", int), digest_of(text, "sha256"),
-        {name: member(sections, name, (str, nothing)) for name in SECTIONS}, member(document, "report", str), member(document, "verdict", str),
-        member(document, "status", int),
+        name, member(text, "bytes", int), digest_of(text, "sha256"),
+        {name: member(sections, name, (str, nothing)) for name in SECTIONS}, report, member(document, "verdict", str), status,
         Program(digest_of(program, "sha256"), member(program, "version", (str, nothing)), member(program, "kit", (str, nothing)),
                 member(program, "sources_sha256", (str, nothing))),
-        member(document, "workers", int), float(member(document, "processor_seconds", (int, float))), member(document, "date", str))
+        member(document, "workers", int), float(member(document, "processor_seconds", (int, float))), member(document, "date", str),
+        result_of_report(name, status, report))
     require_same_report(receipt, digest_of(document, "report_sha256"))
     return receipt
 
@@ -161,8 +157,8 @@ class ReceiptFolder:
     def stored(self, file: str) -> Receipt | None:
         """Returns the receipt of a file, or None if there is none that can be read."""
         try:
-            return parse_receipt(Path(self.path(file)).read_bytes())
-        except (OSError, ReceiptError):
+            return parse_receipt(read_bytes(self.path(file)))
+        except (LabError, ReceiptError):
             return None
 
     def held(self, file: str) -> Result | None:
@@ -178,7 +174,8 @@ class ReceiptFolder:
             return None
         if (len(text), sha256(text)) != (receipt.size, receipt.text):
             return None
-        return replace(receipt.said, file=file, held=True)
+        said = receipt.said
+        return Result(file, said.result, said.detail, 0, said.modules, said.output, held=True)
 
     def keep(self, text: bytes, result: Result, seconds: float) -> None:
         """Writes the receipt of a result. An earlier one of the same text and program must have the same report."""

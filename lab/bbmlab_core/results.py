@@ -46,7 +46,7 @@ class TextWriter:
         """Writes the summary."""
         done = sum(self.results.values())
         held = f"; held {self.held:,}, checked {done - self.held:,}" if self.held else ""
-        left = f"; stopped by {stopped}, {self.total - done:,} not checked" if stopped else ""
+        left = f"; stopped by {stopped}, {self.total - done} not checked" if stopped else ""
         print(summary(self.results) + held + left, flush=True)
 
 

@@ -78,8 +78,8 @@ def run_summary(options: argparse.Namespace) -> int:
         programs[receipt.program.sha256] = programs.get(receipt.program.sha256, 0) + 1
         if receipt.verdict != "yes":
             print(f"{plain(receipt.name)}: {WORDS[receipt.verdict]}")
-    print(f"{len(files):,} receipts: " + ", ".join(f"{counts[word]:,} {WORDS[word]}" for word in WORDS if counts.get(word)))
+    print(f"{len(files)} receipts: " + ", ".join(f"{counts[word]} {WORDS[word]}" for word in WORDS if counts.get(word)))
     if len(programs) > 1:
-        print(f"they are of {len(programs)} programs: " + ", ".join(f"{digest[:16]}.. {count:,}" for digest, count in sorted(programs.items())))
+        print(f"they are of {len(programs)} programs: " + ", ".join(f"{digest[:16]}.. {count}" for digest, count in sorted(programs.items())))
         return 4
     return exit_status(counts)
