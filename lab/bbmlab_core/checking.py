@@ -1,34 +1,23 @@
-"""`bbmlab check`: many texts through the program at once. Each result is passed on as soon as it is there."""
+"""`bbmlab check`: many texts through the program at once, by processes. Each result is passed on as soon as it is there."""
 
+import multiprocessing
 import os
-import queue
-import threading
-import time
+import signal
+import sys
 from dataclasses import dataclass
+from multiprocessing.connection import Connection, wait
 from pathlib import Path
-from typing import Iterable, Iterator
+from types import FrameType
+from typing import Iterable, Iterator, Protocol
 
-from .program import ProgramError, ProgramTimeout, Running, ask
-from .reports import ReportError, parse_report
+from .answering import WORDS, Result, timed_answer
+from .program import Running
 from .terminal import LabError, read_bytes
 
-# The results, from best to worst, with the word that is shown.
-WORDS = {"yes": "yes", "no": "no", "refused": "refused", "timeout": "time-out", "missing": "missing", "error": "error"}
+__all__ = ["WORDS", "Checker", "Keeper", "Result", "counted", "exit_status", "summary", "text_files"]
 
-# The status with which the program ends after each kind of report.
-STATUS_OF = {"yes": 0, "no": 1, "refused": 3}
-
-
-@dataclass
-class Result:
-    """What came of one file. `detail` is the first reason against it."""
-
-    file: str
-    result: str
-    detail: str
-    seconds: float
-    modules: int = 0
-    output: str = ""
+# Seconds between two looks whether a worker has a result, and how long a worker may take to end.
+LOOK_SECONDS, END_SECONDS = 0.2, 2.0
 
 
 def text_files(names: list[str]) -> list[str]:
@@ -45,70 +34,157 @@ def text_files(names: list[str]) -> list[str]:
     return list(dict.fromkeys(found))
 
 
+class Contradiction(LabError):
+    """One program gave two answers to one text. The message has both."""
+
+
+class Keeper(Protocol):
+    """What keeps results from one run to the next."""
+
+    def held(self, file: str) -> Result | None:
+        """Returns the result that is kept for a file, or None if the file is to be checked."""
+
+    def keep(self, text: bytes, result: Result, seconds: float) -> None:
+        """Keeps a result that is a verdict or a refusal. `seconds` is the processor time of the program."""
+
+
+@dataclass(frozen=True)
+class Order:
+    """What each worker does: run a program for at most `timeout` seconds a text, and keep the results."""
+
+    program: str
+    timeout: float | None
+    keeper: Keeper | None = None
+
+    def check(self, file: str, given: bytes | None, running: Running) -> Result:
+        """Returns what the program says of a file, or of a text that was read already."""
+        try:
+            text = read_bytes(file) if given is None else given
+        except LabError as error:
+            return Result(file, "missing", str(error).removeprefix(f"{file}: "), 0)
+        before = children_seconds()
+        result = timed_answer(self.program, file, text, self.timeout, running)
+        if self.keeper and result.result in ("yes", "no", "refused"):
+            return kept(self.keeper, text, result, children_seconds() - before)
+        return result
+
+
+def kept(keeper: Keeper, text: bytes, result: Result, seconds: float) -> Result:
+    """Keeps a result, and returns it, or an error if it was not kept."""
+    try:
+        keeper.keep(text, result, seconds)
+    except LabError as error:
+        return Result(result.file, "error", str(error), result.seconds, is_fatal=isinstance(error, Contradiction))
+    return result
+
+
+def children_seconds() -> float:
+    """Returns the seconds of the processor that the ended children of this process took."""
+    return sum(os.times()[2:4])
+
+
+def serve(order: Order, own: Connection, others: list[Connection]) -> None:
+    """Checks one file after another, in a worker process, until the pipe is closed. SIGTERM ends the program that runs, and the worker."""
+    running = Running()
+
+    def stop(_number: int, _frame: FrameType | None) -> None:
+        """Ends the program, and lets no other start."""
+        running.stop()
+
+    signal.signal(signal.SIGINT, signal.SIG_IGN)
+    signal.signal(signal.SIGTERM, stop)
+    for connection in others:
+        connection.close()
+    try:
+        while not running.is_stopped:
+            file, text = own.recv()
+            own.send(order.check(file, text, running))
+    except (EOFError, OSError):
+        return
+
+
+class Worker:
+    """A process that checks files, one at a time."""
+
+    def __init__(self, order: Order, others: list["Worker"]) -> None:
+        context = multiprocessing.get_context("fork")
+        self.connection, theirs = context.Pipe()
+        sys.stdout.flush()
+        held = [self.connection, *(other.connection for other in others)]
+        self.process = context.Process(target=serve, args=(order, theirs, held), daemon=True)
+        self.process.start()
+        theirs.close()
+        self.file = ""
+
+    def give(self, file: str) -> None:
+        """Gives a file to check. Standard input is read here: a worker has none."""
+        self.file = file
+        try:
+            text = read_bytes(file) if file == "-" else None
+        except LabError:
+            text = None
+        self.connection.send((file, text))
+
+    def result(self) -> Result | None:
+        """Returns the result that is there, or None if the process has ended."""
+        try:
+            result: Result = self.connection.recv()
+            return result
+        except (EOFError, OSError):
+            return None
+
+
 class Checker:
     """Checks files, some at a time. `stop` ends all that runs."""
 
-    def __init__(self, program: str, jobs: int = 1, timeout: float | None = None) -> None:
-        self.program, self.jobs, self.timeout = program, jobs, timeout
-        self.running = Running()
+    def __init__(self, program: str, jobs: int = 1, timeout: float | None = None, keeper: Keeper | None = None) -> None:
+        self.order, self.jobs = Order(program, timeout, keeper), jobs
+        self.workers: list[Worker] = []
 
-    def results(self, files: list[str]) -> Iterator[Result | None]:
+    def results(self, files: Iterable[str]) -> Iterator[Result | None]:
         """Yields the result of each file as soon as it is there, and None about each fifth of a second without one."""
-        done: queue.SimpleQueue[Result] = queue.SimpleQueue()
-        todo, lock = iter(files), threading.Lock()
+        idle: list[Worker] = []
+        busy: dict[Connection, Worker] = {}
+        keeper = self.order.keeper
+        for file in files:
+            held = keeper.held(file) if keeper else None
+            if held:
+                yield held
+                continue
+            while not idle and len(self.workers) >= self.jobs:
+                yield from self.ready(busy, idle)
+            if not idle:
+                idle.append(Worker(self.order, self.workers))
+                self.workers.append(idle[-1])
+            worker = idle.pop()
+            busy[worker.connection] = worker
+            worker.give(file)
+        while busy:
+            yield from self.ready(busy, idle)
 
-        def work() -> None:
-            """Checks files until none is left, or all is stopped."""
-            while not self.running.is_stopped:
-                with lock:
-                    file = next(todo, None)
-                if file is None:
-                    return
-                done.put(self.check_file(file))
-
-        for _ in range(min(self.jobs, len(files))):
-            threading.Thread(target=work, daemon=True).start()
-        left = len(files)
-        while left:
-            try:
-                yield done.get(timeout=0.2)
-                left -= 1
-            except queue.Empty:
-                yield None
+    def ready(self, busy: dict[Connection, Worker], idle: list[Worker]) -> Iterator[Result | None]:
+        """Yields the results that are there, or None after a fifth of a second. The workers that gave them become idle."""
+        connections = [connection for connection in wait(list(busy), LOOK_SECONDS) if isinstance(connection, Connection)]
+        if not connections:
+            yield None
+        for connection in connections:
+            worker = busy.pop(connection)
+            result = worker.result()
+            if result:
+                idle.append(worker)
+            else:
+                self.workers.remove(worker)
+            yield result or Result(worker.file, "error", "the process that checked it ended", 0)
 
     def stop(self) -> None:
-        """Kills the programs that run, and starts no other."""
-        self.running.stop()
-
-    def check_file(self, file: str) -> Result:
-        """Returns what the program says of a file."""
-        started = time.monotonic()
-        result = self.answer(file)
-        result.seconds = round(time.monotonic() - started, 3)
-        return result
-
-    def answer(self, file: str) -> Result:
-        """Returns what the program says of a file, without the time that it took."""
-        try:
-            answer = ask(self.program, "check", read_bytes(file), self.timeout, self.running)
-            if answer.status >= 4:
-                return Result(file, "error", answer.errors or f"status {answer.status}", 0)
-            report = parse_report(answer.output)
-        except LabError as error:
-            return Result(file, "missing", str(error).removeprefix(f"{file}: "), 0)
-        except ProgramTimeout as error:
-            return Result(file, "timeout", str(error), 0)
-        except (ProgramError, ReportError) as error:
-            return Result(file, "error", str(error), 0)
-        word = "refused" if report.refused else report.verdict
-        if answer.status != STATUS_OF[word]:
-            return Result(file, "error", f"the report says {word}, and the status is {answer.status}", 0)
-        if report.refused:
-            return Result(file, "refused", answer.output.strip(), 0, output=answer.output)
-        faults = report.faults
-        more = f" and {len(faults) - 1} more" if len(faults) > 1 else ""
-        detail = f"{faults[0].text}{more}" if faults else f"{report.modules} module{'s' if report.modules != 1 else ''}"
-        return Result(file, report.verdict, detail, 0, report.modules, answer.output)
+        """Ends the workers and the programs that run."""
+        for worker in self.workers:
+            worker.connection.close()
+            worker.process.terminate()
+        for worker in self.workers:
+            worker.process.join(END_SECONDS)
+            if worker.process.is_alive():
+                worker.process.kill()
 
 
 def summary(counts: dict[str, int]) -> str:

@@ -7,6 +7,7 @@ import sys
 from typing import Callable
 
 from . import VERSION
+from .sharding import shard
 from .signals import Stopped, end_by_pipe, listen
 from .terminal import LabError, plain
 
@@ -87,7 +88,26 @@ def add_check(commands: Commands) -> None:
     parser.add_argument("files", nargs="+", metavar="FILE", help="a bundle, - for standard input, or a folder: all its .txt files")
     parser.add_argument("--jobs", type=positive, default=min(4, os.cpu_count() or 1), metavar="N", help="files at a time (default: %(default)s)")
     parser.add_argument("--format", choices=FORMATS, default="text", help="how results are written (default: text)")
+    parser.add_argument("--receipts", metavar="DIR", help="write a receipt of each answer here, and skip texts whose receipt holds")
+    parser.add_argument("--again", action="store_true", help="with --receipts: check all texts")
+    parser.add_argument("--shard", type=shard, metavar="K/N", help="check only part K of N, by the digests of the names")
+    parser.add_argument("--dask", nargs="?", const="", metavar="ADDRESS", help="check by the workers of this Dask scheduler, or of a cluster here")
+    parser.add_argument("--send-program", action="store_true", help="with --dask: send the program to workers that have another")
     add_program(parser)
+
+
+def add_receipts(commands: Commands) -> None:
+    """Adds `verify` and `summary`."""
+    parser = commands.add("verify", late("verify"), "Say whether a receipt is of a text, and of a released program; exit 0 only if it is.",
+                          "Example: bbmlab verify receipts/design.txt.json design.txt --again")
+    parser.add_argument("receipt", metavar="RECEIPT", help="a receipt that `bbmlab check --receipts` wrote")
+    parser.add_argument("file", metavar="FILE", help="the text, or - for standard input")
+    parser.add_argument("--again", action="store_true", help="run the program again, and compare the report byte for byte")
+    parser.add_argument("--release", action="append", default=[], metavar="MANIFEST", help="the MANIFEST of another release that counts")
+    add_program(parser)
+    parser = commands.add("summary", late("verify", "run_summary"), "Count the receipts of a folder; exit 0 only if all are of a yes.",
+                          "Example: bbmlab summary receipts/")
+    parser.add_argument("folder", metavar="DIR", help="a folder of receipts")
 
 
 def add_explain(commands: Commands) -> None:
@@ -219,7 +239,7 @@ def add_route(commands: Commands) -> None:
     add_program(parser)
 
 
-ADDERS = [add_check, add_explain, add_trace, add_draw, add_view, add_certify, add_route, add_cells, add_fmt, add_others]
+ADDERS = [add_check, add_receipts, add_explain, add_trace, add_draw, add_view, add_certify, add_route, add_cells, add_fmt, add_others]
 
 
 def answered(run: Callable[[argparse.Namespace], int], options: argparse.Namespace) -> int:

@@ -39,13 +39,24 @@ def candidates(given: str | None) -> list[str]:
     return [*(str(place) for place in own if place.is_file()), "bbmcheck"]
 
 
+def behind_wrapper(found: str) -> str:
+    """Returns the program that the repository's wrapper runs, so that its choice is made once. Any other program is returned as it is."""
+    wrapper = HERE.parent.parent / "bbmcheck"
+    if not wrapper.is_file() or not os.path.samefile(found, wrapper):
+        return found
+    asked = subprocess.run([found, "--wrapper-program"], stdin=subprocess.DEVNULL, stdout=subprocess.PIPE, check=False)
+    if asked.returncode:
+        raise ProgramError(f"{found} ended with status {asked.returncode}")
+    return os.fsdecode(asked.stdout.removesuffix(b"\n"))
+
+
 def find_program(given: str | None = None) -> str:
     """Returns the path of the program: `given`, else $BBMCHECK, else the repository's wrapper or that of the same installation, else PATH's."""
     tried = candidates(given)
     for place in tried:
         found = shutil.which(place)
         if found and os.path.isfile(found):
-            return os.path.abspath(found)
+            return behind_wrapper(os.path.abspath(found))
     raise ProgramError(f"the program is not at {' or '.join(tried)}; name it with --program PATH or set BBMCHECK")
 
 
@@ -53,7 +64,8 @@ class Running:
     """The runs of the program that have not ended, each with the processes that it started. All can be stopped from any thread."""
 
     def __init__(self) -> None:
-        self.lock = threading.Lock()
+        # A signal may come while the lock is held by the thread that it interrupts.
+        self.lock = threading.RLock()
         self.processes: set[subprocess.Popen[bytes]] = set()
         self.is_stopped = False
 
@@ -64,7 +76,12 @@ class Running:
                 raise ProgramError("stopped")
             process = subprocess.Popen(words, stdin=subprocess.PIPE, stdout=subprocess.PIPE, stderr=subprocess.PIPE, start_new_session=True)
             self.processes.add(process)
-            return process
+            is_stopped = self.is_stopped
+        if is_stopped:
+            # It was stopped while it started.
+            self.end(process)
+            raise ProgramError("stopped")
+        return process
 
     def end(self, process: "subprocess.Popen[bytes]") -> None:
         """Kills a program and what it started, if it still runs, and forgets it."""

@@ -4,7 +4,8 @@ import json
 import sys
 from typing import Protocol
 
-from .checking import WORDS, Result, counted, summary
+from .answering import WORDS, Result
+from .checking import counted, summary
 from .terminal import painted, plain
 
 COLOURS = {"yes": "green", "no": "red", "refused": "red"}
@@ -29,19 +30,24 @@ class TextWriter:
     def begin(self, files: list[str]) -> None:
         """Takes the width of the first column from the longest name."""
         self.results: dict[str, int] = {}
-        self.total = len(files)
+        self.total, self.held = len(files), 0
         self.width = min(max((len(plain(file)) for file in files), default=0), 60)
 
     def add(self, result: Result) -> None:
-        """Writes a line."""
+        """Writes a line, unless the result is a yes that a receipt holds."""
         self.results[result.result] = self.results.get(result.result, 0) + 1
+        self.held += result.held
+        if result.held and result.result == "yes":
+            return
         word = painted(WORDS[result.result].ljust(8), COLOURS.get(result.result, "yellow"))
         print(f"{plain(result.file).ljust(self.width)}  {word}  {result.seconds:7.2f} s  {plain(result.detail)}".rstrip(), flush=True)
 
     def end(self, stopped: str | None) -> None:
         """Writes the summary."""
-        left = self.total - sum(self.results.values())
-        print(summary(self.results) + (f"; stopped by {stopped}, {left} not checked" if stopped else ""), flush=True)
+        done = sum(self.results.values())
+        held = f"; held {self.held:,}, checked {done - self.held:,}" if self.held else ""
+        left = f"; stopped by {stopped}, {self.total - done} not checked" if stopped else ""
+        print(summary(self.results) + held + left, flush=True)
 
 
 class TapWriter:
@@ -70,7 +76,7 @@ class TapWriter:
 def row(result: Result) -> dict[str, str | int | float]:
     """Returns a result as JSON values."""
     return {"file": result.file, "result": result.result, "detail": result.detail, "seconds": result.seconds, "modules": result.modules,
-            "output": result.output}
+            "output": result.output, **({"held": True} if result.held else {})}
 
 
 class LinesWriter:

@@ -5,18 +5,44 @@ import argparse
 from ..checking import Checker, exit_status, text_files
 from ..program import find_program
 from ..progress import Progress
-from ..results import WRITERS
+from ..receipts import ReceiptFolder
+from ..releases import program_at
+from ..results import WRITERS, ResultWriter
+from ..sharding import in_shard
 from ..signals import Stopped
+from ..terminal import LabError
+
+
+def source(options: argparse.Namespace) -> Checker:
+    """Returns what checks the files: processes here, or the workers of a Dask cluster."""
+    program = find_program(options.program)
+    if options.again and not options.receipts:
+        raise LabError("--again is for --receipts", 2)
+    folder = ReceiptFolder(options.receipts, program_at(program), options.again) if options.receipts else None
+    if options.dask is None:
+        return Checker(program, options.jobs, options.timeout, folder)
+    from ..cluster import ClusterChecker
+    return ClusterChecker(program, options.dask, options.jobs, options.timeout, folder, options.send_program)
 
 
 def run(options: argparse.Namespace) -> int:
     """Checks all files. A signal ends all programs that run, and the results so far are written."""
-    files = text_files(options.files)
-    checker = Checker(find_program(options.program), options.jobs, options.timeout)
-    writer, progress = WRITERS[options.format](), Progress(len(files))
-    counts: dict[str, int] = {}
-    stopped: Stopped | None = None
+    files = [file for file in text_files(options.files) if in_shard(file, options.shard)]
+    checker = source(options)
+    writer = WRITERS[options.format]()
     writer.begin(files)
+    counts: dict[str, int] = {}
+    stopped = write_results(checker, files, writer, counts)
+    if isinstance(stopped, Stopped):
+        writer.end(stopped.name)
+        return stopped.status
+    writer.end("a contradiction" if stopped else None)
+    return exit_status(counts)
+
+
+def write_results(checker: Checker, files: list[str], writer: ResultWriter, counts: dict[str, int]) -> Stopped | bool:
+    """Writes each result as it comes, and counts it. Returns the signal that ended the run, or whether a contradiction did."""
+    progress = Progress(len(files))
     try:
         for result in checker.results(files):
             if result:
@@ -24,11 +50,12 @@ def run(options: argparse.Namespace) -> int:
                 counts[result.result] = counts.get(result.result, 0) + 1
                 progress.hide()
                 writer.add(result)
+                if result.is_fatal:
+                    return True
             progress.look(result.file if result else "")
     except Stopped as signal:
-        stopped = signal
+        return signal
     finally:
         checker.stop()
         progress.hide()
-    writer.end(stopped.name if stopped else None)
-    return stopped.status if stopped else exit_status(counts)
+    return False

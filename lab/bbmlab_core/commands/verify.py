@@ -1,0 +1,85 @@
+"""Runs `bbmlab verify` and `bbmlab summary`."""
+
+import argparse
+from pathlib import Path
+
+from ..answering import WORDS
+from ..checking import exit_status
+from ..program import Answer, ask, find_program
+from ..receipts import SECTIONS, Receipt, ReceiptError, parse_receipt, section_digests, sha256
+from ..releases import known_releases, program_at
+from ..terminal import LabError, plain, read_bytes
+
+
+def read_receipt(name: str) -> Receipt:
+    """Returns the receipt of a file."""
+    return parse_receipt(read_bytes(name))
+
+
+def differences(receipt: Receipt, text: bytes) -> list[str]:
+    """Returns why a receipt is of another text, in words."""
+    if (len(text), sha256(text)) == (receipt.size, receipt.text):
+        return []
+    digests = section_digests(text)
+    other = [name for name in SECTIONS if digests[name] != receipt.sections[name]]
+    if not other:
+        return ["the receipt is of another text: what stands behind the sections differs"]
+    return [f"the receipt is of another text: the {' and the '.join(other)} section differ{'' if len(other) > 1 else 's'}"]
+
+
+def run(options: argparse.Namespace) -> int:
+    """Says whether a receipt is of a text and of a release that is known here. The status is 1 if it is not."""
+    try:
+        receipt = read_receipt(options.receipt)
+    except ReceiptError as error:
+        print(f"{plain(options.receipt)}: this receipt does not count: {error}")
+        return 1
+    text = read_bytes(options.file)
+    against = differences(receipt, text)
+    if receipt.program.sha256 not in known_releases(tuple(options.release)):
+        against.append(f"the program of the receipt ({receipt.program.sha256[:16]}..) is no release that is known here")
+    if options.again and not against:
+        against += checked_again(receipt, text, options)
+    for reason in against:
+        print(f"{plain(options.file)}: {plain(reason)}")
+    if against:
+        return 1
+    again = ", and the program said the same again" if options.again else ""
+    print(f"{plain(options.file)}: {WORDS[receipt.verdict]}, by {plain(receipt.program.version or 'a release')} on {plain(receipt.date)}{again}")
+    return 0
+
+
+def checked_again(receipt: Receipt, text: bytes, options: argparse.Namespace) -> list[str]:
+    """Runs the program again, and returns what differs from the receipt."""
+    path = find_program(options.program)
+    if program_at(path).sha256 != receipt.program.sha256:
+        raise LabError(f"{path} is not the program of the receipt, so its answer would show nothing; name that program with --program")
+    said: Answer = ask(path, "check", text, options.timeout)
+    if (said.status, said.output) == (receipt.status, receipt.report):
+        return []
+    return [f"the program now says something else: status {said.status}, and the report\n{said.output}"]
+
+
+def run_summary(options: argparse.Namespace) -> int:
+    """Counts the receipts of a folder. The status is that of a run that gave these results, or 4 if one does not count."""
+    files = sorted(Path(options.folder).glob("*.json"))
+    if not files:
+        raise LabError(f"{options.folder}: no receipt in this folder")
+    counts: dict[str, int] = {}
+    programs: dict[str, int] = {}
+    for file in files:
+        try:
+            receipt = read_receipt(str(file))
+        except ReceiptError as error:
+            print(f"{plain(str(file))}: this receipt does not count: {error}")
+            counts["error"] = counts.get("error", 0) + 1
+            continue
+        counts[receipt.verdict] = counts.get(receipt.verdict, 0) + 1
+        programs[receipt.program.sha256] = programs.get(receipt.program.sha256, 0) + 1
+        if receipt.verdict != "yes":
+            print(f"{plain(receipt.name)}: {WORDS[receipt.verdict]}")
+    print(f"{len(files)} receipts: " + ", ".join(f"{counts[word]} {WORDS[word]}" for word in WORDS if counts.get(word)))
+    if len(programs) > 1:
+        print(f"they are of {len(programs)} programs: " + ", ".join(f"{digest[:16]}.. {count}" for digest, count in sorted(programs.items())))
+        return 4
+    return exit_status(counts)
