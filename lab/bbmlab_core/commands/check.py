@@ -32,16 +32,17 @@ def run(options: argparse.Namespace) -> int:
     writer = WRITERS[options.format]()
     writer.begin(files)
     counts: dict[str, int] = {}
-    stopped = write_results(checker, files, writer, counts)
-    if isinstance(stopped, Stopped):
-        writer.end(stopped.name)
-        return stopped.status
-    writer.end("a contradiction" if stopped else None)
+    try:
+        is_contradicted = write_results(checker, files, writer, counts)
+    except Stopped as signal:
+        writer.end(signal.name)
+        return signal.status
+    writer.end("a contradiction" if is_contradicted else None)
     return exit_status(counts)
 
 
-def write_results(checker: Checker, files: list[str], writer: ResultWriter, counts: dict[str, int]) -> Stopped | bool:
-    """Writes each result as it comes, and counts it. Returns the signal that ended the run, or whether a contradiction did."""
+def write_results(checker: Checker, files: list[str], writer: ResultWriter, counts: dict[str, int]) -> bool:
+    """Writes each result as it comes, and counts it. Returns whether the program contradicts itself, which ends the run."""
     progress = Progress(len(files))
     try:
         for result in checker.results(files):
@@ -53,9 +54,7 @@ def write_results(checker: Checker, files: list[str], writer: ResultWriter, coun
                 if result.is_fatal:
                     return True
             progress.look(result.file if result else "")
-    except Stopped as signal:
-        return signal
+        return False
     finally:
         checker.stop()
         progress.hide()
-    return False
