@@ -50,6 +50,8 @@ class Explanation:
     # A fix of the whole text, and what was tried if there is none.
     fix: FixForm | None = None
     tried: list[str] = field(default_factory=list)
+    # The text with the fix. JSON documents leave it out.
+    fixed: str | None = None
 
 
 def stops_of(diagnosis: Diagnosis, wire: str) -> list[StopLine]:
@@ -180,7 +182,7 @@ def add_fixes(explanation: Explanation, diagnosis: Diagnosis, report: Report, tr
     fixer = Fixer(diagnosis.document.text, report, trial)
     whole = fixer.find()
     if whole:
-        explanation.fix = fix_form(report, whole)
+        explanation.fix, explanation.fixed = fix_form(report, whole), whole.text
     else:
         explanation.tried = tried_words(fixer, trial)
     left = {finding.text for finding in whole.report.faults} if whole else set()
@@ -245,7 +247,7 @@ def explain_refused(document: Document, report: Report, file: str, trial: Trial 
         fixer = Fixer(document.text, report, trial)
         fix = fixer.find()
         if fix:
-            explanation.fix = fix_form(report, fix)
+            explanation.fix, explanation.fixed = fix_form(report, fix), fix.text
         else:
             explanation.tried = tried_words(fixer, trial)
     return explanation
@@ -304,7 +306,9 @@ def own_answer(text: str, command: str) -> str | None:
 
 def as_json(explanation: Explanation) -> str:
     """Writes an explanation as one JSON document."""
-    return json.dumps({"format": "bbmlab explanation 2", **asdict(explanation)}, indent=2, ensure_ascii=True)
+    members = asdict(explanation)
+    del members["fixed"]
+    return json.dumps({"format": "bbmlab explanation 2", **members}, indent=2, ensure_ascii=True)
 
 
 def as_gcc(explanation: Explanation) -> list[str]:

@@ -21,11 +21,11 @@ def fake_program(room: str, body: str) -> str:
 
 
 class Documents(unittest.TestCase):
-    """The lists of docs/LAB.md of what a JSON document has."""
+    """The lists of docs/JSON.md of what a JSON document has."""
 
     def members(self, kind: str) -> set[str]:
         """Returns the members that the page lists for a kind of document."""
-        part = (support.TOP / "docs" / "LAB.md").read_text().split(f"### `{kind}`\n")[1].split("\n##")[0]
+        part = (support.TOP / "docs" / "JSON.md").read_text().split(f"## `{kind}`\n")[1].split("\n##")[0]
         return {name for line in part.splitlines() if line.startswith("- ") for name in re.findall(r"`(\w+)`", line.split(":")[0])}
 
     def test_lists_are_whole(self) -> None:
