@@ -69,16 +69,25 @@ def add_program(parser: argparse.ArgumentParser) -> None:
     parser.add_argument("--timeout", type=seconds, metavar="SECONDS", help="how long the program may take on a file")
 
 
+def columns() -> int:
+    """Returns the width of the terminal, as `shutil` finds it, which takes long to import."""
+    words = os.environ.get("COLUMNS", "")
+    if words.isdecimal() and int(words):
+        return int(words)
+    try:
+        return os.get_terminal_size(1).columns or 80
+    except OSError:
+        return 80
+
+
 class HelpForm(argparse.RawDescriptionHelpFormatter):
     """The form of `--help`. argparse makes one for each option: the terminal is asked for its width only once."""
 
     width = 0
 
     def __init__(self, prog: str) -> None:
-        if not HelpForm.width:
-            import shutil
-            HelpForm.width = shutil.get_terminal_size().columns - 2
-        super().__init__(prog, width=HelpForm.width)
+        HelpForm.width = HelpForm.width or columns()
+        super().__init__(prog, width=max(HelpForm.width - 2, 10))
 
 
 class ListedOnly(argparse.ArgumentParser):
