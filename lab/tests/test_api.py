@@ -233,6 +233,9 @@ class Program(unittest.TestCase):
             self.assertTrue(raised.exception.reason)
             again = pickle.loads(pickle.dumps(raised.exception))
             self.assertEqual((again.line, again.code, str(again)), (raised.exception.line, raised.exception.code, str(raised.exception)))
+        for call in (bbmlab.read, bbmlab.check, bbmlab.explain):
+            with self.assertRaises(TypeError):
+                call(text.encode())  # type: ignore[arg-type]
         for strange in ("", "\u2192\n", "circuit\ninput \udc80\n"):
             for call in (bbmlab.read, bbmlab.check):
                 with self.subTest(strange), self.assertRaises(bbmlab.RefusedError):

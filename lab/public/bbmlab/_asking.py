@@ -117,7 +117,7 @@ def check(text: str | Bundle, *, program: str | None = None, timeout: float | No
 
     Raises RefusedError if the program refuses the text, TimeoutError after `timeout` seconds, and ProgramError if it gives no report.
     """
-    data = characters(str(text))
+    data = characters(text)
     answer = answer_of(program_path(program), "check", data, timeout)
     try:
         report = parse_report(answer.output)
@@ -136,7 +136,7 @@ def explain(text: str | Bundle, *, effort: float = 30.0, program: str | None = N
 
     Raises ProgramError if the program gives no answer.
     """
-    data = characters(str(text))
+    data = characters(text)
     command, path = command_for(data), program_path(program)
     command = COMMANDS.get(command, command)
     answer = answer_of(path, command, data, None)

@@ -15,8 +15,15 @@ from ._errors import RefusedError
 from ._sections import Border, Box, Bundle, Certificate, Circuit, Gate, Layout, Module, Port, Stop
 
 
-def characters(text: str) -> str:
-    """Returns a text with one character for each byte of its UTF-8. Raises OSError if it is longer than the program reads."""
+def characters(text: str | Bundle) -> str:
+    """Returns a text with one character for each byte of its UTF-8.
+
+    Raises OSError if it is longer than the program reads, and TypeError for other values, such as bytes.
+    """
+    if isinstance(text, Bundle):
+        text = str(text)
+    if not isinstance(text, str):
+        raise TypeError(f"a text is a str or a Bundle, and not {type(text).__name__}")
     data = text if text.isascii() else text.encode("utf-8", "surrogatepass").decode("latin-1")
     if len(data) > MAX_TEXT_BYTES:
         raise OSError(errno.EFBIG, f"a text of {len(data)} bytes is longer than {MAX_TEXT_BYTES}")
