@@ -284,8 +284,10 @@ class Making(unittest.TestCase):
         for made in (bbmlab.certify(bare), bbmlab.certify(bundle), bbmlab.certify(bare, grid=(64, 64), cuts="safe"),
                      bbmlab.certify(bare, boxes=[module.box for module in bundle.certificate.modules], version=1)):
             self.assertTrue(bbmlab.check(made).is_yes)
-        with self.assertRaises(ValueError):
-            bbmlab.certify(bare, grid=(3, 3))
+        for wrong in ({"grid": (3, 3)}, {"boxes": [(0, 0, 3, 3)]}, {"boxes": [(0, 0, 4, 4)]}, {"cuts": "few"}, {"version": 3}):
+            with self.subTest(wrong), self.assertRaises(ValueError) as raised:
+                bbmlab.certify(bare, **wrong)  # type: ignore[arg-type]
+            self.assertNotIsInstance(raised.exception, bbmlab.RefusedError)
         with self.assertRaises(ValueError):
             bbmlab.certify(bbmlab.Bundle(bundle.circuit))
         leaves = bbmlab.Layout(8, 8, 9).in_cell("p", 2, 2).out_cell("p", 7, 7)

@@ -14,7 +14,7 @@ from bbmlab_core.route.search import Options, Search
 from bbmlab_core.route.settings import Settings
 from bbmlab_core.terminal import LabError
 
-from ._errors import NotFoundError
+from ._errors import NotFoundError, RefusedError
 from ._reading import document_of, read
 from ._sections import Bundle, Circuit
 
@@ -51,9 +51,14 @@ def certify(bundle: Bundle, *, grid: tuple[int, int] | None = None, boxes: Itera
     try:
         if grid is not None:
             chosen = checked_boxes(document.layout, *grid)
-        return read(certified(document, chosen, Plan(version, cuts, known_stops(bundle))))
+        text = certified(document, chosen, Plan(version, cuts, known_stops(bundle)))
     except LabError as error:
         raise own_error(error) from error
+    try:
+        return read(text)
+    except RefusedError as refused:
+        # Boxes that the caller gave need not fit: the lines of that text are not the caller's.
+        raise ValueError(f"the boxes give no certificate: {refused.reason}") from refused
 
 
 def route(circuit: Circuit, *, seed: int = 1, size: int | None = None, effort: float = 60.0, jobs: int = 1, compact: bool = False) -> Bundle:
