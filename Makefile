@@ -6,7 +6,7 @@
 #   make uninstall [PREFIX=..] [DESTDIR=..]          removes them
 #   make check        the worked cases and the commands that the pages show (needs Python 3.11 or later)
 #   make dist         dist/bbmcheck-VERSION-x86_64-linux-gnu.tar.gz, the same bytes each time
-#   make deb          dist/bbmcheck_VERSION_amd64.deb (needs dpkg-deb)
+#   make deb          dist/bbmcheck_VERSION_amd64.deb and dist/bbmlab_VERSION_all.deb (needs dpkg-deb)
 #   make prove        proves and builds the program here, and compares it with the released one (needs the kit)
 #   make release      renews release/ from the program that `make prove` or the gate built here (needs Python 3)
 #   make mostlyclean  removes dist/, the program that ./bbmcheck built here, and what Python kept; proofs stay

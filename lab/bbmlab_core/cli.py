@@ -1,15 +1,19 @@
-"""The command line of the lab."""
+"""The command line of the lab. It imports little, so that `--help` comes at once."""
+
+from __future__ import annotations
 
 import argparse
 import importlib
 import os
 import sys
-from typing import Callable
 
 from . import VERSION
-from .sharding import shard
-from .signals import Stopped, end_by_pipe, listen
-from .terminal import LabError, plain
+
+# Only for the types: `typing` takes as long to import as all of this module.
+TYPE_CHECKING = False
+if TYPE_CHECKING:
+    from collections.abc import Callable
+    from typing import Any
 
 EPILOG = """Nothing here is proved, and nothing here is trusted: the verdict is always the program's.
 Exit statuses: 0 done or all yes, 1 a no or a refusal, 2 wrong arguments, 4 a file or the program is missing or failed."""
@@ -59,26 +63,82 @@ def seconds(word: str) -> float:
     return number
 
 
+def shard(word: str) -> Any:
+    """Returns a part of a set, written K/N."""
+    from .sharding import shard as read_shard
+    return read_shard(word)
+
+
 def add_program(parser: argparse.ArgumentParser) -> None:
     """Adds the options on the program."""
     parser.add_argument("--program", metavar="PATH", help="the program (else $BBMCHECK, the repository's, or bbmcheck on PATH)")
     parser.add_argument("--timeout", type=seconds, metavar="SECONDS", help="how long the program may take on a file")
 
 
-class Commands:
-    """The parsers of all commands."""
+def columns() -> int:
+    """Returns the width of the terminal, as `shutil` finds it, which takes long to import."""
+    words = os.environ.get("COLUMNS", "")
+    if words.isdecimal() and int(words):
+        return int(words)
+    try:
+        return os.get_terminal_size(1).columns or 80
+    except OSError:
+        return 80
 
-    def __init__(self) -> None:
+
+class HelpForm(argparse.RawDescriptionHelpFormatter):
+    """The form of `--help`. argparse makes one for each option: the terminal is asked for its width only once."""
+
+    width = 0
+
+    def __init__(self, prog: str) -> None:
+        HelpForm.width = HelpForm.width or columns()
+        super().__init__(prog, width=max(HelpForm.width - 2, 10))
+
+
+class ListedOnly(argparse.ArgumentParser):
+    """A command that does not run: it needs no arguments, whose parsers would take most of the time of a start."""
+
+    def __init__(self, **_options: Any) -> None:
+        """Makes nothing."""
+
+    def add_argument(self, *_names: Any, **_options: Any) -> Any:
+        """Adds nothing."""
+
+    def add_mutually_exclusive_group(self, **_options: Any) -> Any:
+        """Returns what adds nothing."""
+        return self
+
+    def set_defaults(self, **_values: Any) -> None:
+        """Sets nothing."""
+
+
+class Commands:
+    """The parser of one command if it is named, else the list of all commands."""
+
+    def __init__(self, wanted: str | None) -> None:
+        self.wanted = wanted
         self.parser = argparse.ArgumentParser(prog="bbmlab", description="See, explain, trace and check billiard-ball layouts.",
-                                              epilog=EPILOG, formatter_class=argparse.RawDescriptionHelpFormatter)
+                                              epilog=EPILOG, formatter_class=HelpForm)
         self.parser.add_argument("--version", action="version", version=f"bbmlab {VERSION}")
-        self.commands = self.parser.add_subparsers(dest="name", metavar="COMMAND", required=True)
+        self.commands: argparse._SubParsersAction[argparse.ArgumentParser] = self.parser.add_subparsers(
+            dest="name", metavar="COMMAND", required=True, parser_class=argparse.ArgumentParser if wanted else ListedOnly)
+        for adder in ADDERS:
+            adder(self)
 
     def add(self, name: str, run: Callable[[argparse.Namespace], int], about: str, more: str = "") -> argparse.ArgumentParser:
         """Adds a command with a line on what it does and an example."""
-        parser = self.commands.add_parser(name, help=about, description=about, epilog=more, formatter_class=argparse.RawDescriptionHelpFormatter)
+        if self.wanted not in (None, name):
+            return ListedOnly()
+        parser = self.commands.add_parser(name, help=about, description=about, epilog=more, formatter_class=HelpForm)
         parser.set_defaults(run=run)
         return parser
+
+
+def commands_for(words: list[str]) -> Commands:
+    """Returns the parser of the command that the words name, or of the list of commands."""
+    commands = Commands(next((word for word in words if not word.startswith("-")), None))
+    return commands if commands.commands.choices else Commands(None)
 
 
 def add_check(commands: Commands) -> None:
@@ -246,6 +306,9 @@ def answered(run: Callable[[argparse.Namespace], int], options: argparse.Namespa
     """Runs a command and returns its exit status; what goes wrong is a line on standard error."""
     from .program import ProgramError, ProgramTimeout
     from .reports import ReportError
+    from .signals import Stopped, end_by_pipe, listen
+    from .terminal import LabError, plain
+    listen()
     try:
         status = run(options)
         if sys.stdout is not None:
@@ -268,17 +331,14 @@ def answered(run: Callable[[argparse.Namespace], int], options: argparse.Namespa
 
 def main(words: list[str] | None = None) -> int:
     """Runs a command and returns the exit status."""
-    commands = Commands()
-    for adder in ADDERS:
-        adder(commands)
-    options = commands.parser.parse_args(words)
+    words = sys.argv[1:] if words is None else words
+    options = commands_for(words).parser.parse_args(words)
     if sys.stdout is None:
         print("bbmlab: standard output is closed", file=sys.stderr)
         return 4
     for stream in (sys.stdout, sys.stderr):
         if hasattr(stream, "reconfigure"):
             stream.reconfigure(errors="backslashreplace")
-    listen()
     status = answered(options.run, options)
     if status == 4 and sys.stdout is not None:
         # What could not be written is still in the buffer: it is dropped, so that the interpreter does not try once more.

@@ -1,9 +1,11 @@
 """Explains what the program answers to a text: a report line by line, or a refusal."""
 
 import json
+import re
 from dataclasses import asdict, dataclass, field
 
 from .certificates import StopLine
+from .circuits import Circuit
 from .diagnosis import MAX_STEPS, Diagnosis, Truth
 from .documents import Document, read_document
 from .edits import Edit
@@ -19,6 +21,10 @@ from .trials import Trial
 MAX_DETAILED = 12
 # How many mirrors that fall apart are named.
 MAX_MIRRORS = 3
+
+# What the other commands of the program write.
+ANSWERS = {"run": re.compile(r"cells \d+\n(\d+ \d+\n)*|left \d+\n"), "value": re.compile(r"([a-z]\w* [01]\n)*(undefined \d+\n)?"),
+           "modules": re.compile(r"(module .*\n)+"), "migrate": re.compile(r"circuit\n.*end\n", re.DOTALL)}
 
 
 @dataclass
@@ -50,6 +56,8 @@ class Explanation:
     # A fix of the whole text, and what was tried if there is none.
     fix: FixForm | None = None
     tried: list[str] = field(default_factory=list)
+    # The text with the fix. JSON documents leave it out.
+    fixed: str | None = None
 
 
 def stops_of(diagnosis: Diagnosis, wire: str) -> list[StopLine]:
@@ -180,7 +188,7 @@ def add_fixes(explanation: Explanation, diagnosis: Diagnosis, report: Report, tr
     fixer = Fixer(diagnosis.document.text, report, trial)
     whole = fixer.find()
     if whole:
-        explanation.fix = fix_form(report, whole)
+        explanation.fix, explanation.fixed = fix_form(report, whole), whole.text
     else:
         explanation.tried = tried_words(fixer, trial)
     left = {finding.text for finding in whole.report.faults} if whole else set()
@@ -245,7 +253,7 @@ def explain_refused(document: Document, report: Report, file: str, trial: Trial 
         fixer = Fixer(document.text, report, trial)
         fix = fixer.find()
         if fix:
-            explanation.fix = fix_form(report, fix)
+            explanation.fix, explanation.fixed = fix_form(report, fix), fix.text
         else:
             explanation.tried = tried_words(fixer, trial)
     return explanation
@@ -263,18 +271,25 @@ def explain_run(document: Document, output: str, file: str) -> Explanation:
     return Explanation(file, "run", headline, word)
 
 
+def undefined_gate(circuit: Circuit, output: str) -> int | None:
+    """Returns the gate without a row that an answer of `value` ends with, or None. A wire can have the name `undefined` too."""
+    lines = output.splitlines()
+    is_gate = bool(lines) and lines[-1].startswith("undefined ") and len(lines) < len(circuit.defined)
+    return int(lines[-1].split(" ")[1]) if is_gate else None
+
+
 def explain_value(document: Document, output: str, file: str) -> Explanation:
     """Returns the answer of `value` in words."""
     assert document.circuit
-    last = output.strip().split("\n")[-1].split(" ") if output.strip() else [""]
-    headline = [f"With {listed(document.on or []) or 'none of the inputs'} on, these wires are true: "
-                + (listed([line[:-2] for line in output.splitlines() if line.endswith(" 1") and not line.startswith("undefined ")], 40) or "none") + "."]
-    if last[0] == "undefined":
-        gate = document.circuit.gates[int(last[1])]
-        values = dict(line.split(" ") for line in output.splitlines()[:-1])
+    number = undefined_gate(document.circuit, output)
+    values = dict(line.split(" ") for line in output.splitlines()[:None if number is None else -1])
+    true = listed([name for name, value in values.items() if value == "1"], 40) or "none"
+    headline = [f"With {listed(document.on or []) or 'none of the inputs'} on, these wires are true: {true}."]
+    if number is not None:
+        gate = document.circuit.gates[number]
         headline.append(f"Gate {gate.number} (`{gate.word}`, line {gate.line}) has no row for {assignment_words({n: int(values[n]) for n in gate.ins})}: "
                         "the gate that it turns back never gives these values.")
-    return Explanation(file, "value", headline, last[0] if last[0] == "undefined" else "values")
+    return Explanation(file, "value", headline, "values" if number is None else "undefined")
 
 
 def explain_listing(command: str, output: str, file: str) -> Explanation:
@@ -286,11 +301,26 @@ def explain_listing(command: str, output: str, file: str) -> Explanation:
     return Explanation(file, command, ["The text is read, and the program wrote it with a certificate of version 2."], "read")
 
 
+def require_answer(document: Document, output: str) -> None:
+    """Refuses what no command of the program writes, and an answer to another text: the answer can come from a file."""
+    if not ANSWERS[document.command].fullmatch(output):
+        raise ReportError(f"this is no answer of `bbmcheck {document.command}`")
+    if document.refusal:
+        raise ReportError("the answer is not of this text: the lab's reader refuses the text")
+    circuit = document.circuit
+    number = undefined_gate(circuit, output) if document.command == "value" and circuit else None
+    if circuit and number is not None:
+        names = {line.split(" ")[0] for line in output.splitlines()[:-1]}
+        if number >= len(circuit.gates) or not set(circuit.gates[number].ins) <= names:
+            raise ReportError("the answer is not of this text: it names a gate that the text does not have there")
+
+
 def explain_answer(text: str, command: str, output: str, file: str, trial: Trial | None = None) -> Explanation:
     """Returns what a command of the program wrote, in words. Fixes are looked for only if there is a trial."""
     document = read_document(text, command)
     if output.startswith("refused ") or command == "check":
         return explain_report(document, parse_report(output), file, trial)
+    require_answer(document, output)
     if command in ("modules", "migrate"):
         return explain_listing(command, output, file)
     return explain_run(document, output, file) if command == "run" else explain_value(document, output, file)
@@ -304,7 +334,9 @@ def own_answer(text: str, command: str) -> str | None:
 
 def as_json(explanation: Explanation) -> str:
     """Writes an explanation as one JSON document."""
-    return json.dumps({"format": "bbmlab explanation 2", **asdict(explanation)}, indent=2, ensure_ascii=True)
+    members = asdict(explanation)
+    del members["fixed"]
+    return json.dumps({"format": "bbmlab explanation 2", **members}, indent=2, ensure_ascii=True)
 
 
 def as_gcc(explanation: Explanation) -> list[str]:

@@ -6,6 +6,7 @@ import signal
 import subprocess
 import sys
 import threading
+from contextlib import suppress
 from dataclasses import dataclass
 from pathlib import Path
 
@@ -90,6 +91,10 @@ class Running:
         if process.poll() is None:
             kill_session(process)
             process.wait()
+        for pipe in (process.stdin, process.stdout, process.stderr):
+            with suppress(OSError):
+                if pipe:
+                    pipe.close()
 
     def stop(self) -> None:
         """Kills all programs. None can be started later."""

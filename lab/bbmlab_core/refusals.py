@@ -211,7 +211,8 @@ def _gap(facts: Facts) -> Explained:
     """Explains cells that are in no box."""
     gaps = facts["gaps"]
     shown = "; ".join(box_words(gap) for gap in gaps[:4]) + (f"; and {len(gaps) - 4} more" if len(gaps) > 4 else "")
-    return Explained([f"The boxes of the {facts['modules']} modules leave a gap: {shown} are in no box."],
+    boxes = "The box of the only module leaves" if facts["modules"] == 1 else f"The boxes of the {facts['modules']} modules leave"
+    return Explained([f"{boxes} a gap: {shown} are in no box."],
                      [f"Add a module for the gap, such as `module {gaps[0].x} {gaps[0].y} {min(gaps[0].width, 64)} {min(gaps[0].height, 64)}`, "
                       "or make a neighbour larger."])
 

@@ -15,9 +15,9 @@ class LabError(Exception):
         self.status = status
 
 
-def has_colour(stream: IO[str]) -> bool:
-    """Whether colours are written to a stream: it is a terminal, and NO_COLOR is not set."""
-    return stream.isatty() and not os.environ.get("NO_COLOR") and os.environ.get("TERM") != "dumb"
+def has_colour(stream: IO[str] | None) -> bool:
+    """Whether colours are written to a stream: it is open and a terminal, and NO_COLOR is not set."""
+    return stream is not None and stream.isatty() and not os.environ.get("NO_COLOR") and os.environ.get("TERM") != "dumb"
 
 
 def painted(text: str, colour: str, stream: IO[str] | None = None) -> str:

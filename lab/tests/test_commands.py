@@ -21,12 +21,19 @@ def fake_program(room: str, body: str) -> str:
 
 
 class Documents(unittest.TestCase):
-    """The lists of docs/LAB.md of what a JSON document has."""
+    """The lists of docs/JSON.md of what a JSON document has."""
 
     def members(self, kind: str) -> set[str]:
         """Returns the members that the page lists for a kind of document."""
-        part = (support.TOP / "docs" / "LAB.md").read_text().split(f"### `{kind}`\n")[1].split("\n##")[0]
+        part = (support.TOP / "docs" / "JSON.md").read_text().split(f"## `{kind}`\n")[1].split("\n##")[0]
         return {name for line in part.splitlines() if line.startswith("- ") for name in re.findall(r"`(\w+)`", line.split(":")[0])}
+
+    def test_page_is_short(self) -> None:
+        """docs/LAB.md has at most 2,500 words, and names each command."""
+        page = (support.TOP / "docs" / "LAB.md").read_text(encoding="utf-8")
+        self.assertLessEqual(len(page.split()), 2500)
+        for name in ("check", "explain", "trace", "draw", "view", "certify", "route", "cells", "fmt", "json", "golly", "from-golly"):
+            self.assertRegex(page, rf"`(lab/|)(bbmlab |){name}\b")
 
     def test_lists_are_whole(self) -> None:
         """Each document has the members that the page lists, besides `format`. A bundle has no assign section."""

@@ -60,6 +60,11 @@ class Devices(unittest.TestCase):
 class Signals(unittest.TestCase):
     """Ends that are asked for while programs run."""
 
+    def setUp(self) -> None:
+        """Lets SIGINT reach the children, also where a shell runs the tests in the background and so ignores it."""
+        before = signal.signal(signal.SIGINT, signal.default_int_handler)
+        self.addCleanup(signal.signal, signal.SIGINT, before)
+
     def test_check_ends_at_once(self) -> None:
         """SIGINT and SIGTERM kill the programs and write the results so far; the files that are left are not started."""
         for number, status in ((signal.SIGINT, 130), (signal.SIGTERM, 143)):

@@ -11,7 +11,7 @@ from bbmlab_core.circuits import values_under
 from bbmlab_core.diagnosis import Diagnosis, Truth
 from bbmlab_core.explaining import as_gcc, explain_answer
 from bbmlab_core.own_report import certificate_digest
-from bbmlab_core.reports import parse_report
+from bbmlab_core.reports import ReportError, parse_report
 from bbmlab_core.trials import Trial
 
 
@@ -24,6 +24,24 @@ def small_noes() -> list:
             if len(document.circuit.inputs) <= 6:
                 found.append((case, document))
     return found
+
+
+class OtherAnswers(unittest.TestCase):
+    """Answers of `run` and `value`, which can come from a file."""
+
+    def test_what_is_no_answer(self) -> None:
+        """A file that no command of the program wrote, or one of another text, is refused with a sentence."""
+        run, value = ((support.EXAMPLES / f"{name}.txt").read_text() for name in ("head_on", "collision_values"))
+        for text, command, output in [(run, "run", "0\n"), (run, "run", ""), (run, "run", "cells x\n"), (run, "run", "bbmcheck 1\n"),
+                                      (value, "value", "p\n"), (value, "value", "undefined 99\n"), (value, "value", "p 1\nundefined 0\n"),
+                                      (value + "more\n", "value", "p 1\nq 0\n"), (run, "modules", "cells 1\n")]:
+            with self.subTest(output), self.assertRaises(ReportError):
+                explain_answer(text, command, output, "text")
+
+    def test_wire_named_undefined(self) -> None:
+        """A wire can have the name `undefined`: its value is no gate without a row."""
+        told = explain_answer("circuit\ninput undefined\noutput undefined\nend\nassign\non undefined\nend\n", "value", "undefined 1\n", "text")
+        self.assertEqual((told.verdict, "`undefined`" in told.headline[0]), ("values", True))
 
 
 class Reports(unittest.TestCase):

@@ -2,6 +2,7 @@
 
 import shutil
 import subprocess
+import sys
 import tempfile
 import unittest
 from pathlib import Path
@@ -23,7 +24,7 @@ class Package(unittest.TestCase):
     """`pip install ./lab`, without a network."""
 
     def test_installed_package(self) -> None:
-        """The installed `bbmlab` lists and checks its cells, writes a page, and finds a program beside itself."""
+        """The installed `bbmlab` lists and checks its cells, writes a page, and finds a program beside itself; so does the package."""
         if not Path(PYTHON).exists():
             self.skipTest(f"there is no {PYTHON}")
         needs = subprocess.run([PYTHON, "-c", "import setuptools, wheel, venv, ensurepip"], capture_output=True, check=False)
@@ -45,6 +46,32 @@ class Package(unittest.TestCase):
             self.assertIn("1 yes", output("env", "-u", "BBMCHECK", lab, "check", str(bundle)))
             output("env", "-u", "BBMCHECK", lab, "view", str(bundle), "-o", str(room / "page.html"))
             self.assertIn("<canvas", (room / "page.html").read_text())
+            code = "import sys, bbmlab; print(bbmlab.check(open(sys.argv[1]).read()).verdict, bbmlab.__file__)"
+            verdict, file = output("env", "-u", "BBMCHECK", "-u", "PYTHONPATH", str(room / "env" / "bin" / "python3"), "-c", code, str(bundle)).split()
+            self.assertEqual((verdict, Path(file).is_relative_to(room)), ("yes", True))
+            self.assertEqual([name for name in ("bbmlab", "bbmlab_core") if not (Path(file).parent.parent / name / "py.typed").exists()], [])
+
+
+class Installed(unittest.TestCase):
+    """What `make install` copies."""
+
+    def test_install_lab(self) -> None:
+        """The command and the package run from a folder, also over an earlier installation, and nothing is left after the removal."""
+        tool, program = str(support.TOP / "tools" / "package" / "install_files"), support.program()
+        with tempfile.TemporaryDirectory() as name:
+            usr = Path(name) / "usr"
+            # Where an earlier installation had the command.
+            (usr / "lib" / "bbmlab").mkdir(parents=True)
+            (usr / "lib" / "bbmlab" / "bbmlab").write_text("#!/bin/sh\n")
+            output(tool, "install_lab", str(usr))
+            shutil.copy(program, usr / "bin" / "bbmcheck")
+            bundle = support.example("fredkin_gate")
+            self.assertIn("1 yes", output("env", "-u", "BBMCHECK", str(usr / "bin" / "bbmlab"), "check", bundle))
+            code = "import sys, bbmlab; print(bbmlab.check(open(sys.argv[1]).read()).verdict)"
+            self.assertEqual(output("env", "-u", "BBMCHECK", f"PYTHONPATH={usr / 'lib' / 'bbmlab'}", sys.executable, "-c", code, bundle), "yes\n")
+            self.assertIn("API.md", output("find", str(usr / "share")))
+            output(tool, "uninstall_lab", str(usr))
+            self.assertEqual([path for path in usr.rglob("*") if not path.is_dir() and path.name != "bbmcheck"], [])
 
 
 if __name__ == "__main__":

@@ -120,36 +120,64 @@ def release_archives(_):
             holds((inside / "share" / "doc" / "bbmcheck" / name).exists(), f"{name} is missing")
 
 
-def release_debian_package(_):
-    """The package installs, runs and is removed, in a folder of its own; lintian finds no error; the same bytes twice."""
+def made_packages(room):
+    """Makes both Debian packages twice, compares their bytes, and returns their paths by name."""
+    sums = []
+    for name in ("one", "two"):
+        top = copy_of_checkout(room, name)
+        ended = subprocess.run(["make", "-s", "-C", top, "deb"], capture_output=True, text=True)
+        same(ended.returncode, 0, ended.stderr)
+        packages = {path.name.split("_")[0]: path for path in (top / "dist").glob("*.deb")}
+        same(sorted(packages), ["bbmcheck", "bbmlab"], "packages")
+        sums.append([hashlib.sha256(packages[package].read_bytes()).hexdigest() for package in sorted(packages)])
+    same(sums[0], sums[1], "bytes of the packages")
+    return packages
+
+
+def empty_root(room):
+    """Makes a folder in which dpkg installs, and returns it with the words of dpkg for it."""
+    root = Path(room) / "root"
+    for name in ("updates", "info", "triggers"):
+        (root / "var/lib/dpkg" / name).mkdir(parents=True)
+    for name in ("status", "available"):
+        (root / "var/lib/dpkg" / name).write_text("")
+    return root, ["dpkg", f"--root={root}", "--force-not-root,depends", "--no-triggers", f"--log={room}/log"]
+
+
+def installed_lab_works(root):
+    """Runs the lab of a root in an environment that names no program, and imports its package."""
+    environment = {"PATH": "/usr/bin:/bin", "LANG": "C.UTF-8"}
+    ran = subprocess.run([root / "usr/bin/bbmlab", "check", TOP / "examples" / "fredkin_gate.txt", TOP / "examples" / "wrong_edge.txt"],
+                         capture_output=True, text=True, env=environment)
+    same((ran.returncode, "2 files: 1 yes, 1 no" in ran.stdout + ran.stderr), (1, True), ran.stdout + ran.stderr)
+    code = "import bbmlab, sys; print(bbmlab.check(open(sys.argv[1]).read()).verdict)"
+    ran = subprocess.run(["/usr/bin/python3", "-B", "-c", code, TOP / "examples" / "fredkin_gate.txt"], capture_output=True, text=True,
+                         env={**environment, "PYTHONPATH": str(root / "usr/lib/python3/dist-packages")})
+    same((ran.returncode, ran.stdout), (0, "yes\n"), ran.stderr)
+    for name in ("man/man1/bbmlab.1.gz", "doc/bbmlab/LAB.md", "doc/bbmlab/API.md", "doc/bbmlab/copyright"):
+        holds((root / "usr/share" / name).exists(), f"{name} is missing")
+
+
+def release_debian_packages(_):
+    """The packages install, run and are removed, in a folder of its own; lintian finds no error; the same bytes twice."""
     need("make", "dpkg-deb", "dpkg")
     with tempfile.TemporaryDirectory(prefix="operations-") as room:
-        sums = []
-        for name in ("one", "two"):
-            top = copy_of_checkout(room, name)
-            ended = subprocess.run(["make", "-s", "-C", top, "deb"], capture_output=True, text=True)
-            same(ended.returncode, 0, ended.stderr)
-            package, = (top / "dist").glob("*.deb")
-            sums.append(hashlib.sha256(package.read_bytes()).hexdigest())
-        same(len(set(sums)), 1, "packages")
-        root = Path(room) / "root"
-        for name in ("updates", "info", "triggers"):
-            (root / "var/lib/dpkg" / name).mkdir(parents=True)
-        for name in ("status", "available"):
-            (root / "var/lib/dpkg" / name).write_text("")
-        dpkg = ["dpkg", f"--root={root}", "--force-not-root,depends", "--no-triggers", f"--log={room}/log"]
+        packages, (root, dpkg) = made_packages(room), empty_root(room)
         environment = {**os.environ, "PATH": f"{os.environ['PATH']}:/usr/sbin:/sbin"}
-        ended = subprocess.run([*dpkg, "-i", package], capture_output=True, text=True, env=environment)
+        ended = subprocess.run([*dpkg, "-i", *packages.values()], capture_output=True, text=True, env=environment)
         same(ended.returncode, 0, ended.stderr)
         same((root / "usr/bin/bbmcheck").read_bytes(), (TOP / RELEASED).read_bytes(), "the installed program")
         with open(TOP / "examples" / "fredkin_gate.txt", "rb") as text:
             ran = subprocess.run([root / "usr/bin/bbmcheck", "check"], stdin=text, capture_output=True)
         same((ran.returncode, ran.stdout.splitlines()[-1]), (0, b"verdict yes"))
-        ended = subprocess.run([*dpkg, "-r", "bbmcheck"], capture_output=True, text=True, env=environment)
+        needs = subprocess.run(["dpkg-deb", "-f", packages["bbmlab"], "Depends"], capture_output=True, text=True).stdout
+        holds(re.match(r"bbmcheck \(>= [\d.]+\), python3 ", needs), needs)
+        installed_lab_works(root)
+        ended = subprocess.run([*dpkg, "-r", "bbmlab", "bbmcheck"], capture_output=True, text=True, env=environment)
         same(ended.returncode, 0, ended.stderr)
-        same([it for it in root.rglob("usr/**/*") if it.is_file()], [], "files after the removal")
+        same([it for it in root.rglob("usr/**/*") if it.is_file() or it.is_symlink()], [], "files after the removal")
         if shutil.which("lintian"):
-            said = subprocess.run(["lintian", package], capture_output=True, text=True).stdout
+            said = subprocess.run(["lintian", *packages.values()], capture_output=True, text=True).stdout
             same([it for it in said.splitlines() if it.startswith("E:")], [], "errors of lintian")
         else:
             print("try_operations: lintian SKIPPED: there is none")

@@ -1,0 +1,50 @@
+"""The public Python API of the lab. `docs/API.md` describes each name; a name that is not there is private.
+
+Importing this package reads almost nothing: each name is loaded when it is first used.
+"""
+
+from __future__ import annotations
+
+from bbmlab_core import VERSION as __version__
+
+# Only for the types: nothing of it is imported when the package is.
+TYPE_CHECKING = False
+if TYPE_CHECKING:
+    from ._asking import Explanation, Finding, Report, check, explain
+    from ._errors import NotFoundError, ProgramError, RefusedError
+    from ._making import certify, route
+    from ._reading import read
+    from ._running import State, local_run, simulate
+    from ._sections import Border, Box, Bundle, Certificate, Circuit, Gate, Layout, Module, Port, Stop
+
+__all__ = [
+    "Border", "Box", "Bundle", "Certificate", "Circuit", "Explanation", "Finding", "Gate", "Layout", "Module", "NotFoundError", "Port",
+    "ProgramError", "RefusedError", "Report", "State", "Stop", "__version__", "certify", "check", "explain", "local_run", "read", "route",
+    "simulate",
+]
+
+# The module of each name.
+_HOMES = {
+    "_asking": ("Explanation", "Finding", "Report", "check", "explain"),
+    "_errors": ("NotFoundError", "ProgramError", "RefusedError"),
+    "_making": ("certify", "route"),
+    "_reading": ("read",),
+    "_running": ("State", "local_run", "simulate"),
+    "_sections": ("Border", "Box", "Bundle", "Certificate", "Circuit", "Gate", "Layout", "Module", "Port", "Stop"),
+}
+
+# A type checker takes the imports above, so that it finds misspelt names.
+if not TYPE_CHECKING:
+    def __getattr__(name: str) -> object:
+        """Returns a public name, whose module is imported now."""
+        home = next((home for home, names in _HOMES.items() if name in names), None)
+        if home is None:
+            raise AttributeError(f"module {__name__!r} has no attribute {name!r}")
+        import importlib
+        value = getattr(importlib.import_module(f".{home}", __name__), name)
+        globals()[name] = value
+        return value
+
+    def __dir__() -> list[str]:
+        """Returns the public names."""
+        return sorted(__all__)

@@ -1,0 +1,83 @@
+"""Certificates and layouts that the lab makes, by `certify` and `route` of `bbmlab_core`. Only the program gives a verdict on them."""
+
+from __future__ import annotations
+
+from dataclasses import replace
+from typing import Iterable
+
+from bbmlab_core import boxes as core_boxes
+from bbmlab_core.certificates import StopLine
+from bbmlab_core.certify import Plan, certified, checked_boxes
+from bbmlab_core.documents import read_document
+from bbmlab_core.route.command import check_side
+from bbmlab_core.route.search import Options, Search
+from bbmlab_core.route.settings import Settings
+from bbmlab_core.terminal import LabError
+
+from ._errors import NotFoundError, RefusedError
+from ._reading import document_of, read
+from ._sections import Bundle, Circuit
+
+# The status of a LabError for wrong arguments.
+WRONG_ARGUMENTS = 2
+
+
+def own_error(error: LabError) -> Exception:
+    """Returns the error of the API for one of `bbmlab_core`."""
+    return ValueError(str(error)) if error.status == WRONG_ARGUMENTS else NotFoundError(str(error))
+
+
+def known_stops(bundle: Bundle) -> list[StopLine]:
+    """Returns the stops of a bundle's certificate, if the bundle is not refused."""
+    if bundle.certificate is None or read_document(str(bundle), "check").refusal:
+        return []
+    stops = [StopLine(stop.time, stop.name, stop.x, stop.y, 0) for module in bundle.certificate.modules for stop in module.stops]
+    return sorted(stops, key=lambda stop: stop.place)
+
+
+def certify(bundle: Bundle, *, grid: tuple[int, int] | None = None, boxes: Iterable[tuple[int, int, int, int]] | None = None,
+            cuts: str = "auto", version: int = 2) -> Bundle:
+    """Returns a circuit and a layout with a certificate that the lab makes. The program has not checked it.
+
+    Raises RefusedError if circuit or layout are refused, ValueError for wrong arguments, and NotFoundError if no certificate is found.
+    """
+    if bundle.circuit is None or bundle.layout is None:
+        raise ValueError("certify takes a circuit and a layout")
+    if cuts not in ("auto", "safe") or version not in (1, 2):
+        raise ValueError("cuts are auto or safe, and the version is 1 or 2")
+    document = document_of(str(replace(bundle, certificate=None, on=None)), "design")
+    assert document.layout is not None
+    chosen = [core_boxes.Box(*box) for box in boxes] if boxes is not None else None
+    try:
+        if grid is not None:
+            chosen = checked_boxes(document.layout, *grid)
+        text = certified(document, chosen, Plan(version, cuts, known_stops(bundle)))
+    except LabError as error:
+        raise own_error(error) from error
+    try:
+        return read(text)
+    except RefusedError as refused:
+        # Boxes that the caller gave need not fit: the lines of that text are not the caller's.
+        raise ValueError(f"the boxes give no certificate: {refused.reason}") from refused
+
+
+def route(circuit: Circuit, *, seed: int = 1, size: int | None = None, effort: float = 60.0, jobs: int = 1, compact: bool = False) -> Bundle:
+    """Returns a circuit with a layout and a certificate, placed and routed by the lab. The program has not checked it.
+
+    Raises RefusedError if the circuit is refused, ValueError for a wrong number, and NotFoundError if no route is found in `effort` seconds.
+    """
+    if min(seed, jobs) < 1 or effort <= 0:
+        raise ValueError("seed and jobs are from 1, and effort is more than 0 seconds")
+    text = str(circuit)
+    model = document_of(text, "circuit").circuit
+    assert model is not None
+    try:
+        check_side(size)
+    except LabError as error:
+        raise ValueError(str(error)) from error
+    outcome = Search(model, text, Options(seed, size, effort, jobs, compact), Settings(), lambda *_: None).run()
+    if outcome.is_interrupted:
+        raise KeyboardInterrupt
+    if outcome.routed is None:
+        raise NotFoundError(outcome.reason or "the time was over before the first attempt ended")
+    return read(outcome.routed.text)

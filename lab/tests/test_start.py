@@ -1,0 +1,63 @@
+"""How fast the lab starts, and that it says the same however it starts."""
+
+import subprocess
+import sys
+import time
+import unittest
+
+import support
+
+# The goal is 60 ms on a quiet machine. The test allows for a slow interpreter: what counts is the time that the lab adds to it.
+MAX_ADDED_SECONDS = 0.060
+RUNS = 20
+# What a start must not import: each takes longer than the lab may.
+HEAVY = {"dataclasses", "inspect", "json", "multiprocessing", "pathlib", "subprocess", "typing"}
+
+
+def least_seconds(*words: str) -> float:
+    """Returns the least time of some runs of a command."""
+    times = []
+    for _ in range(RUNS):
+        began = time.perf_counter()
+        subprocess.run(words, capture_output=True, check=True)
+        times.append(time.perf_counter() - began)
+    return min(times)
+
+
+class Start(unittest.TestCase):
+    """`bbmlab --help` and its kin."""
+
+    def test_added_time(self) -> None:
+        """The lab adds at most 60 ms to the start of Python for `--help` and for the help of a command."""
+        bare = least_seconds(sys.executable, "-c", "pass")
+        for words in (["--help"], ["--version"], ["route", "--help"]):
+            with self.subTest(words=words):
+                self.assertLess(least_seconds(sys.executable, str(support.LAB / "bbmlab"), *words) - bare, MAX_ADDED_SECONDS)
+
+    def test_late_imports(self) -> None:
+        """`--help` imports none of the modules that make a start slow, beyond those that Python itself imports."""
+        code = ("import sys; before = set(sys.modules); sys.path.insert(0, sys.argv[1]); from bbmlab_core.cli import commands_for; "
+                "commands_for(['--help']).parser.format_help(); print(*sorted(set(sys.modules) - before))")
+        ended = subprocess.run([sys.executable, "-S", "-c", code, str(support.LAB)], capture_output=True, text=True, check=True)
+        self.assertEqual(HEAVY & set(ended.stdout.split()), set())
+
+    def test_list_has_all_commands(self) -> None:
+        """`--help` lists each command, and each of them has a help of its own that names its arguments."""
+        listed = support.lab("--help").stdout
+        for name in ("check", "explain", "trace", "draw", "view", "certify", "route", "cells", "fmt", "json", "golly", "from-golly"):
+            with self.subTest(name=name):
+                self.assertRegex(listed, rf"(?m)^    {name}\s+\w")
+                own = support.lab(name, "--help")
+                self.assertEqual((own.returncode, own.stdout.split()[:3]), (0, ["usage:", "bbmlab", name]))
+                self.assertIn("Example: bbmlab", own.stdout)
+
+    def test_wrong_command(self) -> None:
+        """A command that there is not is refused with the list of those that there are."""
+        ended = support.lab("shake", "file")
+        self.assertEqual(ended.returncode, 2)
+        self.assertIn("invalid choice: 'shake'", ended.stderr)
+        self.assertIn("'from-golly'", ended.stderr)
+
+
+if __name__ == "__main__":
+    unittest.main()
