@@ -3,6 +3,7 @@
 import hashlib
 import json
 import os
+import re
 import signal
 import subprocess
 import sys
@@ -80,6 +81,9 @@ class Documents(InRoom):
             self.assertEqual(list(document["sections"].values()), [digest(part) for part in parts])
             self.assertEqual(document["program"]["sha256"], digest(Path(self.program).read_bytes()))
             self.assertEqual(document["report_sha256"], digest(said.stdout))
+            page = (support.TOP / "docs" / "JSON.md").read_text().split("## `bbmlab receipt 1`\n")[1].split("\n##")[0]
+            listed = {word for line in page.splitlines() if line.startswith("- ") for word in re.findall(r"`(\w+)`", line.split(":")[0])}
+            self.assertEqual(set(document) - {"format"}, listed)
 
     def test_a_receipt_is_the_same_at_each_run(self) -> None:
         """All lines but two are the same after a second run, also by more processes."""
