@@ -2,7 +2,7 @@
 """make_hostile.py KIND [half|full] > text, or make_hostile.py --list
 
 Writes a text that costs as much as it can for its size, at half its size or (left out) at its full one. It is the same text each
-time. Nothing here depends on the program's output. `docs/LIMITS.md` says what each text costs. Each kind is one function below,
+time. Nothing here depends on the program's output. `bench/README.md` says what each text costs. Each kind is one function below,
 with the commands that read its text.
 """
 import random

@@ -47,7 +47,7 @@ def limits_statuses(_):
         same(subprocess.run(["sh", "-c", '"$0" check', other], stdin=subprocess.DEVNULL, capture_output=True).returncode, 127, "no loader")
 
 
-# For each text of bench/make_hostile.py how many MiB `check` may take of it at most. docs/LIMITS.md says 103 of every text. Each
+# For each text of bench/make_hostile.py how many MiB `check` may take of it at most. bench/README.md lists what was measured. Each
 # text has 16 MiB, and takes more than this if it is held while the modules are run.
 MOST_MEMORY = {"most_edges": 112, "most_stops": 86}
 
