@@ -4,11 +4,15 @@ import os
 import re
 import shutil
 import subprocess
+import sys
 import tempfile
 import time
 from pathlib import Path
 
 from operations.common import MANIFEST, RELEASED, TOP, Skipped, copy_of_checkout, holds, in_namespace, need, path_without, same
+
+sys.path.insert(0, str(TOP / "tools" / "docs"))
+import links  # noqa: E402
 
 
 def release_manifest(_):
@@ -173,6 +177,7 @@ def release_debian_packages(_):
         needs = subprocess.run(["dpkg-deb", "-f", packages["bbmlab"], "Depends"], capture_output=True, text=True).stdout
         holds(re.match(r"bbmcheck \(>= [\d.]+\), python3 ", needs), needs)
         installed_lab_works(root)
+        same(links.dead_in_folder(root / "usr/share/doc"), [], "dead links")
         ended = subprocess.run([*dpkg, "-r", "bbmlab", "bbmcheck"], capture_output=True, text=True, env=environment)
         same(ended.returncode, 0, ended.stderr)
         same([it for it in root.rglob("usr/**/*") if it.is_file() or it.is_symlink()], [], "files after the removal")
