@@ -50,6 +50,17 @@ def fault_of(program, case, errors, seconds):
     return None
 
 
+def behind_wrapper(program):
+    """The program that the repository's wrapper runs, so that its choice is made once; any other program as it is."""
+    wrapper = Path(__file__).resolve().parent.parent / "bbmcheck"
+    if program != wrapper or program.read_bytes()[:2] != b"#!":
+        return program
+    asked = subprocess.run([program, "--wrapper-program"], stdin=subprocess.DEVNULL, stdout=subprocess.PIPE, check=False)
+    if asked.returncode:
+        sys.exit(f"run.py: {program} ended with status {asked.returncode}")
+    return Path(asked.stdout.decode().removesuffix("\n"))
+
+
 def chosen(options):
     folders = sorted({path.parent for folder in options.folders for path in folder.glob("**/args")})
     cases = [case_of_folder(folder) for folder in folders] if options.folders else all_cases()
@@ -65,7 +76,7 @@ def main():
     parser.add_argument("--seconds", type=int, default=120)
     parser.add_argument("--jobs", type=int, default=2)
     options = parser.parse_args()
-    program, cases, failed = options.program.resolve(), chosen(options), 0
+    program, cases, failed = behind_wrapper(options.program.resolve()), chosen(options), 0
     with ThreadPoolExecutor(max_workers=options.jobs) as pool:
         faults = pool.map(lambda case: fault_of(program, case, options.all, options.seconds), cases)
         for case, fault in zip(cases, faults):

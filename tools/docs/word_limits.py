@@ -8,6 +8,7 @@ WORD = re.compile(r"\w")
 # The limits of pages in their new form.
 LIMITS = {
     "CONTRIBUTING.md": 1700,
+    "README.md": 900,
     "bench/README.md": 1800,
     "docs/ARCHITECTURE.md": 2800,
     "docs/GLOSSARY.md": 900,
@@ -17,7 +18,7 @@ LIMITS = {
 # Pages that were not yet shortened: their words on 2026-11-27, rounded up to the next hundred.
 LIMITS |= {
     "CHANGELOG.md": 800,
-    "README.md": 1300,
+    "SECURITY.md": 200,
     "THIRD-PARTY.md": 1800,
     "conformance/README.md": 700,
     "docs/API.md": 900,

@@ -26,7 +26,7 @@ use Rattle.certificate_lines.specs.Modules.{IsModule}
 use Rattle.certificate_lines.specs.BuilderView.{AreBuilt, AreWires, IsBorderLine, IsInner, IsLastModule, IsTracked}
 use Rattle.certificate_lines.specs.BuilderView.{IsTrackedWith}
 use Rattle.certificate_lines.specs.BuilderView.{IsWritten}
-use Rattle.certificate_lines.specs.BuilderView.{counted, HasFewLines, last_inner, outs_at, wires_in}
+use Rattle.certificate_lines.specs.BuilderView.{counted, AreSmallCounts, last_inner, outs_at, wires_in}
 use Rattle.certificate_lines.specs.declared.certificate_line.BorderLine.{BorderLine}
 use Rattle.certificate_lines.specs.declared.certificate_line.Counts.{Counts}
 use Rattle.certificate_lines.specs.declared.certificate_line.CertificateLine.{CertificateLine}
@@ -111,12 +111,12 @@ module _ (g : Setting) (es : List CertificateLine) (covered : Board) (counts : L
   few_lines : (m : ModuleLines) → IsModule g m → length (cuts m) ≤ 12
   few_lines m is = let n = is.named in let f = is.local.few_cuts in omega (arith, n, f)
 
-  pub small : (k : Counts) → last_of counts ≡ Some k → HasFewLines k
+  pub small : (k : Counts) → last_of counts ≡ Some k → AreSmallCounts k
   small k some =
       let l = the_last k some in
       let written = last_written l.module_lines l.last in
       let is = written.good in
-      subst HasFewLines (sym l.counted)
+      subst AreSmallCounts (sym l.counted)
       (record {
         few_cuts = few_lines l.module_lines is;
         few_gates = is.local.few_gates;

@@ -155,7 +155,7 @@ counted (Halo e) k = record k { halos = k.halos + 1 }
 counted (Stop s) k = record k { stops = k.stops + 1 }
 
 -- no count is near its greatest value
-pub record HasFewLines (k : Counts) : Type 0 where
+pub record AreSmallCounts (k : Counts) : Type 0 where
   pub few_cuts : k.cuts ≤ 12
   pub few_gates : k.gates ≤ 64
   pub few_borders : k.edges + k.halos + k.stops ≤ 65536

@@ -6,7 +6,7 @@ ghost use Rattle.std.specs.List.{list_any};
 ghost use Rattle.certificate_lines.specs.Entries.{ModuleLines, counts_of, known, modules_of, last_module, name_in};
 ghost use Rattle.certificate_lines.specs.Rules.{border_fault, entry_fault, end_fault, box_fault, module_fault, inner_fault, words_fault, is_incomplete, is_local};
 ghost use Rattle.module_box.specs.Boxes.{in_box};
-ghost use Rattle.certificate_lines.specs.BuilderView.{BuilderView, IsBorderLine, IsInner, HasFewLines, NamesWire};
+ghost use Rattle.certificate_lines.specs.BuilderView.{BuilderView, IsBorderLine, IsInner, AreSmallCounts, NamesWire};
 ghost use Rattle.certificate_lines.specs.declared.certificate_line.CertificateLine.TheVariants.{Module};
 
 use crate::certificate_line::{CertificateLine, Counts};
@@ -172,7 +172,7 @@ impl<'a> Builder<'a> {
     // The code of the tests that come after that of the order, where these are the counts of the last module.
     #[inline(always)]
     fn words_code(&mut self, counts: Counts, entry: &CertificateLine) -> Option<RefusalCode>
-        requires { HasFewLines counts }
+        requires { AreSmallCounts counts }
         ensures code { (m : ModuleLines) → last_module self.old.entries ≡ Some m →
             counts ≡ counts_of m → result ≡ words_fault self.old.setting m entry.now }
         ensures same_lines { self.new ≡ self.old }
