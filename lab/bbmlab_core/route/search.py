@@ -14,9 +14,10 @@ from typing import Callable, Iterator
 
 from ..circuits import Circuit
 from ..layouts import MAX_SIDE
-from .attempt import Attempt, Design, OutOfTimeError
+from .attempt import Attempt, OutOfTimeError
 from .board import NoRouteError, Step
 from .certificate import Certifier, bundle_text, circuit_section
+from .design import Design
 from .netlist import Netlist
 from .partial import INTERRUPT_SECONDS, SECONDS, hurried_design, partial_design, partial_text
 from .settings import Settings
@@ -95,12 +96,19 @@ def estimated_side(netlist: Netlist) -> int:
     return side
 
 
-def attempts_of(netlist: Netlist, options: Options) -> Iterator[tuple[int, int]]:
-    """Yields sides and seeds in the order of attempts, without end."""
-    side, index = options.side or estimated_side(netlist), 0
+def attempts_of(circuit: Circuit, options: Options) -> Iterator[tuple[Netlist, int, int]]:
+    """Yields netlists, sides and seeds in the order of attempts, without end.
+
+    The netlists run forward and backward in turn. That with more balls whose first place is free comes first; but a part of
+    a circuit can be kept of a forward one alone, so if parts are kept this comes first.
+    """
+    netlists = [Netlist(circuit), Netlist(circuit, is_backward=True)]
+    side, index = options.side or estimated_side(netlists[0]), 0
+    if not options.keeps_partial:
+        netlists.sort(key=lambda own: -len(own.free_roots()))
     while True:
         for _ in range(ATTEMPTS_PER_SIDE):
-            yield side, options.seed * 1_000_003 + index
+            yield netlists[index % 2], side, options.seed * 1_000_003 + index
             index += 1
         side = side if options.side else min(MAX_SIDE, side + max(2 * TILE, side // 4 // TILE * TILE))
 
@@ -111,7 +119,7 @@ def routed_bundle(circuit_text: str, design: Design) -> Routed:
     text = bundle_text(circuit_text, certifier)
     layout = circuit_section(circuit_text) + "\n".join(certifier.layout) + "\n"
     return Routed(text, layout, design.size, design.end, len(certifier.mirrors), len(certifier.modules), certifier.most_cuts,
-                  len(design.steps))
+                  len(design.gates))
 
 
 class Search:
@@ -120,9 +128,8 @@ class Search:
     def __init__(self, circuit: Circuit, circuit_text: str, options: Options, settings: Settings, progress: Progress) -> None:
         self.circuit, self.circuit_text, self.options, self.settings = circuit, circuit_text, options, settings
         self.progress = progress
-        self.netlist = Netlist(circuit)
         self.deadline = time.monotonic() + options.effort
-        self.outcome = Outcome(total=len(self.netlist.gates))
+        self.outcome = Outcome(total=len(Netlist(circuit).gates))
 
     def run(self) -> Outcome:
         """Returns what the search found. An interrupt ends it with the best part so far."""
@@ -141,11 +148,11 @@ class Search:
 
     def run_here(self) -> None:
         """Makes attempts in this process."""
-        for index, (side, seed) in enumerate(attempts_of(self.netlist, self.options)):
+        for index, (netlist, side, seed) in enumerate(attempts_of(self.circuit, self.options)):
             if index >= self.limit() or time.monotonic() > self.deadline:
                 break
             self.outcome.attempts = index + 1
-            attempt = Attempt(self.circuit, side, seed, self.settings, self.deadline)
+            attempt = Attempt(netlist, side, seed, self.settings, self.deadline)
             try:
                 design = attempt.run(lambda placed, total: self.progress(index + 1, side, placed, total))
                 if self.take(routed_bundle(self.circuit_text, design)):
@@ -168,11 +175,10 @@ class Search:
             self.outcome.reason = str(error)
 
     def note_partial(self, placed: int, steps: list[Step], side: int) -> None:
-        """Notes how many gates an attempt placed, and keeps them if they are the most."""
-        if placed >= self.outcome.placed:
-            self.outcome.placed = placed
-            if self.options.keeps_partial:
-                self.outcome.partial, self.outcome.partial_size = steps, side
+        """Notes how many gates an attempt placed, and keeps the steps that placed them if they are the most."""
+        self.outcome.placed = max(placed, self.outcome.placed)
+        if steps and self.options.keeps_partial and len(steps) >= len(self.outcome.partial):
+            self.outcome.partial, self.outcome.partial_size = steps, side
 
 
 # What a process sends: that it placed gates, with their steps if they are kept; its bundle; or why it failed.
@@ -183,7 +189,7 @@ Message = tuple[str, int, object]
 class Task:
     """An attempt for a process of its own."""
 
-    circuit: Circuit
+    netlist: Netlist
     circuit_text: str
     side: int
     seed: int
@@ -195,7 +201,7 @@ class Task:
 def work(connection: Connection, task: Task) -> None:
     """Makes one attempt, and sends messages on it. The process that started this one ends it."""
     signal.signal(signal.SIGINT, signal.SIG_IGN)
-    attempt = Attempt(task.circuit, task.side, task.seed, task.settings, task.deadline)
+    attempt = Attempt(task.netlist, task.side, task.seed, task.settings, task.deadline)
 
     def tell(placed: int, total: int) -> None:
         """Sends that gates were placed."""
@@ -224,7 +230,7 @@ class Pool:
 
     def __init__(self, search: Search) -> None:
         self.search = search
-        self.attempts = enumerate(attempts_of(search.netlist, search.options))
+        self.attempts = enumerate(attempts_of(search.circuit, search.options))
         self.workers: dict[Connection, Worker] = {}
         self.found: dict[int, Routed] = {}
 
@@ -258,9 +264,9 @@ class Pool:
 
     def start(self) -> None:
         """Starts the next attempt."""
-        search, (index, (side, seed)) = self.search, next(self.attempts)
+        search, (index, (netlist, side, seed)) = self.search, next(self.attempts)
         here, there = multiprocessing.Pipe(duplex=False)
-        task = Task(search.circuit, search.circuit_text, side, seed, search.settings, search.deadline, search.options.keeps_partial)
+        task = Task(netlist, search.circuit_text, side, seed, search.settings, search.deadline, search.options.keeps_partial)
         process = multiprocessing.get_context("fork").Process(target=work, args=(there, task), daemon=True)
         process.start()
         there.close()
@@ -301,6 +307,6 @@ def partial_bundle(circuit: Circuit, outcome: Outcome, settings: Settings) -> tu
     if found is None:
         return None
     try:
-        return routed_bundle(partial_text(found.circuit), found).text, len(found.steps)
+        return routed_bundle(partial_text(found.circuit), found).text, len(found.gates)
     except NoRouteError:
         return None

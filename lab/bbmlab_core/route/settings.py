@@ -25,10 +25,18 @@ class Settings:
     wander_tries: int = 160
     wander_options: int = 6
     # The places that are tried for a gate, and the places with all paths of which the cheapest is taken.
-    place_tries: int = 400
+    place_tries: int = 1600
     # The tries after which the places are as far away as they may be.
-    growth_tries: int = 80
-    place_choices: int = 4
+    growth_tries: int = 320
+    place_choices: int = 3
+    # If a circuit has more gates than this, the first place with all paths is taken.
+    many_gates: int = 24
+    # Of so many random spots the best are tried. A square around a spot that is all taken counts as a delay of `full_steps`.
+    spot_batch: int = 8
+    best_spots: int = 2
+    full_steps: float = 300.0
+    # A gate is given up if one of its inputs could not be led more often than this.
+    most_blame: int = 20
     # The cost of a mirror, and of each step by which the last output of a gate is later.
     mirror_cost: float = 12.0
     step_cost: float = 40.0
@@ -46,4 +54,9 @@ class Settings:
     # The most gates that are taken back out of the others' order.
     most_taken_out: int = 4
     # Failures after which an attempt with a seed and a size is given up.
-    failures: int = 12
+    failures: int = 8
+    # The paths that are taken out at most to make way for a gate: at first, and then. The crowded spots that are tried, and the
+    # steps of delay that one path less is worth.
+    rips: tuple[int, int] = (2, 6)
+    crowded_choices: int = 4
+    rip_steps: float = 100.0
