@@ -17,7 +17,7 @@ from bbmlab_core.route.netlist import Netlist
 from bbmlab_core.route.paths import Path
 from bbmlab_core.route.ripup import WayMaker
 from bbmlab_core.route.search import routed_bundle
-from bbmlab_core.route.settings import Settings
+from bbmlab_core.route.settings import Settings, for_growing
 from bbmlab_core.route.world import World, path_item
 from test_route import LINES, circuit_text, gate_circuit
 
@@ -117,7 +117,7 @@ class RipUp(unittest.TestCase):
 
         with mock.patch.object(WayMaker, "make_way", checked):
             for seed in range(40):
-                attempt = Attempt(Netlist(read_circuit(made_circuit("forward", 14, 8, 3))), 160, seed, Settings())
+                attempt = Attempt(Netlist(read_circuit(made_circuit("forward", 14, 8, 3))), 160, seed, for_growing(Settings()))
                 before = len(results)
                 try:
                     attempt.run(lambda placed, total: self.assert_books(attempt.board))

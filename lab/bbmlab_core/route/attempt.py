@@ -39,7 +39,7 @@ class Attempt:
         self.doing = "the search began"
         self.todo = {gate.number: gate for gate in self.netlist.gates}
         self.failures: Counter[int] = Counter()
-        self.weight = self.chance.choice((0.0, 0.0, 0.3))
+        self.weight = self.chance.choice(settings.weights)
         # The most gates that were placed at a time, and the steps that placed them if time runs forward.
         self.most_placed = 0
         self.best_steps: list[Step] = []
@@ -65,7 +65,7 @@ class Attempt:
             step = self.placer.place_gate(gate)
             if step is not None:
                 self.board.commit(step)
-            elif not self.way_maker.make_way(gate):
+            elif not self.settings.rips or not self.way_maker.make_way(gate):
                 self.take_back(gate.number, self.reason(gate))
                 continue
             step = self.board.steps[-1]

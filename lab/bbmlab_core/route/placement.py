@@ -95,7 +95,7 @@ class Placer:
             if best is None or step.cost < best.cost:
                 best = step
             found += 1
-            if found >= (self.settings.place_choices if len(netlist.gates) <= self.settings.many_gates else 1):
+            if found >= self.settings.place_choices:
                 break
         return best
 

@@ -20,7 +20,7 @@ from .certificate import Certifier, bundle_text, circuit_section
 from .design import Design
 from .netlist import Netlist
 from .partial import INTERRUPT_SECONDS, SECONDS, hurried_design, partial_design, partial_text
-from .settings import Settings
+from .settings import Settings, for_growing
 from .world import TILE
 
 # The least side of a layout that is tried, and the attempts with a side before a larger one is tried.
@@ -29,6 +29,8 @@ ATTEMPTS_PER_SIDE = 2
 # The part of the layout's cells that paths and gates may touch by estimate, and the cells that a ball touches in a step.
 FILL = 0.16
 CELLS_PER_STEP = 2.6
+# If more balls than this end beyond those that begin, attempts also run backward in time.
+MOST_GROWTH = 20
 # The attempts that `--compact` makes at most.
 COMPACT_ATTEMPTS = 24
 
@@ -96,19 +98,24 @@ def estimated_side(netlist: Netlist) -> int:
     return side
 
 
-def attempts_of(circuit: Circuit, options: Options) -> Iterator[tuple[Netlist, int, int]]:
-    """Yields netlists, sides and seeds in the order of attempts, without end.
+def netlists_of(circuit: Circuit, options: Options) -> list[Netlist]:
+    """Returns a circuit forward in time; and also backward, which comes first, if far more balls end than begin.
 
-    The netlists run forward and backward in turn. That with more balls whose first place is free comes first; but a part of
-    a circuit can be kept of a forward one alone, so if parts are kept this comes first.
+    Balls that begin at any place are led more easily than balls to one last time. Parts are kept of forward netlists alone, so
+    these come first if parts are kept.
     """
-    netlists = [Netlist(circuit), Netlist(circuit, is_backward=True)]
+    forward, backward = Netlist(circuit), Netlist(circuit, is_backward=True)
+    if len(backward.free_roots()) - len(forward.free_roots()) <= MOST_GROWTH:
+        return [forward]
+    return [forward, backward] if options.keeps_partial else [backward, forward]
+
+
+def attempts_of(netlists: list[Netlist], options: Options) -> Iterator[tuple[Netlist, int, int]]:
+    """Yields netlists, sides and seeds in the order of attempts, without end."""
     side, index = options.side or estimated_side(netlists[0]), 0
-    if not options.keeps_partial:
-        netlists.sort(key=lambda own: -len(own.free_roots()))
     while True:
         for _ in range(ATTEMPTS_PER_SIDE):
-            yield netlists[index % 2], side, options.seed * 1_000_003 + index
+            yield netlists[index % len(netlists)], side, options.seed * 1_000_003 + index
             index += 1
         side = side if options.side else min(MAX_SIDE, side + max(2 * TILE, side // 4 // TILE * TILE))
 
@@ -126,10 +133,12 @@ class Search:
     """A search for a route of one circuit."""
 
     def __init__(self, circuit: Circuit, circuit_text: str, options: Options, settings: Settings, progress: Progress) -> None:
-        self.circuit, self.circuit_text, self.options, self.settings = circuit, circuit_text, options, settings
+        self.circuit_text, self.options = circuit_text, options
+        self.netlists = netlists_of(circuit, options)
+        self.settings = for_growing(settings) if len(self.netlists) > 1 else settings
         self.progress = progress
         self.deadline = time.monotonic() + options.effort
-        self.outcome = Outcome(total=len(Netlist(circuit).gates))
+        self.outcome = Outcome(total=len(self.netlists[0].gates))
 
     def run(self) -> Outcome:
         """Returns what the search found. An interrupt ends it with the best part so far."""
@@ -148,7 +157,7 @@ class Search:
 
     def run_here(self) -> None:
         """Makes attempts in this process."""
-        for index, (netlist, side, seed) in enumerate(attempts_of(self.circuit, self.options)):
+        for index, (netlist, side, seed) in enumerate(attempts_of(self.netlists, self.options)):
             if index >= self.limit() or time.monotonic() > self.deadline:
                 break
             self.outcome.attempts = index + 1
@@ -230,7 +239,7 @@ class Pool:
 
     def __init__(self, search: Search) -> None:
         self.search = search
-        self.attempts = enumerate(attempts_of(search.circuit, search.options))
+        self.attempts = enumerate(attempts_of(search.netlists, search.options))
         self.workers: dict[Connection, Worker] = {}
         self.found: dict[int, Routed] = {}
 
