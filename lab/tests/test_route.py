@@ -171,14 +171,15 @@ class Mistakes(Routing):
             self.assert_found(gate_circuit("switch"))
 
     def test_wrong_wire_of_an_edge_line(self) -> None:
-        """The first edge line of a wire names another wire."""
+        """The first edge line of an input names another input."""
         right = certificate.Certifier.add_edge
+        others = {"a": "b", "b": "c", "c": "a"}
         done: list[int] = []
 
         def wrong(self: certificate.Certifier, at: int, cell: tuple[int, int], wire: str | None) -> None:
             count = sum(len(module.edges) for module in self.modules)
-            right(self, at, cell, "b" if wire == "a" and not done else wire)
-            if wire == "a" and sum(len(module.edges) for module in self.modules) > count:
+            right(self, at, cell, wire if done or wire is None else others.get(wire, wire))
+            if wire in others and sum(len(module.edges) for module in self.modules) > count:
                 done.append(at)
 
         with mock.patch.object(certificate.Certifier, "add_edge", wrong):

@@ -3,33 +3,22 @@
 import random
 import time
 from collections import Counter
-from dataclasses import dataclass
 from typing import Callable
 
-from ..circuits import Circuit, Gate
+from ..circuits import Gate
 from .balls import Ball, Leg
 from .board import Board, NoRouteError, Step, Waiting
+from .design import Design, forward_design
 from .netlist import Netlist
 from .paths import Path
 from .placement import Placer
+from .ripup import WayMaker
 from .settings import Settings
 from .world import path_item, tiles_of
 
 
 class OutOfTimeError(NoRouteError):
     """The time was over before the attempt ended."""
-
-
-@dataclass
-class Design:
-    """A circuit that was placed and routed: what the certificate and the layout are made of."""
-
-    circuit: Circuit
-    netlist: Netlist
-    size: int
-    end: int
-    steps: list[Step]
-    ends: list[Path]
 
 
 def no_progress(placed: int, total: int) -> None:
@@ -39,18 +28,19 @@ def no_progress(placed: int, total: int) -> None:
 class Attempt:
     """An attempt. It depends on circuit, size, seed and settings alone, unless the time is over."""
 
-    def __init__(self, circuit: Circuit, size: int, seed: int, settings: Settings, deadline: float = float("inf")) -> None:
-        self.netlist = Netlist(circuit)
+    def __init__(self, netlist: Netlist, size: int, seed: int, settings: Settings, deadline: float = float("inf")) -> None:
+        self.netlist = netlist
         self.board = Board(self.netlist, size, settings)
         self.chance = random.Random(seed)
         self.placer = Placer(self.board, self.chance)
         self.settings, self.deadline = settings, deadline
         self.placer.finder.check_time = self.check_time
+        self.way_maker = WayMaker(self.board, self.placer)
         self.doing = "the search began"
         self.todo = {gate.number: gate for gate in self.netlist.gates}
         self.failures: Counter[int] = Counter()
-        self.weight = self.chance.choice((0.0, 0.3, 0.6))
-        # The most gates that were placed at a time, and the steps that placed them.
+        self.weight = self.chance.choice(settings.weights)
+        # The most gates that were placed at a time, and the steps that placed them if time runs forward.
         self.most_placed = 0
         self.best_steps: list[Step] = []
 
@@ -73,15 +63,17 @@ class Attempt:
             gate = self.next_gate()
             self.doing = f"gate {gate.number} ({gate.word} {' '.join(gate.ins)}) was placed"
             step = self.placer.place_gate(gate)
-            if step is None:
+            if step is not None:
+                self.board.commit(step)
+            elif not self.settings.rips or not self.way_maker.make_way(gate):
                 self.take_back(gate.number, self.reason(gate))
                 continue
-            self.board.commit(step)
+            step = self.board.steps[-1]
             self.placer.horizon = max(self.placer.horizon, self.placer.done(step))
             self.placer.park_outputs(step)
             del self.todo[gate.number]
             if total - len(self.todo) > self.most_placed:
-                self.most_placed, self.best_steps = total - len(self.todo), list(self.board.steps)
+                self.most_placed, self.best_steps = total - len(self.todo), [] if self.netlist.is_backward else list(self.board.steps)
             progress(total - len(self.todo), total)
 
     def adopt(self, steps: list[Step]) -> None:
@@ -129,7 +121,7 @@ class Attempt:
                 count = made[0]
         for _ in range(min(count, len(self.board.steps))):
             step = self.board.take_back()
-            self.todo[step.gate.number] = self.netlist.circuit.gates[step.gate.number]
+            self.todo[step.gate.number] = self.netlist.lines[step.gate.number]
         self.placer.horizon = max((self.placer.done(step) for step in self.board.steps), default=0)
 
     def take_maker_out(self, wire: str) -> bool:
@@ -146,7 +138,7 @@ class Attempt:
         for step in reversed(steps):
             if not self.board.take_out(step):
                 return step is not steps[-1]
-            self.todo[step.gate.number] = self.netlist.circuit.gates[step.gate.number]
+            self.todo[step.gate.number] = self.netlist.lines[step.gate.number]
         self.placer.horizon = max((self.placer.done(step) for step in self.board.steps), default=0)
         return bool(steps)
 
@@ -159,7 +151,11 @@ class Attempt:
         for root, waiting in self.board.waiting.items():
             start = waiting.ball.time + 1 if waiting.ball else 0
             end = max(end, start + netlist.least_steps(netlist.chain(root)[-1]))
-        return end
+        for step in self.board.steps if netlist.is_backward else []:
+            zeros = [wire for wire in netlist.lines[step.gate.number].outs if netlist.is_zero(wire)]
+            last = step.gate.time + step.gate.cell.length
+            end = max([end, *(last + netlist.least_steps(netlist.chain(wire)[-1]) for wire in zeros)])
+        return end | 1 if netlist.is_backward else end
 
     def lead_to_the_end(self) -> str | None:
         """Leads all waiting balls on to the last time; returns a sentence if that failed, and then takes the paths back.
@@ -265,6 +261,8 @@ class Attempt:
         return Ball(chance.randrange(4, size // 2 - 4) * 2, chance.randrange(4, size // 2 - 4) * 2, 1, 1, 0)
 
     def design(self) -> Design:
-        """Returns the design that is on the board."""
-        end = max([path.end.time for path in self.board.ends], default=self.end_time())
-        return Design(self.netlist.circuit, self.netlist, self.board.size, end, self.board.steps, self.board.ends)
+        """Returns the design that is on the board, forward in time."""
+        board = self.board
+        end = max([path.end.time for path in board.ends], default=self.end_time())
+        paths = [path for step in board.steps for path in [*step.paths, *step.parked]] + board.ends
+        return forward_design(Design(self.netlist.circuit, self.netlist, board.size, end, [step.gate for step in board.steps], paths))

@@ -12,10 +12,10 @@ from ..certificates import MAX_CUTS, MAX_USES, BorderLine, Certificate, Module, 
 from ..certify import certificate_text
 from ..cones import fewest_cuts, keeping_cone
 from ..layouts import Cell, row_order
-from .attempt import Design
 from .balls import Mirror, Run, path_run
 from .board import NoRouteError, PlacedGate, tiles_in
 from .cells import PORTS
+from .design import Design
 from .netlist import STOP_MARGIN, Netlist
 from .paths import Path, joined_path
 from .world import ROW, TILE
@@ -76,14 +76,13 @@ class Certifier:
 
     def __init__(self, design: Design) -> None:
         self.design, self.netlist, self.circuit = design, design.netlist, design.circuit
-        paths = [path for step in design.steps for path in [*step.paths, *step.parked]] + design.ends
         parts: dict[str, list[Path]] = {}
-        for path in sorted(paths, key=lambda own: own.start.time):
+        for path in sorted(design.paths, key=lambda own: own.start.time):
             parts.setdefault(path.wire, []).append(path)
         self.tracks = {wire: track_of(self.netlist, joined_path(own)) for wire, own in parts.items()}
-        self.gates = [step.gate for step in design.steps]
+        self.gates = design.gates
         self.mirrors = {(number % ROW, number // ROW) for gate in self.gates for number in gate.item.mirrors}
-        for path in paths:
+        for path in design.paths:
             self.mirrors |= {(number % ROW, number // ROW) for number in path.item.mirrors}
         self.modules: list[Module] = []
         self.module_of_tile: dict[int, Module] = {}

@@ -7,7 +7,7 @@ inputs can be led. A failure takes some of the last gates back.
 import random
 from collections import Counter
 from dataclasses import dataclass
-from typing import Iterator
+from typing import Iterable, Iterator
 
 from ..circuits import Gate
 from ..layouts import Cell
@@ -16,12 +16,14 @@ from .board import Board, Step, Waiting, box_of, tiles_in
 from .cells import PORTS, GateCell
 from .paths import Path, PathFinder
 from .settings import Settings
-from .world import MARGIN, TILE, Item, path_item, tiles_of
+from .world import AROUND, MARGIN, TILE, Item, path_item, tiles_of
 
 # Largest side of a box in tiles: boxes have at most 64 by 64 cells.
 MOST_TILES = 4
 # A waiting ball is looked at again if something new is nearer than this many columns and rows.
 NEAR = 100
+# The cells of the square in which `World.taken_around` counts.
+FULL = (2 * AROUND) ** 2
 EVEN_BITS = sum(1 << index for index in range(0, 1024, 2))
 
 
@@ -72,8 +74,8 @@ class Placer:
                 found.append(Inlet(port, root, self.board.waiting[root].ball, netlist.least_steps(wire)))
         return found
 
-    def place_gate(self, gate: Gate) -> Step | None:
-        """Returns the cheapest of some ways to place a gate, or None. Nothing is added yet."""
+    def place_gate(self, gate: Gate, spots: Iterable[Spot] | None = None) -> Step | None:
+        """Returns the cheapest of some ways to place a gate, at any spots or at given ones, or None. Nothing is added yet."""
         self.reasons.clear()
         self.blame.clear()
         self.stuck.clear()
@@ -82,12 +84,12 @@ class Placer:
         self.least_time = max((netlist.least_steps(wire) for wire in gate.ins if netlist.is_zero(wire)), default=0)
         best: Step | None = None
         found, inlets = 0, self.inlets(gate)
-        for spot in self.spots(gate, inlets):
+        for spot in self.spots(gate, inlets) if spots is None else spots:
             self.reasons["tries"] += 1
             step = self.try_spot(gate, spot, inlets)
             if step is None:
                 self.note_stuck()
-                if max(self.blame.values(), default=0) > 40:
+                if max(self.blame.values(), default=0) > self.settings.most_blame:
                     break
                 continue
             if best is None or step.cost < best.cost:
@@ -100,7 +102,23 @@ class Placer:
     # --- where and when ------------------------------------------------------------------------------------------------
 
     def spots(self, gate: Gate, inlets: list[Inlet]) -> Iterator[Spot]:
-        """Yields places and times for a gate, at which its mirrors have room and its box is free."""
+        """Yields the best of some random spots for a gate, and so on: early ones, with few taken cells around them."""
+        settings = self.settings
+        batch: list[tuple[float, int, Spot]] = []
+        for index, spot in enumerate(self.random_spots(gate, inlets)):
+            left, top, right, bottom = spot.cell.bounds
+            taken = self.board.world.taken_around(spot.x + (left + right) // 2, spot.y + (top + bottom) // 2)
+            batch.append((spot.time + spot.cell.length + settings.full_steps * taken / FULL, index, spot))
+            if len(batch) == settings.spot_batch:
+                yield from (own for _, _, own in sorted(batch, key=lambda own: own[:2])[:settings.best_spots])
+                batch.clear()
+        yield from (own for _, _, own in batch)
+
+    def random_spots(self, gate: Gate, inlets: list[Inlet], is_crowded: bool = False) -> Iterator[Spot]:
+        """Yields places and times for a gate, at which its mirrors have room and its box is free.
+
+        If `is_crowded`, paths may be where its mirrors are.
+        """
         chance, tries = self.chance, self.settings.place_tries
         cells, partner = self.board.netlist.cells(gate), self.partner(gate, inlets)
         for index in range(tries):
@@ -109,7 +127,7 @@ class Placer:
             x, y, radius = self.centre(inlets, partner, growth, (right - left) // 2)
             x, y = x - (left + right) // 2, y - (top + bottom) // 2
             row = y + chance.randint(-radius, radius)
-            column = self.free_column(cell, row, x - radius, x + radius)
+            column = self.free_column(cell, row, (x - radius, x + radius), is_crowded)
             if column is None:
                 self.reasons["no room"] += 1
                 continue
@@ -147,15 +165,18 @@ class Placer:
             x, y = (x + other.x) // 2, (y + other.y) // 2
         return min(max(x, half), size - half), min(max(y, half), size - half), radius
 
-    def free_column(self, cell: GateCell, row: int, first: int, last: int) -> int | None:
-        """Returns a random column from `first` to `last` at which the cell's mirrors have room if it is at this row, or None."""
+    def free_column(self, cell: GateCell, row: int, columns: tuple[int, int], is_crowded: bool) -> int | None:
+        """Returns a random column from the first to the last of two at which the cell's mirrors have room if it is at this row, or None.
+
+        If `is_crowded`, only the layout must have room.
+        """
         left, top, right, bottom = cell.bounds
         far = self.board.size - MARGIN - 1
-        first, last = max(first, MARGIN - left), min(last, far - right)
+        first, last = max(columns[0], MARGIN - left), min(columns[1], far - right)
         if row + top < MARGIN or row + bottom > far or first > last:
             return None
         blocked, taken = self.board.world.blocked, 0
-        for x, y in cell.mirrors:
+        for x, y in cell.mirrors if not is_crowded else ():
             taken |= blocked[row + y] >> first + x
         free = ~taken & (EVEN_BITS << (first - row) % 2) & (1 << last - first + 1) - 1
         if not free:
@@ -216,6 +237,8 @@ class Placer:
     def reserve_outs(self, step: Step, gate: Gate) -> bool:
         """Lets a gate's outputs wait, if their ways out are free."""
         for port, wire in zip(PORTS[gate.word][1], gate.outs):
+            if self.board.netlist.is_zero(wire):
+                continue
             waiting = self.board.waiting_ball(step.gate.out(port))
             if waiting is None:
                 self.reasons["ways out"] += 1
@@ -283,7 +306,7 @@ class Placer:
             self.reasons["enclosed"] += 1
             return False
         late = max(0, self.done(step) - self.horizon)
-        step.cost += 3 * len(self.board.waiting) * late + 0.3 * max(ball_of(own).time for own in step.outs.values())
+        step.cost += 3 * len(self.board.waiting) * late + 0.3 * max((ball_of(own).time for own in step.outs.values()), default=0)
         return True
 
     def leaves_others(self, places: list[Cell]) -> bool:
@@ -337,7 +360,7 @@ class Placer:
 
     def done(self, step: Step) -> int:
         """Returns an estimate of the time at which all that follows a step is done."""
-        netlist, times = self.board.netlist, []
+        netlist, times = self.board.netlist, [step.gate.time + step.gate.cell.length]
         for wire, waiting in step.outs.items():
             consumer = netlist.consumer.get(wire)
             times.append(ball_of(waiting).time + (netlist.tails[consumer.number] if consumer else 0))

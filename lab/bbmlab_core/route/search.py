@@ -14,12 +14,13 @@ from typing import Callable, Iterator
 
 from ..circuits import Circuit
 from ..layouts import MAX_SIDE
-from .attempt import Attempt, Design, OutOfTimeError
+from .attempt import Attempt, OutOfTimeError
 from .board import NoRouteError, Step
 from .certificate import Certifier, bundle_text, circuit_section
+from .design import Design
 from .netlist import Netlist
 from .partial import INTERRUPT_SECONDS, SECONDS, hurried_design, partial_design, partial_text
-from .settings import Settings
+from .settings import Settings, for_growing
 from .world import TILE
 
 # The least side of a layout that is tried, and the attempts with a side before a larger one is tried.
@@ -28,6 +29,8 @@ ATTEMPTS_PER_SIDE = 2
 # The part of the layout's cells that paths and gates may touch by estimate, and the cells that a ball touches in a step.
 FILL = 0.16
 CELLS_PER_STEP = 2.6
+# If more balls than this end beyond those that begin, attempts also run backward in time.
+MOST_GROWTH = 20
 # The attempts that `--compact` makes at most.
 COMPACT_ATTEMPTS = 24
 
@@ -95,12 +98,24 @@ def estimated_side(netlist: Netlist) -> int:
     return side
 
 
-def attempts_of(netlist: Netlist, options: Options) -> Iterator[tuple[int, int]]:
-    """Yields sides and seeds in the order of attempts, without end."""
-    side, index = options.side or estimated_side(netlist), 0
+def netlists_of(circuit: Circuit, options: Options) -> list[Netlist]:
+    """Returns a circuit forward in time; and also backward, which comes first, if far more balls end than begin.
+
+    Balls that begin at any place are led more easily than balls to one last time. Parts are kept of forward netlists alone, so
+    these come first if parts are kept.
+    """
+    forward, backward = Netlist(circuit), Netlist(circuit, is_backward=True)
+    if len(backward.free_roots()) - len(forward.free_roots()) <= MOST_GROWTH:
+        return [forward]
+    return [forward, backward] if options.keeps_partial else [backward, forward]
+
+
+def attempts_of(netlists: list[Netlist], options: Options) -> Iterator[tuple[Netlist, int, int]]:
+    """Yields netlists, sides and seeds in the order of attempts, without end."""
+    side, index = options.side or estimated_side(netlists[0]), 0
     while True:
         for _ in range(ATTEMPTS_PER_SIDE):
-            yield side, options.seed * 1_000_003 + index
+            yield netlists[index % len(netlists)], side, options.seed * 1_000_003 + index
             index += 1
         side = side if options.side else min(MAX_SIDE, side + max(2 * TILE, side // 4 // TILE * TILE))
 
@@ -111,18 +126,19 @@ def routed_bundle(circuit_text: str, design: Design) -> Routed:
     text = bundle_text(circuit_text, certifier)
     layout = circuit_section(circuit_text) + "\n".join(certifier.layout) + "\n"
     return Routed(text, layout, design.size, design.end, len(certifier.mirrors), len(certifier.modules), certifier.most_cuts,
-                  len(design.steps))
+                  len(design.gates))
 
 
 class Search:
     """A search for a route of one circuit."""
 
     def __init__(self, circuit: Circuit, circuit_text: str, options: Options, settings: Settings, progress: Progress) -> None:
-        self.circuit, self.circuit_text, self.options, self.settings = circuit, circuit_text, options, settings
+        self.circuit_text, self.options = circuit_text, options
+        self.netlists = netlists_of(circuit, options)
+        self.settings = for_growing(settings) if len(self.netlists) > 1 else settings
         self.progress = progress
-        self.netlist = Netlist(circuit)
         self.deadline = time.monotonic() + options.effort
-        self.outcome = Outcome(total=len(self.netlist.gates))
+        self.outcome = Outcome(total=len(self.netlists[0].gates))
 
     def run(self) -> Outcome:
         """Returns what the search found. An interrupt ends it with the best part so far."""
@@ -141,11 +157,11 @@ class Search:
 
     def run_here(self) -> None:
         """Makes attempts in this process."""
-        for index, (side, seed) in enumerate(attempts_of(self.netlist, self.options)):
+        for index, (netlist, side, seed) in enumerate(attempts_of(self.netlists, self.options)):
             if index >= self.limit() or time.monotonic() > self.deadline:
                 break
             self.outcome.attempts = index + 1
-            attempt = Attempt(self.circuit, side, seed, self.settings, self.deadline)
+            attempt = Attempt(netlist, side, seed, self.settings, self.deadline)
             try:
                 design = attempt.run(lambda placed, total: self.progress(index + 1, side, placed, total))
                 if self.take(routed_bundle(self.circuit_text, design)):
@@ -168,11 +184,10 @@ class Search:
             self.outcome.reason = str(error)
 
     def note_partial(self, placed: int, steps: list[Step], side: int) -> None:
-        """Notes how many gates an attempt placed, and keeps them if they are the most."""
-        if placed >= self.outcome.placed:
-            self.outcome.placed = placed
-            if self.options.keeps_partial:
-                self.outcome.partial, self.outcome.partial_size = steps, side
+        """Notes how many gates an attempt placed, and keeps the steps that placed them if they are the most."""
+        self.outcome.placed = max(placed, self.outcome.placed)
+        if steps and self.options.keeps_partial and len(steps) >= len(self.outcome.partial):
+            self.outcome.partial, self.outcome.partial_size = steps, side
 
 
 # What a process sends: that it placed gates, with their steps if they are kept; its bundle; or why it failed.
@@ -183,7 +198,7 @@ Message = tuple[str, int, object]
 class Task:
     """An attempt for a process of its own."""
 
-    circuit: Circuit
+    netlist: Netlist
     circuit_text: str
     side: int
     seed: int
@@ -195,7 +210,7 @@ class Task:
 def work(connection: Connection, task: Task) -> None:
     """Makes one attempt, and sends messages on it. The process that started this one ends it."""
     signal.signal(signal.SIGINT, signal.SIG_IGN)
-    attempt = Attempt(task.circuit, task.side, task.seed, task.settings, task.deadline)
+    attempt = Attempt(task.netlist, task.side, task.seed, task.settings, task.deadline)
 
     def tell(placed: int, total: int) -> None:
         """Sends that gates were placed."""
@@ -224,7 +239,7 @@ class Pool:
 
     def __init__(self, search: Search) -> None:
         self.search = search
-        self.attempts = enumerate(attempts_of(search.netlist, search.options))
+        self.attempts = enumerate(attempts_of(search.netlists, search.options))
         self.workers: dict[Connection, Worker] = {}
         self.found: dict[int, Routed] = {}
 
@@ -258,9 +273,9 @@ class Pool:
 
     def start(self) -> None:
         """Starts the next attempt."""
-        search, (index, (side, seed)) = self.search, next(self.attempts)
+        search, (index, (netlist, side, seed)) = self.search, next(self.attempts)
         here, there = multiprocessing.Pipe(duplex=False)
-        task = Task(search.circuit, search.circuit_text, side, seed, search.settings, search.deadline, search.options.keeps_partial)
+        task = Task(netlist, search.circuit_text, side, seed, search.settings, search.deadline, search.options.keeps_partial)
         process = multiprocessing.get_context("fork").Process(target=work, args=(there, task), daemon=True)
         process.start()
         there.close()
@@ -301,6 +316,6 @@ def partial_bundle(circuit: Circuit, outcome: Outcome, settings: Settings) -> tu
     if found is None:
         return None
     try:
-        return routed_bundle(partial_text(found.circuit), found).text, len(found.steps)
+        return routed_bundle(partial_text(found.circuit), found).text, len(found.gates)
     except NoRouteError:
         return None

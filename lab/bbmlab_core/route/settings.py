@@ -1,6 +1,6 @@
 """The limits and costs of the search in one place."""
 
-from dataclasses import dataclass
+from dataclasses import dataclass, replace
 
 
 @dataclass(frozen=True)
@@ -29,6 +29,14 @@ class Settings:
     # The tries after which the places are as far away as they may be.
     growth_tries: int = 80
     place_choices: int = 4
+    # Of so many random spots the best are tried. A square around a spot that is all taken counts as a delay of `full_steps`.
+    spot_batch: int = 1
+    best_spots: int = 1
+    full_steps: float = 300.0
+    # A gate is given up if one of its inputs could not be led more often than this.
+    most_blame: int = 40
+    # By how much a gate comes earlier in the order of time for each step that must follow it: one of these for an attempt.
+    weights: tuple[float, ...] = (0.0, 0.3, 0.6)
     # The cost of a mirror, and of each step by which the last output of a gate is later.
     mirror_cost: float = 12.0
     step_cost: float = 40.0
@@ -47,3 +55,17 @@ class Settings:
     most_taken_out: int = 4
     # Failures after which an attempt with a seed and a size is given up.
     failures: int = 12
+    # The paths that are taken out at most to make way for a gate: at first, and so on. The crowded spots that are tried, and the
+    # steps of delay that one path less is worth.
+    rips: tuple[int, ...] = ()
+    crowded_choices: int = 4
+    rip_steps: float = 100.0
+
+
+def for_growing(settings: Settings) -> Settings:
+    """Returns settings for a circuit in which far more balls end than begin, so that the layout fills.
+
+    The first place that fits is taken, of random spots only the best are tried, and paths in the way are led again.
+    """
+    return replace(settings, place_tries=4 * settings.place_tries, growth_tries=4 * settings.growth_tries, place_choices=1,
+                   spot_batch=8, best_spots=2, most_blame=settings.most_blame // 2, weights=(0.0, 0.0, 0.3), failures=5, rips=(2, 6))

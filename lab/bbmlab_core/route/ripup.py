@@ -1,0 +1,151 @@
+"""Rip-up and reroute: paths that are in the way of a gate are taken out, and led again round the gate.
+
+Ends of such a path stay where they are, so all other gates and paths stay too.
+"""
+
+from dataclasses import replace
+from typing import Iterable, Iterator
+
+from ..circuits import Gate
+from .balls import Ball, Leg, Turn, bounce
+from .board import Board, Step
+from .paths import Path
+from .placement import Inlet, Placer, Spot
+from .world import Item, cell_item, cell_number, path_item, tiles_of
+
+# The steps ahead of a ball in which it should find places to turn, and the distance of the places that are looked at.
+STEPS_AHEAD = 70
+PLACE_STEPS = 4
+
+
+class WayMaker:
+    """Makes way for gates on a board."""
+
+    def __init__(self, board: Board, placer: Placer) -> None:
+        self.board, self.placer = board, placer
+        self.settings = board.settings
+
+    def make_way(self, gate: Gate) -> bool:
+        """Places a gate that found no place, by taking paths out and leading them again. If that fails the board is as before."""
+        placer = self.placer
+        reasons, blame = placer.reasons.copy(), placer.blame.copy()
+        for paths, spots in self.ways(gate):
+            if paths and self.place_without(gate, paths, spots):
+                return True
+        placer.reasons, placer.blame = reasons, blame
+        return False
+
+    def ways(self, gate: Gate) -> Iterator[tuple[list[Path], list[Spot] | None]]:
+        """Yields paths to take out, and the spots that they leave or None if any spot may be tried."""
+        placer, waiting = self.placer, self.board.waiting
+        blamed = [own.ball for root, _ in placer.blame.most_common(2) for own in [waiting.get(root)] if own and own.ball]
+        is_crowded = placer.reasons["no room"] > placer.reasons["tries"]
+        for ball in blamed:
+            found = self.paths_at(self.turning_places(ball))
+            for count in self.settings.rips:
+                yield found[:count], None
+        if is_crowded:
+            yield from self.crowded_spots(gate, placer.inlets(gate))
+
+    def all_paths(self) -> list[Path]:
+        """Returns the paths to gates."""
+        return [path for step in self.board.steps for path in step.paths]
+
+    def paths_at(self, place: Item) -> list[Path]:
+        """Returns the paths that an item would meet in space, those that it meets most first."""
+        found = []
+        for index, path in enumerate(self.all_paths()):
+            item = path.item
+            meets = len(place.mirrors & item.touched) + 4 * len(place.touched & item.mirrors) + len(place.mirrors & item.mirrors)
+            if meets:
+                found.append((-meets, index, path))
+        return [path for _, _, path in sorted(found, key=lambda own: own[:2])]
+
+    def turning_places(self, ball: Ball) -> Item:
+        """Returns what a waiting ball's way ahead takes, with mirrors at many places of it."""
+        far = self.board.size - 5
+        room = min(STEPS_AHEAD, far - ball.x if ball.dx > 0 else ball.x - 4, far - ball.y if ball.dy > 0 else ball.y - 4)
+        mirrors = [bounce(ball.flown(steps), turn)[1] for steps in range(2, max(3, room), PLACE_STEPS) for turn in Turn]
+        way = path_item(ball, [Leg(max(0, room), None)])
+        cells = {cell_number(cell) for mirror in mirrors for cell in mirror.cells()}
+        return Item(cells, way.touched if way else set(), set())
+
+    def crowded_spots(self, gate: Gate, inlets: list[Inlet]) -> Iterator[tuple[list[Path], list[Spot]]]:
+        """Yields spots for a gate at which only paths are in the way, with these paths: the fewest first."""
+        fixed = [own.gate.item for own in self.board.steps] + [path.item for own in self.board.steps for path in own.parked]
+        fixed += [own.item for own in self.board.waiting.values() if own.item]
+        found = []
+        for index, spot in enumerate(self.placer.random_spots(gate, inlets, is_crowded=True)):
+            item = cell_item(spot.cell, spot.x, spot.y, spot.time)
+            if any(meet(item, own) for own in fixed):
+                continue
+            paths = [path for path in self.all_paths() if meet(item, path.item)]
+            if len(paths) <= self.settings.rips[-1]:
+                found.append((len(paths) + spot.time / self.settings.rip_steps, index, spot, paths))
+        for _, _, spot, paths in sorted(found, key=lambda own: own[:2])[:self.settings.crowded_choices]:
+            yield paths, [replace(spot, time=spot.time + 2 * more) for more in range(0, 24, 2)]
+
+    def place_without(self, gate: Gate, paths: list[Path], spots: list[Spot] | None) -> bool:
+        """Places a gate while some paths are out, and leads them again; returns whether that was possible."""
+        board = self.board
+        for path in paths:
+            board.remove_path(path)
+        step = self.placer.place_gate(gate, spots)
+        if step is not None:
+            board.commit(step)
+            again = self.lead_again(step, paths)
+            if again is not None:
+                self.exchange(again)
+                return True
+            board.take_back()
+        for path in paths:
+            board.add_path(path)
+        return False
+
+    def lead_again(self, step: Step, paths: Iterable[Path]) -> dict[Path, Path] | None:
+        """Adds paths from and to the same balls as some that were taken out, or None if this is not possible."""
+        board, placer = self.board, self.placer
+        placer.finder.known_departures.clear()
+        again: dict[Path, Path] = {}
+        for path in sorted(paths, key=lambda own: (not board.world.fits(own.item), own.end.time - own.start.time)):
+            new = self.led(path)
+            if new is None:
+                break
+            board.add_path(new)
+            again[path] = new
+        places = [(mirror.x, mirror.y) for path, new in again.items() if new is not path for mirror in new.mirrors()]
+        if len(again) == len(list(paths)) and placer.leaves_others(places) and all(placer.can_turn(own) for own in step.outs.values()):
+            return again
+        for new in again.values():
+            board.remove_path(new)
+        return None
+
+    def led(self, path: Path) -> Path | None:
+        """Returns a path between the ends of another one: this path if it has room."""
+        board, finder = self.board, self.placer.finder
+        if board.world.fits(path.item):
+            return path
+        for _ in range(self.settings.end_tries):
+            new = finder.lead_here(path.wire, path.end) if self.is_free(path) else \
+                finder.connect(path.wire, path.start, path.end, self.settings.path_tries)
+            if new and board.has_room_for(new.wire, tiles_of(new.item.touched | new.item.mirrors)):
+                return new
+        return None
+
+    def is_free(self, path: Path) -> bool:
+        """Whether a path may begin anywhere."""
+        owner = next(step for step in self.board.steps if path in step.paths)
+        return owner.before[path.wire].ball is None
+
+    def exchange(self, again: dict[Path, Path]) -> None:
+        """Gives the steps their new paths. Steps that an earlier board has stay as they are."""
+        steps = self.board.steps
+        for index, step in enumerate(steps):
+            if any(path in again for path in step.paths):
+                steps[index] = replace(step, paths=[again.get(path, path) for path in step.paths])
+
+
+def meet(one: Item, other: Item) -> bool:
+    """Whether two items meet in space, at whatever times: a mirror of one is on a cell of the other."""
+    return not (one.mirrors.isdisjoint(other.touched) and one.touched.isdisjoint(other.mirrors)
+                and one.mirrors.isdisjoint(other.mirrors))

@@ -1,0 +1,132 @@
+"""Circuits that are placed from the last time to the first, and paths that are taken out and led again."""
+
+import random
+import subprocess
+import sys
+import unittest
+from unittest import mock
+
+import support
+from bbmlab_core.circuits import Circuit
+from bbmlab_core.documents import read_document
+from bbmlab_core.route.attempt import Attempt
+from bbmlab_core.route.balls import BOUNCE_STEPS, Ball, Leg, Turn, follow, path_run, reversed_legs
+from bbmlab_core.route.board import Board, NoRouteError
+from bbmlab_core.route.design import turned_path
+from bbmlab_core.route.netlist import Netlist
+from bbmlab_core.route.paths import Path
+from bbmlab_core.route.ripup import WayMaker
+from bbmlab_core.route.search import routed_bundle
+from bbmlab_core.route.settings import Settings, for_growing
+from bbmlab_core.route.world import World, path_item
+from test_route import LINES, circuit_text, gate_circuit
+
+sys.path.insert(0, str(support.TOP / "bench"))
+from random_circuits import made_circuit  # noqa: E402
+
+DELAYS = [
+    circuit_text("ab", "delay 9 a -> c\ndelay 30 c -> d\ndelay 5 b -> e\nswitch d e -> x y z", "xyz"),
+    circuit_text("abc", "delay 90 a -> d\ndelay 40 b -> e\ndelay 7 c -> f\nfredkin d e f -> x y z\ndelay 60 x -> w", "wyz"),
+    circuit_text("a", "source 0 -> b\ndelay 200 b -> c\ndelay 5 a -> d\nswitch d c -> x y z", "xyz"),
+    circuit_text("", "source 0 -> a\ndelay 500 a -> b\nsource 1 -> c\ndelay 30 c -> d", "bd"),
+]
+
+
+def read_circuit(text: str) -> Circuit:
+    """Reads a circuit section."""
+    circuit = read_document(text, "circuit").circuit
+    assert circuit
+    return circuit
+
+
+def random_legs(chance: random.Random) -> list[Leg]:
+    """Returns legs of a path with up to five bounces."""
+    turns = [chance.choice(list(Turn)) for _ in range(chance.randint(0, 5))]
+    return [*(Leg(chance.randint(BOUNCE_STEPS, 40), turn) for turn in turns), Leg(chance.randint(BOUNCE_STEPS, 40), None)]
+
+
+class Backward(unittest.TestCase):
+    """What is made backwards runs forward."""
+
+    def assert_yes(self, text: str, seed: int) -> None:
+        """Asserts that a circuit that is placed backwards gets a yes."""
+        netlist = Netlist(read_circuit(text), is_backward=True)
+        for index in range(8):
+            try:
+                design = Attempt(netlist, 256, seed + index, Settings()).run()
+                break
+            except NoRouteError:
+                continue
+        else:
+            self.fail("no route in 8 attempts")
+        bundle = routed_bundle(text, design).text
+        ended = subprocess.run([support.program(), "check"], input=bundle.encode(), capture_output=True, check=False)
+        self.assertIn("\nverdict yes\n", ended.stdout.decode())
+
+    def test_gates(self) -> None:
+        """Each kind of gate, delays in a row, and delays of constants."""
+        for text in [*map(gate_circuit, LINES), *DELAYS]:
+            with self.subTest(text):
+                self.assert_yes(text, 1)
+
+    def test_random_circuits(self) -> None:
+        """Random circuits of all kinds of gate, with a new seed each time."""
+        seed = random.randrange(10**6)
+        for index in range(6):
+            with self.subTest(seed=seed, index=index):
+                self.assert_yes(made_circuit("any", 4, 4, seed + index), seed)
+
+    def test_paths(self) -> None:
+        """A path's run backwards has the balls, the mirrors and the blocks of the exact run in the other order."""
+        chance = random.Random(5)
+        done = 0
+        while done < 40:
+            legs, start = random_legs(chance), Ball(400, 400, 1, 1, 0)
+            end, mirrors = follow(start, legs)
+            item, last = path_item(start, legs), 2 * chance.randint(200, 300) + 1
+            if item is None:
+                continue
+            path = turned_path(Path("a", start, end, tuple(legs), item), Netlist(read_circuit(circuit_text("a", "", "a"))), last)
+            run = path_run(path.start, path.legs)
+            self.assertEqual(set(run.states[-1]), set(start.cells()))
+            self.assertEqual(set(path.start.cells()), set(end.cells()))
+            self.assertEqual(follow(path.start, reversed_legs(legs))[1], mirrors[::-1])
+            self.assertEqual(path_item(path.start, path.legs), path.item)
+            done += 1
+
+
+class RipUp(unittest.TestCase):
+    """Paths that are taken out and led again."""
+
+    def assert_books(self, board: Board) -> None:
+        """Asserts that the world has exactly the items of the board."""
+        world = World(board.size)
+        items = [item for step in board.steps for item in [step.gate.item, *(path.item for path in [*step.paths, *step.parked])]]
+        for item in [*items, *(own.item for own in board.waiting.values() if own.item)]:
+            self.assertTrue(world.fits(item))
+            world.add(item)
+        self.assertEqual((world.claims, world.mirrors, world.counts), (board.world.claims, board.world.mirrors, board.world.counts))
+
+    def test_books(self) -> None:
+        """After each way that was made, and after each that was not, no two items meet and the books agree."""
+        right, results = WayMaker.make_way, []
+
+        def checked(self: WayMaker, gate: object) -> bool:
+            results.append(right(self, gate))  # type: ignore[arg-type]
+            return results[-1]
+
+        with mock.patch.object(WayMaker, "make_way", checked):
+            for seed in range(40):
+                attempt = Attempt(Netlist(read_circuit(made_circuit("forward", 14, 8, 3))), 160, seed, for_growing(Settings()))
+                before = len(results)
+                try:
+                    attempt.run(lambda placed, total: self.assert_books(attempt.board))
+                except NoRouteError:
+                    pass
+                if set(results) == {True, False} and len(results) > before:
+                    break
+        self.assertEqual(set(results), {True, False})
+
+
+if __name__ == "__main__":
+    unittest.main()
