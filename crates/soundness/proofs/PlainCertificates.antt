@@ -231,7 +231,7 @@ timed_is_kept lines ms ordered timed =
 record EachLine (P : ReportLine → Type 0) (n : ℕ) (r : Reasons) (b : Option BorderFault) : Type 0 where
   fault : (f : Fault) → r.fault ≡ Some f → P (line.Local n f)
   keep : (f : KeepFault) → r.keep ≡ Some f → P (line.Keep n f)
-  border : (f : BorderFault) → b ≡ Some f → P (line.BorderLine n f)
+  border : (f : BorderFault) → b ≡ Some f → P (line.Border n f)
 
 all_optional : {X : Type 0} (P : ReportLine → Type 0) (f : X → ReportLine) (o : Option X) →
     ((x : X) → o ≡ Some x → P (f x)) → All P (option_to_list (option_map f o))
@@ -254,7 +254,7 @@ all_from P n (f ∷ fs) (b ∷ bs) h =
     (All-append P (A ++ B) C
     (All-append P A B (all_optional P (λ f. line.Local n f) f.fault here.fault)
     (all_optional P (λ f. line.Keep n f) f.keep here.keep))
-    (all_optional P (λ f. line.BorderLine n f) b here.border))
+    (all_optional P (λ f. line.Border n f) b here.border))
     (all_from P (n + 1) fs bs (λ k r c at at'.
     subst (λ i. EachLine P i r c) (omega arith) (h (suc k) r c at at')))
 
