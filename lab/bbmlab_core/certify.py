@@ -41,12 +41,16 @@ class Wiring:
 
 @dataclass
 class Plan:
-    """What the user asked for: the kind of cuts, stops that are kept, and the processor time at which the search ends."""
+    """What the user asked for: the kind of cuts, stops that are kept, and the processor time at which the search ends.
+
+    Without `is_tried` the lab does not run the modules: the first cuts that fit are taken, and only the program finds a fault.
+    """
 
     version: int = 2
     cuts: str = "auto"
     stops: list[StopLine] = field(default_factory=list)
     until: float | None = None
+    is_tried: bool = True
 
 
 class Maker:
@@ -149,7 +153,7 @@ class Maker:
         for wiring in self.wirings(box, needed, inside, halo):
             if wiring.fits():
                 module.cuts, module.uses = wiring.cuts, dict.fromkeys(wiring.uses, 0)
-                if ModuleRun(self.circuit, self.layout, Certificate(1, [module]), module).least_fault() is None:
+                if not self.plan.is_tried or ModuleRun(self.circuit, self.layout, Certificate(1, [module]), module).least_fault() is None:
                     return module
         raise NoBoxError(f"the box {box} needs {len(needed)} wires, and no cuts that were tried serve it")
 

@@ -256,6 +256,17 @@ def add_view(commands: Commands) -> None:
     add_program(parser)
 
 
+def add_studio(commands: Commands) -> None:
+    """Adds `studio`."""
+    parser = commands.add("studio", late("studio"), "Draw a layout in the browser, and see the program's verdict while you draw.",
+                          "Example: bbmlab studio my_gate.txt")
+    parser.add_argument("file", nargs="?", metavar="FILE", help="the text to open (default: a new layout in this folder)")
+    parser.add_argument("--no-open", dest="open", action="store_false", help="print the address, and open no browser")
+    parser.add_argument("--port", type=from_zero, metavar="N", help="listen at this port of 127.0.0.1 (default: a free one)")
+    parser.add_argument("--memory", type=positive, default=4096, metavar="MIB", help="the memory limit of the program and of the lab (default: 4096)")
+    add_program(parser)
+
+
 def add_cells(commands: Commands) -> None:
     """Adds `cells`."""
     parser = commands.add("cells", late("cells"), "List the standard cells with their ports, or show one of them.",
@@ -299,7 +310,7 @@ def add_route(commands: Commands) -> None:
     add_program(parser)
 
 
-ADDERS = [add_check, add_receipts, add_explain, add_trace, add_draw, add_view, add_certify, add_route, add_cells, add_fmt, add_others]
+ADDERS = [add_check, add_receipts, add_explain, add_trace, add_draw, add_view, add_studio, add_certify, add_route, add_cells, add_fmt, add_others]
 
 
 def answered(run: Callable[[argparse.Namespace], int], options: argparse.Namespace) -> int:

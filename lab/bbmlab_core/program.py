@@ -104,6 +104,10 @@ class Running:
                 kill_session(process)
 
 
+# The runs that `ask` starts if it is not told otherwise. A process that can be stopped from outside sets it once, at its start.
+SHARED: Running | None = None
+
+
 def kill_session(process: "subprocess.Popen[bytes]") -> None:
     """Kills a program and what it started."""
     try:
@@ -114,7 +118,7 @@ def kill_session(process: "subprocess.Popen[bytes]") -> None:
 
 def ask(program: str, command: str, text: bytes, timeout: float | None = None, running: Running | None = None) -> Answer:
     """Runs a command of the program on a text."""
-    running = running or Running()
+    running = running or SHARED or Running()
     try:
         process = running.start([program, command])
     except OSError as error:

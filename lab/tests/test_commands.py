@@ -97,7 +97,7 @@ class Others(unittest.TestCase):
 
     def test_help_of_each(self) -> None:
         """Each command has a help with an example."""
-        for name in ("check", "explain", "trace", "draw", "view", "certify", "fmt", "json", "golly", "from-golly"):
+        for name in ("check", "explain", "trace", "draw", "view", "studio", "certify", "fmt", "json", "golly", "from-golly"):
             ended = support.lab(name, "--help")
             with self.subTest(name):
                 self.assertEqual(ended.returncode, 0)

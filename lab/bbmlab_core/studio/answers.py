@@ -1,0 +1,143 @@
+"""What the studio answers to the requests of its page."""
+
+from dataclasses import dataclass
+from functools import lru_cache
+from pathlib import Path
+from typing import Any, Callable
+
+from .. import json_form, standard_cells
+from ..documents import read_document
+from ..program import HERE, ProgramError
+from ..refusals import explain_refusal
+from ..releases import program_at
+from ..spelling import spelled
+from ..terminal import LabError
+from .folder import ChangedError, Folder, FolderError, bytes_of, digest_of, text_of
+from .guard import Denied
+from .jobs import Jobs
+from .verdicts import source_line
+
+# The folders of the examples, in a clone and in an installation.
+EXAMPLES = [HERE.parent.parent / "examples", HERE.parent.parent.parent / "share" / "doc" / "bbmcheck" / "examples"]
+EMPTY = "circuit\nend\nlayout 48 48 40\nend\n"
+Answer = dict[str, Any]
+
+
+def word(body: Answer, name: str) -> str:
+    """Returns a member of a request that is a text."""
+    value = body.get(name)
+    if not isinstance(value, str):
+        raise Denied(400, f"the request has no text `{name}`")
+    return value
+
+
+@lru_cache(maxsize=None)
+def cells() -> list[Answer]:
+    """Returns the standard cells with their layouts, circuits and ports."""
+    found = []
+    for name in standard_cells.cell_names():
+        cell = standard_cells.read_cell(name)
+        layout, _ = standard_cells.parts_of(cell.document)
+        ports = [{"role": port.role, "name": port.name, "cell": list(port.lead), "direction": [port.dx, port.dy], "time": port.time} for port in cell.ports]
+        found.append({"name": name, "about": standard_cells.ABOUT[name], "layout": json_form.layout_json(layout),
+                      "circuit": cell.document.text.split("\nlayout ")[0].split("\n"), "ports": ports})
+    return found
+
+
+@lru_cache(maxsize=None)
+def examples() -> dict[str, Path]:
+    """Returns the examples that have a layout, by their names."""
+    folder = next((place for place in EXAMPLES if place.is_dir()), None)
+    found = sorted(folder.glob("*.txt")) if folder else []
+    return {path.stem: path for path in found if "layout " in path.read_text(encoding="latin-1")}
+
+
+@dataclass
+class Answers:
+    """The answers to the requests, by their names."""
+
+    folder: Folder
+    jobs: Jobs | None
+
+    def answer(self, name: str, body: Answer) -> Answer:
+        """Returns the answer to a request."""
+        known: dict[str, Callable[[Answer], Answer]] = {
+            "start": self.start, "open": self.open, "save": self.save, "files": self.files, "refusal": self.refusal, "cells": self.cells,
+            "template": self.template, "verdict": self.job, "explain": self.job, "export": self.job}
+        if name not in known:
+            raise Denied(404, "there is no such request")
+        try:
+            return known[name]({**body, "kind": name})
+        except (FolderError, LabError) as error:
+            return {"error": str(error)}
+
+    def start(self, _body: Answer) -> Answer:
+        """Returns the opened file, the program and the templates."""
+        try:
+            if self.jobs is None:
+                raise ProgramError("it was not found")
+            asked = program_at(self.jobs.program)
+            program = {"path": self.jobs.program, "version": asked.version, "sha256": asked.sha256, "is_release": asked.kit is not None}
+        except ProgramError as error:
+            program = {"path": None, "why": str(error)}
+        opened = self.open({"name": self.folder.name})
+        return {"program": program, "folder": str(self.folder.place), "templates": ["empty", *standard_cells.cell_names()], "examples": list(examples()),
+                **opened}
+
+    def open(self, body: Answer) -> Answer:
+        """Returns a file of the folder. A file that is missing is an empty layout with the digest null."""
+        name = word(body, "name")
+        data = self.folder.read(name)
+        if data is None:
+            return {"name": name, "text": EMPTY, "digest": None}
+        return {"name": name, "text": text_of(data), "digest": digest_of(data)}
+
+    def save(self, body: Answer) -> Answer:
+        """Writes a file of the folder, unless it changed since the page read it."""
+        data, known = bytes_of(word(body, "text")), body.get("digest")
+        try:
+            digest = self.folder.write(word(body, "name"), data, known if isinstance(known, str) else None, body.get("force") is True)
+        except ChangedError as error:
+            return {"changed": True, "digest": error.digest, "error": str(error)}
+        return {"digest": digest}
+
+    def files(self, _body: Answer) -> Answer:
+        """Returns the files of the folder that can be opened."""
+        return {"files": self.folder.names()}
+
+    def refusal(self, body: Answer) -> Answer:
+        """Returns where the lab's reader refuses the circuit and the layout, or null."""
+        source = bytes_of(word(body, "text")).decode("latin-1")
+        text = spelled(source).text
+        document = read_document(text.split("\ncertificate ")[0] + ("\n" if "\ncertificate " in text else ""), "design")
+        if document.refusal is None:
+            return {"refusal": None}
+        told = explain_refusal(document, document.refusal)
+        return {"refusal": {"line": source_line(source, text, document.refusal.line), "code": document.refusal.code, "words": told.what, "rule": told.rule,
+                            "hints": told.hints}}
+
+    def cells(self, _body: Answer) -> Answer:
+        """Returns the standard cells."""
+        return {"cells": cells()}
+
+    def template(self, body: Answer) -> Answer:
+        """Returns the text of an example, of a standard cell or of an empty layout."""
+        name = word(body, "name")
+        if name == "empty":
+            return {"text": EMPTY}
+        if name.startswith("example "):
+            path = examples().get(name.removeprefix("example "))
+            if path is None:
+                raise LabError("there is no such example")
+            return {"text": text_of(path.read_bytes())}
+        return {"text": standard_cells.read_cell(name).document.text}
+
+    def job(self, body: Answer) -> Answer:
+        """Runs a job that may take a while."""
+        if self.jobs is None:
+            return {"error": "The program was not found: name it with --program PATH or set BBMCHECK."}
+        for name in ("text", "tab", *{"explain": ("bundle", "report"), "export": ("bundle", "form", "name")}.get(body["kind"], ())):
+            word(body, name)
+        if body["kind"] == "export" and not (isinstance(body.get("on"), list) and all(isinstance(name, str) for name in body["on"])):
+            raise Denied(400, "the request has no list `on`")
+        return self.jobs.run(body["tab"], body)

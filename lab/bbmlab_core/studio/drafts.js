@@ -1,0 +1,44 @@
+/**
+ * Keeps drafts in the browser: a draft for each file and tab. A draft whose tab is still open is not offered to other tabs: an open tab
+ * holds a lock with its name. Adds `bbmlab.drafts`.
+ */
+"use strict";
+
+{
+  const { server } = bbmlab;
+  const PREFIX = "bbmlab draft ";
+  const lockOf = (tab) => `bbmlab tab ${tab}`;
+  const keyOf = (folder, name, tab) => `${PREFIX}${JSON.stringify([folder, name, tab])}`;
+
+  // The lock is held until the tab is closed.
+  if (navigator.locks) navigator.locks.request(lockOf(server.tab), () => new Promise(() => {}));
+
+  /** Keeps a draft. Returns false if the browser has no room. */
+  function keep(folder, name, text, digest) {
+    try {
+      localStorage.setItem(keyOf(folder, name, server.tab), JSON.stringify({ text, digest, at: Date.now() }));
+      return true;
+    } catch { return false; }
+  }
+
+  /** Forgets this tab's draft of a file. */
+  function forget(folder, name, tab = server.tab) { localStorage.removeItem(keyOf(folder, name, tab)); }
+
+  /** Returns the drafts of a file that no other open tab is working on, the newest first. */
+  async function found(folder, name) {
+    const held = navigator.locks ? (await navigator.locks.query()).held.map((lock) => lock.name) : [];
+    const drafts = [];
+    for (let index = 0; index < localStorage.length; index += 1) {
+      const key = localStorage.key(index);
+      if (!key.startsWith(PREFIX)) continue;
+      try {
+        const [place, file, tab] = JSON.parse(key.slice(PREFIX.length)), draft = JSON.parse(localStorage.getItem(key));
+        const isOther = tab !== server.tab && held.includes(lockOf(tab));
+        if (place === folder && file === name && !isOther && typeof draft.text === "string") drafts.push({ ...draft, tab });
+      } catch { /* Somebody else's entry. */ }
+    }
+    return drafts.sort((one, other) => other.at - one.at);
+  }
+
+  bbmlab.drafts = { keep, forget, found };
+}

@@ -1,0 +1,153 @@
+/** Opens, saves and exports texts, and keeps and offers drafts. Adds `bbmlab.Files`. */
+"use strict";
+
+{
+  const { parts: { element, made, ask, notice, delayed }, server, drafts } = bbmlab;
+  const DRAFT_DELAY = 250;
+  const EXPORTS = { svg: ["SVG picture", "svg", "image/svg+xml"], golly: ["Golly pattern", "rle", "text/plain"], page: ["page for a browser", "html", "text/html"] };
+
+  /** Returns a list in which one can be chosen, with a name. */
+  function chooser(label, groups) {
+    const list = made("select"), frame = made("label", `${label} `);
+    for (const [title, options] of groups) {
+      const group = made("optgroup");
+      group.label = title;
+      for (const [value, text] of options) group.append(Object.assign(made("option", text), { value }));
+      list.append(group);
+    }
+    frame.append(list);
+    return { list, frame };
+  }
+
+  class Files {
+    /** @param {bbmlab.Desk} desk @param {bbmlab.VerdictPanel} verdicts @param {(text: string, isBad?: boolean) => void} say */
+    constructor(desk, verdicts, say) {
+      Object.assign(this, { desk, verdicts, say, folder: "", name: "", digest: null, saved: null });
+      this.keepSoon = delayed(DRAFT_DELAY, () => this.keepDraft());
+      desk.listen("change", () => { this.showName(); this.keepSoon(); });
+      for (const [id, action] of [["save", () => this.save()], ["open", () => this.chooseFile()], ["new", () => this.chooseTemplate()],
+        ["export", () => this.chooseExport()]]) element(id).addEventListener("click", action);
+      addEventListener("beforeunload", (event) => { this.keepDraft(); if (this.isChanged) event.preventDefault(); });
+    }
+
+    /** Whether the text differs from the file. */
+    get isChanged() { return this.saved !== null && this.desk.model.text !== this.saved; }
+
+    showName() {
+      element("name").textContent = `${this.name}${this.isChanged ? " *" : ""}`;
+      document.title = `${this.isChanged ? "* " : ""}${this.name} · bbmlab studio`;
+      element("undo").disabled = this.desk.model.past.length === 0;
+      element("redo").disabled = this.desk.model.future.length === 0;
+    }
+
+    /** Takes a file that the server read. */
+    take({ name, text, digest }) {
+      Object.assign(this, { name, digest, saved: text });
+      this.desk.open(text);
+      this.showName();
+      this.offerDraft();
+    }
+
+    // ---- drafts
+
+    /** Keeps the text in the browser while it differs from the file. */
+    keepDraft() {
+      if (this.saved === null) return;
+      if (!this.isChanged) drafts.forget(this.folder, this.name);
+      else if (!drafts.keep(this.folder, this.name, this.desk.model.text, this.digest)) this.say("The browser has no room for a draft: save the file.", true);
+    }
+
+    /** Offers the newest draft that differs from the file. */
+    async offerDraft() {
+      const { name, folder } = this, draft = (await drafts.found(folder, name)).find(({ text }) => text !== this.saved);
+      if (!draft || name !== this.name) return;
+      const forget = () => drafts.forget(folder, name, draft.tab);
+      notice(`There is a draft of ${name} from ${new Date(draft.at).toLocaleString()} that was not saved. `, [
+        ["take the draft", () => { forget(); this.desk.model.setText(draft.text, "draft"); }], ["throw it away", forget]]);
+    }
+
+    // ---- save
+
+    /** Writes the text to the file, with the certificate that was checked if the text has none that got a yes. */
+    async save(name = this.name, isForced = false) {
+      const { verdicts, desk } = this, { verdict } = verdicts;
+      if (verdicts.isCurrent && verdict.verdict === "yes" && verdict.by !== "own") {
+        const place = verdict.bundle.indexOf("\ncertificate ") + 1;
+        if (place) desk.model.setTail(verdict.bundle.slice(place));
+      }
+      const { text } = desk.model;
+      const answer = await server.request("save", { name, text, digest: name === this.name ? this.digest : null, force: isForced });
+      if (answer.changed) { this.askAboutChange(name, answer); return; }
+      if (answer.error) { this.say(answer.error, true); return; }
+      const old = this.name;
+      Object.assign(this, { name, digest: answer.digest, saved: text });
+      if (old !== name) drafts.forget(this.folder, old);
+      this.keepDraft();
+      this.showName();
+      this.say(`Saved ${name}.`);
+    }
+
+    /** Asks what to do with a file that changed since the page read it. */
+    async askAboutChange(name, { error }) {
+      const field = Object.assign(made("input"), { type: "text", value: name.replace(/(_\d+)?\.txt$/, "_2.txt"), ariaLabel: "Another name" });
+      const what = await ask("The file is another one now", [made("p", `${error}. Nothing was written.`), field],
+        [["write over it", () => "over"], ["save under this name", () => field.value], ["open the file again", () => "again"], ["cancel", () => null]]);
+      if (what === "over") this.save(name, true);
+      else if (what === "again") this.openFile(name);
+      else if (what) this.save(what);
+    }
+
+    // ---- open, new, export
+
+    /** Opens a file of the folder. */
+    async openFile(name) {
+      this.keepDraft();
+      const answer = await server.request("open", { name });
+      if (answer.error) this.say(answer.error, true); else this.take(answer);
+    }
+
+    /** Asks which file to open. */
+    async chooseFile() {
+      const { files, error } = await server.request("files");
+      if (error) { this.say(error, true); return; }
+      const { list, frame } = chooser("File", [[this.folder, files.map((name) => [name, name])]]);
+      const name = await ask("Open a file of this folder", files.length ? [frame] : [made("p", "The folder has no .txt files.")],
+        [...(files.length ? [["open", () => list.value]] : []), ["cancel", () => null]]);
+      if (name) this.openFile(name);
+    }
+
+    /** Asks for a template and a name. */
+    async chooseTemplate() {
+      const { list, frame } = chooser("Begin with", [["Empty", [["empty", "an empty layout"]]], ["Standard cells", this.templates.filter((name) => name !== "empty").map((name) => [name, name])],
+        ["Examples", this.examples.map((name) => [`example ${name}`, name])]]);
+      const field = Object.assign(made("input"), { type: "text", value: "new.txt" }), label = made("label", "File ");
+      label.append(field);
+      const chosen = await ask("New layout", [frame, label], [["make", () => [list.value, field.value]], ["cancel", () => null]]);
+      if (!chosen) return;
+      const answer = await server.request("template", { name: chosen[0] });
+      if (answer.error) { this.say(answer.error, true); return; }
+      const there = await server.request("open", { name: chosen[1] });
+      if (there.error) { this.say(there.error, true); return; }
+      if (there.digest !== null) { this.say(`${chosen[1]} exists: choose another name.`, true); return; }
+      this.keepDraft();
+      this.take({ name: chosen[1], text: answer.text, digest: null });
+    }
+
+    /** Asks for a form, and downloads the text in it. */
+    async chooseExport() {
+      const { list, frame } = chooser("As", [["Forms", Object.entries(EXPORTS).map(([form, [title]]) => [form, title])]]);
+      const form = await ask("Export", [frame], [["export", () => list.value], ["cancel", () => null]]);
+      if (!form) return;
+      const { verdicts, desk } = this, { verdict } = verdicts, bundle = verdicts.isCurrent && ["yes", "no"].includes(verdict.verdict) ? verdict.bundle : "";
+      const on = desk.player.names.filter((name) => desk.player.on.has(name));
+      const answer = await server.request("export", { text: desk.model.text, bundle, form, name: this.name, on });
+      if (answer.error) { this.say(answer.error, true); return; }
+      const [, ending, type] = EXPORTS[form], link = made("a");
+      Object.assign(link, { href: URL.createObjectURL(new Blob([answer.text], { type })), download: this.name.replace(/\.txt$/, "") + `.${ending}` });
+      link.click();
+      setTimeout(() => URL.revokeObjectURL(link.href), 10000);
+    }
+  }
+
+  bbmlab.Files = Files;
+}

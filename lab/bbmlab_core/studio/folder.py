@@ -1,0 +1,111 @@
+"""The opened file and the `.txt` files of its folder: the only files that the studio reads and writes."""
+
+import hashlib
+import os
+import re
+import stat
+import threading
+from pathlib import Path
+
+from ..lines import MAX_TEXT_BYTES
+from ..terminal import replace_file
+
+# A name of a file of the folder: no path, no hidden file, no control character.
+FILE_NAME = re.compile(r"[^./\\\x00-\x1f\x7f][^/\\\x00-\x1f\x7f]{0,200}\.txt\Z")
+
+
+class FolderError(Exception):
+    """A file that may not be read or written, or cannot be. The message is for the user."""
+
+
+class ChangedError(FolderError):
+    """A file that is no longer as the page read it. `digest` is that of the file now, or None if it is missing."""
+
+    def __init__(self, message: str, digest: str | None) -> None:
+        super().__init__(message)
+        self.digest = digest
+
+
+def digest_of(data: bytes) -> str:
+    """Returns the SHA-256 of a file's bytes."""
+    return hashlib.sha256(data).hexdigest()
+
+
+def text_of(data: bytes) -> str:
+    """Returns bytes as the page has them: UTF-8, with lone surrogates for bytes of no character."""
+    return data.decode("utf-8", "surrogateescape")
+
+
+def bytes_of(text: str) -> bytes:
+    """Returns the bytes of a text of the page."""
+    try:
+        return text.encode("utf-8", "surrogateescape")
+    except UnicodeEncodeError as error:
+        raise FolderError("the text contains half a character") from error
+
+
+class Folder:
+    """The folder of the opened file. Each name from a request is checked here before it reaches the file system."""
+
+    def __init__(self, file: str | None) -> None:
+        path = Path(os.path.realpath(file)) if file else free_path(Path.cwd())
+        self.place, self.name = path.parent, path.name
+        self.lock = threading.Lock()
+
+    def names(self) -> list[str]:
+        """Returns the `.txt` files of the folder that can be opened, and the opened file if it exists."""
+        try:
+            found = {entry.name for entry in os.scandir(self.place) if FILE_NAME.match(entry.name) and entry.is_file(follow_symlinks=False)}
+        except OSError as error:
+            raise FolderError(f"{self.place}: {error.strerror or error}") from error
+        return sorted(found | ({self.name} if (self.place / self.name).is_file() else set()))
+
+    def path_of(self, name: str) -> Path:
+        """Returns the path of a file of the folder. Raises FolderError if the name is not one of them, or is a link."""
+        if name != self.name and not FILE_NAME.match(name):
+            raise FolderError("a name of a file ends with .txt and contains no folder")
+        path = self.place / name
+        if path.is_symlink() or path.exists() and not path.is_file():
+            raise FolderError(f"{name} is no plain file")
+        return path
+
+    def read(self, name: str) -> bytes | None:
+        """Returns the bytes of a file, or None if it is missing."""
+        path = self.path_of(name)
+        try:
+            with open(os.open(path, os.O_RDONLY | os.O_NOFOLLOW | os.O_NONBLOCK), "rb") as file:
+                if not stat.S_ISREG(os.fstat(file.fileno()).st_mode):
+                    raise FolderError(f"{name} is no plain file")
+                data = file.read(MAX_TEXT_BYTES + 1)
+        except FileNotFoundError:
+            return None
+        except OSError as error:
+            raise FolderError(f"{name}: {error.strerror or error}") from error
+        if len(data) > MAX_TEXT_BYTES:
+            raise FolderError(f"{name} is larger than 16 MiB")
+        return data
+
+    def write(self, name: str, data: bytes, known: str | None, is_forced: bool) -> str:
+        """Writes a file through one beside it, and returns its digest. `known` is the digest of the file as the page has read it.
+
+        Raises ChangedError if the file is another one now, unless the user has said that it may be replaced.
+        """
+        path = self.path_of(name)
+        with self.lock:
+            old = self.read(name)
+            now = None if old is None else digest_of(old)
+            if now != known and now != digest_of(data) and not is_forced:
+                raise ChangedError(f"{name} {'is missing now' if now is None else 'changed meanwhile' if known else 'exists already'}", now)
+            try:
+                replace_file(str(path), data)
+            except OSError as error:
+                raise FolderError(f"{name}: {error.strerror or error}") from error
+        return digest_of(data)
+
+
+def free_path(folder: Path) -> Path:
+    """Returns a name for a new layout that no file of a folder has."""
+    number = 1
+    while (folder / f"layout_{number}.txt").exists():
+        number += 1
+    return folder / f"layout_{number}.txt"

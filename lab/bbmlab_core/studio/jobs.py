@@ -1,0 +1,129 @@
+"""Runs jobs in a process of their own, one at a time, and ends those that take too long or that a newer job replaces."""
+
+import json
+import os
+import select
+import signal
+import subprocess
+import sys
+import threading
+import time
+from pathlib import Path
+from typing import Any
+
+PACKAGE_PARENT = Path(__file__).resolve().parents[2]
+# How many seconds more than the program's limit a job may take, and how many a process may take to end.
+MORE_SECONDS, END_SECONDS = 10.0, 2.0
+
+
+class Worker:
+    """A process that answers jobs."""
+
+    def __init__(self, program: str, seconds: float, memory: int) -> None:
+        words = [sys.executable, "-B", "-m", "bbmlab_core.studio.worker", program, str(seconds), str(memory)]
+        path = os.pathsep.join([str(PACKAGE_PARENT), *filter(None, [os.environ.get("PYTHONPATH")])])
+        self.process = subprocess.Popen(words, stdin=subprocess.PIPE, stdout=subprocess.PIPE, start_new_session=True,
+                                        env={**os.environ, "PYTHONPATH": path})
+        self.is_ended = False
+
+    def answer(self, job: dict[str, Any], seconds: float) -> dict[str, Any] | None:
+        """Returns the answer to a job, or None if the process ended or the time is over."""
+        assert self.process.stdin and self.process.stdout
+        try:
+            self.process.stdin.write(json.dumps(job).encode() + b"\n")
+            self.process.stdin.flush()
+        except OSError:
+            return None
+        until, found, output = time.monotonic() + seconds, bytearray(), self.process.stdout.fileno()
+        while not found.endswith(b"\n"):
+            ready, _, _ = select.select([output], [], [], max(0.0, until - time.monotonic()))
+            part = os.read(output, 1 << 20) if ready else b""
+            if not part:
+                return None
+            found += part
+        answer: dict[str, Any] = json.loads(found)
+        return answer
+
+    def end(self) -> None:
+        """Asks the process to end with the program that it runs, and kills it if it does not."""
+        self.is_ended = True
+        try:
+            self.process.send_signal(signal.SIGTERM)
+            self.process.wait(END_SECONDS)
+        except subprocess.TimeoutExpired:
+            self.process.kill()
+            self.process.wait()
+
+    def release(self) -> None:
+        """Closes the pipes. Only the thread that waits for an answer may do so: another one could be given the number of a closed pipe."""
+        for stream in (self.process.stdin, self.process.stdout):
+            if stream:
+                try:
+                    stream.close()
+                except OSError:
+                    pass
+
+
+class Jobs:
+    """The jobs of all tabs. A tab's newer job ends its older one; jobs of other tabs wait."""
+
+    def __init__(self, program: str, seconds: float, memory: int) -> None:
+        self.program, self.seconds, self.memory = program, seconds, memory
+        self.turn, self.lock = threading.Lock(), threading.Lock()
+        self.newest: dict[str, int] = {}
+        self.count = 0
+        self.worker: Worker | None = None
+        # The tab whose job runs now.
+        self.running: str | None = None
+        self.is_closed = False
+
+    def run(self, tab: str, job: dict[str, Any]) -> dict[str, Any]:
+        """Returns the answer to a job. It is `{"replaced": true}` if the tab asked for another one meanwhile."""
+        with self.lock:
+            self.count += 1
+            ticket = self.newest[tab] = self.count
+            old = self.worker if self.running == tab else None
+        if old:
+            old.end()
+        with self.turn:
+            with self.lock:
+                if self.newest[tab] != ticket or self.is_closed:
+                    return {"replaced": True}
+                self.running = tab
+                worker = self.worker = self.worker if self.worker and not self.worker.is_ended else self.started()
+            try:
+                found = worker.answer(job, self.seconds + MORE_SECONDS)
+                is_good = found is not None and not worker.is_ended and self.newest[tab] == ticket
+                return found if found is not None and is_good else self.ended(worker, tab, ticket)
+            finally:
+                with self.lock:
+                    self.running = None
+
+    def warm(self) -> None:
+        """Starts the process, so that the first job need not wait for it."""
+        with self.turn, self.lock:
+            if self.worker is None and not self.is_closed:
+                self.worker = self.started()
+
+    def started(self) -> Worker:
+        """Returns a new process."""
+        return Worker(self.program, self.seconds, self.memory)
+
+    def ended(self, worker: Worker, tab: str, ticket: int) -> dict[str, Any]:
+        """Ends a process that gave no answer, and says why there is none."""
+        was_replaced = worker.is_ended or self.newest[tab] != ticket
+        worker.end()
+        worker.release()
+        if was_replaced:
+            return {"replaced": True}
+        return {"error": f"There is no answer: the time limit of {self.seconds:g} seconds or the memory limit of {self.memory} MiB was reached."}
+
+    def close(self) -> None:
+        """Ends the process. No job runs later."""
+        with self.lock:
+            self.is_closed = True
+            worker, is_idle = self.worker, self.running is None
+        if worker:
+            worker.end()
+            if is_idle:
+                worker.release()

@@ -1,0 +1,135 @@
+"""The server of the studio: it answers its own page on the loopback address, and nobody else."""
+
+import hashlib
+import json
+import os
+import secrets
+import socket
+from http.server import BaseHTTPRequestHandler, ThreadingHTTPServer
+from pathlib import Path
+from typing import Any
+
+from .. import viewing
+from .answers import Answers
+from .guard import Denied, Guard
+
+ADDRESS = "127.0.0.1"
+HERE = Path(__file__).resolve().parent
+TYPES = {".js": "text/javascript", ".css": "text/css", ".html": "text/html"}
+POLICY = ("default-src 'none'; script-src 'self'; style-src 'self'; connect-src 'self'; img-src data:; base-uri 'none'; "
+          "form-action 'none'; frame-ancestors 'none'")
+HEADERS = {"Content-Security-Policy": POLICY, "X-Content-Type-Options": "nosniff", "Referrer-Policy": "no-referrer", "Cache-Control": "no-store",
+           "Cross-Origin-Opener-Policy": "same-origin", "Cross-Origin-Resource-Policy": "same-origin"}
+# The first of the ports that no service has (RFC 6335), and how many of them are taken in turn.
+FIRST_PORT, PORTS = 49152, 16000
+# How long a connection may be silent, in seconds.
+SILENCE = 60
+
+
+def page_files() -> dict[str, tuple[str, bytes]]:
+    """Returns the files of the page with their types, by their paths: the viewer's scripts and style, and the studio's own."""
+    found = {}
+    for folder, place in (("view", viewing.TEMPLATE), ("studio", HERE)):
+        for path in sorted(place.iterdir()):
+            if path.suffix in (".js", ".css"):
+                found[f"{folder}/{path.name}"] = (TYPES[path.suffix], path.read_bytes())
+    found[""] = (TYPES[".html"], (HERE / "studio.html").read_bytes())
+    return found
+
+
+class Studio(ThreadingHTTPServer):
+    """The server. Each request is answered in a thread."""
+
+    daemon_threads = True
+    allow_reuse_address = True
+
+    def __init__(self, port: int, answers: Answers) -> None:
+        super().__init__((ADDRESS, port), Handler)
+        self.answers = answers
+        self.guard = Guard(f"{ADDRESS}:{self.server_address[1]}", secrets.token_urlsafe(24))
+        self.files = page_files()
+
+    @property
+    def address(self) -> str:
+        """The address of the page, with the secret."""
+        return f"http://{self.guard.host}/{self.guard.secret}/"
+
+    def handle_error(self, request: Any, client_address: Any) -> None:
+        """Says nothing if a page closed its connection."""
+
+
+class Handler(BaseHTTPRequestHandler):
+    """Answers the requests of a connection."""
+
+    server: Studio
+    protocol_version = "HTTP/1.1"
+    server_version, sys_version = "bbmlab", ""
+    timeout = SILENCE
+
+    def do_GET(self) -> None:
+        """Sends a file of the page."""
+        try:
+            path = self.server.guard.path_behind_secret(self.path)
+            self.server.guard.require_own_page(self.headers, False)
+            if path not in self.server.files:
+                raise Denied(404, "there is no such page")
+            kind, data = self.server.files[path]
+            self.send(200, kind, data)
+        except Denied as denied:
+            self.deny(denied)
+
+    def do_POST(self) -> None:
+        """Answers a request of the page."""
+        try:
+            path = self.server.guard.path_behind_secret(self.path)
+            self.server.guard.require_own_page(self.headers, True)
+            data = self.rfile.read(self.server.guard.body_length(self.headers))
+            body = json.loads(data)
+            if not isinstance(body, dict):
+                raise Denied(400, "a request is a JSON object")
+            answer = self.server.answers.answer(path.removeprefix("api/") if path.startswith("api/") else "", body)
+            self.send(200, "application/json", json.dumps(answer).encode())
+        except (ValueError, RecursionError):
+            self.deny(Denied(400, "the request is no JSON"))
+        except Denied as denied:
+            self.deny(denied)
+
+    def deny(self, denied: Denied) -> None:
+        """Refuses a request, and ends the connection, since its body may be unread."""
+        self.close_connection = True
+        self.send(denied.status, "application/json", json.dumps({"error": denied.why}).encode())
+
+    def send(self, status: int, kind: str, data: bytes) -> None:
+        """Sends an answer."""
+        self.send_response(status)
+        for name, value in HEADERS.items():
+            self.send_header(name, value)
+        self.send_header("Content-Type", f"{kind}; charset=utf-8")
+        self.send_header("Content-Length", str(len(data)))
+        if self.close_connection:
+            self.send_header("Connection", "close")
+        self.end_headers()
+        self.wfile.write(data)
+
+    def log_message(self, format: str, *args: Any) -> None:  # pylint: disable=redefined-builtin
+        """Logs nothing: addresses contain the secret."""
+
+
+def studio(port: int | None, answers: Answers) -> Studio:
+    """Returns a server at a port. Without one a file gets the same port each time if it is free, so that the browser finds its drafts again."""
+    if port is not None:
+        return Studio(port, answers)
+    path = os.fsencode(answers.folder.place / answers.folder.name)
+    usual = FIRST_PORT + int.from_bytes(hashlib.sha256(path).digest()[:4], "big") % PORTS
+    return Studio(usual if is_free(usual) else 0, answers)
+
+
+def is_free(port: int) -> bool:
+    """Whether no server listens at a port."""
+    with socket.socket() as probe:
+        probe.setsockopt(socket.SOL_SOCKET, socket.SO_REUSEADDR, 1)
+        try:
+            probe.bind((ADDRESS, port))
+        except OSError:
+            return False
+    return True

@@ -1,0 +1,148 @@
+/** The panels beside the picture: size, inputs, the circuit with its refusal, and the truth table. Adds `bbmlab.SidePanels`. */
+"use strict";
+
+{
+  const { parts: { element, made, appendWords, delayed }, server, ModelRefusal, wireInks, surveys } = bbmlab;
+  const REFUSAL_DELAY = 80, MAX_LEGEND = 10;
+
+  class SidePanels {
+    /** @param {bbmlab.Desk} desk @param {bbmlab.Sketch} sketch @param {(text: string, isBad?: boolean) => void} say */
+    constructor(desk, sketch, say) {
+      Object.assign(this, { desk, sketch, say, asked: 0, refusal: null });
+      this.askSoon = delayed(REFUSAL_DELAY, () => this.askRefusal());
+      for (const id of ["width", "height", "steps"]) element(id).addEventListener("change", () => this.resize());
+      const pane = element("circuit");
+      pane.addEventListener("input", () => desk.model.setHead(pane.value === "" ? "" : pane.value.replace(/\n$/, ""), "typing"));
+      pane.addEventListener("blur", () => { desk.model.closeMerge(); this.showPane(true); });
+      pane.addEventListener("scroll", () => { element("gutter").scrollTop = pane.scrollTop; });
+      element("ways").addEventListener("change", (event) => desk.setWays(event.target.value));
+      desk.listen("change", () => this.show());
+      desk.listen("ways", () => this.showLegend());
+      desk.listen("table", () => this.showTable());
+    }
+
+    /** Shows what follows from the text. */
+    show() {
+      const { width, height, steps } = this.desk.layout;
+      for (const [id, value] of Object.entries({ width, height, steps })) if (document.activeElement !== element(id)) element(id).value = value;
+      this.showPane(false);
+      this.showInputs();
+      this.askSoon();
+    }
+
+    /** Sets size and steps by the fields. */
+    resize() {
+      const [width, height, steps] = ["width", "height", "steps"].map((id) => Number(element(id).value));
+      try {
+        this.desk.model.resize(width, height, steps, element("follow").checked);
+        this.say("");
+      } catch (error) {
+        if (!(error instanceof ModelRefusal)) throw error;
+        this.say(error.message, true);
+        const { layout } = this.desk;
+        Object.assign(element("width"), { value: layout.width });
+        Object.assign(element("height"), { value: layout.height });
+        Object.assign(element("steps"), { value: layout.steps });
+      }
+    }
+
+    /** Shows the lines before the layout, unless one types in them. */
+    showPane(isForced) {
+      const pane = element("circuit"), text = this.desk.model.headText.replaceAll("\r", "");
+      if (pane.value !== text && (isForced || document.activeElement !== pane || pane.value.replace(/\n$/, "") !== text)) pane.value = text;
+      this.showGutter();
+    }
+
+    /** Shows the numbers of the lines, with a mark at the one that is refused. */
+    showGutter() {
+      const count = element("circuit").value.split("\n").length, bad = this.refusal ? this.refusal.line : null;
+      const lines = [...Array(count).keys()].map((index) => made("span", index + 1 === bad ? `✗ ${index + 1}` : String(index + 1), index + 1 === bad ? "bad" : ""));
+      element("gutter").replaceChildren(...lines.flatMap((line) => [line, "\n"]));
+      element("gutter").scrollTop = element("circuit").scrollTop;
+    }
+
+    /** Asks the lab's reader where it refuses the circuit or the layout. */
+    async askRefusal() {
+      const number = this.asked += 1;
+      const answer = await server.request("refusal", { text: this.desk.model.text });
+      if (number !== this.asked || answer.gone || answer.error) return;
+      this.refusal = answer.refusal;
+      this.showGutter();
+      const box = element("refusal"), { refusal } = this;
+      box.replaceChildren();
+      if (!refusal) return;
+      const line = refusal.line === null ? "" : `Line ${refusal.line}: `, text = refusal.line === null ? "" : this.desk.model.lines[refusal.line - 1];
+      if (text) box.append(made("p", `${line}${text}`, "code"));
+      for (const words of refusal.words) box.append(appendWords(made("p", "", "bad"), words));
+      for (const words of refusal.hints.slice(0, 2)) box.append(appendWords(made("p", "", "soft"), words));
+    }
+
+    /** Shows a switch for each input. */
+    showInputs() {
+      const { names, on } = this.desk.player, box = element("inputs"), key = names.join(" ");
+      if (this.inputsKey !== key) {
+        this.inputsKey = key;
+        box.replaceChildren(...names.map((name) => this.inputSwitch(name)));
+        if (names.length === 0) box.textContent = "The circuit has no inputs yet.";
+      }
+      for (const one of box.querySelectorAll("input")) one.checked = on.has(one.value);
+    }
+
+    /** Returns the switch of an input. */
+    inputSwitch(name) {
+      const label = made("label"), box = made("input");
+      Object.assign(box, { type: "checkbox", value: name });
+      box.addEventListener("change", () => this.desk.setInput(name, box.checked));
+      label.append(box, name);
+      return label;
+    }
+
+    /** Shows which colours the wires' ways have. */
+    showLegend() {
+      const { survey, isExact } = this.desk, legend = element("legend"), inks = wireInks();
+      legend.replaceChildren();
+      if (!survey) return;
+      const seen = [...new Set(survey.ways.filter((_, index) => index % 5 === 4))].filter((colour) => colour < surveys.CONSTANT).sort((a, b) => a - b);
+      for (const colour of seen.slice(0, MAX_LEGEND)) {
+        const item = made("span", survey.wireOf(colour));
+        item.style.borderBottomColor = inks[(colour - 1) % inks.length];
+        legend.append(item);
+      }
+      if (seen.length > MAX_LEGEND) legend.append(`and ${seen.length - MAX_LEGEND} more`);
+      if (this.desk.waysMode === "all" && !isExact) legend.append(`under ${survey.choices.length} of 2^${survey.inputs.length} choices`);
+      if (survey.leftAt !== null) legend.append(made("span", `A ball leaves at step ${survey.leftAt}.`, "bad"));
+    }
+
+    /** Shows what the outputs should be and what they are. */
+    showTable() {
+      const { table, circuit } = this.desk, box = element("truth");
+      if (!table) {
+        const count = circuit ? circuit.inputs.length : 0;
+        const why = !circuit ? "The circuit cannot be read yet." : circuit.outputs.length === 0 ? "The circuit has no outputs yet." : `The circuit has ${count} inputs: the table is for at most eight.`;
+        box.replaceChildren(made("p", why, "soft"));
+        return;
+      }
+      const rows = table.rows(), wrong = rows.filter(({ outputs }) => outputs.some(({ wanted, found }) => wanted !== found)).length, { inputs, outputs } = circuit;
+      const head = made("tr"), grid = made("table");
+      head.append(...inputs.map((name) => made("th", name)), ...outputs.map((name) => made("th", name, "output")));
+      grid.append(head, ...rows.map((row) => this.tableRow(row)));
+      const words = wrong ? `${wrong} of ${rows.length} rows differ.` : rows.length === 1 ? "The row is as the circuit says." : `All ${rows.length} rows are as the circuit says.`;
+      const frame = made("div", "", "frame");
+      frame.tabIndex = 0;
+      frame.append(grid);
+      box.replaceChildren(made("p", words, wrong ? "bad" : "good"), frame);
+    }
+
+    /** Returns a row of the truth table: an output that differs shows what was found and what is wanted. */
+    tableRow({ inputs, outputs }) {
+      const bit = (value) => (value === null ? "?" : String(Number(value))), row = made("tr");
+      row.append(...inputs.map((value) => made("td", bit(value))));
+      for (const { wanted, found } of outputs) {
+        row.append(wanted === found ? made("td", bit(found), "output") : made("td", `${bit(found)}, wanted ${bit(wanted)}`, "output bad"));
+      }
+      return row;
+    }
+  }
+
+  bbmlab.SidePanels = SidePanels;
+}

@@ -1,0 +1,218 @@
+"""The verdict on a text that is being drawn: which certificates are tried, what the program says, and which fixes help.
+
+Only the program gives a verdict. The lab makes the certificates, the words and the fixes.
+"""
+
+from dataclasses import dataclass, field
+from typing import Any
+
+from ..boxes import Box
+from ..certificates import MAX_BOX_SIDE, MAX_CUTS, MAX_USES, Certificate, Module
+from ..certify import Plan, certificate_text, certified
+from ..circuits import Circuit
+from ..diagnosis import Diagnosis, Truth
+from ..documents import Document, read_document
+from ..explaining import explain_report, tried_words
+from ..fixing import Fix, Fixer, head_of, outcome_words
+from ..layouts import Layout
+from ..processor import processor_seconds
+from ..program import Answer, ProgramError, ProgramTimeout, ask
+from ..refusals import explain_code, explain_refusal
+from ..reports import Finding, Report, ReportError, parse_report
+from ..spelling import spelled
+from ..terminal import LabError
+from ..trials import Budget, Trial
+
+# The most lines of a report for which fixes are looked for one by one, and the most lines that are sent to the page.
+MAX_FIXED, MAX_LINES = 6, 200
+
+
+@dataclass
+class Verdict:
+    """What the page shows of a text: `verdict` is yes, no, refused, none (no certificate was found) or unknown (no answer)."""
+
+    verdict: str
+    words: list[str]
+    # Whose certificate was checked: own (the text's), plain (one module, all inputs) or certify.
+    by: str = ""
+    # The text that the program read, and what it wrote.
+    bundle: str = ""
+    report: str = ""
+    faults: list[dict[str, Any]] = field(default_factory=list)
+    # For a refusal the line of the page's text, or None if it is not known.
+    line: int | None = None
+    code: int = 0
+    rule: str = ""
+    hints: list[str] = field(default_factory=list)
+
+
+class Judge:
+    """Asks the program about one text, within a number of seconds."""
+
+    def __init__(self, text: str, program: str, seconds: float) -> None:
+        self.source, self.program, self.seconds = text, program, seconds
+        self.text = spelled(text).text
+        self.head = head_of(self.text)
+        self.until = processor_seconds() + seconds
+
+    def ask(self, bundle: str) -> Answer:
+        """Returns what the program answers to a bundle."""
+        return ask(self.program, "check", bundle.encode("latin-1"), self.seconds)
+
+    def verdict(self) -> Verdict:
+        """Returns the verdict."""
+        try:
+            return self.found()
+        except ProgramTimeout:
+            return Verdict("unknown", [f"The program gave no answer within {self.seconds:g} seconds."])
+        except (ProgramError, ReportError) as error:
+            return Verdict("unknown", [f"There is no verdict: {error}."])
+        except MemoryError:
+            return Verdict("unknown", ["There is no verdict: the memory limit was reached."])
+
+    def found(self) -> Verdict:
+        """Tries the text's own certificate, and then others, up to a yes or to a no that no certificate changes."""
+        design = read_document(self.head, "design")
+        if design.refusal or design.circuit is None or design.layout is None:
+            bundle = self.text if self.head != self.text else self.head + "certificate 2\nend\n"
+            return self.judged(bundle, "own")
+        own = self.judged(self.text, "own") if self.head != self.text else None
+        if own and own.verdict == "yes":
+            return own
+        plain = None if has_delay(design.circuit) else plain_certificate(design.circuit, design.layout)
+        if plain:
+            return self.judged(self.head + plain, "plain")
+        made = self.certified(design)
+        if made.verdict == "none" and own and own.verdict == "no":
+            own.words += ["The certificate of the text was checked. The lab found no other one:", *made.words]
+            return own
+        return made
+
+    def certified(self, design: Document) -> Verdict:
+        """Returns the verdict with a certificate that `certify` makes: first without runs of its modules, which the program repeats."""
+        try:
+            quick = self.judged(certified(design, None, Plan(until=self.until, is_tried=False)), "certify")
+            if quick.verdict == "yes":
+                return quick
+            outcome = Diagnosis(read_document(quick.bundle, "check")).outcome
+            if outcome.is_right is Truth.NO:
+                quick.words.append(f"The layout itself does not do what the circuit asks: {outcome.fault}.")
+                return quick
+            return self.judged(certified(design, None, Plan(until=self.until)), "certify")
+        except LabError as error:
+            reason = str(error)
+            return Verdict("none", [f"{reason[:1].upper()}{reason[1:]}."], "certify")
+
+    def judged(self, bundle: str, by: str) -> Verdict:
+        """Returns what the program says of a bundle."""
+        answer = self.ask(bundle)
+        if answer.status not in (0, 1, 3):
+            raise ProgramError(f"the program ended with status {answer.status}: {answer.errors}")
+        report = parse_report(answer.output)
+        if report.refused:
+            return self.refused(bundle, report.refused, answer.output)
+        if (answer.status, report.verdict) not in ((0, "yes"), (1, "no")):
+            raise ReportError(f"the program ended with status {answer.status} and wrote `verdict {report.verdict}`")
+        document = read_document(bundle, "check")
+        faults = [fault_form(document, finding) for finding in report.faults[:MAX_LINES]]
+        count = len(report.faults)
+        words = [] if report.verdict == "yes" else [f"The report has {count} reason{'s' if count != 1 else ''} for the no."]
+        return Verdict(report.verdict, words, by, bundle, answer.output, faults)
+
+    def refused(self, bundle: str, refused: tuple[int, int], output: str) -> Verdict:
+        """Returns a refusal in words."""
+        line, code = refused
+        document = read_document(bundle, "check")
+        same = document.refusal is not None and (document.refusal.line, document.refusal.code) == refused
+        told = explain_refusal(document, document.refusal) if same and document.refusal else explain_code(line, code)
+        return Verdict("refused", told.what, "own", bundle, output, line=source_line(self.source, self.text, line), code=code, rule=told.rule,
+                       hints=told.hints)
+
+
+def source_line(source: str, text: str, line: int) -> int | None:
+    """Returns the line of a freely written text that became a line of its one spelling, or None if the lines were sorted."""
+    if source == text:
+        return line
+    kept = [number for number, words in enumerate(source.replace("\r\n", "\n").split("\n"), 1) if words.split("#")[0].strip("\ufeff \t\r")]
+    free = [" ".join(source.replace("\r\n", "\n").split("\n")[number - 1].split("#")[0].replace("->", " -> ").split()) for number in kept]
+    if free != text.split("\n")[:len(free)]:
+        return None
+    return kept[line - 1] if line <= len(kept) else len(source.split("\n"))
+
+
+def has_delay(circuit: Circuit) -> bool:
+    """Whether a circuit has a gate whose steps only stops can show."""
+    return any(gate.word == "delay" for gate in circuit.gates)
+
+
+def plain_certificate(circuit: Circuit, layout: Layout) -> str | None:
+    """Returns a certificate of one module for the whole layout that cuts all inputs and uses all gates, or None if it is too large.
+
+    A no to it is about the circuit, the layout or a live rim, unless there are delays (docs/CERTIFICATES.md).
+    """
+    if max(layout.width, layout.height) > MAX_BOX_SIDE or len(circuit.inputs) > MAX_CUTS or len(circuit.gates) > MAX_USES:
+        return None
+    module = Module(0, Box(0, 0, layout.width, layout.height), 0)
+    module.cuts, module.uses = list(circuit.inputs), {gate.number: 0 for gate in circuit.gates}
+    module.keeps = {gate.number: 0 for gate in circuit.gates if gate.is_inverse}
+    return certificate_text(Certificate(2, [module]))
+
+
+def fault_form(document: Document, finding: Finding) -> dict[str, Any]:
+    """Returns a line of a report for the page: its words, its cell and time, and the inputs that are on if the module cuts inputs alone."""
+    form: dict[str, Any] = {"text": finding.text}
+    if "x" in finding.values:
+        form |= {"cell": [finding.number("x"), finding.number("y")], "time": finding.number("time")}
+    if "assignment" in finding.values and document.certificate and document.circuit:
+        cuts = document.certificate.modules[finding.number("module")].cuts
+        if set(cuts) <= set(document.circuit.inputs):
+            form["on"] = [name for index, name in enumerate(cuts) if finding.number("assignment") >> index & 1]
+    return form
+
+
+# ---- explanations and fixes
+
+
+def explained(text: str, bundle: str, output: str, program: str, seconds: float) -> dict[str, Any]:
+    """Returns a no or a refusal in words, with fixes that were tried. `text` is the page's, `bundle` is what the program read."""
+    trial, has_own = Trial(program, Budget(200, seconds)), head_of(spelled(text).text) != spelled(text).text
+    report = parse_report(output)
+    document = read_document(bundle, "check")
+    made = explain_report(document, report, "", None)
+    fixer = Fixer(bundle if has_own or not report.refused else head_of(bundle), report, trial)
+    entries: list[dict[str, Any]] = [{"line": entry.report_line, "what": entry.what, "fix": None} for entry in made.entries if entry.is_against][:MAX_LINES]
+    whole = fixer.find()
+    forms = {entry["line"]: entry for entry in entries}
+    if not report.refused and document.certificate:
+        add_line_fixes(forms, fixer, Diagnosis(document), report, has_own)
+    return {"headline": made.headline[1:], "entries": entries, "fix": fix_form(whole, report, has_own),
+            "tried": [] if whole else tried_words(fixer, trial)}
+
+
+def add_line_fixes(forms: dict[str, dict[str, Any]], fixer: Fixer, diagnosis: Diagnosis, report: Report, has_own: bool) -> None:
+    """Adds fixes of single lines of a report. Without a certificate of its own a text has no lines that these fixes could change."""
+    if not has_own:
+        return
+    for finding in report.faults[:MAX_FIXED]:
+        fix = fixer.find_for(diagnosis, finding)
+        if fix and finding.text in forms:
+            forms[finding.text]["fix"] = fix_form(fix, report, has_own)
+
+
+def fix_form(fix: Fix | None, report: Report, has_own: bool) -> dict[str, Any] | None:
+    """Returns a fix for the page: its sentences, the verdict, and the text after it. A text without a certificate stays without one."""
+    if fix is None:
+        return None
+    text = fix.text if has_own else head_of(fix.text)
+    return {"words": [*fix.words, outcome_words(report, fix)], "verdict": fix.report.verdict, "text": text}
+
+
+def fixes_of_design(text: str, program: str, seconds: float) -> dict[str, Any]:
+    """Returns fixes of a text for which no certificate was found."""
+    trial, head = Trial(program, Budget(200, seconds)), head_of(spelled(text).text)
+    report = trial.report(head)
+    fixer = Fixer(head, report, trial) if report else None
+    whole = fixer.find() if fixer else None
+    assert fixer is None or report is not None
+    return {"headline": [], "entries": [], "fix": fix_form(whole, report, False) if report else None,
+            "tried": tried_words(fixer, trial) if fixer and not whole else []}

@@ -1,0 +1,127 @@
+"""The process that makes verdicts, fixes and exports for the studio. It can be killed at any time, with the program that it runs.
+
+It reads a JSON document a line from standard input and writes one for each to standard output. Its arguments are the program, the seconds
+for one verdict and the memory in MiB.
+"""
+
+import json
+import os
+import queue
+import resource
+import signal
+import sys
+import threading
+from dataclasses import asdict
+from types import FrameType
+from typing import Any
+
+from .. import drawing, explaining, golly, program, tracing, viewing
+from ..documents import Document, read_document
+from ..layouts import Layout
+from ..spelling import spelled
+from ..terminal import LabError
+from .folder import bytes_of
+from .verdicts import Judge, explained, fixes_of_design
+
+# How many seconds a search for fixes takes, at most.
+FIX_SECONDS = 8.0
+
+
+def lab_text(text: str) -> str:
+    """Returns a text of the page as the lab has it: one character for each byte."""
+    return bytes_of(text).decode("latin-1")
+
+
+def verdict(job: dict[str, Any], path: str, seconds: float) -> dict[str, Any]:
+    """Returns the verdict on a text."""
+    return asdict(Judge(lab_text(job["text"]), path, seconds).verdict())
+
+
+def explain(job: dict[str, Any], path: str, seconds: float) -> dict[str, Any]:
+    """Returns a verdict in words, with fixes. Without a report it is one of a text for which no certificate was found."""
+    limit = min(FIX_SECONDS, seconds)
+    if not job["report"]:
+        return fixes_of_design(lab_text(job["text"]), path, limit)
+    return explained(lab_text(job["text"]), job["bundle"], job["report"], path, limit)
+
+
+def export(job: dict[str, Any], path: str, seconds: float) -> dict[str, Any]:
+    """Returns a text in another form: `svg`, `golly` or `page`."""
+    document = read_document(spelled(lab_text(job["bundle"] or job["text"])).text)
+    if document.refusal or document.layout is None:
+        raise LabError("The text is refused, so it cannot be exported.")
+    form, name = job["form"], str(job["name"])
+    if form == "svg":
+        return {"text": picture(document, document.layout, name)}
+    if form == "golly":
+        on = tracing.chosen_inputs(document, ",".join(job["on"]) or None)
+        start = tracing.trace_layout(document.layout, on, 0, 0).states[0]
+        return {"text": golly.golly_text(document.layout, start, on, tracing.layout_lines(document))}
+    explanation = None
+    if document.certificate:
+        answer = program.ask(path, "check", document.text.encode("latin-1"), seconds)
+        explanation = explaining.explain_answer(document.text, "check", answer.output, name)
+    return {"text": viewing.page(document, explanation, name)}
+
+
+def picture(document: Document, layout: Layout, name: str) -> str:
+    """Returns the ways of the balls as SVG."""
+    shown = drawing.Drawing(modules=document.certificate.modules if document.certificate else [])
+    on = tracing.chosen_inputs(document, None)
+    shown.ways, shown.labels = drawing.ball_ways(document, None, layout.steps)
+    shown.title = f"{name}: ways of the balls{drawing.sampled_words(document)}"
+    return drawing.svg(layout, shown, list(document.circuit.defined) if document.circuit else on)
+
+
+JOBS = {"verdict": verdict, "explain": explain, "export": export}
+
+
+def answer(line: str, path: str, seconds: float) -> dict[str, Any]:
+    """Returns the answer to one job."""
+    try:
+        job = json.loads(line)
+        return JOBS[job["kind"]](job, path, seconds)
+    except MemoryError:
+        return {"error": "The memory limit was reached."}
+    except RecursionError:
+        return {"error": "The text is too deeply nested."}
+    except LabError as error:
+        return {"error": str(error)}
+    except (program.ProgramError, program.ProgramTimeout) as error:
+        return {"error": f"The program gave no answer: {error}."}
+
+
+def stop(_number: int, _frame: FrameType | None) -> None:
+    """Kills the program that runs, and ends soon."""
+    if program.SHARED:
+        program.SHARED.stop()
+    signal.signal(signal.SIGALRM, lambda *_: os._exit(143))
+    signal.setitimer(signal.ITIMER_REAL, 0.1)
+
+
+def main() -> int:
+    """Answers jobs until the input ends."""
+    path, seconds, memory = sys.argv[1], float(sys.argv[2]), int(sys.argv[3]) * 2 ** 20
+    resource.setrlimit(resource.RLIMIT_AS, (memory, memory))
+    resource.setrlimit(resource.RLIMIT_CORE, (0, 0))
+    program.SHARED = program.Running()
+    signal.signal(signal.SIGTERM, stop)
+    signal.signal(signal.SIGINT, signal.SIG_IGN)
+    answers, sys.stdout = sys.stdout, sys.stderr
+    jobs: "queue.SimpleQueue[str]" = queue.SimpleQueue()
+    threading.Thread(target=read_jobs, args=(jobs,), daemon=True).start()
+    while line := jobs.get():
+        answers.write(json.dumps(answer(line, path, seconds)) + "\n")
+        answers.flush()
+    return 0
+
+
+def read_jobs(jobs: "queue.SimpleQueue[str]") -> None:
+    """Reads jobs. If the server is gone, the program that runs is killed too."""
+    for line in sys.stdin:
+        jobs.put(line)
+    os.kill(os.getpid(), signal.SIGTERM)
+
+
+if __name__ == "__main__":
+    sys.exit(main())

@@ -1,0 +1,263 @@
+"""The studio's editing model and its runs, under node without a browser."""
+
+import json
+import random
+import re
+import shutil
+import subprocess
+import unittest
+from pathlib import Path
+from typing import Any
+
+import support
+from bbmlab_core import json_form, viewing
+from bbmlab_core.circuits import values_under
+from bbmlab_core.layouts import Layout, Part
+from bbmlab_core.mirrors import falling_mirrors, stays
+from bbmlab_core.simulation import run_layout
+from bbmlab_core.studio import answers, server
+
+SCRIPT = support.LAB / "tests" / "run_studio.js"
+STUDIO = Path(server.__file__).resolve().parent
+FILES = ["view/automaton.js", *(f"studio/{name}.js" for name in ("circuit_text", "geometry", "model", "survey"))]
+MAX_FUNCTION_LINES = 40
+COMMENTED = """# A gate by hand.
+circuit  # begins
+ input p
+output p
+end
+
+layout 8 8 3   # small
+# the start
+  mirror 1 4 2 2\t# stays
+in p 2 2
+out p 5 5
+end
+"""
+
+
+def node(*jobs: list[Any]) -> list[Any]:
+    """Returns what the studio's modules make of some jobs."""
+    if shutil.which("node") is None:
+        raise unittest.SkipTest("node is not installed (apt-get install nodejs)")
+    ended = subprocess.run(["node", str(SCRIPT), str(viewing.TEMPLATE.parent), *FILES], input=json.dumps(jobs), text=True, capture_output=True, check=False)
+    if ended.returncode:
+        raise AssertionError(ended.stderr)
+    return json.loads(ended.stdout)
+
+
+def texts() -> list[str]:
+    """Returns the examples, the standard cells and the texts of the worked cases."""
+    files = [*sorted(support.EXAMPLES.glob("*.txt")), *sorted((support.LAB / "cells").glob("*.txt"))]
+    worked = [case.input.decode("latin-1") for case in support.worked_cases() if len(case.input) < 400_000]
+    return [path.read_text(encoding="latin-1") for path in files] + worked
+
+
+def example(name: str) -> str:
+    """Returns the text of an example."""
+    return (support.EXAMPLES / f"{name}.txt").read_text()
+
+
+def cells(*names: str) -> list[dict[str, Any]]:
+    """Returns standard cells as the page has them."""
+    return [cell for cell in answers.cells() if cell["name"] in names]
+
+
+def part(kind: str, *box: int, name: str | None = None) -> dict[str, Any]:
+    """Returns a part as a tool makes it."""
+    return {"kind": kind, "name": name, "box": [*box, 1, 1][:4], "line": -1}
+
+
+class Bytes(unittest.TestCase):
+    """Text, model, text."""
+
+    def test_same_bytes(self) -> None:
+        """The model of each example, standard cell and worked text has the same bytes, also with comments, CR LF and no end."""
+        found = texts()
+        more = [COMMENTED, COMMENTED.replace("\n", "\r\n"), "", "\n", "layout", "layout 8 8", "no layout at all\n", example("not_gate").rstrip("\n"),
+                "layout 8 8 3\nlayout 8 8 3\nend\nend\n", "\ufeff" + example("not_gate"), "layout 8 8 3\nmirror 1 2\nmirror 99999999999 1 2 2\n"]
+        self.assertGreater(len(found), 200)
+        self.assertEqual(node(["law", found + more])[0], [True] * (len(found) + len(more)))
+
+    def test_undo_to_the_start(self) -> None:
+        """500 random commands, undone to the start, give the first bytes, and done again the last ones."""
+        starts, some = [example("machine_fredkin"), COMMENTED, example("full_adder"), COMMENTED.replace("\n", "\r\n")], cells("turn_left", "collision")
+        found = node(*[["random", text, some, seed + 1, 500, True] for seed, text in enumerate(starts)])
+        for seed, (text, told) in enumerate(zip(starts, found)):
+            self.assertEqual((told["done"], told["isFirst"], told["isLast"]), (500, True, True), seed)
+            self.assertNotEqual(told["last"], text)
+
+    def test_commands_make_layouts_that_are_read(self) -> None:
+        """No command of a tool makes a layout of which the reader says that a cell is outside or taken, or a line wrong."""
+        start = "circuit\nend\nlayout 48 48 40\nend\n"
+        for seed, told in enumerate(node(*[["random", start, cells("not", "turn_left", "collision"), seed + 11, 150, False] for seed in range(4)])):
+            for text in [*told["texts"], told["last"]]:
+                refusal = support.read_document(text, "design").refusal
+                # Ports may be missing, and wires unused, while one draws.
+                self.assertIn(refusal.code if refusal else None, (None, 3, 5, 11), (seed, refusal))
+
+
+class Commands(unittest.TestCase):
+    """Commands, each by its worked result."""
+
+    def test_comments_stay(self) -> None:
+        """A part that is moved keeps its indentation and its comment, and a new one comes behind the last of its kind."""
+        moved = node(["commands", COMMENTED, [["move", [8], 1, 1], ["add", [part("mirror", 5, 2, 2, 2)]], ["resize", 10, 8, 3]]])[0]
+        self.assertEqual(moved, COMMENTED.replace("  mirror 1 4 2 2\t# stays\n", "  mirror 2 5 2 2\t# stays\nmirror 5 2 2 2\n")
+                         .replace("layout 8 8 3 ", "layout 10 8 3 "))
+
+    def test_order_of_kinds(self) -> None:
+        """New parts of any order of kinds are read."""
+        text = "circuit\nend\nlayout 12 12 3\nend\n"
+        steps = [["addCells", [part("in", 4, 4, name="p")]], ["addCells", [part("ball", 7, 7)]], ["addCells", [part("waste", 7, 4)]],
+                 ["setHead", "circuit\ninput p\nsource 1 -> one\ninteract p one -> a b c d\nspill a\nspill c\nspill d\nend"],
+                 ["addCells", [part("out", 4, 4, name="b")]], ["addCells", [part("waste", 4, 7)]]]
+        made = node(["commands", text, steps])[0]
+        self.assertEqual(made.split("end\n")[1], example("not_gate").split("end\n")[1])
+        self.assertIsNone(support.read_document(made, "design").refusal)
+        self.assertIn("\noutput b\nspill a\n", made)
+
+    def test_reasons(self) -> None:
+        """What cannot be done says why, and changes nothing."""
+        text = example("not_gate")
+        for command, reason in ((["add", [part("mirror", 7, 6, 2, 2)]], "Cell (7, 7) is taken by the ball at (7, 7)."),
+                                (["add", [part("mirror", 11, 2, 2, 2)]], "mirror at (11, 2) is outside the layout of 12 by 12 cells."),
+                                (["add", [part("out", 7, 4, name="b")]], "Cell (7, 4) is taken by the waste at (7, 4)."),
+                                (["add", [part("ball", 2, 2), part("ball", 2, 2)]], "Two of the parts take cell (2, 2)."),
+                                (["add", [part("in", 2, 2, name="1x")]], "`1x` is no name of a wire."),
+                                (["resize", 6, 6, 3], "ball at (7, 7) would be outside the layout of 6 by 6 cells."),
+                                (["resize", 13, 12, 3], "Width and height are even numbers from 2 to 512."),
+                                (["move", [10], 20, 0], "ball at (27, 7) is outside the layout of 12 by 12 cells."),
+                                (["insertCell", {"layout": {}, "circuit": []}, 1, 0, False], "A cell is moved by even numbers of columns and rows.")):
+            self.assertEqual(node(["commands", text, [command]])[0], reason)
+
+    def test_outputs_follow(self) -> None:
+        """With four more steps the output and waste cells of the NOT gate are four cells on: the layout is still right."""
+        text = node(["commands", example("not_gate"), [["resize", 12, 12, 5, True]]])[0]
+        self.assertIn("out b 2 2\n", text)
+        self.assertEqual({line for line in text.split("\n") if line.startswith("waste")}, {"waste 9 2", "waste 2 9"})
+        rows = node(["truth", text])[0]
+        self.assertTrue(all(output["wanted"] == output["found"] for row in rows for output in row["outputs"]))
+
+    def test_turned_machines_compute(self) -> None:
+        """A machine that is rotated or reflected as a whole computes the same."""
+        text = example("machine_fredkin")
+        lines = [number for number, line in enumerate(text.split("\n")) if line.split(" ")[0] in ("mirror", "ball", "in", "out", "waste")]
+        for how in ("rotate", "flip-x", "flip-y"):
+            turned = node(["commands", text, [["turn", lines, how]]])[0]
+            self.assertNotEqual(turned, text)
+            rows = node(["truth", turned])[0]
+            self.assertTrue(all(output["wanted"] == output["found"] for row in rows for output in row["outputs"]), how)
+
+    def test_standard_cells(self) -> None:
+        """Each standard cell that is put into an empty layout computes its circuit there; two of one kind get wires of their own."""
+        for cell in (cell for cell in answers.cells() if cell["layout"]["width"] < 90):
+            width, height, steps = (cell["layout"][side] for side in ("width", "height", "steps"))
+            empty = f"circuit\nend\nlayout {width + 4} {height + 2} 0\nend\n"
+            text = node(["commands", empty, [["insertCell", cell, 2, 2, True]]])[0]
+            document = support.read_document(text, "design")
+            self.assertIsNone(document.refusal, cell["name"])
+            self.assertEqual(document.layout.steps, steps)
+            rows = node(["truth", text])[0]
+            self.assertTrue(all(output["wanted"] == output["found"] for row in rows for output in row["outputs"]), cell["name"])
+        twice = node(["commands", "circuit\nend\nlayout 96 48 0\nend\n", [["insertCell", cells("not")[0], 0, 0, True], ["insertCell", cells("not")[0], 50, 0, True]]])[0]
+        self.assertIn("switch a_2 k_2 -> d_2 y_2 z_2", twice)
+        self.assertEqual(len(node(["truth", twice])[0]), 4)
+
+
+class Runs(unittest.TestCase):
+    """The runs under all choices at once."""
+
+    def test_ends(self) -> None:
+        """Under each choice of the inputs the last state is that of the lab's run."""
+        for name in ("not_gate", "machine_fredkin", "full_adder", "machine_switch", "gate_and_mirror", "head_on_bundle"):
+            document, told = support.read_document(example(name)), node(["ends", example(name)])[0]
+            self.assertEqual(len(told["states"]), 2 ** len(document.circuit.inputs))
+            for state in told["states"]:
+                run = run_layout(document.layout, state["on"])
+                run.run_to(document.layout.steps)
+                self.assertEqual({tuple(cell) for cell in state["live"]}, set(run.field.state()), (name, state["on"]))
+
+    def test_marks(self) -> None:
+        """Balls that meet, meet a mirror, break one or leave are marked."""
+        self.assertEqual(node(["ends", example("not_gate")])[0]["marks"], ["meet"])
+        self.assertEqual(node(["ends", example("machine_fredkin")])[0]["marks"], ["bounce", "meet"])
+        leaving = node(["ends", "circuit\ninput p\noutput p\nend\nlayout 8 8 9\nin p 2 2\nout p 4 4\nend\n"])[0]
+        self.assertEqual((leaving["marks"], leaving["leftAt"]), (["left"], 6))
+        self.assertIn("broken", node(["ends", "circuit\ninput p\noutput p\nend\nlayout 8 8 3\nmirror 4 4 1 1\nin p 2 2\nout p 5 5\nend\n"])[0]["marks"])
+
+    def test_truth_tables(self) -> None:
+        """The table has what the circuit wants and what the lab's run finds."""
+        for name in ("full_adder", "wrong_end", "plain_no", "machine_half_adder"):
+            document, rows = support.read_document(example(name)), node(["truth", example(name)])[0]
+            for number, row in enumerate(rows):
+                on = {wire for index, wire in enumerate(document.circuit.inputs) if number >> index & 1}
+                run, values = run_layout(document.layout, on), values_under(document.circuit, on)[0]
+                run.run_to(document.layout.steps)
+                for output in row["outputs"]:
+                    states = {port.cell in run.field.state() for port in document.layout.of_kind("out") if port.name == output["name"]}
+                    found = states.pop() if len(states) == 1 else None
+                    self.assertEqual((output["wanted"], output["found"]), (values[output["name"]], found), (name, number))
+
+    def test_circuits(self) -> None:
+        """The page reads each circuit that the lab reads, and knows that a wrong one is wrong."""
+        for path in sorted(support.EXAMPLES.glob("*.txt")):
+            document = support.read_document(path.read_text(encoding="latin-1"))
+            if document.circuit and not document.refusal:
+                wanted = json_form.circuit_json(document.circuit)
+                told = node(["circuit", path.read_text(encoding="latin-1").split("\nlayout ")[0].split("\nassign")[0]])[0]
+                self.assertEqual((told.pop("isWhole"), told), (True, wanted), path.name)
+        for wrong in ("", "circuit\ninput p\ninput p\nend", "circuit\noutput q\nend", "circuit\nswitch a b -> c d\nend", "circuit\nconstructor\nend", "input p"):
+            self.assertIs(node(["circuit", wrong])[0]["isWhole"], False, wrong)
+
+
+class Mirrors(unittest.TestCase):
+    """Where mirrors stay."""
+
+    def test_falling_mirrors(self) -> None:
+        """The mirrors that fall apart are those of the lab, alone and touching others."""
+        chooser = random.Random(3)
+        layouts = [[[chooser.randrange(12), chooser.randrange(12), chooser.randrange(1, 5), chooser.randrange(1, 5)] for _ in range(count)]
+                   for count in (1, 2, 3, 5) for _ in range(150)]
+        wanted = [[[mirror.part.x, mirror.part.y, mirror.part.width, mirror.part.height] for mirror in
+                   falling_mirrors(Layout(20, 20, 3, [Part("mirror", None, *box, 1) for box in boxes]))] for boxes in layouts]
+        self.assertEqual(node(*[["fallen", boxes] for boxes in layouts]), wanted)
+        self.assertGreater(sum(map(len, wanted)), 100)
+
+    def test_snapped_mirrors_stay(self) -> None:
+        """Each snapped mirror stays, lies in the layout, holds the cells that were dragged or is one cell away."""
+        boxes = [[x, y, w, h] for x in range(0, 9) for y in range(0, 9) for w in range(1, 5) for h in range(1, 5)]
+        for (x, y, w, h), box in zip(boxes, node(["snapped", boxes, 12, 12])[0]):
+            self.assertTrue(stays(Part("mirror", None, *box, 1)), box)
+            self.assertTrue(box[0] >= 0 and box[1] >= 0 and box[0] + box[2] <= 12 and box[1] + box[3] <= 12)
+            self.assertLessEqual(abs(box[0] - x) + abs(box[1] - y), 1)
+            self.assertEqual((box[2], box[3]), (w + w % 2, h + h % 2))
+
+
+class Sources(unittest.TestCase):
+    """The sources of the studio."""
+
+    def test_functions_are_short(self) -> None:
+        """No function of the page has 40 lines."""
+        begins, count = re.compile(r"^( *)(?! )(?:/\*\*.*\*/ )?(?!(?:if|for|while|switch|class|else|try|\} else)\b).*(?:\)|=>|constructor.*) \{$"), 0
+        for path in sorted(STUDIO.glob("*.js")):
+            lines = path.read_text().splitlines()
+            for number, line in enumerate(lines):
+                if not (found := begins.match(line)):
+                    continue
+                end = next(at for at in range(number + 1, len(lines)) if lines[at].startswith(found[1] + "}"))
+                count += 1
+                self.assertLess(end - number + 1, MAX_FUNCTION_LINES, f"{path.name}:{number + 1}")
+        self.assertGreater(count, 100)
+
+    def test_texts_are_never_html(self) -> None:
+        """No script writes HTML or runs texts, and the page has no script of its own."""
+        for path in STUDIO.glob("*.js"):
+            for word in ("innerHTML", "outerHTML", "insertAdjacentHTML", "document.write", "eval(", "new Function", "setAttribute(\"on"):
+                self.assertNotIn(word, path.read_text(), path.name)
+        page = (STUDIO / "studio.html").read_text()
+        self.assertIsNone(re.search(r"<script(?! src=)|<style|<[^>]* (?:style|on\w+)=", page))
+
+
+if __name__ == "__main__":
+    unittest.main()

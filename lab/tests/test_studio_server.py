@@ -1,0 +1,343 @@
+"""The studio's server: who is answered, which files are read and written, what is too large, and what ends a program."""
+
+import http.client
+import json
+import os
+import resource
+import subprocess
+import sys
+import tempfile
+import threading
+import time
+import unittest
+from pathlib import Path
+from typing import Any
+
+import support
+from bbmlab_core.studio.answers import EMPTY, Answers
+from bbmlab_core.studio.folder import Folder
+from bbmlab_core.studio.guard import MAX_REQUEST_BYTES
+from bbmlab_core.studio.jobs import Jobs, Worker
+from bbmlab_core.studio.server import POLICY, Studio, studio
+from bbmlab_core.studio.verdicts import source_line
+
+MEMORY = 4096
+# A program that does not end, with a name that no other test has.
+SLEEP = f"sleep 987653.{os.getpid()}"
+
+
+class Served(unittest.TestCase):
+    """A server of a folder of its own, in a thread."""
+
+    jobs: Jobs | None = None
+
+    def setUp(self) -> None:
+        """Starts the server."""
+        room = tempfile.TemporaryDirectory()
+        self.addCleanup(room.cleanup)
+        self.outside = Path(room.name)
+        self.room = self.outside / "designs"
+        self.room.mkdir()
+        (self.room / "gate.txt").write_bytes(Path(support.example("not_gate")).read_bytes())
+        self.server: Studio = studio(0, Answers(Folder(str(self.room / "gate.txt")), self.jobs))
+        thread = threading.Thread(target=self.server.serve_forever, kwargs={"poll_interval": 0.05})
+        thread.start()
+        self.addCleanup(thread.join)
+        self.addCleanup(self.server.server_close)
+        self.addCleanup(self.server.shutdown)
+
+    def send(self, method: str, path: str, body: bytes = b"", secret: str | None = None, **headers: str) -> tuple[int, dict[str, str], bytes]:
+        """Returns the status, the headers and the body of an answer. Headers that are empty are left out."""
+        guard = self.server.guard
+        lines = {"Host": guard.host, "Origin": f"http://{guard.host}", "Content-Type": "application/json", "Content-Length": str(len(body)),
+                 **{name.replace("_", "-"): value for name, value in headers.items()}}
+        link = http.client.HTTPConnection("127.0.0.1", self.server.server_address[1], timeout=60)
+        try:
+            link.putrequest(method, f"/{guard.secret if secret is None else secret}/{path}", skip_host=True, skip_accept_encoding=True)
+            for name, value in lines.items():
+                if value:
+                    link.putheader(name, value)
+            link.endheaders()
+            link.send(body)
+            answer = link.getresponse()
+            return answer.status, dict(answer.getheaders()), answer.read()
+        finally:
+            link.close()
+
+    def ask(self, request: str, /, **body: Any) -> dict[str, Any]:
+        """Returns the answer to a request of the page."""
+        status, _, data = self.send("POST", f"api/{request}", json.dumps(body).encode())
+        self.assertEqual(status, 200, data)
+        answer: dict[str, Any] = json.loads(data)
+        return answer
+
+
+class Security(Served):
+    """Who is answered."""
+
+    def test_loopback_only(self) -> None:
+        """The server listens at 127.0.0.1, at a free port."""
+        self.assertEqual(self.server.socket.getsockname()[0], "127.0.0.1")
+        self.assertGreater(self.server.server_address[1], 1023)
+        self.assertGreaterEqual(len(self.server.guard.secret), 32)
+
+    def test_each_request_carries_the_secret(self) -> None:
+        """Without the secret, or with another one, the page, its scripts and its requests are refused."""
+        for secret in ("", "x", self.server.guard.secret[:-1], self.server.guard.secret + "x", "%00"):
+            for method, path in (("GET", ""), ("GET", "studio/model.js"), ("POST", "api/start")):
+                self.assertEqual(self.send(method, path, b"{}", secret=secret)[0], 403, (secret, path))
+        self.assertEqual(self.send("GET", "")[0], 200)
+        self.assertEqual(self.send("POST", "api/start", b"{}")[0], 200)
+
+    def test_other_hosts_and_pages(self) -> None:
+        """A request for another host, as after DNS rebinding, and one from another page get 403."""
+        port = self.server.server_address[1]
+        for host in ("evil.example", f"evil.example:{port}", f"localhost:{port}", "127.0.0.1", f"127.0.0.1:{port + 1}", f"127.0.0.1:{port}.evil.example", ""):
+            self.assertEqual(self.send("GET", "", Host=host)[0], 403, host)
+            self.assertEqual(self.send("POST", "api/start", b"{}", Host=host)[0], 403, host)
+        for origin in ("https://evil.example", "null", f"https://127.0.0.1:{port}", f"http://127.0.0.1:{port + 1}", f"http://localhost:{port}", ""):
+            self.assertEqual(self.send("POST", "api/start", b"{}", Origin=origin)[0], 403, origin)
+        self.assertEqual(self.send("GET", "", Origin="https://evil.example")[0], 403)
+        self.assertEqual(self.send("GET", "studio/model.js", Sec_Fetch_Site="cross-site")[0], 403)
+        self.assertEqual(self.send("GET", "", Origin="")[0], 200)
+
+    def test_requests_are_json(self) -> None:
+        """A form of another page, other methods, and what is no JSON object are refused."""
+        for kind in ("text/plain", "application/x-www-form-urlencoded", "multipart/form-data", ""):
+            self.assertEqual(self.send("POST", "api/start", b"{}", Content_Type=kind)[0], 415, kind)
+        for body in (b"", b"[]", b"{", b'"x"', b"\xff", b"[" * 100_000):
+            self.assertEqual(self.send("POST", "api/start", body)[0], 400, body[:9])
+        for method in ("PUT", "DELETE", "OPTIONS", "HEAD"):
+            self.assertEqual(self.send(method, "api/start", b"{}")[0], 501, method)
+        for body in (b'{"name": 1}', b'{"name": null}', b"{}"):
+            self.assertEqual(self.send("POST", "api/open", body)[0], 400)
+        self.assertEqual(self.send("POST", "api/quit", b"{}")[0], 404)
+
+    def test_large_requests(self) -> None:
+        """A request over 16 MiB, and one that does not say how long it is, are refused before their bodies are read."""
+        self.assertEqual(self.send("POST", "api/start", b"", Content_Length=str(MAX_REQUEST_BYTES + 1))[0], 413)
+        for length in ("", "-1", "x", "1e3", "9" * 40):
+            self.assertEqual(self.send("POST", "api/start", b"", Content_Length=length)[0], 411, length)
+        self.assertEqual(self.send("POST", "api/start", b"", Content_Length="", Transfer_Encoding="chunked")[0], 411)
+
+    def test_headers(self) -> None:
+        """Each answer forbids scripts of others, frames and guesses of types."""
+        for method, path, secret in (("GET", "", None), ("GET", "studio/model.js", None), ("POST", "api/files", None), ("GET", "", "wrong")):
+            _, headers, _ = self.send(method, path, b"{}", secret=secret)
+            self.assertEqual(headers["Content-Security-Policy"], POLICY)
+            self.assertEqual((headers["X-Content-Type-Options"], headers["Referrer-Policy"]), ("nosniff", "no-referrer"))
+            self.assertNotIn("Access-Control-Allow-Origin", headers)
+        self.assertNotIn("unsafe", POLICY)
+        self.assertIn("default-src 'none'; script-src 'self';", POLICY)
+
+    def test_no_file_of_the_page_is_elsewhere(self) -> None:
+        """Paths that lead out of the page's files are not found."""
+        for path in ("studio/../../../../etc/passwd", "../etc/passwd", "studio/server.py", "studio/%2e%2e/cli.py", "/etc/passwd", "studio/studio.html", "view"):
+            self.assertEqual(self.send("GET", path)[0], 404, path)
+
+
+class Files(Served):
+    """Which files are read and written."""
+
+    def test_names(self) -> None:
+        """No name leads out of the folder, to a hidden file, a link, or a file that is no `.txt` file."""
+        (self.outside / "secret.txt").write_text("secret")
+        (self.room / "notes.md").write_text("secret")
+        (self.room / ".hidden.txt").write_text("secret")
+        (self.room / "link.txt").symlink_to(self.outside / "secret.txt")
+        (self.room / "down.txt").mkdir()
+        os.mkfifo(self.room / "pipe.txt")
+        names = ["../secret.txt", str(self.outside / "secret.txt"), "notes.md", ".hidden.txt", "link.txt", "down.txt", "pipe.txt", "", ".", "..", "a/../gate.txt",
+                 "gate.txt/", "x\0.txt", "..\\secret.txt", "a" * 300 + ".txt", "gate.txt\n"]
+        for name in names:
+            self.assertIn("error", self.ask("open", name=name), name)
+            self.assertIn("error", self.ask("save", name=name, text="x", digest=None, force=True), name)
+        self.assertEqual((self.outside / "secret.txt").read_text(), "secret")
+        self.assertEqual(self.ask("files")["files"], ["gate.txt"])
+        self.assertEqual(sorted(path.name for path in self.outside.iterdir()), ["designs", "secret.txt"])
+
+    def test_other_texts_of_the_folder(self) -> None:
+        """A `.txt` file of the folder can be opened, also one whose bytes are no UTF-8, and is written back as it is."""
+        data = b"circuit # caf\xe9 \xc3\xa9\r\nend\n"
+        (self.room / "other.txt").write_bytes(data)
+        opened = self.ask("open", name="other.txt")
+        self.assertEqual(self.ask("files")["files"], ["gate.txt", "other.txt"])
+        saved = self.ask("save", name="other.txt", text=opened["text"] + "# more\n", digest=opened["digest"])
+        self.assertIn("digest", saved)
+        self.assertEqual((self.room / "other.txt").read_bytes(), data + b"# more\n")
+
+    def test_a_file_that_changed(self) -> None:
+        """A file that another program wrote meanwhile is not overwritten unless the user says so."""
+        opened = self.ask("open", name="gate.txt")
+        (self.room / "gate.txt").write_text("mine\n")
+        told = self.ask("save", name="gate.txt", text="yours\n", digest=opened["digest"])
+        self.assertEqual((told["changed"], (self.room / "gate.txt").read_text()), (True, "mine\n"))
+        self.assertIn("digest", self.ask("save", name="gate.txt", text="yours\n", digest=opened["digest"], force=True))
+        self.assertEqual((self.room / "gate.txt").read_text(), "yours\n")
+        (self.room / "gate.txt").unlink()
+        self.assertTrue(self.ask("save", name="gate.txt", text="again\n", digest=opened["digest"])["changed"])
+
+    def test_a_new_file(self) -> None:
+        """A file that is missing is an empty layout, and is written only if it is still missing."""
+        opened = self.ask("open", name="new.txt")
+        self.assertEqual((opened["text"], opened["digest"]), (EMPTY, None))
+        (self.room / "new.txt").write_text("there\n")
+        self.assertTrue(self.ask("save", name="new.txt", text=EMPTY, digest=None)["changed"])
+        (self.room / "new.txt").unlink()
+        self.assertIn("digest", self.ask("save", name="new.txt", text=EMPTY, digest=None))
+        self.assertEqual(sorted(path.name for path in self.room.iterdir()), ["gate.txt", "new.txt"])
+
+    def test_refusals(self) -> None:
+        """The refusal names the line as it was typed, also behind comments."""
+        good = Path(support.example("not_gate")).read_text()
+        self.assertIsNone(self.ask("refusal", text=good)["refusal"])
+        wrong = "# by hand\n\n" + good.replace("spill a\n", "spill a # left over\nspill a\n")
+        told = self.ask("refusal", text=wrong)["refusal"]
+        self.assertEqual((told["line"], told["code"]), (wrong.split("\n").index("spill a") + 1, 5))
+        self.assertTrue(told["words"] and told["rule"])
+        self.assertIsNone(source_line("b\na\n", "a\nb\n", 1))
+
+    def test_templates(self) -> None:
+        """New texts are an empty layout, standard cells and examples; other names are none."""
+        start = self.ask("start")
+        self.assertEqual(start["text"], Path(support.example("not_gate")).read_text())
+        self.assertEqual(self.ask("template", name="empty")["text"], EMPTY)
+        self.assertIn("layout 44 44 37", self.ask("template", name="not")["text"])
+        self.assertIn("fredkin_gate", start["examples"])
+        self.assertEqual(self.ask("template", name="example not_gate")["text"], start["text"])
+        for name in ("../not", "example ../README", "no_such_cell"):
+            self.assertIn("error", self.ask("template", name=name))
+        self.assertEqual(self.ask("verdict", text="", tab="a")["error"][:25], "The program was not found")
+
+
+class Verdicts(Served):
+    """What the program is asked."""
+
+    @classmethod
+    def setUpClass(cls) -> None:
+        """Finds the program."""
+        cls.jobs = Jobs(support.program(), 20.0, MEMORY)
+
+    @classmethod
+    def tearDownClass(cls) -> None:
+        """Ends the process of the jobs."""
+        if cls.jobs:
+            cls.jobs.close()
+
+    def test_verdicts(self) -> None:
+        """Texts with and without certificates get the program's verdict, and a refusal names the line."""
+        for name, verdict, by in (("machine_fredkin", "yes", "own"), ("not_gate", "yes", "plain"), ("plain_no", "no", "plain"), ("delay_line", "yes", "own"),
+                                  ("wrong_edge", "yes", "plain"), ("wrong_delay", "no", "own")):
+            told = self.ask("verdict", text=Path(support.example(name)).read_text(), tab="a")
+            self.assertEqual((told["verdict"], told["by"]), (verdict, by), name)
+            self.assertIn(f"verdict {verdict}", told["report"])
+        text = Path(support.example("not_gate")).read_text().replace("spill a\n", "spill q\n")
+        told = self.ask("verdict", text=text, tab="a")
+        self.assertEqual((told["verdict"], told["line"], told["code"]), ("refused", 6, 3))
+
+    def test_fixes(self) -> None:
+        """A no comes with words and a fix, and the program says yes to the text after it."""
+        text = Path(support.example("not_gate")).read_text().replace("out b 4 4\nwaste 7 4\n", "out b 7 4\nwaste 4 4\n")
+        told = self.ask("verdict", text=text, tab="a")
+        self.assertEqual(told["verdict"], "no")
+        self.assertEqual(told["faults"][0]["cell"], [7, 4])
+        self.assertEqual(told["faults"][0]["on"], [] if told["faults"][0]["text"].endswith(" 0") else ["p"])
+        words = self.ask("explain", text=text, tab="a", bundle=told["bundle"], report=told["report"])
+        self.assertTrue(words["entries"][0]["what"] and words["fix"]["words"])
+        self.assertEqual(words["fix"]["verdict"], "yes")
+        self.assertNotIn("certificate", words["fix"]["text"])
+        self.assertEqual(self.ask("verdict", text=words["fix"]["text"], tab="a")["verdict"], "yes")
+
+    def test_exports(self) -> None:
+        """A text can be had as SVG, for Golly and as one page."""
+        text = Path(support.example("not_gate")).read_text()
+        for form, word in (("svg", "<svg "), ("golly", "rule = BBM-Margolus-emulated"), ("page", "Content-Security-Policy")):
+            self.assertIn(word, self.ask("export", text=text, tab="a", bundle="", form=form, name="a<b>", on=["p"])["text"], form)
+        self.assertIn("error", self.ask("export", text="circuit\n", tab="a", bundle="", form="svg", name="a", on=[]))
+        self.assertEqual(self.send("POST", "api/export", json.dumps({"text": "", "tab": "", "bundle": "", "form": "svg", "name": ""}).encode())[0], 400)
+
+
+class Limits(unittest.TestCase):
+    """What ends a program."""
+
+    def fake(self, script: str) -> str:
+        """Returns the path of a program that does what a script says."""
+        room = tempfile.TemporaryDirectory()
+        self.addCleanup(room.cleanup)
+        path = Path(room.name) / "program"
+        path.write_text(f"#!/bin/sh\n{script}\n")
+        path.chmod(0o755)
+        return str(path)
+
+    def test_time_limit(self) -> None:
+        """A program that does not end is killed."""
+        jobs = Jobs(self.fake(f"exec sleep 987654.{os.getpid()}"), 0.5, MEMORY)
+        told = jobs.run("a", {"kind": "verdict", "text": EMPTY})
+        jobs.close()
+        self.assertEqual((told["verdict"], told["words"]), ("unknown", ["The program gave no answer within 0.5 seconds."]))
+        self.assertNotIn(f"sleep 987654.{os.getpid()}", running())
+
+    def test_newer_jobs_end_older_ones(self) -> None:
+        """A newer job of a tab ends its older one with its program; a job of another tab waits, so at most one program runs."""
+        mark = self.fake(f"exec {SLEEP}")
+        jobs, answers = Jobs(mark, 600, MEMORY), []
+        first = threading.Thread(target=lambda: answers.append(jobs.run("a", {"kind": "verdict", "text": EMPTY})))
+        other = threading.Thread(target=lambda: answers.append(jobs.run("b", {"kind": "verdict", "text": EMPTY})))
+        first.start()
+        self.wait(lambda: running().count(SLEEP) == 1)
+        other.start()
+        time.sleep(0.3)
+        self.assertEqual(running().count(SLEEP), 1)
+        closer = threading.Thread(target=lambda: answers.append(jobs.run("a", {"kind": "export", "text": "circuit\n", "bundle": "", "form": "svg", "name": "", "on": []})))
+        closer.start()
+        self.wait(lambda: {"replaced": True} in answers)
+        self.wait(lambda: running().count(SLEEP) == 1 or len(answers) > 1)
+        jobs.close()
+        for thread in (first, other, closer):
+            thread.join(30)
+            self.assertFalse(thread.is_alive())
+        self.assertNotIn(SLEEP, running())
+
+    def wait(self, test: Any) -> None:
+        """Waits until something holds."""
+        until = time.monotonic() + 60
+        while not test():
+            self.assertLess(time.monotonic(), until)
+            time.sleep(0.05)
+
+    def test_memory_limit(self) -> None:
+        """The process of the jobs and the program run under a memory limit, and one that needs more gets no verdict."""
+        worker = Worker(self.fake("exit 0"), 5, 1024)
+        self.addCleanup(worker.release)
+        self.addCleanup(worker.end)
+        worker.answer({"kind": "verdict", "text": EMPTY}, 60)
+        self.assertEqual(resource.prlimit(worker.process.pid, resource.RLIMIT_AS), (1024 * 2 ** 20, 1024 * 2 ** 20))
+        jobs = Jobs(self.fake(f"exec {sys.executable} -c 'x = bytes(3 << 30)'"), 20, 2048)
+        told = jobs.run("a", {"kind": "verdict", "text": EMPTY})
+        jobs.close()
+        self.assertEqual(told["verdict"], "unknown")
+        self.assertIn("There is no verdict", told["words"][0])
+
+
+def running() -> str:
+    """Returns the commands of all processes."""
+    return subprocess.run(["ps", "-eo", "args"], capture_output=True, text=True, check=True).stdout
+
+
+class Command(unittest.TestCase):
+    """The command."""
+
+    def test_no_open(self) -> None:
+        """`--no-open` prints the address alone, and SIGTERM ends the server with its processes."""
+        with tempfile.TemporaryDirectory() as room:
+            process = subprocess.Popen([sys.executable, str(support.LAB / "bbmlab"), "studio", f"{room}/a.txt", "--no-open"], stdout=subprocess.PIPE,
+                                       stderr=subprocess.DEVNULL, text=True)
+            address = process.stdout.readline().strip()
+            self.assertRegex(address, r"^http://127\.0\.0\.1:\d+/[\w-]{32}/$")
+            process.terminate()
+            self.assertEqual(process.wait(30), 143)
+            process.stdout.close()
+
+
+if __name__ == "__main__":
+    unittest.main()
