@@ -227,7 +227,7 @@ unfolding timed_modules there_and_back plain_yes plain_no bundle_of words.lines_
     end_demand
     port_at places placed_gate placed_gates place_among numbered numbered_all_times numbered_event numbered_signals
     demanded placed_stop bit row evaluate job_start job_demand local_run local_step with_halo step partner turned
-    signal_at all_times_at event_at times.numbered versions.beside versions.in_order versions.is_early
+    signal_at all_times_at event_at times.numbered versions.edge_lines_beside versions.in_order versions.is_early
     versions.with_halos versions.is_halo versions.lacks_wire fault_cmp keeps.unkept_from
 are_read = record {
   timed = record { layout = refl; tests = record { jobs = refl; kept = refl; borders = refl; on_time = refl } };
