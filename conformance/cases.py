@@ -7,7 +7,7 @@ import collections
 import re
 from pathlib import Path
 
-DATA = Path(__file__).resolve().parent.parent / "crates" / "run_cases" / "data"
+DATA = Path(__file__).resolve().parent.parent / "crates" / "worked_rows" / "data"
 # In this order: those of the specification, those that were written by hand, random bundles.
 FILES = [DATA / name for name in ("cases.txt", "by_hand.txt", "reports.txt")]
 # Large bundles: NAME.txt, and NAME.report, the report of `check`.

@@ -17,11 +17,11 @@ use std::marker::Model;
 ///
 /// A dead cell takes no memory but a bit.
 #[derive(Drop)]
-pub struct StartSignals {
+pub struct Starts {
     numbers: SparseNumbers,
 }
 
-impl Model for StartSignals {
+impl Model for Starts {
     ghost use Rattle.std.specs.Prelude.{List};
     ghost use Rattle.module_box.specs.declared.schedules.Signal.{Signal};
 
@@ -38,11 +38,11 @@ impl Model for StartSignals {
 ///
 /// A cell that must be dead takes no memory but a bit.
 #[derive(Drop)]
-pub struct EndDemands {
+pub struct Demands {
     numbers: SparseNumbers,
 }
 
-impl Model for EndDemands {
+impl Model for Demands {
     ghost use Rattle.std.specs.Prelude.{List};
     ghost use Rattle.module_job.specs.declared.job.Demand.{Demand};
 
@@ -55,7 +55,7 @@ impl Model for EndDemands {
     ghost invariant = { AreDemands };
 }
 
-impl StartSignals {
+impl Starts {
     ghost use Rattle.module_job.specs.CellLists.{numbered_signal};
 
     // The signal of a number.
@@ -71,10 +71,10 @@ impl StartSignals {
     }
 
     /// Creates an empty list, with bits for the first cells.
-    pub fn new(alloc: Global, room: usize) -> Result<StartSignals, AllocError>
+    pub fn new(alloc: Global, room: usize) -> Result<Starts, AllocError>
         ensures { IfOk result (λ starts. starts ≡ []) }
     {
-        Ok(StartSignals {
+        Ok(Starts {
             numbers: SparseNumbers::new(alloc, room)?,
         })
     }
@@ -99,17 +99,17 @@ impl StartSignals {
     pub(crate) fn at(&self, place: usize) -> Signal
         ensures { result ≡ unwrap_or (slice_get self.now place) Signal.Zero }
     {
-        StartSignals::numbered(self.numbers.at(place))
+        Starts::numbered(self.numbers.at(place))
     }
 
     /// Returns a place from `place` to `end`, such that all cells from `place` to before it carry `Zero`.
-    pub(crate) fn skip_dead(&self, place: usize, end: usize) -> usize
+    pub(crate) fn next(&self, place: usize, end: usize) -> usize
         requires { (place ≤ end) × (end < 2 ^ 32) }
         ensures range { (place ≤ result) × (result ≤ end) }
         ensures dead { (u : ℕ) → place ≤ u → u < result →
             unwrap_or (slice_get self.now u) Signal.Zero ≡ Signal.Zero }
     {
-        self.numbers.skip_zeros(place, end)
+        self.numbers.next(place, end)
     }
 
     /// Adds how many cells there are, the entries of what they carry, and a 0.
@@ -122,17 +122,17 @@ impl StartSignals {
     }
 }
 
-impl PartialEq for StartSignals {
+impl PartialEq for Starts {
     ghost eq = { pointwise same_signal };
 
     ghost laws = { partial_equiv_from_equiv (lists_equiv signal_equivalence) };
 
-    fn eq(&self, other: &StartSignals) -> bool {
+    fn eq(&self, other: &Starts) -> bool {
         self.numbers == other.numbers
     }
 }
 
-impl EndDemands {
+impl Demands {
     ghost use Rattle.module_job.specs.CellLists.{numbered_demand};
 
     // The demand of a number.
@@ -149,10 +149,10 @@ impl EndDemands {
     }
 
     /// Creates an empty list, with bits for the first cells.
-    pub fn new(alloc: Global, room: usize) -> Result<EndDemands, AllocError>
+    pub fn new(alloc: Global, room: usize) -> Result<Demands, AllocError>
         ensures { IfOk result (λ demands. demands ≡ []) }
     {
-        Ok(EndDemands {
+        Ok(Demands {
             numbers: SparseNumbers::new(alloc, room)?,
         })
     }
@@ -177,17 +177,17 @@ impl EndDemands {
     pub(crate) fn at(&self, place: usize) -> Demand
         ensures { result ≡ unwrap_or (slice_get self.now place) Demand.Dead }
     {
-        EndDemands::numbered(self.numbers.at(place))
+        Demands::numbered(self.numbers.at(place))
     }
 
     /// Returns a place from `place` to `end`, such that all cells from `place` to before it must be dead.
-    pub(crate) fn skip_dead(&self, place: usize, end: usize) -> usize
+    pub(crate) fn next(&self, place: usize, end: usize) -> usize
         requires { (place ≤ end) × (end < 2 ^ 32) }
         ensures range { (place ≤ result) × (result ≤ end) }
         ensures dead { (u : ℕ) → place ≤ u → u < result →
             unwrap_or (slice_get self.now u) Demand.Dead ≡ Demand.Dead }
     {
-        self.numbers.skip_zeros(place, end)
+        self.numbers.next(place, end)
     }
 
     /// Adds how many cells there are, the entries of what they must be, and a 0.
@@ -200,12 +200,12 @@ impl EndDemands {
     }
 }
 
-impl PartialEq for EndDemands {
+impl PartialEq for Demands {
     ghost eq = { pointwise same_demand };
 
     ghost laws = { partial_equiv_from_equiv (lists_equiv demand_equivalence) };
 
-    fn eq(&self, other: &EndDemands) -> bool {
+    fn eq(&self, other: &Demands) -> bool {
         self.numbers == other.numbers
     }
 }

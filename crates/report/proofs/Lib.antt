@@ -1,1 +1,1 @@
-mod OpeningLines
+mod Opening
