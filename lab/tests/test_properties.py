@@ -35,6 +35,8 @@ TRIED = settings(max_examples=40 * TIMES, deadline=None, database=None, print_bl
 FILE, OUT = "FILE", "OUT"
 COMMANDS: dict[str, list[list[str]]] = {
     "check": [["check", FILE], ["check", "--format", "junit", FILE]],
+    "verify": [["verify", OUT, FILE], ["verify", FILE, OUT, "--release", FILE]],
+    "summary": [["summary", FILE]],
     "explain": [["explain", "--effort", "0.05", FILE], ["explain", "--json", "--effort", "0.05", FILE],
                 ["explain", "--fix", "--effort", "0.2", FILE, "-o", OUT], ["explain", "--gcc", "--effort", "0.05", "--report", OUT, FILE]],
     "trace": [["trace", FILE, "--to", "6"], ["trace", "--json", "--module", "0", FILE], ["trace", "--pictures", "--on", "p", FILE]],
@@ -138,8 +140,8 @@ class NeverATraceback(unittest.TestCase):
     """Each command of the lab, on random bytes and on damaged texts."""
 
     def test_all_commands(self) -> None:
-        """No command is left out here."""
-        self.assertEqual(set(Commands(None).commands.choices), set(COMMANDS))
+        """No command is left out here but the server, which has tests of its own."""
+        self.assertEqual(set(Commands(None).commands.choices), {*COMMANDS, "studio"})
 
     def try_commands(self, data: bytes, other: bytes, name: str) -> None:
         """Runs a command in each of its ways on a text, with other bytes in the second file."""
