@@ -263,7 +263,9 @@ class Hostile(Routing):
         for words in ((), ("--jobs", "2"), ("--keep-partial",), ("--keep-partial", "--jobs", "2")):
             bundle.unlink(missing_ok=True)
             command = [sys.executable, str(support.LAB / "bbmlab"), "route", str(path), "-o", str(bundle), "--program", self.program, *words]
-            process = subprocess.Popen(command, stderr=subprocess.PIPE, start_new_session=True)
+            # A shell starts jobs in the background with SIGINT ignored, and children inherit that.
+            process = subprocess.Popen(command, stderr=subprocess.PIPE, start_new_session=True,
+                                       preexec_fn=lambda: signal.signal(signal.SIGINT, signal.SIG_DFL))
             time.sleep(5)
             begun = time.monotonic()
             os.killpg(process.pid, signal.SIGINT)
