@@ -22,7 +22,6 @@ MAX_WORDS = 900
 LEAST_LINES = 30
 # Longer worked texts are not read here, for time.
 MAX_BYTES = 50_000
-MAX_IMPORT_SECONDS = 0.015
 # The fields of records and the arguments of calls are on the page too.
 RECORDS = ["Border", "Box", "Bundle", "Certificate", "Circuit", "Explanation", "Gate", "Layout", "Module", "Port", "Report", "State", "Stop"]
 CALLS = ["certify", "check", "explain", "local_run", "read", "route", "simulate"]
@@ -81,14 +80,11 @@ class Import(unittest.TestCase):
     """`import bbmlab`."""
 
     def test_is_cheap(self) -> None:
-        """The import takes a few milliseconds, and imports no module that is not Python's own or the package itself."""
-        code = ("import sys, time; before = set(sys.modules); began = time.perf_counter(); import bbmlab; "
-                "print(time.perf_counter() - began, *(set(sys.modules) - before))")
-        paths = f"{support.LAB}:{support.LAB / 'public'}"
-        ran = [subprocess.run([sys.executable, "-B", "-c", code], capture_output=True, text=True, check=True,
-                              env={**os.environ, "PYTHONPATH": paths}).stdout.split() for _ in range(5)]
-        self.assertLess(min(float(words[0]) for words in ran), MAX_IMPORT_SECONDS)
-        self.assertEqual(set(ran[0][1:]), {"bbmlab", "bbmlab_core", "__future__"})
+        """The import loads no module but the package itself."""
+        code = "import sys; before = set(sys.modules); import bbmlab; print(*(set(sys.modules) - before))"
+        ran = subprocess.run([sys.executable, "-B", "-c", code], capture_output=True, text=True, check=True,
+                             env={**os.environ, "PYTHONPATH": f"{support.LAB}:{support.LAB / 'public'}"})
+        self.assertEqual(set(ran.stdout.split()), {"bbmlab", "bbmlab_core", "__future__"})
 
     def test_unknown_name(self) -> None:
         """A name that is not public is not there."""

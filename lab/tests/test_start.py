@@ -1,38 +1,17 @@
-"""How fast the lab starts, and that it says the same however it starts."""
+"""What a start of the lab imports, and that it says the same however it starts."""
 
 import subprocess
 import sys
-import time
 import unittest
 
 import support
 
-# The goal is 60 ms on a quiet machine. The test allows for a slow interpreter: what counts is the time that the lab adds to it.
-MAX_ADDED_SECONDS = 0.060
-RUNS = 20
 # What a start must not import: each takes longer than the lab may.
 HEAVY = {"dataclasses", "inspect", "json", "multiprocessing", "pathlib", "subprocess", "typing"}
 
 
-def least_seconds(*words: str) -> float:
-    """Returns the least time of some runs of a command."""
-    times = []
-    for _ in range(RUNS):
-        began = time.perf_counter()
-        subprocess.run(words, capture_output=True, check=True)
-        times.append(time.perf_counter() - began)
-    return min(times)
-
-
 class Start(unittest.TestCase):
     """`bbmlab --help` and its kin."""
-
-    def test_added_time(self) -> None:
-        """The lab adds at most 60 ms to the start of Python for `--help` and for the help of a command."""
-        bare = least_seconds(sys.executable, "-c", "pass")
-        for words in (["--help"], ["--version"], ["route", "--help"]):
-            with self.subTest(words=words):
-                self.assertLess(least_seconds(sys.executable, str(support.LAB / "bbmlab"), *words) - bare, MAX_ADDED_SECONDS)
 
     def test_late_imports(self) -> None:
         """`--help` imports none of the modules that make a start slow, beyond those that Python itself imports."""
