@@ -3,6 +3,7 @@
 import importlib
 import os
 import queue
+import time
 from pathlib import Path
 from typing import Any, Iterable, Iterator
 
@@ -13,8 +14,15 @@ from .receipts import ReceiptFolder, sha256
 from .releases import program_at
 from .terminal import LabError, read_bytes
 
-# How many texts are on their way for each thread of the workers, and seconds between two looks.
+# How many groups of texts are on their way for each thread of the workers, and seconds between two looks.
 AHEAD, LOOK_SECONDS = 4, 0.2
+# A group of texts that is sent at once: about as many seconds of work, and at most so many texts and bytes.
+GROUP_SECONDS, GROUP_TEXTS, GROUP_BYTES = 0.25, 50, 1 << 20
+# Seconds until the threads of the workers are counted again, since this asks the scheduler.
+COUNT_SECONDS = 1.0
+
+# Files with their texts.
+Group = list[tuple[str, bytes]]
 # Seconds to wait for the scheduler, and for a first worker.
 CONNECT_SECONDS = 10
 
@@ -46,6 +54,10 @@ class ClusterChecker(Checker):
         self.digest = program_at(program).sha256
         self.client = connected(address, jobs, program)
         self.said: dict[str, str] = {}
+        # The groups that came back, how many are on their way, and what the texts of those that came back took.
+        self.done: "queue.SimpleQueue[tuple[Group, Any]]" = queue.SimpleQueue()
+        self.flying, self.answered, self.worked = 0, 0, 0.0
+        self.thread_count, self.counted_until = 1, 0.0
         if sends:
             self.client.run(remote.store_program, Path(program).read_bytes(), self.digest)
         for complaint in sorted({complaint for _, complaint in self.client.run(remote.program_with, self.digest).values() if complaint}):
@@ -54,47 +66,64 @@ class ClusterChecker(Checker):
 
     def results(self, files: Iterable[str]) -> Iterator[Result | None]:
         """Yields the result of each file as soon as it is there, and None about each fifth of a second without one."""
-        done: "queue.SimpleQueue[tuple[str, bytes, Any]]" = queue.SimpleQueue()
-        flying = 0
-        keeper = self.order.keeper
+        group: Group = []
         for file in files:
-            ready = (keeper.held(file) if keeper else None) or self.sent(file, done)
+            ready = (self.order.keeper.held(file) if self.order.keeper else None) or self.added(file, group)
             if ready:
                 yield ready
-                continue
-            flying += 1
-            while flying >= AHEAD * self.threads():
-                result = self.landed(done)
-                flying -= result is not None
-                yield result
-        while flying:
-            result = self.landed(done)
-            flying -= result is not None
-            yield result
+            elif self.is_full(group):
+                self.send(group)
+                group = []
+                while self.flying >= AHEAD * self.threads():
+                    yield from self.landed()
+        if group:
+            self.send(group)
+        while self.flying:
+            yield from self.landed()
 
     def threads(self) -> int:
-        """Returns how many threads the workers have now."""
-        return max(1, sum(int(count) for count in self.client.nthreads().values()))
+        """Returns how many threads the workers have, or had a second ago."""
+        now = time.monotonic()
+        if now >= self.counted_until:
+            self.thread_count = max(1, sum(int(count) for count in self.client.nthreads().values()))
+            self.counted_until = now + COUNT_SECONDS
+        return self.thread_count
 
-    def sent(self, file: str, done: "queue.SimpleQueue[tuple[str, bytes, Any]]") -> Result | None:
-        """Sends a file to a worker. Returns a result only if it can't be read."""
+    def added(self, file: str, group: Group) -> Result | None:
+        """Adds a file to a group. Returns a result only if it can't be read."""
         try:
-            text = read_bytes(file)
+            group.append((file, read_bytes(file)))
         except LabError as error:
             return Result(file, "missing", str(error).removeprefix(f"{file}: "), 0)
-        future = self.client.submit(remote.answer, self.digest, text, self.order.timeout, pure=False)
-        future.add_done_callback(lambda ended: done.put((file, text, ended)))
         return None
 
-    def landed(self, done: "queue.SimpleQueue[tuple[str, bytes, Any]]") -> Result | None:
-        """Returns a result that has come, or None after a fifth of a second."""
+    def is_full(self, group: Group) -> bool:
+        """Whether a group is as large as it may be: by what a text took so far, one text at the start."""
+        wanted = GROUP_SECONDS * self.answered / self.worked if self.worked else 1
+        return len(group) >= min(max(wanted, 1), GROUP_TEXTS) or sum(len(text) for _, text in group) >= GROUP_BYTES
+
+    def send(self, group: Group) -> None:
+        """Sends a group to a worker."""
+        future = self.client.submit(remote.answers, self.digest, [text for _, text in group], self.order.timeout, pure=False)
+        future.add_done_callback(lambda ended: self.done.put((group, ended)))
+        self.flying += 1
+
+    def landed(self) -> Iterator[Result | None]:
+        """Yields the results of a group that has come, or None after a fifth of a second."""
         try:
-            file, text, future = done.get(timeout=LOOK_SECONDS)
+            group, future = self.done.get(timeout=LOOK_SECONDS)
         except queue.Empty:
-            return None
+            yield None
+            return
+        self.flying -= 1
         if future.status != "finished":
-            return Result(file, "error", f"no worker answered: {future.exception() if future.status == 'error' else future.status}", 0)
-        return self.taken(file, text, future.result())
+            why = future.exception() if future.status == "error" else future.status
+            yield from (Result(file, "error", f"no worker answered: {why}", 0) for file, _ in group)
+            return
+        for (file, text), said in zip(group, future.result()):
+            self.answered += 1
+            self.worked += max(said[3], 0.001, self.order.timeout or 0 if said[4] == "timeout" else 0)
+            yield self.taken(file, text, said)
 
     def taken(self, file: str, text: bytes, said: remote.Said) -> Result:
         """Returns the result that an answer stands for, and keeps it. Two answers to one text end the run, and so does another program."""

@@ -36,7 +36,9 @@ def candidates(given: str | None) -> list[str]:
         return [given]
     if os.environ.get("BBMCHECK"):
         return [os.environ["BBMCHECK"]]
-    own = [HERE.parent.parent / "bbmcheck", HERE.parent.parent.parent / "bin" / "bbmcheck", Path(sys.prefix) / "bin" / "bbmcheck"]
+    # The last is next to the command, or next to a link to it, as pipx makes.
+    own = [HERE.parent.parent / "bbmcheck", HERE.parent.parent.parent / "bin" / "bbmcheck", Path(sys.prefix) / "bin" / "bbmcheck",
+           Path(sys.argv[0]).absolute().parent / "bbmcheck"]
     return [*(str(place) for place in own if place.is_file()), "bbmcheck"]
 
 

@@ -59,12 +59,17 @@ def program_with(digest: str) -> tuple[str | None, str]:
     return None, f"the worker on {host} has another program: {own} with SHA-256 {found}, and not {digest}"
 
 
-def answer(digest: str, text: bytes, timeout: float | None) -> Said:
-    """Runs the program with a digest on a text."""
-    host = socket.gethostname()
+def answers(digest: str, texts: list[bytes], timeout: float | None) -> list[Said]:
+    """Runs the program with a digest on some texts, one after another."""
     program, complaint = program_with(digest)
     if not program:
-        return host, 70, "", 0, "other program", complaint
+        return [(socket.gethostname(), 70, "", 0, "other program", complaint)]
+    return [answer(program, text, timeout) for text in texts]
+
+
+def answer(program: str, text: bytes, timeout: float | None) -> Said:
+    """Runs the program on a text."""
+    host = socket.gethostname()
     before = sum(os.times()[2:4])
     try:
         process = subprocess.Popen([program, "check"], stdin=subprocess.PIPE, stdout=subprocess.PIPE, stderr=subprocess.PIPE, start_new_session=True)

@@ -1,8 +1,8 @@
 #!/usr/bin/python3
-"""browse_studio.py FOLDER PROGRAM LAB: uses the studio in headless Chromium, with Debian's python3-selenium.
+"""browse_studio.py FOLDER PROGRAM LAB: uses the studio in headless Chromium, as `studio_driver.py` does.
 
-It starts servers for files of FOLDER, and writes screenshots of two sizes, light and dark, to FOLDER. `collision.txt` must be missing, and
-`fredkin.txt` a Fredkin gate.
+It starts servers for files of FOLDER, and writes screenshots of two sizes, light and dark, to FOLDER. `collision.txt` must be missing.
+BBMLAB_USES names the uses to run, all if it is missing.
 """
 import json
 import os
@@ -10,135 +10,53 @@ import subprocess
 import sys
 import time
 from pathlib import Path
-from typing import Any, Callable
 
-from selenium import webdriver
-from selenium.webdriver.chrome.service import Service
-from selenium.webdriver.common.action_chains import ActionChains
 from selenium.webdriver.common.by import By
 from selenium.webdriver.common.keys import Keys
+from studio_driver import Studio
 
-SIZES = {"wide": (1280, 800), "phone": (390, 844)}
+TOP = Path(__file__).resolve().parents[2]
 COLLISION = "circuit\ninput p\ninput q\ninteract p q -> a b c d\noutput a\noutput b\noutput c\noutput d\nend"
-
-
-class Studio:
-    """A server of a file, and a browser."""
-
-    def __init__(self, folder: Path, program: str, lab: str) -> None:
-        options = webdriver.ChromeOptions()
-        for word in ("--headless", "--no-sandbox", "--hide-scrollbars", "--window-size=1280,800"):
-            options.add_argument(word)
-        options.set_capability("goog:loggingPrefs", {"browser": "ALL"})
-        self.folder, self.program, self.lab = folder, program, lab
-        self.server: subprocess.Popen[str] | None = None
-        self.browser = webdriver.Chrome(service=Service("/usr/bin/chromedriver"), options=options)
-
-    def serve(self, name: str) -> str:
-        """Starts a server of a file, and returns its address."""
-        self.kill()
-        words = [sys.executable, self.lab, "studio", str(self.folder / name), "--no-open", "--program", self.program]
-        self.server = subprocess.Popen(words, stdout=subprocess.PIPE, stderr=subprocess.DEVNULL, text=True)
-        assert self.server.stdout
-        return self.server.stdout.readline().strip()
-
-    def kill(self) -> None:
-        """Kills the server."""
-        if self.server:
-            self.server.kill()
-            self.server.wait()
-            self.server = None
-
-    def open(self, name: str) -> None:
-        """Opens a file in the page."""
-        self.browser.get(self.serve(name))
-        self.wait(lambda: self.text("name").startswith(name), "the file is opened")
-
-    def script(self, text: str, *words: Any) -> Any:
-        """Runs a script in the page."""
-        return self.browser.execute_script(text, *words)
-
-    def layout_text(self) -> str:
-        """Returns the text that is drawn."""
-        return str(self.script("return bbmlab.studio.desk.model.text"))
-
-    def text(self, name: str) -> str:
-        """Returns the text of an element."""
-        return self.browser.find_element(By.ID, name).text
-
-    def click(self, selector: str) -> None:
-        """Clicks an element."""
-        self.browser.find_element(By.CSS_SELECTOR, selector).click()
-
-    def keys(self, *keys: str) -> None:
-        """Presses keys on the picture."""
-        self.browser.find_element(By.ID, "whole").send_keys(*keys)
-
-    def wait(self, test: Callable[[], Any], what: str, seconds: float = 60) -> None:
-        """Waits until something holds."""
-        until = time.monotonic() + seconds
-        while not test():
-            assert time.monotonic() < until, f"{what}: {self.text('badge')!r} {self.text('status')!r} {self.text('report')!r}"
-            time.sleep(0.05)
-
-    def verdict(self, wanted: str) -> float:
-        """Waits for a verdict that is not outdated, and returns how many seconds it took."""
-        start = time.monotonic()
-        self.wait(lambda: self.text("badge") == wanted and self.script("return bbmlab.studio.verdicts.isCurrent"), f"the verdict {wanted}")
-        return time.monotonic() - start
-
-    def place(self, x: float, y: float) -> tuple[int, int]:
-        """Returns the place of a cell on the canvas, from its middle, in pixels."""
-        found = self.script("const s = bbmlab.studio.sketch, c = document.getElementById('whole'); return [s.scale, s.left, s.top, c.clientWidth, c.clientHeight]")
-        scale, left, top, wide, high = found
-        return round((x + 0.5 - left) * scale - wide / 2), round((y + 0.5 - top) * scale - high / 2)
-
-    def press(self, x: int, y: int) -> None:
-        """Clicks a cell."""
-        canvas = self.browser.find_element(By.ID, "whole")
-        ActionChains(self.browser, duration=10).move_to_element_with_offset(canvas, *self.place(x, y)).click().perform()
-
-    def drag(self, start: tuple[int, int], end: tuple[int, int]) -> None:
-        """Drags from a cell to another one."""
-        canvas, (x, y) = self.browser.find_element(By.ID, "whole"), self.place(*end)
-        chain = ActionChains(self.browser, duration=10).move_to_element_with_offset(canvas, *self.place(*start)).click_and_hold()
-        chain.move_to_element_with_offset(canvas, x - 3, y).move_to_element_with_offset(canvas, x, y).release().perform()
-
-    def put(self, name: str, value: str) -> None:
-        """Sets a field."""
-        field = self.browser.find_element(By.ID, name)
-        field.send_keys(Keys.CONTROL + "a")
-        field.send_keys(value)
-        if name in ("width", "height", "steps"):
-            field.send_keys(Keys.TAB)
-
-    def type_circuit(self, text: str) -> None:
-        """Types a circuit."""
-        self.put("circuit", text)
-
-    def shoot(self, name: str) -> None:
-        """Writes a screenshot at each size, with nothing wider than the window."""
-        for size, (width, height) in SIZES.items():
-            self.browser.execute_cdp_cmd("Emulation.setDeviceMetricsOverride", {"width": width, "height": height, "deviceScaleFactor": 1, "mobile": False})
-            time.sleep(0.4)
-            assert not self.script("return document.documentElement.scrollWidth > innerWidth"), f"{name} is wider than the window at {size}"
-            self.browser.save_screenshot(str(self.folder / f"{name}_{size}.png"))
-        self.browser.execute_cdp_cmd("Emulation.setDeviceMetricsOverride", {"width": 1280, "height": 800, "deviceScaleFactor": 1, "mobile": False})
-        time.sleep(0.2)
-
-    def scheme(self, name: str) -> None:
-        """Sets light or dark."""
-        self.browser.execute_cdp_cmd("Emulation.setEmulatedMedia", {"features": [{"name": "prefers-color-scheme", "value": name}]})
+EMPTY = "circuit\nend\nlayout 24 16 6\nend\n"
+CROSSED = "circuit\ninput p\noutput p\nend\nlayout 66 66 4\nin p 2 2\nout p 8 6\nend\n"
+# The page does 500 commands by its own buttons, keys and pointers, by a fixed sequence of random numbers.
+COMMANDS = """
+const { desk, tools, sketch } = bbmlab.studio, whole = document.getElementById("whole"), { width, height } = desk.layout;
+let state = 20261127, done = 0;
+const draw = (count) => { state = state * 1664525 + 1013904223 >>> 0; return Math.floor(state / 2 ** 32 * count); };
+const cell = () => [draw(width), draw(height)];
+const point = (type, [x, y], buttons) => {
+  const { left, top } = whole.getBoundingClientRect(), at = (value, from) => (value + 0.5 - from) * sketch.scale;
+  whole.dispatchEvent(new PointerEvent(type, { pointerId: 1, bubbles: true, buttons, clientX: left + at(x, sketch.left), clientY: top + at(y, sketch.top) }));
+};
+const drag = (from, to) => { point("pointerdown", from, 1); point("pointermove", to, 1); point("pointerup", to, 0); };
+const key = (name, more = {}) => whole.dispatchEvent(new KeyboardEvent("keydown", { key: name, bubbles: true, ...more }));
+const tool = (name) => document.getElementById(`tool-${name}`).click();
+const near = ([x, y]) => [Math.min(width - 1, x + draw(8)), Math.min(height - 1, y + draw(8))];
+const partCell = () => { const { parts } = desk.model; return parts.length ? parts[draw(parts.length)].box.slice(0, 2) : cell(); };
+const some = [() => { tool("mirror"); const from = cell(); drag(from, near(from)); }, () => { tool(["ball", "waste"][draw(2)]); const at = cell(); drag(at, at); },
+  () => { tool(["in", "out"][draw(2)]); const at = cell(); drag(at, at); }, () => { tool("select"); const from = cell(); drag(from, [width - 1, height - 1]); },
+  () => { tool("select"); const from = partCell(); drag(from, near(from)); }, () => key(["r", "x", "y"][draw(3)]), () => key("Delete"),
+  () => key(["ArrowUp", "ArrowLeft", "ArrowDown", "ArrowRight"][draw(4)], { altKey: true }), () => key("c", { ctrlKey: true }),
+  () => { key("v", { ctrlKey: true }); const at = cell(); drag(at, at); }, () => { tool("erase"); const at = partCell(); drag(at, near(at)); },
+  () => { tool("cell"); const list = document.getElementById("cell-name"); list.selectedIndex = draw(list.length); list.dispatchEvent(new Event("change"));
+    const at = cell(); drag(at, at); },
+  () => { const field = document.getElementById("steps"); field.value = desk.layout.steps + draw(5); field.dispatchEvent(new Event("change")); },
+  () => key("z", { ctrlKey: true }), () => key("y", { ctrlKey: true })];
+while (done < 500) { const before = desk.model.text; some[draw(some.length)](); if (desk.model.text !== before) done += 1; }
+return desk.model.past.length;
+"""
 
 
 def draw_collision(studio: Studio) -> None:
     """Draws the collision of two balls from nothing, and gets a yes."""
-    studio.open("collision.txt")
+    studio.start("collision.txt")
     start = time.monotonic()
     studio.put("width", "16")
     studio.put("height", "16")
     studio.put("steps", "6")
     studio.type_circuit(COLLISION)
+    assert studio.browser.find_element(By.ID, "hint").is_displayed()
     studio.click("#tool-in")
     studio.press(4, 4)
     studio.press(4, 11)
@@ -161,16 +79,19 @@ def draw_collision(studio: Studio) -> None:
 
 def drag_mirror(studio: Studio) -> None:
     """Drags a mirror of the Fredkin gate and sees no, undoes it and sees yes."""
-    studio.open("fredkin.txt")
+    studio.begin("fredkin.txt", example("machine_fredkin"))
     studio.verdict("yes")
     first = studio.layout_text()
     mirror = studio.script("return bbmlab.studio.desk.model.parts.find(({ kind }) => kind === 'mirror').box")
     studio.click("#tool-select")
     studio.drag((mirror[0], mirror[1]), (mirror[0] + 4, mirror[1] + 2))
+    assert studio.script("return document.getElementById('badge').className") == "old", "an outdated verdict is grey"
     assert studio.layout_text() != first, "the mirror is moved"
     taken = studio.verdict("no")
-    studio.wait(lambda: "Looking for fixes" not in studio.text("report"), "the search for fixes ends")
     assert "rows differ" in studio.text("truth"), studio.text("truth")
+    cell = studio.browser.find_element(By.CSS_SELECTOR, "#truth td.bad")
+    assert "wanted" in cell.text and cell.value_of_css_property("color") == "rgba(179, 0, 12, 1)", cell.value_of_css_property("color")
+    assert studio.script("return bbmlab.studio.sketch.faults.length") > 0, "faults are drawn"
     studio.shoot("fredkin_no")
     studio.click("#undo")
     taken = max(taken, studio.verdict("yes"))
@@ -178,25 +99,395 @@ def drag_mirror(studio: Studio) -> None:
     assert studio.layout_text() == first
 
 
-USES = [draw_collision, drag_mirror]
+def example(name: str) -> str:
+    """Returns the text of an example."""
+    return (TOP / "examples" / f"{name}.txt").read_text()
+
+
+def draw_by_keyboard(studio: Studio) -> None:
+    """Draws the collision by keys alone, from the page's first element on, rotates it, and saves it."""
+    studio.begin("keys.txt", "circuit\nend\nlayout 48 48 40\nend\n")
+    studio.script("document.activeElement.blur()")
+    for name, value in (("width", "16"), ("height", "16"), ("steps", "6")):
+        studio.tab_to(name)
+        studio.press_keys(Keys.CONTROL + "a", value, Keys.TAB)
+    studio.tab_to("circuit")
+    studio.press_keys(Keys.CONTROL + "a", COLLISION)
+    studio.tab_to("whole")
+    studio.press_keys("i", Keys.ENTER, *[Keys.ARROW_LEFT] * 16, *[Keys.ARROW_UP] * 16, *[Keys.ARROW_RIGHT] * 4, *[Keys.ARROW_DOWN] * 4, Keys.ENTER,
+                      *[Keys.ARROW_DOWN] * 7, Keys.ENTER, "o")
+    studio.tab_to("ends")
+    studio.press_keys(Keys.ENTER)
+    studio.verdict("yes")
+    studio.tab_to("whole")
+    # A frame about everything by Enter at two corners, and then a turn by a quarter.
+    studio.press_keys("v", *[Keys.ARROW_LEFT] * 16, *[Keys.ARROW_UP] * 16, Keys.ENTER, *[Keys.ARROW_RIGHT] * 16, *[Keys.ARROW_DOWN] * 16, Keys.ENTER, "r")
+    studio.verdict("yes")
+    assert "in p 11 4" in studio.layout_text(), studio.layout_text()
+    studio.press_keys(Keys.ALT + Keys.ARROW_UP, Keys.ALT + Keys.ARROW_DOWN, Keys.CONTROL + "z", Keys.CONTROL + "z", Keys.CONTROL + "z", Keys.CONTROL + "s")
+    studio.wait(lambda: "in p 4 4" in (studio.folder / "keys.txt").read_text(), "Ctrl-S writes the file")
+
+
+def refuse_circuit(studio: Studio) -> None:
+    """Types a wrong circuit and sees the refusal at its line, as text; then the size's limits."""
+    studio.begin("wrong.txt", example("not_gate"))
+    studio.verdict("yes")
+    good = studio.script("return document.getElementById('circuit').value")
+    studio.type_circuit(good.replace("spill a", "spill <img src=x onerror=alert(1)>"))
+    studio.wait(lambda: "<img src=x onerror=alert(1)>" in studio.text("refusal"), "the refusal is shown")
+    assert studio.text("refusal").startswith("Line 6: "), studio.text("refusal")
+    assert studio.browser.find_element(By.CSS_SELECTOR, "#gutter .bad").text == "\u2717 6"
+    assert studio.browser.find_elements(By.CSS_SELECTOR, "img") == [], "a text of the page is HTML"
+    studio.verdict("refused")
+    studio.shoot("refused")
+    studio.type_circuit(good)
+    studio.wait(lambda: studio.text("refusal") == "", "the refusal is gone")
+    studio.verdict("yes")
+    studio.put("width", "9")
+    studio.wait(lambda: studio.text("status") == "Width and height are even numbers from 2 to 512.", "the size is refused")
+
+
+def place_mirrors(studio: Studio) -> None:
+    """Mirrors snap, and say why; what is taken cannot be drawn over; a mirror is dragged to a place where it stays."""
+    studio.begin("mirrors.txt", EMPTY)
+    studio.click("#tool-mirror")
+    studio.drag((4, 4), (6, 4))
+    found = studio.script("return bbmlab.studio.desk.model.parts.map(({ box }) => box)")
+    assert found == [[5, 4, 4, 2]], found
+    canvas = studio.browser.find_element(By.ID, "whole")
+    studio.chain().move_to_element_with_offset(canvas, *studio.place(12, 4)).click_and_hold().move_to_element_with_offset(canvas, *studio.place(13, 5)).perform()
+    assert "would fall apart, since its upper left cell is (12, 4)" in studio.text("status"), studio.text("status")
+    studio.chain().release().perform()
+    studio.drag((5, 5), (6, 6))
+    assert "is taken by the mirror at (5, 4)" in studio.text("status"), studio.text("status")
+    studio.click("#tool-select")
+    studio.chain().move_to_element_with_offset(canvas, *studio.place(6, 4)).click_and_hold().move_to_element_with_offset(canvas, *studio.place(7, 10)).perform()
+    assert "would fall apart" in studio.text("status"), studio.text("status")
+    studio.chain().release().perform()
+    assert all((x + y) % 2 == 1 for x, y, _, _ in studio.script("return bbmlab.studio.desk.model.parts.map(({ box }) => box)"))
+    studio.type_circuit("circuit\nend")
+    studio.script("const { desk } = bbmlab.studio; desk.model.setText('circuit\\nend\\nlayout 24 16 6\\nmirror 4 4 2 2\\nend\\n')")
+    assert "The mirror 4 4 2 2 falls apart: its upper left cell is (4, 4)" in studio.text("status"), studio.text("status")
+
+
+def change_selection(studio: Studio) -> None:
+    """Selects by a frame, copies, pastes, rotates, reflects, moves and removes, and undoes all of it."""
+    studio.begin("selection.txt", EMPTY + "")
+    first = studio.layout_text()
+    studio.click("#tool-mirror")
+    studio.drag((3, 2), (6, 3))
+    studio.click("#tool-ball")
+    studio.press(4, 6)
+    studio.click("#pair")
+    studio.press(9, 7)
+    studio.click("#pair")
+    studio.click("#tool-waste")
+    studio.press(1, 13)
+    assert "ball 9 7" in studio.layout_text() and "ball 11 7" not in studio.layout_text(), studio.layout_text()
+    studio.click("#tool-select")
+    studio.drag((0, 0), (10, 9))
+    for button, wanted in (("#flip-x", "mirror 4 2 4 2"), ("#flip-y", None), ("#rotate", None)):
+        before = studio.layout_text()
+        studio.click(button)
+        assert studio.layout_text() != before, button
+    studio.keys(Keys.CONTROL + "c")
+    studio.keys(Keys.CONTROL + "v")
+    count = studio.layout_text().count("ball")
+    studio.press(18, 6)
+    assert studio.layout_text().count("ball") == 2 * count, studio.text("status")
+    studio.keys(Keys.DELETE)
+    assert studio.layout_text().count("ball") == count
+    while studio.browser.find_element(By.ID, "undo").is_enabled():
+        studio.click("#undo")
+    assert studio.layout_text() == first
+    while studio.browser.find_element(By.ID, "redo").is_enabled():
+        studio.click("#redo")
+    assert studio.layout_text().count("ball") == count
+
+
+def insert_cell(studio: Studio) -> None:
+    """Sees the ports of a standard cell and their times while placing it, and gets a yes."""
+    studio.begin("cell.txt", "circuit\nend\nlayout 48 48 0\nend\n")
+    studio.click("#hint-cell")
+    studio.script("const list = document.getElementById('cell-name'); list.value = 'not'; list.dispatchEvent(new Event('change'))")
+    studio.hover(24, 24)
+    assert studio.text("status").startswith("not ") and studio.text("status").endswith("; 37 steps."), studio.text("status")
+    ports = studio.script("return bbmlab.studio.sketch.ghost.ports.map(({ name, time }) => [name, time])")
+    stops = [line.split(" ") for line in (TOP / "lab" / "cells" / "not.txt").read_text().split("\n") if line.startswith("stop ")]
+    assert sorted(ports) == sorted(map(list, {(name, int(at)) for _, at, name, _, _ in stops})), ports
+    studio.shoot("cell")
+    studio.press(24, 24)
+    studio.verdict("yes")
+    assert not studio.browser.find_element(By.ID, "hint").is_displayed()
+
+
+def draw_not_gate(studio: Studio) -> None:
+    """Comes from nothing to a yes for a NOT gate by what the page says: by a ready cell, and by hand with a constant ball."""
+    studio.begin("ready_not.txt", "circuit\nend\nlayout 48 48 40\nend\n")
+    start = time.monotonic()
+    studio.click("#hint-cell")
+    studio.press_keys("n", "o", "t", Keys.ENTER)
+    studio.press(24, 24)
+    studio.verdict("yes")
+    print(f"a NOT gate of a ready cell: {time.monotonic() - start:.1f} s", file=sys.stderr)
+    studio.begin("drawn_not.txt", "circuit\nend\nlayout 48 48 40\nend\n")
+    start = time.monotonic()
+    studio.click("#hint-circuit")
+    studio.press_keys(Keys.CONTROL + "a", "circuit\ninput a\nsource 1 -> one\ninteract a one -> b c d e\noutput c\nspill b\nspill d\nspill e\nend")
+    for name, value in (("width", "16"), ("height", "16"), ("steps", "6")):
+        studio.put(name, value)
+    studio.click("#tool-in")
+    studio.press(4, 4)
+    studio.click("#tool-ball")
+    studio.press(4, 11)
+    studio.click("#tool-out")
+    studio.click("#ends")
+    studio.verdict("yes")
+    print(f"a NOT gate by hand: {time.monotonic() - start:.1f} s", file=sys.stderr)
+    assert "All 2 rows are as the circuit says." in studio.text("truth"), studio.text("truth")
+
+
+def take_fix(studio: Studio) -> None:
+    """Takes a fix that was tried, by its button, and gets a yes; a line of the report shows its time, its inputs and its cell."""
+    studio.begin("fix.txt", example("not_gate").replace("out b 4 4\nwaste 7 4\n", "out b 7 4\nwaste 4 4\n"))
+    studio.verdict("no")
+    studio.wait(lambda: studio.browser.find_elements(By.CSS_SELECTOR, "#report .fix"), "a fix is found")
+    studio.click("#report .fault")
+    assert studio.text("time") == "3 of 3", studio.text("time")
+    studio.shoot("fix")
+    studio.click("#report .fix")
+    studio.verdict("yes")
+    studio.begin("none.txt", CROSSED.replace("layout 66 66 4", "layout 66 66 80").replace("out p 8 6", "out p 6 6"))
+    studio.verdict("no certificate found")
+
+
+def see_ways(studio: Studio) -> None:
+    """Sees the ways under all inputs and under some, the marks, the time and the waveform."""
+    studio.begin("ways.txt", example("machine_fredkin"))
+    studio.still()
+    ways = "return [...bbmlab.studio.desk.survey.ways].length / 5"
+    every = studio.script(ways)
+    marks = studio.script("return bbmlab.studio.desk.survey.marks.filter((_, index) => index % 3 === 2)")
+    assert {"bounce", "meet"} == set(marks), set(marks)
+    names = studio.script("return bbmlab.studio.desk.player.names")
+    assert [name for name in names if name not in studio.text("legend").split()] == [], studio.text("legend")
+    studio.script("const list = document.getElementById('ways'); list.value = 'on'; list.dispatchEvent(new Event('change'))")
+    for name in names:
+        studio.click(f"#inputs input[value={name}]")
+    studio.still()
+    assert studio.script(ways) < every
+    studio.script("const list = document.getElementById('ways'); list.value = 'all'; list.dispatchEvent(new Event('change'))")
+    studio.script("const field = document.getElementById('slider'); field.value = 20; field.dispatchEvent(new Event('input'))")
+    assert studio.text("time").startswith("20 of "), studio.text("time")
+    studio.script("document.getElementById('wave-part').open = true")
+    studio.wait(lambda: studio.script("return document.getElementById('wave').height > 20"), "the waveform is drawn")
+    studio.click(f"#inputs input[value={names[0]}]")
+    studio.shoot("ways")
+    studio.script("document.getElementById('wave-part').open = false")
+
+
+def draw_by_touch(studio: Studio) -> None:
+    """Draws a mirror and a ball by a finger, and zooms by two."""
+    studio.begin("touch.txt", EMPTY)
+    studio.browser.execute_cdp_cmd("Emulation.setTouchEmulationEnabled", {"enabled": True, "maxTouchPoints": 5})
+    studio.click("#tool-mirror")
+    studio.touch("Start", (5, 4))
+    studio.touch("Move", (7, 4))
+    studio.touch("Move", (8, 5))
+    studio.touch("End")
+    studio.click("#tool-ball")
+    studio.touch("Start", (13, 9))
+    studio.touch("End")
+    studio.wait(lambda: "mirror 5 4 4 2" in studio.layout_text() and "ball 13 9" in studio.layout_text(), f"drawn by touch: {studio.layout_text()}")
+    before, text = studio.script("return bbmlab.studio.sketch.scale"), studio.layout_text()
+    studio.touch("Start", (10, 8))
+    studio.touch("Start", (10, 8), (14, 8))
+    studio.touch("Move", (8, 8), (16, 8))
+    studio.touch("Move", (6, 8), (18, 8))
+    studio.touch("End")
+    studio.browser.execute_cdp_cmd("Emulation.setTouchEmulationEnabled", {"enabled": False})
+    assert studio.script("return bbmlab.studio.sketch.scale") > before, "two fingers zoom"
+    assert studio.layout_text() == text, "two fingers draw nothing"
+
+
+def do_many_commands(studio: Studio) -> None:
+    """Does 500 random commands, and undoes them to the start."""
+    studio.begin("many.txt", example("machine_fredkin"))
+    first = studio.layout_text()
+    start = time.monotonic()
+    count = studio.script(COMMANDS)
+    print(f"500 commands: {time.monotonic() - start:.1f} s, {count} to undo", file=sys.stderr)
+    assert count > 100 and studio.layout_text() != first
+    undone = studio.script("let count = 0; const undo = document.getElementById('undo'); while (!undo.disabled) { undo.click(); count += 1; } return count")
+    assert undone == count and studio.layout_text() == first, (undone, count)
+
+
+def use_dialogs(studio: Studio) -> None:
+    """Opens a file, begins from a template and from an example, and exports in each form; the exported page works without a network."""
+    studio.browser.execute_cdp_cmd("Browser.setDownloadBehavior", {"behavior": "allow", "downloadPath": str(studio.folder)})
+    (studio.folder / "other.txt").write_text(example("head_on"))
+    studio.click("#open")
+    choose(studio, "other.txt")
+    studio.answer("Open a file of this folder", "open")
+    studio.wait(lambda: studio.text("name") == "other.txt", "the file is opened")
+    for number, name in enumerate(("not", "example fredkin_gate")):
+        studio.click("#new")
+        choose(studio, name)
+        studio.script("document.querySelector('#dialog input').value = arguments[0]", f"made_{number}.txt")
+        studio.answer("New layout", "make")
+        studio.wait(lambda: studio.text("name") == f"made_{number}.txt", "the template is opened")
+        studio.verdict("yes")
+    for form, ending, word in (("svg", "svg", "<svg "), ("golly", "rle", "rule = BBM-Margolus-emulated"), ("page", "html", "Content-Security-Policy")):
+        studio.click("#export")
+        choose(studio, form)
+        studio.answer("Export", "export")
+        path = studio.folder / f"made_1.{ending}"
+        studio.wait(lambda: path.exists() and word in path.read_text(), f"the file {path.name}")
+    studio.click("#save")
+    studio.wait(lambda: (studio.folder / "made_1.txt").exists(), "the new file is written")
+    studio.browser.get((studio.folder / "made_1.html").as_uri())
+    studio.click("#last")
+    studio.wait(lambda: studio.text("time") != "" and studio.text("time").split(" of ")[0] == studio.text("time").split(" of ")[1], "the page plays")
+
+
+def choose(studio: Studio, value: str) -> None:
+    """Chooses a value in the list of the dialog."""
+    studio.wait(lambda: studio.script("return document.querySelector('#dialog[open] select') !== null"), "the dialog is open")
+    studio.script("document.querySelector('#dialog select').value = arguments[0]", value)
+    assert studio.script("return document.querySelector('#dialog select').value") == value
+
+
+def keep_draft(studio: Studio) -> None:
+    """The server is killed while the text is not saved; a new server's page offers the draft, and the text is as it was."""
+    (studio.folder / "draft.txt").write_text(example("not_gate"))
+    studio.start("draft.txt")
+    studio.verdict("yes")
+    studio.click("#tool-mirror")
+    studio.drag((9, 2), (10, 3))
+    text = studio.layout_text()
+    assert "mirror 9 2" in text, text
+    studio.wait(lambda: studio.script("return Object.keys(localStorage).some((key) => localStorage[key].includes('mirror 9 2'))"), "the draft is kept")
+    studio.kill()
+    studio.drag((1, 10), (2, 11))
+    studio.wait(lambda: "does not answer" in studio.text("report"), "the page says that the server is gone")
+    text = studio.layout_text()
+    studio.start("draft.txt")
+    assert studio.layout_text() == example("not_gate")
+    studio.wait(lambda: "There is a draft of draft.txt" in studio.text("notice"), "the draft is offered")
+    studio.click("#notice button")
+    assert studio.layout_text() == text
+    studio.click("#save")
+    studio.wait(lambda: (studio.folder / "draft.txt").read_text().startswith(text.split("certificate")[0][:40]) and studio.text("name") == "draft.txt", "saved")
+
+
+def use_two_tabs(studio: Studio) -> None:
+    """Two tabs on one file: the second one that saves is asked, and writes over the file or under another name."""
+    (studio.folder / "tabs.txt").write_text(example("not_gate"))
+    address = studio.start("tabs.txt")
+    studio.click("#tool-mirror")
+    studio.drag((9, 2), (10, 3))
+    first = studio.browser.current_window_handle
+    studio.browser.switch_to.new_window("tab")
+    studio.browser.get(address)
+    studio.wait(lambda: studio.text("name") == "tabs.txt", "the second tab is open")
+    time.sleep(0.3)
+    assert not studio.browser.find_element(By.ID, "notice").is_displayed(), "the draft of an open tab is not offered"
+    studio.click("#tool-mirror")
+    studio.drag((1, 8), (2, 9))
+    studio.click("#save")
+    studio.wait(lambda: "mirror 1 8" in (studio.folder / "tabs.txt").read_text(), "the second tab saved")
+    studio.browser.close()
+    studio.browser.switch_to.window(first)
+    studio.click("#save")
+    studio.answer("The file is another one now", "save under this name")
+    studio.wait(lambda: (studio.folder / "tabs_2.txt").exists(), "saved under the other name")
+    assert "mirror 9 2" in (studio.folder / "tabs_2.txt").read_text() and "mirror 1 8" in (studio.folder / "tabs.txt").read_text()
+
+
+def choose_spelling(studio: Studio) -> None:
+    """A text with comments is saved with them, or in the one spelling, as the user says."""
+    text = "# by hand\n" + example("not_gate")
+    studio.begin("free.txt", text)
+    studio.verdict("yes")
+    studio.click("#tool-mirror")
+    studio.drag((9, 2), (10, 3))
+    studio.click("#save")
+    studio.answer("How to write the text", "write it as it is")
+    studio.wait(lambda: "mirror 9 2 2 2" in (studio.folder / "free.txt").read_text(), "saved as it is")
+    assert (studio.folder / "free.txt").read_text().startswith("# by hand\n")
+    studio.begin("free_2.txt", text)
+    studio.verdict("yes")
+    studio.click("#save")
+    studio.answer("How to write the text", "write the one spelling, without comments")
+    studio.wait(lambda: studio.text("status") == "Saved free_2.txt.", "saved in the one spelling")
+    checked = subprocess.run([studio.program, "check"], input=(studio.folder / "free_2.txt").read_bytes(), capture_output=True, check=False)
+    assert checked.returncode == 0, checked.stdout
+
+
+def answer_late(studio: Studio) -> None:
+    """Answers of the server that come late change nothing: a verdict on a text that was undone, and the end of a save after another file was opened."""
+    studio.begin("late.txt", example("not_gate"))
+    studio.verdict("yes")
+    studio.script("""const { server } = bbmlab, { request } = server;
+        server.request = async (name, body) => { const answer = await request(name, body); await new Promise((done) => setTimeout(done, 400)); return answer; };
+        window.quick = () => { server.request = request; };""")
+    studio.click("#tool-erase")
+    studio.press(7, 7)
+    time.sleep(0.35)
+    studio.click("#undo")
+    assert studio.text("badge") == "yes"
+    time.sleep(0.8)
+    assert studio.text("badge") == "yes", studio.text("badge")
+    (studio.folder / "late_2.txt").write_text(example("head_on"))
+    studio.script("const { files } = bbmlab.studio; files.save(); files.openFile('late_2.txt')")
+    time.sleep(1.5)
+    studio.script("quick()")
+    assert studio.text("name") == "late_2.txt", studio.text("name")
+    assert (studio.folder / "late.txt").read_text().startswith(example("not_gate"))
+
+
+def see_dark(studio: Studio) -> None:
+    """Shoots a no in dark colours."""
+    studio.begin("dark.txt", example("machine_fredkin").replace("mirror 2", "mirror 4", 1))
+    studio.wait(lambda: studio.script("return bbmlab.studio.verdicts.isCurrent"), "there is a verdict")
+    studio.still()
+    studio.scheme("dark")
+    studio.shoot("dark")
+    studio.scheme("light")
+
+
+USES = [draw_collision, drag_mirror, draw_by_keyboard, refuse_circuit, place_mirrors, change_selection, insert_cell, draw_not_gate, take_fix, see_ways, draw_by_touch,
+        do_many_commands, choose_spelling, answer_late, see_dark, use_dialogs, keep_draft, use_two_tabs]
+
+
+def run_uses(studio: Studio, wanted: list[str]) -> list[str]:
+    """Runs the uses that are wanted, and returns the errors of the console, apart from those that a killed server leaves."""
+    errors: list[str] = []
+    for use in USES:
+        if wanted and use.__name__ not in wanted:
+            continue
+        if studio.server is None:
+            (studio.folder / "start.txt").write_text(EMPTY)
+            studio.start("start.txt")
+        begun = time.monotonic()
+        use(studio)
+        print(f"{use.__name__}: done in {time.monotonic() - begun:.1f} s", file=sys.stderr, flush=True)
+        logged = [entry["message"] for entry in studio.browser.get_log("browser") if entry["level"] == "SEVERE"]
+        errors += [message for message in logged if not is_of_killed_server(message)]
+    return errors
+
+
+def is_of_killed_server(message: str) -> bool:
+    """Whether an error says that no server answers, or that one ended in the middle of an answer: each `start` kills the one before."""
+    return "net::ERR_" in message or "NetworkError: Failed to execute 'importScripts'" in message
 
 
 def main() -> int:
     """Uses the studio, and returns the exit status: 1 where the console has an error that is none of the killed server's."""
     folder = Path(sys.argv[1])
     studio = Studio(folder, sys.argv[2], sys.argv[3])
-    wanted = os.environ.get("BBMLAB_USES", "").split()
     try:
-        for use in USES:
-            if wanted and use.__name__ not in wanted:
-                continue
-            use(studio)
-            print(f"{use.__name__}: done", file=sys.stderr, flush=True)
-            if use is drag_mirror:
-                studio.scheme("dark")
-                studio.shoot("fredkin_dark")
-                studio.scheme("light")
-        logged = [entry for entry in studio.browser.get_log("browser") if entry["level"] == "SEVERE" and "ERR_CONNECTION_REFUSED" not in entry["message"]]
+        logged = run_uses(studio, os.environ.get("BBMLAB_USES", "").split())
     except Exception:
         studio.browser.save_screenshot(str(folder / "failed.png"))
         print(json.dumps(studio.browser.get_log("browser"))[:3000], file=sys.stderr)
@@ -204,8 +495,8 @@ def main() -> int:
     finally:
         studio.browser.quit()
         studio.kill()
-    for entry in logged:
-        print(entry["message"], file=sys.stderr)
+    for message in logged:
+        print(message, file=sys.stderr)
     return 1 if logged else 0
 
 

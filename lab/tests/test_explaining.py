@@ -82,7 +82,8 @@ class Reports(unittest.TestCase):
         self.assertGreater(tried, 50)
 
     def test_examples_name_their_cause(self) -> None:
-        """The causes of the examples are those that docs/CERTIFICATES.md tells, with the lines that fix them."""
+        """docs/GUIDE.md shows these lines of reports, and their causes are those that it names, with the lines that fix them."""
+        page = (support.TOP / "docs" / "GUIDE.md").read_text(encoding="utf-8")
         for name, report_line, cause, fix in [
                 ("extra_cut", "local 0 edge 3 7 4 3", "never_occurs", "use 0"),
                 ("wrong_edge", "local 1 edge 5 8 8 2", "line", "edge 5 8 8 c"),
@@ -96,6 +97,7 @@ class Reports(unittest.TestCase):
             told = explained_example(name)
             entry = next(entry for entry in told.entries if entry.report_line == report_line)
             with self.subTest(f"{name}: {report_line}"):
+                self.assertIn(f"`{report_line}`", page)
                 self.assertEqual(entry.cause, cause)
                 self.assertIn(f"`{fix}`", " ".join(entry.fixes))
 

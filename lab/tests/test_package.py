@@ -51,6 +51,23 @@ class Package(unittest.TestCase):
             self.assertEqual((verdict, Path(file).is_relative_to(room)), ("yes", True))
             self.assertEqual([name for name in ("bbmlab", "bbmlab_core") if not (Path(file).parent.parent / name / "py.typed").exists()], [])
 
+    def test_pipx(self) -> None:
+        """pipx installs the wheel that pip builds, without a network, and the command runs."""
+        needs = subprocess.run([PYTHON, "-c", "import setuptools, wheel, venv, ensurepip"], capture_output=True, check=False) if Path(PYTHON).exists() else None
+        if not shutil.which("pipx") or not needs or needs.returncode:
+            self.skipTest("there is no pipx, or /usr/bin/python3 lacks setuptools, wheel or venv (Debian: pipx python3-wheel python3-venv)")
+        with tempfile.TemporaryDirectory() as name:
+            room = Path(name)
+            shutil.copytree(support.LAB, room / "lab", ignore=shutil.ignore_patterns("tests", "__pycache__"))
+            output(PYTHON, "-m", "pip", "wheel", "--quiet", "--no-deps", "--no-index", "--no-build-isolation", "-w", str(room / "made"),
+                   str(room / "lab"))
+            shutil.rmtree(room / "lab")
+            [wheel] = (room / "made").iterdir()
+            places = [f"PIPX_HOME={room / 'pipx'}", f"PIPX_BIN_DIR={room / 'bin'}", f"HOME={room}"]
+            output("env", *places, "pipx", "install", "--python", PYTHON, "--pip-args=--no-index", str(wheel))
+            shutil.copy(support.program(), room / "bin" / "bbmcheck")
+            self.assertIn("1 yes", output("env", "-u", "BBMCHECK", str(room / "bin" / "bbmlab"), "check", support.example("fredkin_gate")))
+
 
 class Installed(unittest.TestCase):
     """What `make install` copies."""

@@ -1,4 +1,5 @@
-"""The tables of docs/PHYSICS.md: each row is run in the lab's simulation, which shares no code with the algebra of balls."""
+"""The tables of docs/PHYSICS.md, and the one of mirrors in docs/FORMATS.md: each row is run in the lab's simulation, which shares no code with
+the algebra of balls."""
 
 import re
 import unittest
@@ -9,6 +10,7 @@ from bbmlab_core.layouts import Cell, Layout, Part
 from bbmlab_core.simulation import WholeRun
 
 PAGE = (support.TOP / "docs" / "PHYSICS.md").read_text(encoding="utf-8")
+FORMATS = (support.TOP / "docs" / "FORMATS.md").read_text(encoding="utf-8")
 ORIGIN = 100
 SIDE = 256
 DIRECTIONS = {"right and down": (1, 1), "left and down": (-1, 1), "right and up": (1, -1), "left and up": (-1, -1)}
@@ -16,9 +18,9 @@ PAIR = re.compile(r"\((\w)( [+-] \d+)?, (\w)( [+-] \d+)?\)")
 Mirror = tuple[int, int, int, int]
 
 
-def table(head: str) -> list[list[str]]:
-    """Returns the rows of the table of the page whose first column has this head."""
-    lines = PAGE.splitlines()
+def table(head: str, page: str = PAGE) -> list[list[str]]:
+    """Returns the rows of the table of a page whose first column has this head."""
+    lines = page.splitlines()
     first = next(number for number, line in enumerate(lines) if line.startswith(f"| {head} |"))
     rows = []
     for line in lines[first + 2:]:
@@ -220,6 +222,24 @@ class OneCell(unittest.TestCase):
                 self.assertEqual(rows[what], "comes back on its own track")
                 self.assertEqual(len(cells), 1)
                 self.assertTrue(all(x == y and x < ORIGIN for x, y in cells), cells)
+
+    def test_formats(self) -> None:
+        """A ball flies in the direction of the row of FORMATS.md, and each of its mirrors sends it back after a step of rest."""
+        rows = table("x + t", FORMATS)
+        self.assertEqual(len(rows), 4)
+        self.assertIn("The ball waits one step, and then flies back on its track.", " ".join(FORMATS.split()))
+        for across, down, direction, *corners in rows:
+            way = DIRECTIONS[direction]
+            self.assertEqual(len(corners), 2)
+            for steps in (20, 21):
+                # At time `steps` the ball is at (x, y) with the parities of the row.
+                x, y = (ORIGIN + (steps + (word == "odd")) % 2 for word in (across, down))
+                start = moved([(x, y)], way, -steps)
+                for words in corners:
+                    mirror = (x + shift(words)[0], y + shift(words)[1], 2, 2)
+                    with self.subTest(direction, mirror=words, steps=steps):
+                        for later, place in ((0, 0), (1, 0), (2, -1), (9, -8)):
+                            self.assertEqual(run(start, [mirror], steps + later), moved([(x, y)], way, place))
 
     def test_meetings(self) -> None:
         """A ball of one cell that meets another one has the result that the page says."""

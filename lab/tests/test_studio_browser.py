@@ -27,7 +27,6 @@ class Browser(unittest.TestCase):
         with tempfile.TemporaryDirectory() as room:
             folder = Path(os.environ.get("BBMLAB_SHOTS") or room)
             (folder / "collision.txt").unlink(missing_ok=True)
-            shutil.copy(support.example("machine_fredkin"), folder / "fredkin.txt")
             ended = subprocess.run(["/usr/bin/python3", str(SCRIPT), str(folder), support.program(), str(support.LAB / "bbmlab")], capture_output=True, text=True,
                                    check=False, timeout=280)
         self.assertEqual(ended.returncode, 0, ended.stderr)

@@ -15,6 +15,7 @@ from bbmlab_core.circuits import values_under
 from bbmlab_core.layouts import Layout, Part
 from bbmlab_core.mirrors import falling_mirrors, stays
 from bbmlab_core.simulation import run_layout
+from bbmlab_core.spelling import spelled
 from bbmlab_core.studio import answers, server
 
 SCRIPT = support.LAB / "tests" / "run_studio.js"
@@ -66,6 +67,27 @@ def cells(*names: str) -> list[dict[str, Any]]:
 def part(kind: str, *box: int, name: str | None = None) -> dict[str, Any]:
     """Returns a part as a tool makes it."""
     return {"kind": kind, "name": name, "box": [*box, 1, 1][:4], "line": -1}
+
+
+def random_layout(chooser: random.Random) -> Layout:
+    """Returns a layout of random mirrors, most of which fall apart, and of balls of one cell."""
+    free, parts = {(x, y) for x in range(20) for y in range(20)}, []
+    for _ in range(chooser.randrange(6)):
+        box = (chooser.randrange(2, 14), chooser.randrange(2, 14), chooser.randrange(1, 5), chooser.randrange(1, 5))
+        cells = set(Part("mirror", None, *box, 1).cells())
+        if cells <= free:
+            free -= cells
+            parts.append(Part("mirror", None, *box, 1))
+    chosen = chooser.sample(sorted((x, y) for x, y in free if 6 <= x < 14 and 6 <= y < 14), chooser.randrange(1, 12))
+    parts += [Part("ball", None, *cell, 1, 1, 1) for cell in chosen[::2]] + [Part("in", "pq"[x % 2], x, y, 1, 1, 1) for x, y in chosen[1::2]]
+    return Layout(20, 20, chooser.randrange(1, 16), parts)
+
+
+def text_of(layout: Layout) -> str:
+    """Returns the text of a layout with the inputs p and q."""
+    lines = [f"mirror {part.x} {part.y} {part.width} {part.height}" if part.kind == "mirror" else " ".join(filter(None, [part.kind, part.name, str(part.x), str(part.y)]))
+             for part in layout.parts]
+    return "\n".join(["circuit", "input p", "input q", "end", f"layout {layout.width} {layout.height} {layout.steps}", *lines, "end", ""])
 
 
 class Bytes(unittest.TestCase):
@@ -178,6 +200,19 @@ class Runs(unittest.TestCase):
                 run.run_to(document.layout.steps)
                 self.assertEqual({tuple(cell) for cell in state["live"]}, set(run.field.state()), (name, state["on"]))
 
+    def test_random_layouts(self) -> None:
+        """So it is for random layouts of many balls, with mirrors that fall apart and balls that lie still, as long as no ball leaves."""
+        # In the last ones a cell of a mirror that fell apart lies still for a step, and then moves on.
+        seeds = [*range(200), 491, 680, 974, 1032, 1147, 1151, 1197]
+        layouts, count = [random_layout(random.Random(seed)) for seed in seeds], 0
+        for layout, told in zip(layouts, node(*[["ends", text_of(layout)] for layout in layouts])):
+            for state in told["states"] if told["leftAt"] is None else []:
+                run = run_layout(layout, state["on"])
+                run.run_to(layout.steps)
+                self.assertEqual({tuple(cell) for cell in state["live"]}, set(run.field.state()), text_of(layout))
+                count += 1
+        self.assertGreater(count, 200)
+
     def test_marks(self) -> None:
         """Balls that meet, meet a mirror, break one or leave are marked."""
         self.assertEqual(node(["ends", example("not_gate")])[0]["marks"], ["meet"])
@@ -249,6 +284,19 @@ class Sources(unittest.TestCase):
                 count += 1
                 self.assertLess(end - number + 1, MAX_FUNCTION_LINES, f"{path.name}:{number + 1}")
         self.assertGreater(count, 100)
+
+    def test_pictures_of_the_page(self) -> None:
+        """The page names three pictures, and each is a PNG file."""
+        names = re.findall(r"\]\((pictures/[a-z0-9_]+\.png)\)", (support.TOP / "docs" / "STUDIO.md").read_text())
+        self.assertEqual(len(names), 3)
+        for name in names:
+            self.assertEqual((support.TOP / "docs" / name).read_bytes()[:8], b"\x89PNG\r\n\x1a\n", name)
+
+    def test_drawn_texts_are_of_one_spelling(self) -> None:
+        """What the tools make of a text of the one spelling is of that spelling too."""
+        for told in node(*[["random", example("machine_fredkin"), cells("not", "turn_left"), seed + 31, 100, False] for seed in range(3)]):
+            for text in [*told["texts"], told["last"]]:
+                self.assertEqual(spelled(text).text, text)
 
     def test_texts_are_never_html(self) -> None:
         """No script writes HTML or runs texts, and the page has no script of its own."""

@@ -19,7 +19,7 @@ from bbmlab_core.studio.folder import Folder
 from bbmlab_core.studio.guard import MAX_REQUEST_BYTES
 from bbmlab_core.studio.jobs import Jobs, Worker
 from bbmlab_core.studio.server import POLICY, Studio, studio
-from bbmlab_core.studio.verdicts import source_line
+from bbmlab_core.studio.verdicts import cuts_of, source_line
 
 MEMORY = 4096
 # A program that does not end, with a name that no other test has.
@@ -197,6 +197,12 @@ class Files(Served):
         self.assertTrue(told["words"] and told["rule"])
         self.assertIsNone(source_line("b\na\n", "a\nb\n", 1))
 
+    def test_spelling(self) -> None:
+        """A text with comments has a one spelling without them; a text of one spelling is its own."""
+        good = Path(support.example("not_gate")).read_text()
+        self.assertEqual(self.ask("spelling", text=good), {"text": good, "comments": 0})
+        self.assertEqual(self.ask("spelling", text="# a\n" + good.replace("end\n", "end # b\r\n", 1)), {"text": good, "comments": 2})
+
     def test_templates(self) -> None:
         """New texts are an empty layout, standard cells and examples; other names are none."""
         start = self.ask("start")
@@ -234,6 +240,34 @@ class Verdicts(Served):
         text = Path(support.example("not_gate")).read_text().replace("spill a\n", "spill q\n")
         told = self.ask("verdict", text=text, tab="a")
         self.assertEqual((told["verdict"], told["line"], told["code"]), ("refused", 6, 3))
+
+    def test_stages(self) -> None:
+        """A text whose certificate no longer fits gets its no first. The earlier certificate is tried before the lab makes one."""
+        text = Path(support.example("delay_line")).read_text()
+        head, certificate = text.split("certificate ")
+        told = self.ask("verdict", text=head, tab="a", stage="first", earlier=f"certificate {certificate}")
+        self.assertEqual((told["verdict"], told["by"], told["is_last"]), ("yes", "earlier", True))
+        told = self.ask("verdict", text=head, tab="a", stage="first", earlier="")
+        self.assertEqual((told["verdict"], told["report"], told["is_last"]), ("none", "", False))
+        told = self.ask("verdict", text=head, tab="a", stage="made", earlier="")
+        self.assertEqual((told["verdict"], told["by"], told["is_last"]), ("yes", "certify", True))
+        told = self.ask("verdict", text=Path(support.example("wrong_delay")).read_text(), tab="a", stage="first", earlier="")
+        self.assertEqual((told["verdict"], told["by"], told["is_last"]), ("no", "own", False))
+        told = self.ask("verdict", text=Path(support.example("wrong_delay")).read_text(), tab="a", stage="other", earlier="")
+        self.assertNotIn("With all inputs on", told["words"][0])
+        told = self.ask("verdict", text=text.replace("out b 26 28", "out b 26 27"), tab="a", stage="other", earlier="")
+        self.assertEqual((told["verdict"], told["words"][0][:83]), ("none", "With all inputs on the cell (26, 27) is dead at the end and should be live. So no ce"[:83]))
+        told = self.ask("verdict", text="circuit\ninput p\noutput p\nend\nlayout 66 66 80\nin p 2 2\nout p 6 6\nend\n", tab="a")
+        self.assertEqual((told["verdict"], told["report"]), ("none", ""))
+        self.assertTrue(told["words"])
+
+    def test_cuts(self) -> None:
+        """The wires that modules cut are those of the reader."""
+        for name in ("four_modules", "timed_modules", "not_gate", "machine_full_adder"):
+            text = Path(support.example(name)).read_text()
+            document = support.read_document(text, "check")
+            wanted = [module.cuts for module in document.certificate.modules] if document.certificate else []
+            self.assertEqual(cuts_of(text), wanted, name)
 
     def test_fixes(self) -> None:
         """A no comes with words and a fix, and the program says yes to the text after it."""
@@ -326,6 +360,24 @@ def running() -> str:
 
 class Command(unittest.TestCase):
     """The command."""
+
+    def test_open(self) -> None:
+        """Without `--no-open` the browser gets the address that is printed."""
+        with tempfile.TemporaryDirectory() as room:
+            browser, seen = Path(room) / "browser", Path(room) / "seen"
+            browser.write_text(f'#!/bin/sh\nprintf %s "$1" >"{seen}.new" && mv "{seen}.new" "{seen}"\n')
+            browser.chmod(0o755)
+            process = subprocess.Popen([sys.executable, str(support.LAB / "bbmlab"), "studio", f"{room}/a.txt"], stdout=subprocess.PIPE,
+                                       stderr=subprocess.DEVNULL, text=True, env={**os.environ, "BROWSER": str(browser)})
+            self.addCleanup(process.wait)
+            self.addCleanup(process.terminate)
+            address = process.stdout.readline().strip()
+            until = time.monotonic() + 60
+            while not seen.exists():
+                self.assertLess(time.monotonic(), until)
+                time.sleep(0.05)
+            self.assertEqual(seen.read_text(), address)
+            process.stdout.close()
 
     def test_no_open(self) -> None:
         """`--no-open` prints the address alone, and SIGTERM ends the server with its processes."""

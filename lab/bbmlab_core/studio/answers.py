@@ -62,8 +62,8 @@ class Answers:
     def answer(self, name: str, body: Answer) -> Answer:
         """Returns the answer to a request."""
         known: dict[str, Callable[[Answer], Answer]] = {
-            "start": self.start, "open": self.open, "save": self.save, "files": self.files, "refusal": self.refusal, "cells": self.cells,
-            "template": self.template, "verdict": self.job, "explain": self.job, "export": self.job}
+            "start": self.start, "open": self.open, "save": self.save, "files": self.files, "refusal": self.refusal, "spelling": self.spelling,
+            "cells": self.cells, "template": self.template, "verdict": self.job, "explain": self.job, "export": self.job}
         if name not in known:
             raise Denied(404, "there is no such request")
         try:
@@ -116,6 +116,11 @@ class Answers:
         return {"refusal": {"line": source_line(source, text, document.refusal.line), "code": document.refusal.code, "words": told.what, "rule": told.rule,
                             "hints": told.hints}}
 
+    def spelling(self, body: Answer) -> Answer:
+        """Returns a text in the one spelling that the program reads, and how many comments that leaves out."""
+        made = spelled(bytes_of(word(body, "text")).decode("latin-1"))
+        return {"text": text_of(made.text.encode("latin-1")), "comments": made.comments}
+
     def cells(self, _body: Answer) -> Answer:
         """Returns the standard cells."""
         return {"cells": cells()}
@@ -136,7 +141,8 @@ class Answers:
         """Runs a job that may take a while."""
         if self.jobs is None:
             return {"error": "The program was not found: name it with --program PATH or set BBMCHECK."}
-        for name in ("text", "tab", *{"explain": ("bundle", "report"), "export": ("bundle", "form", "name")}.get(body["kind"], ())):
+        body = {"stage": "", "earlier": "", **body}
+        for name in ("text", "tab", *{"verdict": ("stage", "earlier"), "explain": ("bundle", "report"), "export": ("bundle", "form", "name")}[body["kind"]]):
             word(body, name)
         if body["kind"] == "export" and not (isinstance(body.get("on"), list) and all(isinstance(name, str) for name in body["on"])):
             raise Denied(400, "the request has no list `on`")

@@ -5,7 +5,7 @@
 "use strict";
 
 {
-  const { geometry, ModelRefusal } = bbmlab;
+  const { geometry, cellParts, ModelRefusal } = bbmlab;
   const CELL_KINDS = ["ball", "in", "out", "waste"];
   const CLICK_MIRROR = [4, 2];
 
@@ -35,7 +35,7 @@
     select(lines) {
       this.selection = new Set(lines);
       this.sketch.selected = this.model.partsAt(this.selection);
-      this.sketch.paint();
+      this.sketch.paintOver();
       if (this.onSelect) this.onSelect();
     }
 
@@ -43,7 +43,7 @@
     cancel() {
       this.pressed = null;
       Object.assign(this.sketch, { ghost: null, frame2: null });
-      this.sketch.paint();
+      this.sketch.paintOver();
     }
 
     /** Does a command, and says why if it cannot be done. Returns whether it was done. */
@@ -75,7 +75,7 @@
     /** Shows what a tool would do, and says why if it cannot. */
     show(ghost) {
       this.sketch.ghost = ghost;
-      this.sketch.paint();
+      this.sketch.paintOver();
       if (ghost && ghost.reason) this.say(ghost.reason, true); else if (ghost && ghost.words) this.say(ghost.words); else this.say("");
     }
 
@@ -117,10 +117,8 @@
 
     /** Shows the standard cell at a place, with its ports and their times. */
     showCell(cell) {
-      const { layout, ports, name } = this.cell, [x, y] = this.cornerFor(cell, this.cell);
-      const box = (kind, [u, v]) => ({ kind, name: null, box: [u + x, v + y, 1, 1], line: -1 });
-      const mirrors = layout.mirrors.map(([u, v, w, h]) => ({ kind: "mirror", name: null, box: [u + x, v + y, w, h], line: -1 }));
-      const parts = [...mirrors, ...layout.balls.map((ball) => box("ball", ball))];
+      const { layout, ports, name } = this.cell, [x, y] = this.cornerFor(cell, this.cell), steps = Math.max(layout.steps, this.steps);
+      const parts = cellParts(layout, x, y, this.hasWires ? (wire) => wire : null, steps);
       const isFit = layout.width <= this.desk.layout.width && layout.height <= this.desk.layout.height;
       const reason = isFit ? this.model.whyNot(parts) : `The cell ${name} takes ${layout.width} by ${layout.height} cells: make the layout larger.`;
       const shown = ports.map((port) => ({ ...port, cell: [port.cell[0] + x, port.cell[1] + y] }));
@@ -154,7 +152,7 @@
       if (mode === "mirror") this.showMirror(start, cell);
       else if (mode === "erase") this.erase(cell);
       else if (mode === "move") this.showMove(cell);
-      else if (mode === "frame") { this.sketch.frame2 = between(start, cell); this.sketch.paint(); }
+      else if (mode === "frame") { this.sketch.frame2 = between(start, cell); this.sketch.paintOver(); }
     }
 
     /** Ends at a cell. */
@@ -169,7 +167,7 @@
       else if (mode === "paste") this.placeCopies(end);
       else if (CELL_KINDS.includes(mode)) this.attempt(() => this.model.addCells(this.partsFor(end)));
       Object.assign(this.sketch, { ghost: null, frame2: null });
-      this.sketch.paint();
+      this.sketch.paintOver();
     }
 
     /** Puts the standard cell at a place. */
@@ -206,17 +204,15 @@
       else if (!this.selection.has(chosen.line)) this.select([chosen.line]);
     }
 
-    /** Returns how far the selection is moved. */
-    moveTo([x, y]) {
-      const [u, v] = this.pressed ? this.pressed.start : [0, 0];
-      return geometry.snapMove(this.model.partsAt(this.selection), x - u, y - v);
-    }
-
-    /** Shows the selection where it would be moved. */
-    showMove(cell) {
-      const parts = this.model.partsAt(this.selection), [dx, dy] = this.moveTo(cell), moved = geometry.moved(parts, dx, dy);
+    /** Shows the selection where it would be moved, and why it snapped to another place. */
+    showMove([x, y]) {
+      const { start: [u, v] } = this.pressed, parts = this.model.partsAt(this.selection), [dx, dy] = geometry.snapMove(parts, x - u, y - v);
+      const moved = geometry.moved(parts, dx, dy), isSnapped = dx !== x - u || dy !== y - v;
+      const [wanted] = geometry.moved(parts, x - u, y - v), why = isSnapped && parts.length === 1 ? geometry.fallReason(wanted.box) : null;
       this.pressed.move = [dx, dy];
-      this.show({ parts: moved, reason: this.model.whyNot(moved, this.selection), time: this.steps, words: `Moved by (${dx}, ${dy}).` });
+      const words = why ? `Moved by (${x - u}, ${y - v}) the mirror would fall apart, since ${why}. It moves by (${dx}, ${dy}).`
+        : `Moved by (${dx}, ${dy}).${isSnapped ? " Several parts move by whole blocks." : ""}`;
+      this.show({ parts: moved, reason: this.model.whyNot(moved, this.selection), time: this.steps, words, wanted: why ? wanted.box : null });
     }
 
     /** Moves the selection as it was shown last. */
@@ -269,8 +265,8 @@
     }
 
     /** Puts outputs and waste where the balls end, in the place of those that are there. */
-    placeEnds() {
-      const parts = this.desk.endParts();
+    async placeEnds() {
+      const parts = await this.desk.endParts();
       if (!parts) { this.say("This needs ways under all inputs, at most five inputs, and a circuit that can be read.", true); return; }
       this.attempt(() => this.model.replaceEnds(parts));
     }

@@ -22,7 +22,7 @@
   class Files {
     /** @param {bbmlab.Desk} desk @param {bbmlab.VerdictPanel} verdicts @param {(text: string, isBad?: boolean) => void} say */
     constructor(desk, verdicts, say) {
-      Object.assign(this, { desk, verdicts, say, folder: "", name: "", digest: null, saved: null });
+      Object.assign(this, { desk, verdicts, say, folder: "", name: "", digest: null, saved: null, isFree: false, opened: 0 });
       this.keepSoon = delayed(DRAFT_DELAY, () => this.keepDraft());
       desk.listen("change", () => { this.showName(); this.keepSoon(); });
       for (const [id, action] of [["save", () => this.save()], ["open", () => this.chooseFile()], ["new", () => this.chooseTemplate()],
@@ -34,15 +34,20 @@
     get isChanged() { return this.saved !== null && this.desk.model.text !== this.saved; }
 
     showName() {
-      element("name").textContent = `${this.name}${this.isChanged ? " *" : ""}`;
-      document.title = `${this.isChanged ? "* " : ""}${this.name} · bbmlab studio`;
+      const shown = `${this.name}${this.isChanged ? " *" : ""}`;
+      if (element("name").textContent !== shown) {
+        element("name").textContent = shown;
+        document.title = `${this.isChanged ? "* " : ""}${this.name} · bbmlab studio`;
+      }
       element("undo").disabled = this.desk.model.past.length === 0;
       element("redo").disabled = this.desk.model.future.length === 0;
     }
 
     /** Takes a file that the server read. */
     take({ name, text, digest }) {
-      Object.assign(this, { name, digest, saved: text });
+      Object.assign(this, { name, digest, saved: text, isFree: false, opened: this.opened + 1 });
+      this.verdicts.earlier = "";
+      this.say("");
       this.desk.open(text);
       this.showName();
       this.offerDraft();
@@ -68,18 +73,38 @@
 
     // ---- save
 
-    /** Writes the text to the file, with the certificate that was checked if the text has none that got a yes. */
-    async save(name = this.name, isForced = false) {
+    /** Puts the certificate that was checked into the text, if the text has none that got a yes. */
+    takeCertificate() {
       const { verdicts, desk } = this, { verdict } = verdicts;
-      if (verdicts.isCurrent && verdict.verdict === "yes" && verdict.by !== "own") {
-        const place = verdict.bundle.indexOf("\ncertificate ") + 1;
-        if (place) desk.model.setTail(verdict.bundle.slice(place));
-      }
-      const { text } = desk.model;
+      if (!verdicts.isCurrent || verdict.verdict !== "yes" || verdict.by === "own") return;
+      const place = verdict.bundle.indexOf("\ncertificate ") + 1;
+      if (place) desk.model.setTail(verdict.bundle.slice(place));
+    }
+
+    /** Asks whether the file gets the one spelling that the program reads, if the text has another. Returns whether to go on. */
+    async chooseSpelling() {
+      const { model } = this.desk, { text, comments } = await server.request("spelling", { text: model.text });
+      if (text === undefined || text === model.text || this.isFree) return true;
+      const words = `The program reads texts of one spelling, and this is another one${comments ? `, with ${bbmlab.counted(comments, "comment", "comments")}` : ""}.`;
+      const what = await ask("How to write the text", [made("p", words)], [["write it as it is", () => "free"],
+        [comments ? "write the one spelling, without comments" : "write the one spelling", () => "one"], ["cancel", () => null]]);
+      if (what === "one") model.setText(text, "spelling");
+      this.isFree = what === "free";
+      return what !== null;
+    }
+
+    /** Writes the text to the file. */
+    async save(name = this.name, isForced = false) {
+      const { opened } = this;
+      this.takeCertificate();
+      if (!await this.chooseSpelling() || opened !== this.opened) return;
+      const { text } = this.desk.model;
       const answer = await server.request("save", { name, text, digest: name === this.name ? this.digest : null, force: isForced });
-      if (answer.changed) { this.askAboutChange(name, answer); return; }
+      if (answer.changed && opened === this.opened) { this.askAboutChange(name, answer); return; }
       if (answer.error) { this.say(answer.error, true); return; }
       const old = this.name;
+      // If another file was opened meanwhile, the page shows that one.
+      if (opened !== this.opened) return;
       Object.assign(this, { name, digest: answer.digest, saved: text });
       if (old !== name) drafts.forget(this.folder, old);
       this.keepDraft();
@@ -101,9 +126,10 @@
 
     /** Opens a file of the folder. */
     async openFile(name) {
+      const { opened } = this;
       this.keepDraft();
       const answer = await server.request("open", { name });
-      if (answer.error) this.say(answer.error, true); else this.take(answer);
+      if (answer.error) this.say(answer.error, true); else if (opened === this.opened) this.take(answer);
     }
 
     /** Asks which file to open. */

@@ -20,14 +20,31 @@
   /** Returns the words of a line, without a comment. */
   const wordsOf = (line) => { const code = line.split("#")[0].trim(); return code === "" ? [] : code.split(/\s+/); };
 
-  /** Returns the part that a line names, or null. */
-  function partOf(text, line) {
+  /** Returns the first word of a line, without a comment. */
+  const firstWord = (line) => { const found = /^\s*([^\s#]+)/.exec(line); return found ? found[1] : ""; };
+
+  // The parts of the lines that were read, since an edit changes few of many lines.
+  const knownParts = new Map(), MAX_KNOWN = 200000;
+
+  /** Returns the part that a line names, or null. A line that was read before is not read again. */
+  function partAt(text, line) {
+    let part = knownParts.get(text);
+    if (part === undefined) {
+      if (knownParts.size >= MAX_KNOWN) knownParts.clear();
+      part = partOf(text);
+      knownParts.set(text, part);
+    }
+    return part && { ...part, line };
+  }
+
+  /** Returns the part that a line names, without its place, or null. */
+  function partOf(text) {
     const words = wordsOf(text), kind = words[0], hasName = kind === "in" || kind === "out";
     if (!KINDS.includes(kind) || words.length !== 1 + FORMS[kind] + Number(hasName)) return null;
     const numbers = words.slice(hasName ? 2 : 1);
     if (!numbers.every((word) => NUMBER.test(word)) || hasName && !NAME.test(words[1])) return null;
     const [x, y, w = 1, h = 1] = numbers.map(Number);
-    return w < 1 || h < 1 ? null : { kind, name: hasName ? words[1] : null, box: [x, y, w, h], line };
+    return w < 1 || h < 1 ? null : { kind, name: hasName ? words[1] : null, box: [x, y, w, h], line: -1 };
   }
 
   /** Returns the line of a part. */
@@ -82,16 +99,20 @@
       this.read();
     }
 
-    get text() { return this.lines.join("\n"); }
+    /** The text, which is made once for each list of lines. */
+    get text() {
+      if (this.joinedLines !== this.lines) Object.assign(this, { joinedLines: this.lines, joined: this.lines.join("\n") });
+      return this.joined;
+    }
 
     /** Calls an action after each change. */
     listen(action) { this.listeners.push(action); }
 
     /** Reads the lines: where the layout begins and ends, its header and its parts, and the circuit. Each time these are new objects. */
     read() {
-      const start = this.lines.findIndex((line) => wordsOf(line)[0] === "layout");
-      const end = start < 0 ? -1 : this.lines.findIndex((line, index) => index > start && ["end", "certificate"].includes(wordsOf(line)[0]));
-      const isClosed = end >= 0 && wordsOf(this.lines[end])[0] === "end";
+      const start = this.lines.findIndex((line) => line.includes("layout") && firstWord(line) === "layout");
+      const end = start < 0 ? -1 : this.lines.findIndex((line, index) => index > start && ["end", "certificate"].includes(firstWord(line)));
+      const isClosed = end >= 0 && firstWord(this.lines[end]) === "end";
       this.start = start;
       // The line behind the parts, and the first line that is no longer of the layout.
       this.end = start < 0 ? this.lines.length : end < 0 ? this.lines.length - Number(this.lines.at(-1) === "") : end;
@@ -99,7 +120,7 @@
       this.parts = [];
       this.filed = null;
       for (let line = start + 1; start >= 0 && line < this.end; line += 1) {
-        const part = partOf(this.lines[line], line);
+        const part = partAt(this.lines[line], line);
         if (part) this.parts.push(part);
       }
       this.header = this.readHeader();
@@ -352,7 +373,7 @@
     insertCell({ layout, circuit }, x, y, hasWires) {
       if (x % 2 || y % 2) throw new Refusal("A cell is moved by even numbers of columns and rows.");
       const names = circuitText.freshNames(circuit, this.circuit.names), steps = Math.max(layout.steps, this.header ? this.header.steps : 0);
-      const parts = cellParts(layout, x, y, hasWires ? names : null, steps);
+      const parts = cellParts(layout, x, y, hasWires ? (name) => names.get(name) : null, steps);
       const flying = hasWires && steps > this.header.steps ? this.parts.filter(({ kind }) => kind === "out" || kind === "waste") : [];
       const fresh = geometry.followed(flying, this.header.steps, steps - this.header.steps);
       this.require([...parts, ...fresh], flying.map(({ line }) => line));
@@ -366,15 +387,15 @@
     }
   }
 
-  /** Returns the parts of a standard cell at a place; `names` are the wires' new names, or null without wires. Outputs fly on to `steps`. */
-  function cellParts(layout, x, y, names, steps) {
+  /** Returns the parts of a standard cell at a place; `nameOf` gives wires new names, and is null without wires. Outputs fly on to `steps`. */
+  function cellParts(layout, x, y, nameOf, steps) {
     const one = (kind, name, cell) => ({ kind, name, box: [cell[0], cell[1], 1, 1], line: -1 });
     const firm = [...layout.mirrors.map((box) => ({ kind: "mirror", name: null, box, line: -1 })), ...layout.balls.map((cell) => one("ball", null, cell))];
-    if (names === null) return geometry.moved(firm, x, y);
-    const ins = layout.ins.map(({ name, cell }) => one("in", names.get(name), cell));
-    const late = [...layout.outs.map(({ name, cell }) => one("out", names.get(name), cell)), ...layout.wastes.map((cell) => one("waste", null, cell))];
+    if (nameOf === null) return geometry.moved(firm, x, y);
+    const ins = layout.ins.map(({ name, cell }) => one("in", nameOf(name), cell));
+    const late = [...layout.outs.map(({ name, cell }) => one("out", nameOf(name), cell)), ...layout.wastes.map((cell) => one("waste", null, cell))];
     return geometry.moved([...firm, ...ins, ...geometry.followed(late, layout.steps, steps - layout.steps)], x, y);
   }
 
-  Object.assign(bbmlab, { Model, ModelRefusal: Refusal, partOf, lineOf });
+  Object.assign(bbmlab, { Model, ModelRefusal: Refusal, cellParts });
 }

@@ -55,9 +55,12 @@
 
     /** Shows the numbers of the lines, with a mark at the one that is refused. */
     showGutter() {
-      const count = element("circuit").value.split("\n").length, bad = this.refusal ? this.refusal.line : null;
-      const lines = [...Array(count).keys()].map((index) => made("span", index + 1 === bad ? `✗ ${index + 1}` : String(index + 1), index + 1 === bad ? "bad" : ""));
-      element("gutter").replaceChildren(...lines.flatMap((line) => [line, "\n"]));
+      const count = element("circuit").value.split("\n").length, bad = this.refusal ? this.refusal.line : null, key = `${count} ${bad}`;
+      if (this.gutterKey === key) return;
+      this.gutterKey = key;
+      const numbers = (from, to) => [...Array(Math.max(0, to - from)).keys()].map((index) => `${from + index}\n`).join("");
+      if (bad === null || bad > count) element("gutter").replaceChildren(numbers(1, count + 1));
+      else element("gutter").replaceChildren(numbers(1, bad), made("span", `✗ ${bad}`, "bad"), "\n", numbers(bad + 1, count + 1));
       element("gutter").scrollTop = element("circuit").scrollTop;
     }
 
@@ -79,12 +82,11 @@
 
     /** Shows a switch for each input. */
     showInputs() {
-      const { names, on } = this.desk.player, box = element("inputs"), key = names.join(" ");
-      if (this.inputsKey !== key) {
-        this.inputsKey = key;
-        box.replaceChildren(...names.map((name) => this.inputSwitch(name)));
-        if (names.length === 0) box.textContent = "The circuit has no inputs yet.";
-      }
+      const { names, on } = this.desk.player, box = element("inputs"), key = `${names.join(" ")} but ${[...this.desk.off].join(" ")}`;
+      if (this.inputsKey === key) return;
+      this.inputsKey = key;
+      box.replaceChildren(...names.map((name) => this.inputSwitch(name)));
+      if (names.length === 0) box.textContent = "The circuit has no inputs yet.";
       for (const one of box.querySelectorAll("input")) one.checked = on.has(one.value);
     }
 
@@ -102,27 +104,27 @@
       const { survey, isExact } = this.desk, legend = element("legend"), inks = wireInks();
       legend.replaceChildren();
       if (!survey) return;
-      const seen = [...new Set(survey.ways.filter((_, index) => index % 5 === 4))].filter((colour) => colour < surveys.CONSTANT).sort((a, b) => a - b);
+      const seen = [...survey.wires.keys()].filter((colour) => colour < surveys.CONSTANT).sort((a, b) => a - b);
       for (const colour of seen.slice(0, MAX_LEGEND)) {
-        const item = made("span", survey.wireOf(colour));
+        const item = made("span", survey.wires.get(colour));
         item.style.borderBottomColor = inks[(colour - 1) % inks.length];
         legend.append(item);
       }
       if (seen.length > MAX_LEGEND) legend.append(`and ${seen.length - MAX_LEGEND} more`);
-      if (this.desk.waysMode === "all" && !isExact) legend.append(`under ${survey.choices.length} of 2^${survey.inputs.length} choices`);
+      if (this.desk.waysMode === "all" && !isExact) legend.append(`under ${survey.choiceCount} of 2^${survey.inputCount} choices`);
       if (survey.leftAt !== null) legend.append(made("span", `A ball leaves at step ${survey.leftAt}.`, "bad"));
     }
 
     /** Shows what the outputs should be and what they are. */
     showTable() {
-      const { table, circuit } = this.desk, box = element("truth");
-      if (!table) {
+      const { rows, hasTable, circuit } = this.desk, box = element("truth");
+      if (!hasTable) {
         const count = circuit ? circuit.inputs.length : 0;
         const why = !circuit ? "The circuit cannot be read yet." : circuit.outputs.length === 0 ? "The circuit has no outputs yet." : `The circuit has ${count} inputs: the table is for at most eight.`;
         box.replaceChildren(made("p", why, "soft"));
         return;
       }
-      const rows = table.rows(), wrong = rows.filter(({ outputs }) => outputs.some(({ wanted, found }) => wanted !== found)).length, { inputs, outputs } = circuit;
+      const wrong = rows.filter(({ outputs }) => outputs.some(({ wanted, found }) => wanted !== found)).length, { inputs, outputs } = circuit;
       const head = made("tr"), grid = made("table");
       head.append(...inputs.map((name) => made("th", name)), ...outputs.map((name) => made("th", name, "output")));
       grid.append(head, ...rows.map((row) => this.tableRow(row)));

@@ -2,9 +2,9 @@
 "use strict";
 
 {
-  const { Stage, Cells, startKeys, painting, geometry, surveys } = bbmlab;
+  const { Stage, Cells, startKeys, painting, geometry, surveys, placeNames } = bbmlab;
   const { RULER } = painting;
-  const WIRE_INKS = 8;
+  const WIRE_INKS = 8, PORT_FONT = "600 12px system-ui, sans-serif";
 
   /** Returns the colours of wires as the page is shown now. */
   function wireInks() {
@@ -17,7 +17,9 @@
     constructor(desk, parts) {
       super(desk.player, parts);
       // What a tool would do: parts, why they cannot be, ports of a cell; the selected parts, a frame, the keyboard's cell, faults' cells.
-      Object.assign(this, { desk, ghost: null, selected: [], frame2: null, cursor: null, faults: [], hasTrails: false, isGraspable: true });
+      Object.assign(this, { desk, ghost: null, selected: [], frame2: null, cursor: null, faults: [], hasTrails: false });
+      // The canvas that holds the layout with its ways, and whether they changed since.
+      Object.assign(this, { base: document.createElement("canvas"), isStale: true });
     }
 
     /** Shows the desk's layout as it is now. */
@@ -29,34 +31,57 @@
       if (isOther && this.isFit) this.fit(); else this.paint();
     }
 
+    /** Draws the waveform, if it is open. */
+    paintWave() { if (this.desk.hasWave) super.paintWave(); }
+
     /** Returns the colour of a wire by its number in the survey's order. */
     inkOf(colour, inks, place) {
       if (colour === surveys.CONSTANT) return place.inks.soft;
       return colour === surveys.OTHER ? place.inks.border : inks[(colour - 1) % WIRE_INKS];
     }
 
-    /** Draws the layout, and what is drawn over it, off the rulers. */
+    /** Draws at the next frame. The layout with its ways is drawn again too. */
+    paint() {
+      this.isStale = true;
+      super.paint();
+    }
+
+    /** Draws at the next frame what changes while one draws: only what lies over the layout. */
+    paintOver() { super.paint(); }
+
+    /** Draws the layout with its ways, from a canvas that holds it until it changes, and what lies over it. */
     paintWhole(place, pointed = this.pointed) {
-      super.paintWhole(place, pointed);
-      const { pen } = place;
+      const { pen, wide, high } = place, { width, height } = pen.canvas;
+      if (this.isStale || this.base.width !== width || this.base.height !== height) this.paintBase(place);
+      pen.drawImage(this.base, 0, 0, wide, high);
       pen.save();
       pen.beginPath();
       pen.rect(RULER.wide, RULER.high, place.wide, place.high);
       pen.clip();
-      if (this.desk.survey) { this.paintWays(place); this.paintMarks(place); }
-      for (const { box } of this.desk.fallen) painting.outline(place, box, place.inks.bad, [], -2, 2.5);
-      for (const cell of this.faults) painting.ring(place, cell);
       for (const { box } of this.selected) painting.outline(place, box, place.inks.box, [], -2, 3);
       if (this.ghost) this.paintGhost(place, this.ghost);
       if (this.frame2) painting.outline(place, this.frame2, place.inks.box, [5, 4], 0, 1.5);
       if (this.cursor) painting.outline(place, [...this.cursor, 1, 1], place.inks.box, [], 1, 2);
       pen.restore();
+      painting.rulers(place, this.layout, pointed);
+    }
+
+    /** Draws the layout with its ways on a canvas of its own, which is then shown at each frame. */
+    paintBase(shown) {
+      Object.assign(this.base, { width: shown.pen.canvas.width, height: shown.pen.canvas.height });
+      const place = { ...shown, pen: this.base.getContext("2d") };
+      place.pen.setTransform(shown.pen.getTransform());
+      this.isStale = false;
+      super.paintWhole(place, null);
+      if (this.desk.survey) { this.paintWays(place); this.paintMarks(place); }
+      for (const { box } of this.desk.fallen) painting.outline(place, box, place.inks.bad, [], -2, 2.5);
+      for (const cell of this.faults) painting.ring(place, cell);
     }
 
     /** Returns the ways as one path for each colour, in cells, made once for each survey. */
     wayPaths() {
       const { ways } = this.desk.survey;
-      if (this.pathsOf === ways && this.pathsLength === ways.length) return this.paths;
+      if (this.pathsOf === ways) return this.paths;
       this.paths = new Map();
       for (let index = 0; index < ways.length; index += 5) {
         const colour = ways[index + 4];
@@ -65,7 +90,7 @@
         path.moveTo(ways[index] + 0.5, ways[index + 1] + 0.5);
         path.lineTo(ways[index + 2] + 0.5, ways[index + 3] + 0.5);
       }
-      Object.assign(this, { pathsOf: ways, pathsLength: ways.length });
+      this.pathsOf = ways;
       return this.paths;
     }
 
@@ -116,10 +141,28 @@
         if (kind !== "mirror" && kind !== "waste" && ports.length === 0) this.paintArrow(place, box, geometry.direction(box[0], box[1], kind === "out" ? time : 0), ink);
         if (name && ports.length === 0 && parts.length <= 2) this.paintWord(place, box, name, ink);
       }
-      for (const port of ports) {
-        this.paintArrow(place, port.cell, port.direction, place.inks.box);
-        this.paintWord(place, port.cell, `${port.role} ${port.name} at time ${port.time}`, place.inks.box);
-      }
+      if (ports.length) this.paintPorts(place, ports, parts);
+    }
+
+    /** Draws the ports of a standard cell, each with its name and its time, off each other. */
+    paintPorts(place, ports, parts) {
+      const { pen, scale, left, top, inks } = place, words = ports.map(({ role, name, time }) => `${role} ${name} at time ${time}`);
+      const rect = ([x, y, w, h]) => ({ x: (x - left) * scale, y: (y - top) * scale, width: w * scale, height: h * scale });
+      pen.font = PORT_FONT;
+      const names = ports.map(({ cell: [x, y], direction: [dx, dy] }, index) => ({ isAbove: dy > 0, height: 15, width: pen.measureText(words[index]).width + 4,
+        cell: rect([x - Number(dx < 0), y - Number(dy < 0), 2, 2]) }));
+      placeNames(names, parts.map(({ box }) => rect(box)), []).forEach(({ box, away }, index) => {
+        const { cell: [x, y], direction } = ports[index], middle = rect([x + 0.5, y + 0.5, 0, 0]);
+        this.paintArrow(place, [x, y], direction, inks.box);
+        if (away > 0) {
+          pen.lineWidth = 1;
+          pen.beginPath();
+          pen.moveTo(box.x + box.width / 2, box.y + (box.y > middle.y ? 0 : box.height));
+          pen.lineTo(middle.x, middle.y);
+          pen.stroke();
+        }
+        this.paintText(place, words[index], box.x + 2, box.y + 11, inks.box);
+      });
     }
 
     /** Draws an arrow from a cell in the direction of its ball. */
@@ -136,17 +179,19 @@
       pen.stroke();
     }
 
-    /** Writes a word beside a cell. */
-    paintWord(place, [x, y], text, ink) {
-      const { pen, scale, inks } = place, u = (x + 1.3 - place.left) * scale, v = (y - 0.2 - place.top) * scale;
-      pen.font = "600 12px system-ui, sans-serif";
+    /** Writes a word next to a cell. */
+    paintWord(place, [x, y], text, ink) { this.paintText(place, text, (x + 1.3 - place.left) * place.scale, (y - 0.2 - place.top) * place.scale, ink); }
+
+    /** Writes a text on a plate at a place of the canvas. */
+    paintText({ pen, inks }, text, x, y, ink) {
+      pen.font = PORT_FONT;
       pen.textAlign = "left";
       pen.fillStyle = inks.paper;
       pen.globalAlpha = 0.85;
-      pen.fillRect(u - 2, v - 11, pen.measureText(text).width + 4, 14);
+      pen.fillRect(x - 2, y - 11, pen.measureText(text).width + 4, 14);
       pen.globalAlpha = 1;
       pen.fillStyle = ink;
-      pen.fillText(text, u, v);
+      pen.fillText(text, x, y);
     }
   }
 

@@ -12,7 +12,7 @@
     + "comma and period step. Ctrl-Z and Ctrl-Y undo and redo, Ctrl-C, Ctrl-X and Ctrl-V copy, cut and paste, Ctrl-S saves.";
   const PAN_STEP = 40;
   const canvasParts = { whole: element("whole"), wave: element("wave"), waveBox: element("wave-box"), waveRest: element("wave-rest"), waveCursor: element("wave-cursor") };
-  const desk = new Desk("circuit\nend\nlayout 48 48 40\nend\n");
+  const desk = new Desk("circuit\nend\nlayout 48 48 40\nend\n", new Worker("studio/survey_worker.js"));
   const sketch = new Sketch(desk, canvasParts);
   const tools = new Tools(desk, sketch, say);
   const panels = new SidePanels(desk, sketch, say);
@@ -94,8 +94,9 @@
   /** Shows the desk after a change. */
   function showChange() {
     sketch.take();
-    tools.select([...tools.selection].filter((line) => desk.model.partsAt([line]).length));
+    tools.select(desk.model.partsAt(tools.selection).map(({ line }) => line));
     if (tools.name === "in" || tools.name === "out") suggestWire();
+    element("hint").hidden = desk.model.parts.length > 0 || !desk.model.header;
     const why = desk.fallen.length ? bbmlab.geometry.fallReason(desk.fallen[0].box) : null;
     if (why) say(`The mirror ${desk.fallen[0].box.join(" ")} falls apart: ${why}.`, true);
     else if (!desk.model.header) say("The line `layout W H STEPS` is missing or not allowed: W and H are even, 2 to 512.", true);
@@ -207,6 +208,8 @@
     element("pair").addEventListener("change", (event) => { tools.isPair = event.target.checked; });
     element("with-wires").addEventListener("change", (event) => { tools.hasWires = event.target.checked; });
     element("skip").addEventListener("click", (event) => { event.preventDefault(); element("badge").click(); });
+    element("hint-cell").addEventListener("click", () => { choose("cell"); element("cell-name").focus(); });
+    element("hint-circuit").addEventListener("click", () => { element("gates").open = true; element("circuit").focus(); });
     element("keys").textContent = KEYS;
   }
 
@@ -225,6 +228,7 @@
     verdicts.onInputs = () => panels.showInputs();
     new ResizeObserver(() => (sketch.isFit ? sketch.fit() : sketch.paint())).observe(canvasParts.whole);
     new ResizeObserver(() => sketch.paintWave()).observe(canvasParts.waveBox);
+    element("wave-part").addEventListener("toggle", () => desk.setWave(element("wave-part").open));
     const { wave } = canvasParts, seek = (event) => { if (event.buttons & 1) desk.player.seek(sketch.timeAt(event.offsetX)); };
     for (const name of ["pointerdown", "pointermove"]) wave.addEventListener(name, seek);
     matchMedia("(prefers-color-scheme: dark)").addEventListener("change", () => { sketch.paint(); sketch.paintWave(); panels.showLegend(); });

@@ -7,7 +7,7 @@
 "use strict";
 
 {
-  const { CELLS, keyOf, xOf, yOf, circuitValues } = bbmlab;
+  const { CELLS, keyOf, xOf, yOf, circuitValues, geometry } = bbmlab;
   const ROW = 1024, LANES = 32;
   // Colours: 1 to 250 are wires, and these two are a constant and what is no wire of the circuit.
   const CONSTANT = 251, OTHER = 252, MAX_WIRES = 250;
@@ -49,8 +49,10 @@
       this.tables = tablesOf(circuit, inputs, choices);
       this.colours = new Map();
       [...this.tables].slice(0, MAX_WIRES).forEach(([, table], index) => { if (table && !this.colours.has(table)) this.colours.set(table, index + 1); });
-      // The ways: x, y of a cell, x, y of the next one, and a colour; which ways of each block are noted; marks x, y, kind.
-      Object.assign(this, { ways: [], noted: new Uint8Array(CELLS), marks: [], live: new Int32Array(CELLS), passes: new Int32Array(CELLS) });
+      // Which ways of each block are noted, with the colours of those on its two diagonals; the ways by its sides; marks x, y, kind.
+      Object.assign(this, { noted: new Uint8Array(CELLS), down: new Uint8Array(CELLS), up: new Uint8Array(CELLS), blocks: [], sides: [], marks: [] });
+      Object.assign(this, { live: new Int32Array(CELLS), passes: new Int32Array(CELLS) });
+      // 1 is a cell of a mirror, and 2 one that changed.
       this.isMirror = new Uint8Array(CELLS);
       this.begin();
     }
@@ -59,11 +61,17 @@
     begin() {
       const { layout, live, full } = this, first = [];
       for (const [x, y, w, h] of layout.mirrors) {
-        for (let v = y; v < y + h; v += 1) for (let u = x; u < x + w; u += 1) { this.isMirror[keyOf(u, v)] = 1; live[keyOf(u, v)] = full; first.push(keyOf(u, v)); }
+        for (let v = y; v < y + h; v += 1) for (let u = x; u < x + w; u += 1) first.push(keyOf(u, v));
       }
+      // Bit 6 of the note of a block: it contains a cell of a mirror.
+      for (const key of first) { this.isMirror[key] = 1; live[key] = full; for (const before of [0, 1, ROW, ROW + 1]) this.noted[key - before] |= 64; }
       for (const cell of layout.balls) { live[keyOf(...cell)] = full; first.push(keyOf(...cell)); }
       for (const { name, cell } of layout.ins) { live[keyOf(...cell)] |= this.tables.get(name) || 0; first.push(keyOf(...cell)); }
-      this.recent = [first, first];
+      // The cells that the next step looks at, and those that it leaves for the step after it; and at which step a cell changed last.
+      const most = first.length + (layout.width + 4) * (layout.height + 4);
+      Object.assign(this, { now: new Int32Array(most), next: new Int32Array(most), nowCount: first.length, nextCount: 0, changedAt: 0 });
+      this.now.set(first);
+      this.first = first;
     }
 
     /** Makes steps for some milliseconds, and returns whether the run is at its end. */
@@ -71,53 +79,80 @@
       const until = performance.now() + milliseconds, { steps } = this.layout;
       for (let count = 1; !this.isEnded && (count % 8 || performance.now() < until); count += 1) {
         this.step();
-        this.isEnded = this.time === steps || this.recent[0].length + this.recent[1].length === 0;
+        this.isEnded = this.time === steps || this.time > this.changedAt + 1;
       }
       return this.isEnded;
     }
 
-    /** Makes a step of the blocks in which one of the last two steps changed a cell. */
+    /**
+     * Makes a step of the blocks in which something may change: those with a cell that the last step changed, or with a ball that it left
+     * where it is. At the start these are all blocks, and so they are for the second step.
+     */
     step() {
-      const odd = this.time & 1, changed = [], pass = this.time + 1, { passes } = this;
-      for (const cells of this.recent) {
-        for (let index = 0; index < cells.length; index += 1) {
-          const block = blockOf(cells[index], odd);
-          if (passes[block] === pass) continue;
-          passes[block] = pass;
-          this.turn(block, changed);
-        }
+      const odd = this.time & 1, pass = this.time + 1, { passes, now, nowCount } = this;
+      this.nextCount = 0;
+      for (let index = 0; index < nowCount; index += 1) {
+        const key = now[index], block = key - ((key ^ odd) & 1) - (((key >> 10) ^ odd) & 1) * ROW;
+        if (passes[block] === pass) continue;
+        passes[block] = pass;
+        this.turn(block);
       }
+      if (this.time === 0) { this.next.set(this.first, this.nextCount); this.nextCount += this.first.length; }
       this.time += 1;
-      this.recent = [this.recent[1], changed];
-      if (this.time <= this.layout.steps) this.drop(changed);
+      this.now = this.next;
+      this.nowCount = this.nextCount;
+      this.next = now;
+      if (this.time <= this.layout.steps) this.drop();
     }
 
     /**
      * Applies the block rule to a block in all choices at once: one ball crosses the block; two on a diagonal go to the other diagonal;
      * everything else stays (Margolus 1984, block rule).
      */
-    turn(a, changed) {
-      const { live } = this, b = a + 1, c = a + ROW, d = a + ROW + 1, la = live[a], lb = live[b], lc = live[c], ld = live[d];
-      const one = (la ^ ld) & ~lb & ~lc, other = (lb ^ lc) & ~la & ~ld, both = la & ld & ~lb & ~lc | lb & lc & ~la & ~ld;
-      if ((one | other | both) === 0) { this.noteBounce(a, la | lb | lc | ld); return; }
-      if (one | both) { live[a] ^= one | both; live[d] ^= one | both; changed.push(a, d); }
-      if (other | both) { live[b] ^= other | both; live[c] ^= other | both; changed.push(b, c); }
-      this.noteWays(a, one, other, both);
-      this.noteBounce(a, (la | lb | lc | ld) & ~(one | other | both));
+    turn(a) {
+      const { live, next } = this, b = a + 1, c = a + ROW, d = a + ROW + 1, la = live[a], lb = live[b], lc = live[c], ld = live[d], any = la | lb | lc | ld;
+      if (any === 0) return;
+      const one = (la ^ ld) & ~lb & ~lc, other = (lb ^ lc) & ~la & ~ld, both = la & ld & ~lb & ~lc | lb & lc & ~la & ~ld, note = this.noted[a];
+      const diagonal = one | both, across = other | both;
+      let count = this.nextCount;
+      if (diagonal !== 0) { live[a] = la ^ diagonal; live[d] = ld ^ diagonal; next[count] = a; next[count + 1] = d; count += 2; }
+      else if ((la | ld) !== 0) count = this.leave(a, d, count);
+      if (across !== 0) { live[b] = lb ^ across; live[c] = lc ^ across; next[count] = b; next[count + 1] = c; count += 2; }
+      else if ((lb | lc) !== 0) count = this.leave(b, c, count);
+      this.nextCount = count;
+      if ((diagonal | across) === 0) { if ((note & 72) === 64) this.noteBounce(a, any); return; }
+      this.changedAt = this.time + 1;
+      if ((one !== 0 && (note & 1) === 0) || (other !== 0 && (note & 2) === 0) || (both !== 0 && (note & 4) === 0)) this.noteWays(a, one, other, both);
+      if ((note & 64) === 0) return;
+      if (diagonal !== 0) this.loosen(a, d);
+      if (across !== 0) this.loosen(b, c);
+      this.noteBroken(a);
+      this.noteBounce(a, any & ~(one | other | both));
     }
 
-    /** Notes the ways through a block, each once. */
-    noteWays(a, one, other, both) {
-      const { noted, ways } = this, x = xOf(a), y = yOf(a), bits = noted[a];
-      if (one && !(bits & 1)) ways.push(x, y, x + 1, y + 1, this.colourOf(one));
-      if (other && !(bits & 2)) ways.push(x + 1, y, x, y + 1, this.colourOf(other));
-      if (both && !(bits & 4)) {
-        ways.push(x, y, x + 1, y, this.colourOf(both), x, y + 1, x + 1, y + 1, this.colourOf(both));
-        this.marks.push(x, y, "meet");
-      }
-      noted[a] = bits | (one ? 1 : 0) | (other ? 2 : 0) | (both ? 4 : 0);
+    /** Notes which of two cells that changed are of mirrors. */
+    loosen(one, two) {
       const { isMirror } = this;
-      if (isMirror[a] + isMirror[a + 1] + isMirror[a + ROW] + isMirror[a + ROW + 1] > 0) this.noteBroken(a);
+      if (isMirror[one] === 1) isMirror[one] = 2;
+      if (isMirror[two] === 1) isMirror[two] = 2;
+    }
+
+    /** Leaves those of two cells that did not change to the next step that are live, and no mirror or no longer one. Returns how many cells it has. */
+    leave(one, two, count) {
+      const { live, isMirror, next } = this;
+      if (live[one] !== 0 && isMirror[one] !== 1) { next[count] = one; count += 1; }
+      if (live[two] !== 0 && isMirror[two] !== 1) { next[count] = two; count += 1; }
+      return count;
+    }
+
+    /** Notes the ways through a block, each once: bit 0 of the note is the one diagonal, bit 1 the other, bit 2 a collision. */
+    noteWays(a, one, other, both) {
+      const { noted } = this, bits = noted[a];
+      if ((bits & 7) === 0) this.blocks.push(a);
+      if (one && !(bits & 1)) this.down[a] = this.colourOf(one);
+      if (other && !(bits & 2)) this.up[a] = this.colourOf(other);
+      if (both && !(bits & 4)) { this.sides.push(a, this.colourOf(both)); this.marks.push(xOf(a), yOf(a), "meet"); }
+      noted[a] = bits | (one ? 1 : 0) | (other ? 2 : 0) | (both ? 4 : 0);
     }
 
     /** Notes that a step changed a cell of a mirror. */
@@ -140,22 +175,51 @@
     }
 
     /** Takes away what left the rectangle, and notes the first time. */
-    drop(changed) {
-      const { width, height } = this.layout, { live } = this;
-      for (const key of changed) {
-        if (live[key] === 0) continue;
-        const x = xOf(key), y = yOf(key);
-        if (x >= 0 && y >= 0 && x < width && y < height) continue;
+    drop() {
+      const { width, height } = this.layout, { live, now, nowCount } = this;
+      for (let index = 0; index < nowCount; index += 1) {
+        const key = now[index], x = (key & ROW - 1) - 2, y = (key >> 10) - 2;
+        if (x >= 0 && y >= 0 && x < width && y < height || live[key] === 0) continue;
         live[key] = 0;
         if (this.leftAt === null) { this.leftAt = this.time; this.marks.push(x, y, "left"); }
       }
+    }
+
+    /** Returns the ways as lines: x, y, x, y and a colour for each. The ways of one colour that lie in a row are one line. */
+    lines() {
+      const { blocks, sides, down, up } = this, lines = [];
+      for (const [colours, on, dx] of [[down, ROW + 1, 1], [up, ROW - 1, -1]]) {
+        for (const block of blocks) {
+          const colour = colours[block];
+          if (colour === 0 || colours[block - on] === colour) continue;
+          let last = block;
+          while (colours[last + on] === colour) last += on;
+          const x = xOf(block) + (dx < 0 ? 1 : 0), y = yOf(block), far = yOf(last) - y + 1;
+          lines.push(x, y, x + dx * far, y + far, colour);
+        }
+      }
+      for (let index = 0; index < sides.length; index += 2) {
+        const x = xOf(sides[index]), y = yOf(sides[index]), colour = sides[index + 1];
+        lines.push(x, y, x + 1, y, colour, x, y + 1, x + 1, y + 1, colour);
+      }
+      return lines;
+    }
+
+    /** Returns what the page shows of the run, in a form that a worker can send: the names of the wires that have ways, by their colours. */
+    shown() {
+      const { live, isMirror, marks, leftAt, tables, inputs, choices } = this, ways = Int16Array.from(this.lines()), wires = new Map();
+      for (let index = 4; index < ways.length; index += 5) if (!wires.has(ways[index])) wires.set(ways[index], this.wireOf(ways[index]));
+      return { ways, marks, live, isMirror, leftAt, tables, wires, inputCount: inputs.length, choiceCount: choices.length };
     }
 
     /** Returns the colour of the wire that has a table, or that of a constant, or that of no wire. */
     colourOf(table) { return table === this.full ? CONSTANT : this.colours.get(table) || OTHER; }
 
     /** Returns the name of the wire of a colour. */
-    wireOf(colour) { return colour === CONSTANT ? "1" : [...this.tables.keys()][colour - 1] || null; }
+    wireOf(colour) {
+      if (colour === CONSTANT || colour === OTHER) return colour === CONSTANT ? "1" : null;
+      return [...this.tables.keys()][colour - 1];
+    }
   }
 
   /** What the outputs should be and what they are, for all choices of up to eight inputs. */
@@ -192,5 +256,38 @@
     }
   }
 
-  Object.assign(bbmlab, { Survey, TruthTable, surveys: { allChoices, sampledChoices, CONSTANT, OTHER, LANES } });
+  /** Returns cells as balls: those of two cells first, and then the others. */
+  function ballsOf(cells, time) {
+    const left = new Map(cells.map((cell) => [keyOf(...cell), cell])), balls = [];
+    for (const cell of cells) {
+      const [, tail] = geometry.pairCells(cell, time), key = tail[0] < 0 || tail[1] < 0 ? -1 : keyOf(...tail);
+      if (left.has(keyOf(...cell)) && left.has(key)) { balls.push([cell, tail]); left.delete(key); left.delete(keyOf(...cell)); }
+    }
+    return [...balls, ...[...left.values()].map((cell) => [cell])];
+  }
+
+  /**
+   * Returns output and waste cells for all cells that balls reach at the end of a survey of all choices: an output where the cell is live
+   * if and only if its wire is true, and else waste.
+   */
+  function endParts({ live, isMirror, tables }, outputs, { width, height, steps }) {
+    const wires = new Map(), cells = new Map(), parts = [];
+    for (const name of outputs) { const table = tables.get(name) || 0; wires.set(table, [...(wires.get(table) || []), name]); }
+    for (let y = 0; y < height; y += 1) {
+      for (let x = 0; x < width; x += 1) {
+        const key = keyOf(x, y), table = live[key];
+        if (table !== 0 && !isMirror[key]) cells.set(table, [...(cells.get(table) || []), [x, y]]);
+      }
+    }
+    for (const [table, found] of cells) {
+      const names = wires.get(table) || [null];
+      ballsOf(found, steps).forEach((ball, index) => {
+        const name = names[Math.min(index, names.length - 1)];
+        parts.push(...ball.map((cell) => ({ kind: name ? "out" : "waste", name, box: [...cell, 1, 1], line: -1 })));
+      });
+    }
+    return parts;
+  }
+
+  Object.assign(bbmlab, { Survey, TruthTable, surveys: { allChoices, sampledChoices, endParts, CONSTANT, OTHER, LANES } });
 }

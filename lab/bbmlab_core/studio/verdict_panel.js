@@ -5,12 +5,14 @@
   const { parts: { element, made, button, appendWords, delayed }, server } = bbmlab;
   const VERDICT_DELAY = 200, MAX_RINGS = 40, RETRY_DELAY = 2000;
   const TITLES = { yes: "yes", no: "no", refused: "refused", none: "no certificate found", unknown: "no answer" };
-  const BY = { own: "with the certificate of the text", plain: "with a certificate of one module", certify: "with a certificate that the lab made" };
+  const BY = { own: "with the certificate of the text", earlier: "with the last certificate that got a yes", plain: "with a certificate of one module",
+    certify: "with a certificate that the lab made" };
 
   class VerdictPanel {
     /** @param {bbmlab.Desk} desk @param {bbmlab.Sketch} sketch */
     constructor(desk, sketch) {
-      Object.assign(this, { desk, sketch, program: null, verdict: null, checked: null, explanation: null, asked: 0 });
+      // `earlier` is the last certificate that got a yes; `seconds` are from the last edit to its first verdict and to its last one.
+      Object.assign(this, { desk, sketch, program: null, verdict: null, checked: null, explanation: null, asked: 0, earlier: "", editedAt: 0, seconds: [] });
       this.askSoon = delayed(VERDICT_DELAY, () => this.ask());
       desk.listen("change", () => this.outdate());
       element("badge").addEventListener("click", () => { element("verdict-box").focus(); element("verdict-box").scrollIntoView(); });
@@ -23,27 +25,39 @@
     outdate() {
       if (this.isCurrent) { this.showBadge(); return; }
       this.explanation = null;
+      this.editedAt = performance.now();
       this.showBadge();
       this.sketch.faults = [];
       element("report").classList.add("old");
       this.askSoon();
     }
 
-    /** Asks the server for the verdict. */
-    async ask() {
-      const { text } = this.desk.model, number = this.asked += 1, started = performance.now();
-      const answer = await server.request("verdict", { text });
-      if (number !== this.asked) return;
+    /** Asks the server for the verdict: first by the certificates that need no search, and then by one that the lab makes. */
+    async ask(stage = "first") {
+      const { text } = this.desk.model, number = this.asked += 1;
+      const answer = await server.request("verdict", { text, stage, earlier: this.earlier });
+      // An answer about another text than that of now is no news: the change of the text has asked again, unless its verdict is known.
+      if (number !== this.asked || text !== this.desk.model.text) return;
       if (answer.replaced) { this.askSoon(); return; }
       if (answer.gone) setTimeout(() => { if (number === this.asked) this.askSoon(); }, RETRY_DELAY);
+      this.take(text, answer, stage);
+      if (answer.error) return;
+      if (!this.verdict.is_last) this.ask(this.verdict.verdict === "no" ? "other" : "made");
+      else if (["no", "refused", "none"].includes(this.verdict.verdict)) this.explain(number, text);
+    }
+
+    /** Shows an answer. If the lab made no certificate, the no by another one stays. */
+    take(text, answer, stage) {
+      const first = stage === "other" && this.isCurrent && this.verdict.verdict === "no" ? this.verdict : null;
+      if (answer.error) this.verdict = { verdict: "unknown", words: [answer.error], faults: [], by: "", hints: [], is_last: true };
+      else if (first && answer.verdict === "none") this.verdict = { ...first, words: [...first.words, "The lab found no other certificate:", ...answer.words], is_last: true };
+      else this.verdict = answer;
       this.checked = text;
-      this.verdict = answer.error ? { verdict: "unknown", words: [answer.error], faults: [], by: "", hints: [] } : answer;
-      this.seconds = (performance.now() - started) / 1000;
       this.explanation = null;
+      this.seconds = [...(stage === "first" ? [] : this.seconds), (performance.now() - this.editedAt) / 1000];
+      if (this.verdict.verdict === "yes") this.earlier = this.verdict.bundle.slice(this.verdict.bundle.indexOf("\ncertificate ") + 1);
       this.showBadge();
       this.showReport();
-      if (this.onVerdict) this.onVerdict();
-      if (!answer.error && ["no", "refused", "none"].includes(this.verdict.verdict)) this.explain(number, text);
     }
 
     /** Asks the server for words and fixes. */
@@ -58,8 +72,9 @@
     /** Shows the verdict, grey if it is outdated. */
     showBadge() {
       const badge = element("badge"), { verdict, isCurrent } = this;
-      badge.className = !verdict ? "waiting" : isCurrent ? verdict.verdict : "old";
-      badge.textContent = !verdict ? "checking…" : isCurrent ? TITLES[verdict.verdict] : `${TITLES[verdict.verdict]}, outdated`;
+      const isWaiting = !verdict || isCurrent && verdict.verdict === "none" && !verdict.is_last;
+      badge.className = isWaiting ? "waiting" : isCurrent ? verdict.verdict : "old";
+      badge.textContent = isWaiting ? "checking…" : isCurrent ? TITLES[verdict.verdict] : `${TITLES[verdict.verdict]}, outdated`;
       const said = isCurrent && ["yes", "no", "refused"].includes(verdict.verdict);
       element("who").textContent = said ? this.programWords() : "";
       element("who").title = this.program && this.program.path ? `${this.program.path}\nSHA-256 ${this.program.sha256}` : "";
@@ -69,7 +84,7 @@
     programWords() {
       const { program, verdict } = this;
       if (!program || !program.path) return "";
-      return `says ${program.version || program.path}${program.is_release ? " of the release" : ""}${BY[verdict.by] && verdict.verdict !== "refused" ? `, ${BY[verdict.by]}` : ""}`;
+      return `says ${program.version || program.path}${program.is_release ? " of the release" : ""}${BY[verdict.by] && verdict.verdict !== "refused" ? `, ${BY[verdict.by]}` : ""}${verdict.is_last ? "" : "; looking for another one…"}`;
     }
 
     /** Shows the report: words, faults and fixes. */
@@ -77,12 +92,15 @@
       const { verdict, explanation } = this, box = element("report");
       box.classList.toggle("old", !this.isCurrent);
       box.replaceChildren();
-      const title = { yes: "For all inputs the layout computes the circuit.", no: "The layout does not compute the circuit with this certificate." }[verdict.verdict];
+      const isEmpty = this.desk.circuit !== null && this.desk.circuit.outputs.length === 0;
+      const yes = isEmpty ? "The layout ends as it should, but the circuit has no outputs yet." : "For all inputs the layout computes the circuit.";
+      const title = { yes, no: "The layout does not compute the circuit with this certificate." }[verdict.verdict];
       if (title) box.append(made("p", title, verdict.verdict === "yes" ? "good" : "bad"));
       if (verdict.line) box.append(made("p", `Line ${verdict.line}: ${this.desk.model.lines[verdict.line - 1] ?? ""}`, "code"));
       for (const words of [...verdict.words, ...(verdict.rule ? [`Rule: ${verdict.rule}`] : []), ...verdict.hints]) box.append(appendWords(made("p"), words));
       const isChecked = ["no", "refused", "none"].includes(verdict.verdict);
-      if (isChecked && !explanation) box.append(made("p", "Looking for fixes…", "soft"));
+      if (!verdict.is_last) box.append(made("p", "The lab makes a certificate…", "soft"));
+      else if (isChecked && !explanation) box.append(made("p", "Looking for fixes…", "soft"));
       if (explanation) this.showFix(box, explanation);
       for (const fault of verdict.faults) this.showFault(box, fault);
       this.sketch.faults = this.isCurrent ? verdict.faults.filter(({ cell }) => cell).slice(0, MAX_RINGS).map(({ cell }) => cell) : [];

@@ -9,12 +9,12 @@ from typing import Any
 from ..boxes import Box
 from ..certificates import MAX_BOX_SIDE, MAX_CUTS, MAX_USES, Certificate, Module
 from ..certify import Plan, certificate_text, certified
-from ..circuits import Circuit
+from ..circuits import Circuit, values_under
 from ..diagnosis import Diagnosis, Truth
 from ..documents import Document, read_document
 from ..explaining import explain_report, tried_words
 from ..fixing import Fix, Fixer, head_of, outcome_words
-from ..layouts import Layout
+from ..layouts import Cell, Layout
 from ..processor import processor_seconds
 from ..program import Answer, ProgramError, ProgramTimeout, ask
 from ..refusals import explain_code, explain_refusal
@@ -25,6 +25,8 @@ from ..trials import Budget, Trial
 
 # The most lines of a report for which fixes are looked for one by one, and the most lines that are sent to the page.
 MAX_FIXED, MAX_LINES = 6, 200
+SEARCHED = {"own": "The certificate of the text was checked. The lab found no other one:",
+            "earlier": "The last certificate that got a yes was checked. The lab found no other one:"}
 
 
 @dataclass
@@ -33,7 +35,7 @@ class Verdict:
 
     verdict: str
     words: list[str]
-    # Whose certificate was checked: own (the text's), plain (one module, all inputs) or certify.
+    # Whose certificate was checked: own (the text's), earlier (the last one that got a yes), plain (one module, all inputs) or certify.
     by: str = ""
     # The text that the program read, and what it wrote.
     bundle: str = ""
@@ -44,25 +46,35 @@ class Verdict:
     code: int = 0
     rule: str = ""
     hints: list[str] = field(default_factory=list)
+    # Whether no other certificate is to be tried.
+    is_last: bool = True
 
 
 class Judge:
-    """Asks the program about one text, within a number of seconds."""
+    """Asks the program about one text, within a number of seconds. `earlier` is a certificate that got a yes before the last edits."""
 
-    def __init__(self, text: str, program: str, seconds: float) -> None:
-        self.source, self.program, self.seconds = text, program, seconds
+    def __init__(self, text: str, program: str, seconds: float, earlier: str = "") -> None:
+        self.source, self.program, self.seconds, self.earlier = text, program, seconds, earlier
         self.text = spelled(text).text
         self.head = head_of(self.text)
         self.until = processor_seconds() + seconds
+        self.inputs: list[str] = []
 
     def ask(self, bundle: str) -> Answer:
         """Returns what the program answers to a bundle."""
         return ask(self.program, "check", bundle.encode("latin-1"), self.seconds)
 
-    def verdict(self) -> Verdict:
-        """Returns the verdict."""
+    def verdict(self, stage: str = "") -> Verdict:
+        """Returns the verdict: of the stage `first` that by the certificates which need no search, of `made` that by the lab's, or the last one.
+
+        `other` is `made` after a no: no certificate is made if the program's runs show that none gets a yes.
+        """
         try:
-            return self.found()
+            wrong = self.wrong_end(read_document(self.head, "design")) if stage == "other" else None
+            if wrong:
+                return Verdict("none", [wrong])
+            found = self.first() if stage not in ("made", "other") else Verdict("none", [], is_last=False)
+            return found if found.is_last or stage == "first" else self.made(found)
         except ProgramTimeout:
             return Verdict("unknown", [f"The program gave no answer within {self.seconds:g} seconds."])
         except (ProgramError, ReportError) as error:
@@ -70,22 +82,53 @@ class Judge:
         except MemoryError:
             return Verdict("unknown", ["There is no verdict: the memory limit was reached."])
 
-    def found(self) -> Verdict:
-        """Tries the text's own certificate, and then others, up to a yes or to a no that no certificate changes."""
+    def first(self) -> Verdict:
+        """Tries the text's own certificate, the earlier one, and for a small layout one of one module, up to a yes or a no that no certificate changes."""
         design = read_document(self.head, "design")
         if design.refusal or design.circuit is None or design.layout is None:
             bundle = self.text if self.head != self.text else self.head + "certificate 2\nend\n"
             return self.judged(bundle, "own")
+        self.inputs = design.circuit.inputs
         own = self.judged(self.text, "own") if self.head != self.text else None
         if own and own.verdict == "yes":
             return own
         plain = None if has_delay(design.circuit) else plain_certificate(design.circuit, design.layout)
         if plain:
             return self.judged(self.head + plain, "plain")
+        earlier = self.judged(self.head + self.earlier, "earlier") if self.earlier else None
+        if earlier and earlier.verdict == "yes":
+            return earlier
+        found = own if own and own.verdict == "no" else earlier if earlier and earlier.verdict == "no" else Verdict("none", [])
+        found.is_last = False
+        return found
+
+    def wrong_end(self, design: Document) -> str | None:
+        """Says why no certificate gets a yes, if the program's run with all inputs on, or with none, does not end as the circuit and the layout ask."""
+        circuit, layout = design.circuit, design.layout
+        if circuit is None or layout is None:
+            return None
+        choices: list[tuple[str, list[str]]] = [("all inputs", circuit.inputs), ("no input", [])]
+        for words, on in choices:
+            lines = [self.head[self.head.find("\nlayout ") + 1:].rstrip("\n"), "assign", *(f"on {name}" for name in on), "end", ""]
+            answer = ask(self.program, "run", "\n".join(lines).encode("latin-1"), self.seconds)
+            if answer.status != 0 or not answer.output.startswith("cells "):
+                return None
+            live = {(int(x), int(y)) for x, y in (line.split(" ") for line in answer.output.split("\n")[1:-1])}
+            cell = wrong_cell(circuit, layout, set(on), live)
+            if cell:
+                is_live, other = ("live", "dead") if cell in live else ("dead", "live")
+                return f"With {words} on the cell {cell} is {is_live} at the end and should be {other}. So no certificate gets a yes."
+        return None
+
+    def made(self, first: Verdict) -> Verdict:
+        """Returns the verdict with a certificate that the lab makes, or the first no if it makes none."""
+        design = read_document(self.head, "design")
+        self.inputs = design.circuit.inputs if design.circuit else []
         made = self.certified(design)
-        if made.verdict == "none" and own and own.verdict == "no":
-            own.words += ["The certificate of the text was checked. The lab found no other one:", *made.words]
-            return own
+        if made.verdict == "none" and first.verdict == "no":
+            first.words += [SEARCHED[first.by], *made.words]
+            first.is_last = True
+            return first
         return made
 
     def certified(self, design: Document) -> Verdict:
@@ -113,8 +156,8 @@ class Judge:
             return self.refused(bundle, report.refused, answer.output)
         if (answer.status, report.verdict) not in ((0, "yes"), (1, "no")):
             raise ReportError(f"the program ended with status {answer.status} and wrote `verdict {report.verdict}`")
-        document = read_document(bundle, "check")
-        faults = [fault_form(document, finding) for finding in report.faults[:MAX_LINES]]
+        found, cuts = report.faults[:MAX_LINES], cuts_of(bundle) if report.faults else []
+        faults = [fault_form(cuts, self.inputs, finding) for finding in found]
         count = len(report.faults)
         words = [] if report.verdict == "yes" else [f"The report has {count} reason{'s' if count != 1 else ''} for the no."]
         return Verdict(report.verdict, words, by, bundle, answer.output, faults)
@@ -140,6 +183,16 @@ def source_line(source: str, text: str, line: int) -> int | None:
     return kept[line - 1] if line <= len(kept) else len(source.split("\n"))
 
 
+def wrong_cell(circuit: Circuit, layout: Layout, on: set[str], live: set[Cell]) -> Cell | None:
+    """Returns a cell that is not as the circuit and the layout ask where just some cells are live at the end. None if a gate lacks its row."""
+    values, missing = values_under(circuit, on)
+    if missing is not None:
+        return None
+    wanted = {part.cell for part in layout.of_kind("out") if values.get(part.name or "")}
+    free = {part.cell for part in layout.of_kind("waste")}
+    return min((wanted | layout.mirror_cells() - free) ^ (live - free), default=None)
+
+
 def has_delay(circuit: Circuit) -> bool:
     """Whether a circuit has a gate whose steps only stops can show."""
     return any(gate.word == "delay" for gate in circuit.gates)
@@ -148,7 +201,7 @@ def has_delay(circuit: Circuit) -> bool:
 def plain_certificate(circuit: Circuit, layout: Layout) -> str | None:
     """Returns a certificate of one module for the whole layout that cuts all inputs and uses all gates, or None if it is too large.
 
-    A no to it is about the circuit, the layout or a live rim, unless there are delays (docs/CERTIFICATES.md).
+    A no to it is about the circuit, the layout or a live rim, unless there are delays (docs/GUIDE.md).
     """
     if max(layout.width, layout.height) > MAX_BOX_SIDE or len(circuit.inputs) > MAX_CUTS or len(circuit.gates) > MAX_USES:
         return None
@@ -158,15 +211,21 @@ def plain_certificate(circuit: Circuit, layout: Layout) -> str | None:
     return certificate_text(Certificate(2, [module]))
 
 
-def fault_form(document: Document, finding: Finding) -> dict[str, Any]:
+def cuts_of(bundle: str) -> list[list[str]]:
+    """Returns the wires that each module of a bundle that was read cuts. It reads no other line: most lines of a large one are at borders."""
+    modules = bundle[bundle.find("\ncertificate ") + 1:].split("\nmodule ")[1:]
+    return [[line.split(" ")[1] for line in module.split("\n", MAX_CUTS + 1)[1:] if line.startswith("cut ")] for module in modules]
+
+
+def fault_form(cuts: list[list[str]], inputs: list[str], finding: Finding) -> dict[str, Any]:
     """Returns a line of a report for the page: its words, its cell and time, and the inputs that are on if the module cuts inputs alone."""
     form: dict[str, Any] = {"text": finding.text}
     if "x" in finding.values:
         form |= {"cell": [finding.number("x"), finding.number("y")], "time": finding.number("time")}
-    if "assignment" in finding.values and document.certificate and document.circuit:
-        cuts = document.certificate.modules[finding.number("module")].cuts
-        if set(cuts) <= set(document.circuit.inputs):
-            form["on"] = [name for index, name in enumerate(cuts) if finding.number("assignment") >> index & 1]
+    if "assignment" in finding.values:
+        names = cuts[finding.number("module")]
+        if set(names) <= set(inputs):
+            form["on"] = [name for index, name in enumerate(names) if finding.number("assignment") >> index & 1]
     return form
 
 

@@ -34,7 +34,8 @@ def lab_text(text: str) -> str:
 
 def verdict(job: dict[str, Any], path: str, seconds: float) -> dict[str, Any]:
     """Returns the verdict on a text."""
-    return asdict(Judge(lab_text(job["text"]), path, seconds).verdict())
+    judge = Judge(lab_text(job["text"]), path, seconds, lab_text(job.get("earlier", "")))
+    return asdict(judge.verdict(job.get("stage", "")))
 
 
 def explain(job: dict[str, Any], path: str, seconds: float) -> dict[str, Any]:

@@ -129,13 +129,14 @@ const bbmlab = {};
     /** @param {Layout} layout @param {Set<string>} on the inputs that are true */
     constructor(layout, on) {
       this.layout = layout;
-      this.live = new Cells(startKeys(layout, (name) => on.has(name)));
+      const keys = startKeys(layout, (name) => on.has(name));
+      this.live = new Cells(keys);
       this.time = 0;
       this.direction = 1;
-      // What changed in the last two steps, or null where that is not known.
-      this.recent = [null, null];
+      // What changed in the last two steps, or null where that is not known. At the start all live cells may.
+      this.recent = [keys, keys];
       this.every = snapshotStep(layout.steps);
-      this.snapshots = new Map([[0, Int32Array.from(this.live.keys())]]);
+      this.snapshots = new Map([[0, Int32Array.from(keys)]]);
       this.leftAt = null;
       // The moves of some steps, which `trail` notes.
       this.moves = new Map();

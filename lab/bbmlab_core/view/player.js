@@ -3,7 +3,7 @@
 
 {
   const { WholeRun, ModuleRun, circuitValues, keyOf, waveform } = bbmlab;
-  // How long the runs may take before the page gets its turn, in milliseconds.
+  // How long the runs may take before the page gets its turn, in milliseconds. `slice` of a player sets another time for the run to the end.
   const AHEAD_SLICE = 25, SEEK_SLICE = 40;
 
   /** Returns the edge, halo and stop lines of modules by their times; lines for all odd times are at "*". */
@@ -23,12 +23,13 @@
     /** @param {Data} data */
     constructor(data) {
       const { layout, circuit, certificate, assign } = data;
-      Object.assign(this, { data, layout, modules: certificate ? certificate.modules : [], direction: 0, rate: 8, target: 0 });
+      Object.assign(this, { data, layout, modules: certificate ? certificate.modules : [], direction: 0, rate: 8, target: 0, slice: AHEAD_SLICE });
       this.names = circuit ? circuit.inputs : [...new Set(layout.ins.map((port) => port.name))];
       // The inputs that the text's assign section puts on, or all, so that the first picture has balls.
       this.first = assign ? assign.on : this.names;
       this.on = new Set(this.first);
-      this.probes = waveform.probesOf(data);
+      // `data.isQuiet` says that nobody looks at the waveform.
+      this.probes = data.isQuiet ? [] : waveform.probesOf(data);
       this.said = linesByTime(this.modules);
       this.own = null;
       this.listeners = { time: [], progress: [], end: [], play: [], inputs: [] };
@@ -55,7 +56,7 @@
 
     /** Runs to the last time in slices, so that the page stays quick. Its snapshots serve the slider too. */
     runAhead() {
-      const until = performance.now() + AHEAD_SLICE, { ahead, recorder } = this;
+      const until = performance.now() + this.slice, { ahead, recorder } = this;
       let moved = true;
       for (let count = 1; moved && (count % 16 || performance.now() < until); count += 1) {
         moved = ahead.forward();

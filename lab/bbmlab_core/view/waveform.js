@@ -43,7 +43,8 @@
   class Recorder {
     /** @param {Probe[]} probes @param {WholeRun} run a run at time 0 */
     constructor(probes, run) {
-      this.at = new Int32Array(CELLS).fill(-1);
+      // The number of the signal of each cell, or null if no cell is watched.
+      this.at = probes.length ? new Int32Array(CELLS).fill(-1) : null;
       this.signals = [];
       for (const { key } of probes) {
         if (this.at[key] >= 0) continue;
@@ -56,6 +57,7 @@
     /** Notes the step that a run has just made. */
     note(run) {
       this.until = run.time;
+      if (this.at === null) return;
       for (const key of run.recent[1]) if (this.at[key] >= 0) this.signals[this.at[key]].changes.push(run.time);
     }
 

@@ -1,0 +1,188 @@
+"""A server of the studio and a headless Chromium that uses its page, with Debian's python3-selenium."""
+
+import subprocess
+import sys
+import time
+from pathlib import Path
+from typing import Any, Callable
+
+from selenium import webdriver
+from selenium.webdriver.chrome.service import Service
+from selenium.webdriver.common.action_chains import ActionChains
+from selenium.webdriver.common.by import By
+from selenium.webdriver.common.keys import Keys
+
+SIZES = {"wide": (1400, 850), "phone": (390, 844)}
+
+
+class Studio:
+    """A server of a file, and a browser."""
+
+    def __init__(self, folder: Path, program: str, lab: str) -> None:
+        options = webdriver.ChromeOptions()
+        for word in ("--headless", "--no-sandbox", "--hide-scrollbars", "--window-size=1400,850"):
+            options.add_argument(word)
+        options.set_capability("goog:loggingPrefs", {"browser": "ALL"})
+        options.set_capability("unhandledPromptBehavior", "accept")
+        self.folder, self.program, self.lab = folder, program, lab
+        self.server: subprocess.Popen[str] | None = None
+        self.browser = webdriver.Chrome(service=Service("/usr/bin/chromedriver"), options=options)
+
+    def serve(self, name: str) -> str:
+        """Starts a server of a file, and returns its address."""
+        self.kill()
+        words = [sys.executable, self.lab, "studio", str(self.folder / name), "--no-open", "--program", self.program]
+        self.server = subprocess.Popen(words, stdout=subprocess.PIPE, stderr=subprocess.DEVNULL, text=True)
+        assert self.server.stdout
+        return self.server.stdout.readline().strip()
+
+    def kill(self) -> None:
+        """Kills the server."""
+        if self.server:
+            self.server.kill()
+            self.server.wait()
+            self.server = None
+
+    def start(self, name: str) -> str:
+        """Starts a server of a file, opens its page, and returns the address."""
+        address = self.serve(name)
+        self.browser.get(address)
+        self.wait(lambda: self.text("name").startswith(name), "the file is opened")
+        self.wait(lambda: self.script("return bbmlab.studio.tools.cell !== null"), "the cells are there")
+        return address
+
+    def open(self, name: str) -> None:
+        """Opens a file in the page that is open."""
+        self.script("bbmlab.studio.files.openFile(arguments[0])", name)
+        self.wait(lambda: self.text("name") == name, f"{name} is opened")
+        self.click("#fit")
+
+    def begin(self, name: str, text: str) -> None:
+        """Writes a file, and opens it."""
+        (self.folder / name).write_text(text)
+        self.open(name)
+
+    def script(self, text: str, *words: Any) -> Any:
+        """Runs a script in the page."""
+        return self.browser.execute_script(text, *words)
+
+    def layout_text(self) -> str:
+        """Returns the text that is drawn."""
+        return str(self.script("return bbmlab.studio.desk.model.text"))
+
+    def text(self, name: str) -> str:
+        """Returns the text of an element."""
+        return self.browser.find_element(By.ID, name).text
+
+    def click(self, selector: str) -> None:
+        """Clicks an element."""
+        self.browser.find_element(By.CSS_SELECTOR, selector).click()
+
+    def keys(self, *keys: str) -> None:
+        """Presses keys on the picture."""
+        self.browser.find_element(By.ID, "whole").send_keys(*keys)
+
+    def wait(self, test: Callable[[], Any], what: str, seconds: float = 60) -> None:
+        """Waits until something holds."""
+        until = time.monotonic() + seconds
+        while not test():
+            assert time.monotonic() < until, f"{what}: {self.text('badge')!r} {self.text('status')!r} {self.text('report')!r} {self.text('dialog')!r}"
+            time.sleep(0.05)
+
+    def verdict(self, wanted: str) -> float:
+        """Waits for a verdict that is not outdated, and returns how many seconds it took."""
+        start = time.monotonic()
+        self.wait(lambda: self.text("badge") == wanted and self.script("return bbmlab.studio.verdicts.isCurrent"), f"the verdict {wanted}")
+        return time.monotonic() - start
+
+    def still(self) -> None:
+        """Waits until the ways are of the text as it is."""
+        self.wait(lambda: self.script("const { desk } = bbmlab.studio; return desk.surveyOrder === desk.order"), "the ways are there")
+
+    def place(self, x: float, y: float) -> tuple[int, int]:
+        """Returns the place of a cell on the canvas, from its middle, in pixels."""
+        found = self.script("const s = bbmlab.studio.sketch, c = document.getElementById('whole'); return [s.scale, s.left, s.top, c.clientWidth, c.clientHeight]")
+        scale, left, top, wide, high = found
+        return round((x + 0.5 - left) * scale - wide / 2), round((y + 0.5 - top) * scale - high / 2)
+
+    def chain(self) -> ActionChains:
+        """Returns a chain of quick actions."""
+        return ActionChains(self.browser, duration=10)
+
+    def press(self, x: int, y: int) -> None:
+        """Clicks a cell."""
+        canvas = self.browser.find_element(By.ID, "whole")
+        ActionChains(self.browser, duration=10).move_to_element_with_offset(canvas, *self.place(x, y)).click().perform()
+
+    def drag(self, start: tuple[int, int], end: tuple[int, int]) -> None:
+        """Drags from a cell to another one."""
+        canvas, (x, y) = self.browser.find_element(By.ID, "whole"), self.place(*end)
+        chain = ActionChains(self.browser, duration=10).move_to_element_with_offset(canvas, *self.place(*start)).click_and_hold()
+        chain.move_to_element_with_offset(canvas, x - 3, y).move_to_element_with_offset(canvas, x, y).release().perform()
+
+    def hover(self, x: int, y: int) -> None:
+        """Moves the mouse to a cell."""
+        canvas = self.browser.find_element(By.ID, "whole")
+        ActionChains(self.browser, duration=10).move_to_element_with_offset(canvas, *self.place(x, y)).perform()
+
+    def touch(self, kind: str, *cells: tuple[float, float]) -> None:
+        """Sends an event of fingers at cells: `Start`, `Move` or `End`."""
+        left, top, wide, high = self.script("const b = document.getElementById('whole').getBoundingClientRect(); return [b.left, b.top, b.width, b.height]")
+        points = []
+        for number, cell in enumerate(cells):
+            x, y = self.place(*cell)
+            points.append({"x": left + wide / 2 + x, "y": top + high / 2 + y, "id": number})
+        self.browser.execute_cdp_cmd("Input.dispatchTouchEvent", {"type": f"touch{kind}", "touchPoints": points})
+
+    def tab_to(self, name: str) -> None:
+        """Presses Tab until an element has the focus."""
+        for _ in range(90):
+            if self.script("return document.activeElement.id") == name:
+                return
+            self.press_keys(Keys.TAB)
+        raise AssertionError(f"Tab does not come to {name}")
+
+    def press_keys(self, *keys: str) -> None:
+        """Presses keys one by one where the focus is. A key with Control or Alt is a tuple's text, such as Keys.CONTROL + "z"."""
+        chain = ActionChains(self.browser, duration=0)
+        for key in keys:
+            if len(key) == 2 and key[0] in (Keys.CONTROL, Keys.ALT, Keys.SHIFT):
+                chain.key_down(key[0]).send_keys(key[1]).key_up(key[0])
+            else:
+                chain.send_keys(key)
+        chain.perform()
+
+    def answer(self, title: str, button: str) -> None:
+        """Presses a button of the dialog with a title."""
+        self.wait(lambda: self.script("return document.getElementById('dialog').open") and self.text("dialog-title") == title, f"the dialog {title}")
+        for found in self.browser.find_elements(By.CSS_SELECTOR, "#dialog-buttons button"):
+            if found.text == button:
+                found.click()
+                return
+        raise AssertionError(f"the dialog has no button {button}")
+
+    def put(self, name: str, value: str) -> None:
+        """Sets a field."""
+        field = self.browser.find_element(By.ID, name)
+        field.send_keys(Keys.CONTROL + "a")
+        field.send_keys(value)
+        if name in ("width", "height", "steps"):
+            field.send_keys(Keys.TAB)
+
+    def type_circuit(self, text: str) -> None:
+        """Types a circuit."""
+        self.put("circuit", text)
+
+    def shoot(self, name: str) -> None:
+        """Writes a screenshot at each size, with nothing wider than the window."""
+        for size, (width, height) in SIZES.items():
+            self.browser.execute_cdp_cmd("Emulation.setDeviceMetricsOverride", {"width": width, "height": height, "deviceScaleFactor": 1, "mobile": False})
+            time.sleep(0.4)
+            assert not self.script("return document.documentElement.scrollWidth > innerWidth"), f"{name} is wider than the window at {size}"
+            self.browser.save_screenshot(str(self.folder / f"{name}_{size}.png"))
+        self.browser.execute_cdp_cmd("Emulation.setDeviceMetricsOverride", {"width": 1400, "height": 850, "deviceScaleFactor": 1, "mobile": False})
+        time.sleep(0.2)
+
+    def scheme(self, name: str) -> None:
+        """Sets light or dark."""
+        self.browser.execute_cdp_cmd("Emulation.setEmulatedMedia", {"features": [{"name": "prefers-color-scheme", "value": name}]})
