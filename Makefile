@@ -35,6 +35,8 @@ uninstall:
 	'$(top)/tools/package/install_files' uninstall '$(room)'
 
 check:
+	@python3 -c 'import sys; sys.exit(sys.version_info < (3, 11))' 2>/dev/null || \
+	{ echo 'make check: Python 3.11 or later is missing (Debian: apt-get install python3)' >&2; exit 1; }
 	program="$$('$(top)/bbmcheck' --wrapper-program)" && \
 	'$(top)/conformance/run.py' "$$program" --all && \
 	'$(top)/tools/docs/documented_commands.py' "$$program"

@@ -7,7 +7,7 @@ import collections
 import re
 from pathlib import Path
 
-DATA = Path(__file__).resolve().parent.parent / "crates" / "worked_rows" / "data"
+DATA = Path(__file__).resolve().parent.parent / "crates" / "run_cases" / "data"
 # In this order: those of the specification, those that were written by hand, random bundles.
 FILES = [DATA / name for name in ("cases.txt", "by_hand.txt", "reports.txt")]
 # Large bundles: NAME.txt, and NAME.report, the report of `check`.
@@ -21,7 +21,7 @@ Case = collections.namedtuple("Case", "name words input status output errors")
 
 def is_about_texts(case):
     """Whether it is about a text, and not about the words of a command alone."""
-    return bool(case.words) and case.words[0] in COMMANDS and case.status != 2 and "--help" not in case.words
+    return bool(case.words) and case.words[0] in COMMANDS and case.status != 2 and not {"--help", "-h"} & set(case.words)
 
 
 def cases_of_file(path):

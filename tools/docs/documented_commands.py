@@ -45,7 +45,7 @@ LISTED = re.compile(r"prints ((?:`[^`]+`(?:, | and )?)+)")
 OVER_A_TEXT = re.compile(rf"\./bbmcheck ({WORDS})(?: --workers \d+)? < (\S+)")
 SECTION = re.compile(r"circuit|layout \d+ \d+ \d+|assign|certificate \d|module( \d+){4}")
 # tools/gate/gate_extras runs these, the first with --all, and tools/gate/try_operations tries the wrapper.
-ELSEWHERE = re.compile(r"conformance/run\.py \./bbmcheck|\./bbmcheck --wrapper-\w+|"
+ELSEWHERE = re.compile(r"conformance/run\.py \./(?:bbmcheck|plain_check)|\./bbmcheck --wrapper-\w+|"
                        r"tools/(?:gate/fail_allocations_in_tests|gate/try_operations|package/release) .*")
 SECONDS = 120
 

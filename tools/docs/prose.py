@@ -1,4 +1,4 @@
-"""What tools/docs/check_pages and tools/sources/check_comments share: the words to avoid, and the paragraphs and sentences of a text."""
+"""The words to avoid, and the paragraphs and sentences of a text, for tools/docs/check_pages and tools/sources/check_comments."""
 import re
 from typing import Iterator
 
@@ -9,6 +9,11 @@ BANNED = [
     r"goes well", r"no clause says", r"so many", r"want of memory", r"who(?:ever)? (?:writes|reads|is handed)",
 ]
 BAN = re.compile(r"\b(?:" + "|".join(BANNED) + r")\b", re.IGNORECASE)
+# The same for pages alone: words of another register, and codes without a verb.
+BANNED_IN_PAGES = [r"mend(?:s|ed|ing)?", r"cure[sd]?", r"anew", r"besides?", r"exactly if", r"(?:is|are|be) codes? \d+"]
+BAN_IN_PAGES = re.compile(r"\b(?:" + "|".join(BANNED_IN_PAGES) + r")\b", re.IGNORECASE)
+# First words of a sentence: those of a proof, and those that only a question or a title may begin with.
+BAN_AT_START = re.compile(r"(?:Suppose|Take|Let)\b|(?:Of|That|What|Who)\b(?=.*[.:;]$)")
 CODE = re.compile(r"`[^`]*`")
 
 
@@ -36,6 +41,12 @@ def sentences(paragraph: str) -> list[str]:
     """Returns the sentences of a paragraph, with each piece of code as one word."""
     plain = CODE.sub("code", paragraph)
     return [part for part in re.split(r"(?<=[.:;?!])\s+", plain) if part]
+
+
+def faults_in_pages(paragraph: str) -> list[str]:
+    """Returns what `faults` finds, and the words that pages avoid."""
+    starts = [f"a sentence that begins with {found[0]!r}" for sentence in sentences(paragraph) if (found := BAN_AT_START.match(sentence))]
+    return [*faults(paragraph), *starts, *(f"the word {word!r}" for word in BAN_IN_PAGES.findall(CODE.sub("code", paragraph)))]
 
 
 def faults(paragraph: str) -> list[str]:

@@ -5,9 +5,9 @@ and how many of these are definitions that the statement reaches. A file comes a
 usage: tools/docs/reading_list.py [--definitions] [--check PAGE] [FILE]
 
 FILE is meaning/specs/Headline.antt if it is left out. --definitions names the definitions that are reached, and the definitions of the kit's
-library that these name. --check compares a page: it must have the tables of meaning/specs/Headline.antt and headline/specs/RightInFull.antt,
-line for line, and the number of each "N files" behind the name of this command with a FILE. It also looks for definitions of specs/ that
-this script does not find.
+library that these name. --check compares a page. It must contain the table of meaning/specs/Headline.antt, line for line, and each word of
+the kit's library that these definitions name. Behind each name of this command with a FILE it must give the numbers of the table as
+"N files and M lines". --check also looks for definitions of specs/ that this script does not find.
 """
 import re
 import sys
@@ -15,8 +15,6 @@ from pathlib import Path
 
 CRATES = Path(__file__).resolve().parent.parent.parent / "crates"
 STATEMENT = "meaning/specs/Headline.antt"
-# The statement with all that a yes means.
-FULL = "headline/specs/RightInFull.antt"
 HEAD = re.compile(r"^(?:(?:abbrev|unfoldable|pub|infixl|infixr)\s+)*(\S+)\s*(?:\{[^}]*\}|\([^)]*\)|\s)*:(?:\s|$)")
 # A record has its name before its parameters, which may take more lines and may have parentheses in parentheses.
 RECORD = re.compile(r"^(?:(?:abbrev|unfoldable|pub)\s+)*(?:record|data)\s+(\S+)")
@@ -175,11 +173,23 @@ def lost_definitions():
 
 
 def wrong_numbers(text):
-    """Yields the sentences of a page whose number of files is not that of the list."""
-    for start, said in re.findall(r"`tools/docs/reading_list\.py (\S+\.antt)`[^.;|]*?(\d+)\s+files", text):
-        count = sum(map(bool, Closure(start).reached.values()))
-        if count != int(said):
-            yield f"{start}: {count} files, and the page says {said}"
+    """Yields the places of a page at which the numbers of files and lines are not those of the list."""
+    said = re.findall(r"`tools/docs/reading_list\.py (\S+\.antt)`[^.;|]*?(\d+)\s+files\s+and\s+(\d+)\s+lines", text)
+    if not said:
+        yield "no list of another statement is named with its numbers"
+    for start, files, lines in said:
+        counts = [count for _, _, count, _ in rows_of(Closure(start)) if count]
+        if (len(counts), sum(counts)) != (int(files), int(lines)):
+            yield f"{start}: {len(counts)} files and {sum(counts)} lines, and the page says {files} and {lines}"
+
+
+def missing_words(text, library):
+    """Yields the words of the kit's library that no piece of code of a page contains."""
+    pieces = re.findall(r"`([^`]+)`", text)
+    for word in sorted(library):
+        name = re.escape(word.strip("◌").replace("|", r"\|"))
+        if not any(re.search(rf"(?<!\w){name}(?!\w)", piece) for piece in pieces):
+            yield f"the word {word} of the kit's library is not explained"
 
 
 def table_lines(needed, names):
@@ -211,16 +221,10 @@ def main(words):
     lines = table_lines([row for row in rows if row[2]], names)
     if table:
         text = Path(table).read_text()
-        wrong = 0
-        full = table_lines([row for row in rows_of(Closure(FULL)) if row[2]], False)
-        for wanted in (lines, full):
-            if "\n".join(wanted) not in text:
-                wrong += 1
-                print(f"{table} has not this table:", *wanted, sep="\n")
-        for finding in (*wrong_numbers(text), *(f"not found: {lost}" for lost in lost_definitions())):
-            wrong += 1
-            print(finding)
-        return 1 if wrong else 0
+        found = [] if "\n".join(lines) in text else ["\n".join([f"{table} does not contain this table:", *lines])]
+        found += [*wrong_numbers(text), *missing_words(text, closure.library), *(f"not found: {lost}" for lost in lost_definitions())]
+        print(*found, sep="\n", end="\n" if found else "")
+        return 1 if found else 0
     print(*lines, sep="\n")
     if names:
         print(f"\nNames of the kit's library: {', '.join(sorted(closure.library))}")

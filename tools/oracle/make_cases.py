@@ -1,7 +1,7 @@
 #!/usr/bin/env python3
 """make_cases.py FOLDER.. [--commands A,B] [--also NAME].. [--largest BYTES] [--bundles FOLDER [--without WORD,WORD]
     [--runs BYTES] [--large FOLDER]]
-    > crates/worked_rows/data/cases.txt
+    > crates/run_cases/data/cases.txt
 
 Writes case folders as one file of cases, in the form that crates/case_text/src/lib.rt describes.
 

@@ -1,5 +1,5 @@
 #!/usr/bin/env python3
-"""make_reports.py COUNT DENSE SECOND SEED > crates/worked_rows/data/reports.txt
+"""make_reports.py COUNT DENSE SECOND SEED > crates/run_cases/data/reports.txt
 
 Writes cases of `check`, in the form that crates/case_text/src/lib.rt describes: COUNT bundles of mostly_right_bundle.py, then DENSE ones with many
 balls and SECOND ones in version 2, each with the report of reference_reports.py. The repository's file is made with `100 25 25 1`.

@@ -22,7 +22,7 @@ NOTE = "tools/package/make_man.py writes this file from what the program prints 
 # What `apropos` finds. The first line of --help names neither circuits nor layouts.
 PURPOSE = "checks that a layout of the billiard ball automaton computes a circuit"
 # What an installed program has beside it.
-PAGES = [("FORMATS.md", "the texts, the refusals and the statuses"), ("CERTIFICATES.md", "how to write a certificate"),
+PAGES = [("FORMATS.md", "the texts, the refusals and the statuses"), ("GUIDE.md", "layouts and certificates, step by step, and how to read a no"),
          ("OPERATING.md", "how to run it as a service: limits, statuses, a sandbox"), ("examples/", "texts to try")]
 
 
@@ -106,8 +106,8 @@ def release_date():
 def refusal_codes():
     """The codes of refusals, and what each is for, from the table of docs/FORMATS.md."""
     section = FORMATS.read_text().split("\n## Refusals\n")[1].split("\n## ")[0]
-    found = re.findall(r"^\| (?:then word by word from the left: )?(.+) \| (\d+) \|$", section, re.MULTILINE)
-    return sorted(((code, about) for about, code in found), key=lambda row: int(row[0]))
+    found = re.findall(r"^\| (\d+) \| (.+) \|$", section, re.MULTILINE)
+    return sorted(found, key=lambda row: int(row[0]))
 
 
 def man_page(version, top, pages):

@@ -29,7 +29,7 @@ use Rattle.certificate_lines.specs.Settings.{setting_of}
 use Rattle.certificate_lines.specs.declared.certificate_line.CertificateLine.{CertificateLine}
 use Rattle.answers.specs.Answers.{Answered}
 use Rattle.answers.specs.BundleReading.{TellsRefusal, bundle_by}
-use Rattle.audit_core.specs.Concluding.{port_names_of}
+use Rattle.core_book.specs.Concluding.{port_names_of}
 use Rattle.pattern.specs.FromLines.{layout_of}
 use Rattle.answers.specs.BundleText.{Bundle, bundle_of}
 use Rattle.answers.specs.declared.outcome.Outcome.{Outcome}

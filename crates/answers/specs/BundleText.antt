@@ -11,7 +11,7 @@ use Rattle.pattern.specs.declared.layout_line.LayoutLine.{LayoutLine}
 use Rattle.pattern.specs.declared.layout_line.LayoutHeader.{LayoutHeader}
 use Rattle.certificate.specs.Grammars.{certificate_grammar}
 use Rattle.certificate_lines.specs.Settings.{setting_of}
-use Rattle.audit_core.specs.Concluding.{port_names_of}
+use Rattle.core_book.specs.Concluding.{port_names_of}
 use Rattle.certificate_lines.specs.declared.certificate_line.CertificateLine.{CertificateLine}
 
 -- what was read of a bundle: the lines of each section

@@ -1,7 +1,7 @@
 //! The part that the commands over two sections have in common.
 ghost use Rattle.std.specs.Prelude.{◌≡◌, true, None};
 ghost use Rattle.section_text.specs.Feeds.{ahead};
-ghost use Rattle.section_text.specs.Section.{Gives};
+ghost use Rattle.section_text.specs.Section.{SectionGives};
 ghost use Rattle.answers.specs.Answers.{names_read};
 
 use pattern::read_assign;
@@ -16,7 +16,7 @@ pub(crate) fn read_names(
 ) -> Result<Vec<Name>, ReadFault>
     requires closed { feed.old.closed ≡ true }
     requires going { feed.old.stop ≡ None }
-    ensures { Gives (λ on. on.items) result
+    ensures { SectionGives (λ on. on.items) result
         (names_read feed.old.text names.now feed.old.taken (ahead feed.old)) }
 {
     match read_assign(alloc, feed, names) {

@@ -2,7 +2,7 @@
 ghost use Rattle.std.specs.Prelude.{◌≡◌, ◌++◌, [], ◌∷◌, true, None, IfOk, OnOk, codes, length, map};
 ghost use Rattle.std.specs.Fmt.{decimal};
 ghost use Rattle.std.specs.List.{flat_map};
-ghost use Rattle.section_text.specs.Section.{Gives};
+ghost use Rattle.section_text.specs.Section.{SectionGives};
 ghost use Rattle.section_text.specs.Spelling.{line_text};
 ghost use Rattle.pattern.specs.Grammars.{layout_value};
 ghost use Rattle.answers.specs.RunText.{IsRunOf, SaysRunEnd, cell_line, end_outcome, end_text, run_asked};
@@ -27,7 +27,7 @@ fn read_asked(alloc: Global, feed: &mut Feed) -> Result<(Layout, Vec<Name>), Rea
     requires closed { feed.old.closed ≡ true }
     requires unread { feed.old.taken ≡ 0 }
     requires going { feed.old.stop ≡ None }
-    ensures { Gives (λ asked. (layout_value asked.0, asked.1.items)) result
+    ensures { SectionGives (λ asked. (layout_value asked.0, asked.1.items)) result
         (run_asked feed.old.text) }
 {
     let layout = match read_layout(alloc, feed, &PortNames::Any) {

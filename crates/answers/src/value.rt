@@ -5,7 +5,7 @@ ghost use Rattle.section_text.specs.Spelling.{line_text};
 ghost use Rattle.circuit.specs.Meaning.{wires};
 ghost use Rattle.circuit.specs.Entries.{defined};
 ghost use Rattle.circuit.specs.Text.{value_lines};
-ghost use Rattle.section_text.specs.Section.{Gives};
+ghost use Rattle.section_text.specs.Section.{SectionGives};
 ghost use Rattle.circuit.specs.Bridge.{input_names, netlist_of};
 ghost use Rattle.answers.specs.ValueText.{IsValueOf, SaysValues, value_asked};
 
@@ -33,7 +33,7 @@ fn read_asked(alloc: Global, feed: &mut Feed) -> Result<(Circuit, Vec<Name>), Re
     requires closed { feed.old.closed ≡ true }
     requires unread { feed.old.taken ≡ 0 }
     requires going { feed.old.stop ≡ None }
-    ensures { Gives (λ asked. (asked.0, asked.1.items)) result (value_asked feed.old.text) }
+    ensures { SectionGives (λ asked. (asked.0, asked.1.items)) result (value_asked feed.old.text) }
 {
     let circuit = match read_circuit(alloc, feed) {
         Err(fault) => return Err(fault),

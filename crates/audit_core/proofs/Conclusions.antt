@@ -5,12 +5,12 @@ use Rattle.border_match.specs.declared.fault.BorderFault.{BorderFault}
 use Rattle.certificate.specs.Grammars.{CertView}
 use Rattle.module_job.specs.Jobs.{JobView}
 use Rattle.certificate.specs.Times.{are_all_obeyed, time_lines}
-use Rattle.audit_core.specs.Concluding.{AreOwnJobs, modules, setting}
-use Rattle.audit_core.specs.Verdicts.{AreLeastFaults, IsVerdict, lines_from, timing, unkept_lines}
-use Rattle.audit_core.specs.declared.verdict.Reasons.{Reasons}
-use Rattle.audit_core.specs.declared.verdict.ReportLine.{ReportLine}
-use Rattle.audit_core.specs.declared.verdict.Verdict.TheVariants.{Yes, No}
-use Rattle.audit_core.proofs.ReportLines.{accepted, accepted-no_lines}
+use Rattle.core_book.specs.Concluding.{AreOwnJobs, modules, setting}
+use Rattle.core_book.specs.Verdicts.{AreLeastFaults, IsVerdict, lines_from, timing, unkept_lines}
+use Rattle.core_book.specs.declared.verdict.Reasons.{Reasons}
+use Rattle.core_book.specs.declared.verdict.ReportLine.{ReportLine}
+use Rattle.core_book.specs.declared.verdict.Verdict.TheVariants.{Yes, No}
+use Rattle.core_book.proofs.ReportLines.{accepted, accepted-no_lines}
 
 pub is_empty_list : {X : Type 0} (xs : List X) → length xs ≡ 0 → xs ≡ []
 is_empty_list [] e = refl

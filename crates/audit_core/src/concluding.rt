@@ -7,19 +7,18 @@ ghost use Rattle.pattern.specs.Layout.{parts_of};
 ghost use Rattle.pattern.specs.Lines.{AreNamed};
 ghost use Rattle.border_match.specs.BorderFaults.{AreBorderFaultsOf};
 ghost use Rattle.certificate.specs.Times.{are_all_obeyed};
-ghost use Rattle.audit_core.specs.Concluding.{AreOwnJobs, modules, port_names_of, setting};
+ghost use Rattle.core_book.specs.Concluding.{AreOwnJobs, modules, port_names_of, setting};
 ghost use Rattle.meaning.specs.Implements.{IsCorrect};
-ghost use Rattle.audit_core.specs.OnTime.{IsOnTime};
-ghost use Rattle.audit_core.specs.Verdicts.{AreHeldBelow, AreLeastFaults, IsFirstMissing, IsToldOf, IsVerdict, border_line, keep_line, lines_from, local_line, timing};
+ghost use Rattle.soundness.specs.OnTime.{IsOnTime};
+ghost use Rattle.core_book.specs.Verdicts.{AreHeldBelow, AreLeastFaults, IsFirstMissing, IsToldOf, IsVerdict, border_line, keep_line, lines_from, local_line, timing};
 ghost use Rattle.local_run.specs.Shown.{job_of};
-ghost use Rattle.audit_core.specs.declared.verdict.ReportLine.TheVariants.{Unkept};
-ghost use Rattle.audit_core.specs.declared.verdict.Unfinished.TheVariants.{Missing};
-ghost use Rattle.audit_core.specs.declared.verdict.Verdict.TheVariants.{Yes};
+ghost use Rattle.core_book.specs.declared.verdict.ReportLine.TheVariants.{Unkept};
+ghost use Rattle.core_book.specs.declared.verdict.Unfinished.TheVariants.{Missing};
+ghost use Rattle.core_book.specs.declared.verdict.Verdict.TheVariants.{Yes};
 
-use crate::book::BookState;
-use crate::verdict::{Reasons, ReportLine, Unfinished, Verdict};
 use border_match::BorderFault;
 use certificate::{Cert, Job, TimeLine};
+use core_book::{BookState, Reasons, ReportLine, Unfinished, Verdict};
 use local_run::{Fault, Finding, KeepFault};
 use std::alloc::{AllocError, Global};
 use std::sync::Arc;
@@ -34,7 +33,7 @@ use std::sync::Arc;
 /// - nothing leaves its rectangle,
 /// - each stop holds on the whole layout, and the rules on delays and meetings are kept.
 ///
-/// `meaning/specs/Implements.antt` and `specs/OnTime.antt` define this.
+/// `meaning/specs/Implements.antt` and `soundness/specs/OnTime.antt` define this.
 ///
 /// # Errors
 ///

@@ -10,7 +10,7 @@ use Rattle.bbm_rule.specs.Rows.{TurnsRows}
 use Rattle.bbm_rule.specs.Marks.{IsUnmarked, MarksOne}
 use Rattle.bbm_rule.specs.Bands.{AreCalm}
 use Rattle.bbm_rule.proofs.BitLemmas.{by_lt_or_le, by_eq_or_not, bit-or, bit-zero}
-use Rattle.bbm_rule.proofs.RunLemmas.{mate_lt, rows_join, word_is_window, word_set}
+use Rattle.bbm_rule.proofs.BlockRuns.{mate_lt, rows_join, word_is_window, word_set}
 use Rattle.bbm_rule.proofs.PlaneLemmas.{turned_twice, mate_twice, dead_block}
 
 -- ---- what a turn of two rows changes

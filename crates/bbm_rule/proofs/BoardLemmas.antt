@@ -14,7 +14,7 @@ use Rattle.bbm_rule.specs.Board.{Board, live, is_inside, IsStep, Leaves}
 use Rattle.bbm_rule.specs.GridView.{board}
 use Rattle.bbm_rule.proofs.BitLemmas.{by_lt_or_le, by_eq_or_not}
 use Rattle.bbm_rule.proofs.PairLemmas.{mate_even, mate_odd}
-use Rattle.bbm_rule.proofs.RunLemmas.{mate_lt}
+use Rattle.bbm_rule.proofs.BlockRuns.{mate_lt}
 use Rattle.bbm_rule.proofs.PlaneLemmas.{ext, partner-even_pos, partner-odd_ext, far_column, far_row, even_cases}
 use Rattle.bbm_rule.proofs.PlaneLemmas.{odd_cases, turned_twice, mate_twice, mate_ge, column_dead, row_dead, dead_block}
 

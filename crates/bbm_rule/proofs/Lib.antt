@@ -2,7 +2,7 @@ pub mod BitLemmas
 pub mod Turning
 pub mod Lanes
 pub mod PairLemmas
-pub mod RunLemmas
+pub mod BlockRuns
 pub mod Spans
 pub mod Steps
 pub mod PlaneLemmas
@@ -10,7 +10,7 @@ pub mod BoardLemmas
 pub mod Boards
 pub mod CellLemmas
 pub mod MarkLemmas
-mod FillLemmas
+mod FilledRuns
 mod GapLemmas
 pub mod BandLemmas
 pub mod GridLemmas

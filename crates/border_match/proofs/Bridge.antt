@@ -19,7 +19,7 @@ use Rattle.certificate.specs.Jobs.{AreJobsOf, IsJobOf, line_signal, line_signals
 use Rattle.certificate_lines.specs.Modules.{AreModules, IsModule}
 use Rattle.certificate_lines.specs.Rules.{whole}
 use Rattle.module_job.specs.Signals.{renumber_signals}
-use Rattle.certificate_lines.specs.declared.certificate_line.Border.{Border}
+use Rattle.certificate_lines.specs.declared.certificate_line.BorderLine.{BorderLine}
 use Rattle.border_match.specs.BorderFaults.{halo_signal, edge_signal, IsBorderFault, IsLeastBorderFault}
 use Rattle.border_match.specs.Boards.{job_halo, job_edge, IsJobFault, IsQuiet, IsBoard}
 use Rattle.border_match.specs.Candidates.{IsLeast}
@@ -39,7 +39,7 @@ module _ (cs : List CircuitLine) (p : Pattern) where
       ∙ ap (λ (s : Signals). signal_at s t x y) is.edges
 
   -- no line names the time 0
-  signals_quiet : (j : JobView) (s : Signals) (es : List Border) (x y : ℤ) →
+  signals_quiet : (j : JobView) (s : Signals) (es : List BorderLine) (x y : ℤ) →
       renumber_signals (circuit_wire j.locals) s ≡ line_signals (circuit_of cs) es →
       All (λ e. IfSome e.time (λ t. (t % 2 ≡ 1) × (t < p.size.steps))) es → event_at s.events 0 x y ≡ None
   signals_quiet j s es x y same odd =

@@ -13,14 +13,14 @@ use Rattle.bbm_rule.specs.Spans.{in_span}
 use Rattle.bbm_rule.proofs.Spans.{span_from, span_parts}
 use Rattle.module_box.specs.Boxes.{in_box, in_halo}
 use Rattle.bbm_rule.specs.declared.block.Cell.{Cell}
-use Rattle.module_box.specs.Moves.{IsNear, IsSmall}
+use Rattle.module_box.specs.Moves.{IsNear, IsSmallShift}
 use Rattle.module_box.specs.Tiling.{owner_of}
 use Rattle.module_box.specs.declared.boxes.Box2.{Box2}
 use Rattle.module_box.specs.declared.schedules.Signal.{Signal}
 use Rattle.module_box.proofs.BoxCells.{in_span_nat, in_box_nats, same_some}
 use Rattle.module_box.proofs.NearBoxes.{near_one, near_parts}
 use Rattle.module_job.specs.Jobs.{JobView, IsJob}
-use Rattle.border_match.specs.Boards.{job_halo, job_edge, jobs_of, IsAround, IsReady, Faults}
+use Rattle.border_match.specs.Boards.{job_halo, job_edge, jobs_of, IsAround, AreReadyBorders, Faults}
 use Rattle.border_match.specs.Boards.{Differ}
 use Rattle.border_match.specs.declared.borders.Borders.{Borders}
 use Rattle.border_match.specs.declared.fault.BorderFault.{BorderFault}
@@ -31,7 +31,7 @@ pub job_at : {A : Type 0} (v : A → JobView) (xs : List A) (k : ℕ) (d : A) (j
     j ≡ v (get_or xs k d) → slice_get (map v xs) k ≡ Some j
 job_at v xs k d j lt same = slice_get-map v xs k ∙ ap (option_map v) (slice_get-get_or xs k d lt) ∙ ap Some (sym same)
 
-pub owner_within : (b : Borders) (x y : ℤ) → IsReady b → in_box b.whole x y ≡ true →
+pub owner_within : (b : Borders) (x y : ℤ) → AreReadyBorders b → in_box b.whole x y ≡ true →
     owner_of b.owners.now x y < length b.jobs.now
 owner_within b x y ready h =
     let m = ready.0.holder x y h in
@@ -63,11 +63,11 @@ reached b f g = and_from _ _ g.inside g.halo
 
 -- ---- cells that have an owner
 
-small_number : (z : ℤ) (n m w : ℕ) → z ≡ pos n → n < m + w → m + w ≤ 512 → IsSmall z
+small_number : (z : ℤ) (n m w : ℕ) → z ≡ pos n → n < m + w → m + w ≤ 512 → IsSmallShift z
 small_number z n m w e lt few = (omega (arith, ints, e), omega (arith, ints, e, lt, few))
 
 -- a cell of the rectangle is in the box of a job
-pub owned_near : (b : Borders) (c : Cell) (owner : JobView) → IsReady b → in_box b.whole c.x c.y ≡ true →
+pub owned_near : (b : Borders) (c : Cell) (owner : JobView) → AreReadyBorders b → in_box b.whole c.x c.y ≡ true →
     slice_get (jobs_of b) (owner_of b.owners.now c.x c.y) ≡ Some owner → IsJob owner → IsNear c
 owned_near b c owner ready inside got is =
     let m = ready.0.holder c.x c.y inside in
@@ -132,7 +132,7 @@ halo_out a x y halo = elim (cases_Bool (in_box a x y)) [
 ]
 
 -- a cell of the columns and rows of the rectangle is in it
-pub in_whole : (b : Borders) (x y : ℕ) (cx cy : ℤ) → cx ≡ pos x → cy ≡ pos y → IsReady b → x < b.whole.w →
+pub in_whole : (b : Borders) (x y : ℕ) (cx cy : ℤ) → cx ≡ pos x → cy ≡ pos y → AreReadyBorders b → x < b.whole.w →
     y < b.whole.h → in_box b.whole cx cy ≡ true
 unfolding in_box
 in_whole b x y cx cy px py ready left top =
@@ -143,7 +143,7 @@ in_whole b x y cx cy px py ready left top =
     (span_from b.whole.y b.whole.h y (omega (arith, ey)) (omega (arith, ey, top)))
 
 -- and no other cell is
-pub whole_parts : (b : Borders) (x y : ℕ) → IsReady b → in_box b.whole (pos x) (pos y) ≡ true →
+pub whole_parts : (b : Borders) (x y : ℕ) → AreReadyBorders b → in_box b.whole (pos x) (pos y) ≡ true →
     (x < b.whole.w) × (y < b.whole.h)
 unfolding in_box
 whole_parts b x y ready inside =

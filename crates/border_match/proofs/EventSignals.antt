@@ -7,7 +7,7 @@ use Rattle.std.proofs.lemmas.Option.{slice_get_within, get_or_from_slice_get}
 use Rattle.module_box.specs.Moments.{moment_cmp}
 use Rattle.module_box.specs.Moves.{moved_signals}
 use Rattle.module_box.specs.Schedules.{IsRising, Signals, all_times_at, moment_of, signal_at}
-use Rattle.module_box.specs.declared.schedules.Event.{Event}
+use Rattle.module_box.specs.declared.schedules.TimedSignal.{TimedSignal}
 use Rattle.module_box.specs.declared.schedules.Signal.TheVariants.{Zero}
 use Rattle.module_box.proofs.MovedBoxes.{events_rising, signals_back}
 use Rattle.module_box.proofs.Rising.{event_some, is_first, moment_total}
@@ -22,7 +22,7 @@ events_unmoved dx dy ex ey s p q rising =
     subst (λ (m : Signals). IsRising moment_cmp moment_of m.events) (signals_back dx dy ex ey s p q)
     (events_rising ex ey (moved_signals dx dy s).events rising)
 
-event_signal : (s : Signals) (e : Event) → s.all_times ≡ [] → IsRising moment_cmp moment_of s.events →
+event_signal : (s : Signals) (e : TimedSignal) → s.all_times ≡ [] → IsRising moment_cmp moment_of s.events →
     IsListed s.events e → signal_at s e.at.time e.at.cell.x e.at.cell.y ≡ e.signal
 unfolding signal_at all_times_at
 event_signal s e none rising at =
@@ -30,18 +30,20 @@ event_signal s e none rising at =
     (event_some s.events at.0 e at.1 (is_first moment_cmp moment_of s.events at.0 e moment_total rising at.1))
 
 -- if no line with a star is among the signals, the event alone says it
-pub own_signal : (x y : ℕ) (s moved : Signals) (es : List Event) (e : Event) → s.all_times ≡ [] → es ≡ moved.events →
+pub own_signal : (x y : ℕ) (s moved : Signals) (es : List TimedSignal) (e : TimedSignal) → s.all_times ≡ [] →
+    es ≡ moved.events →
     moved ≡ moved_signals (shift_to_origin x) (shift_to_origin y) s → IsRising moment_cmp moment_of es →
     IsListed s.events e → signal_at s e.at.time e.at.cell.x e.at.cell.y ≡ e.signal
 own_signal x y s moved es e none same are rising at =
-    let R : List Event → Type 0 = IsRising moment_cmp moment_of in
+    let R : List TimedSignal → Type 0 = IsRising moment_cmp moment_of in
     event_signal s e none
     (events_unmoved (shift_to_origin x) (shift_to_origin y) (pos x) (pos y) s (omega (arith, ints))
     (omega (arith, ints))
     (subst R (same ∙ ap (λ (m : Signals). m.events) are) rising)) at
 
-pub listed_below : (n : ℕ) (es : List Event) (e : Event) → All (λ e. IsBelow n e.signal) es → IsListed es e →
+pub listed_below : (n : ℕ) (es : List TimedSignal) (e : TimedSignal) → All (λ e. IsBelow n e.signal) es →
+    IsListed es e →
     IsBelow n e.signal
 listed_below n es e all at =
-    let P : Event → Type 0 = λ e. IsBelow n e.signal in
+    let P : TimedSignal → Type 0 = λ e. IsBelow n e.signal in
     subst P (get_or_from_slice_get es at.0 e e at.1) (all at.0 e (slice_get_within es at.0 e at.1))

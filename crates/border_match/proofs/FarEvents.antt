@@ -10,7 +10,7 @@ use Rattle.bbm_rule.specs.declared.block.Cell.{Cell}
 use Rattle.module_box.specs.Moments.{cell_cmp, moment_cmp}
 use Rattle.module_box.specs.Schedules.{IsRising, moment_of}
 use Rattle.module_box.specs.declared.boxes.Box2.{Box2}
-use Rattle.module_box.specs.declared.schedules.Event.{Event}
+use Rattle.module_box.specs.declared.schedules.TimedSignal.{TimedSignal}
 use Rattle.module_box.specs.declared.schedules.Moment.{Moment}
 use Rattle.module_box.proofs.BoxCells.{same_some}
 use Rattle.module_box.proofs.Rising.{moment_total}
@@ -108,13 +108,14 @@ behind_rows w at next far left top last et ex ey =
 -- ---- places of events
 
 -- the events from a place on and before another one are before the moment
-abbrev pub ArePassed : List Event → ℕ → ℕ → Moment → Type 0
-ArePassed events start place at = (i : ℕ) (e : Event) → start ≤ i → i < place → slice_get events i ≡ Some e →
+abbrev pub ArePassed : List TimedSignal → ℕ → ℕ → Moment → Type 0
+ArePassed events start place at = (i : ℕ) (e : TimedSignal) → start ≤ i → i < place → slice_get events i ≡ Some e →
     moment_cmp e.at at ≡ Less
 
 -- those from a place on are not
-abbrev pub AreFrom : List Event → ℕ → Moment → Type 0
-AreFrom events place at = (i : ℕ) (e : Event) → place ≤ i → slice_get events i ≡ Some e → moment_cmp e.at at ≢ Less
+abbrev pub AreFrom : List TimedSignal → ℕ → Moment → Type 0
+AreFrom events place at = (i : ℕ) (e : TimedSignal) → place ≤ i → slice_get events i ≡ Some e →
+    moment_cmp e.at at ≢ Less
 
 lower_or_same : (i m : ℕ) → i < m + 1 → (i < m) ⊎ (i ≡ m)
 lower_or_same i m h = grind arith
@@ -123,29 +124,31 @@ same_or_higher : (i m : ℕ) → m ≤ i → (m < i) ⊎ (m ≡ i)
 same_or_higher i m h = grind arith
 
 -- up to an event that is before the moment all are
-pub passed_to : (events : List Event) (start m : ℕ) (at : Moment) (d : Event) → IsRising moment_cmp moment_of events →
+pub passed_to : (events : List TimedSignal) (start m : ℕ) (at : Moment) (d : TimedSignal) →
+    IsRising moment_cmp moment_of events →
     m < length events → moment_cmp (get_or events m d).at at ≡ Less → ArePassed events start (m + 1) at
 passed_to events start m at d rising within less i e from lt got =
     let there = slice_get-get_or events m d within in
     elim (lower_or_same i m lt) [
       | inl l ↦ moment_total.trans e.at (get_or events m d).at at (rising.rises i m e _ l got there) less
-      | inr same ↦ ap (λ (z : Event). moment_cmp z.at at)
+      | inr same ↦ ap (λ (z : TimedSignal). moment_cmp z.at at)
           (same_some (slice_get events m) e _ (ap (slice_get events) (sym same) ∙ got) there) ∙ less
     ]
 
 -- from an event on that is not before the moment none is
-pub rest_from : (events : List Event) (m : ℕ) (at : Moment) (d : Event) → IsRising moment_cmp moment_of events →
+pub rest_from : (events : List TimedSignal) (m : ℕ) (at : Moment) (d : TimedSignal) →
+    IsRising moment_cmp moment_of events →
     m < length events → moment_cmp (get_or events m d).at at ≢ Less → AreFrom events m at
 rest_from events m at d rising within not_less i e from got less =
     let there = slice_get-get_or events m d within in
     not_less (elim (same_or_higher i m from) [
       | inl l ↦ moment_total.trans (get_or events m d).at e.at at (rising.rises m i _ e l there got) less
-      | inr same ↦ ap (λ (z : Event). moment_cmp z.at at)
+      | inr same ↦ ap (λ (z : TimedSignal). moment_cmp z.at at)
           (same_some (slice_get events m) _ e there (ap (slice_get events) same ∙ got)) ∙ less
     ])
 
 -- there is none behind the end
-pub rest_none : (events : List Event) (m : ℕ) (at : Moment) → length events ≤ m → AreFrom events m at
+pub rest_none : (events : List TimedSignal) (m : ℕ) (at : Moment) → length events ≤ m → AreFrom events m at
 rest_none events m at end i e from got =
     let within = slice_get_within events i e got in absurd (omega (arith, within, end, from))
 
@@ -153,7 +156,7 @@ pub not_less : (o p : Ordering) → o ≡ p → o ≢ Less → p ≢ Less
 not_less o p same not e = not (same ∙ e)
 
 -- no event is passed at the start
-pub passed_none : (events : List Event) (start : ℕ) (at : Moment) → ArePassed events start start at
+pub passed_none : (events : List TimedSignal) (start : ℕ) (at : Moment) → ArePassed events start start at
 passed_none events start at i e from lt got = absurd (omega (arith, from, lt))
 
 -- ---- events at far cells
@@ -172,7 +175,7 @@ seen area corner w c is g =
 
 -- The events behind one at a far cell are at far cells as long as they are before the next moment that may be at a
 -- cell of the window.
-pub far_to : (w : Window) (events : List Event) (place next : ℕ) (d : Event) (moment : Moment) →
+pub far_to : (w : Window) (events : List TimedSignal) (place next : ℕ) (d : TimedSignal) (moment : Moment) →
     IsRising moment_cmp moment_of events → place < length events → IsFarAt w events place →
     AreFarBetween w (get_or events place d).at moment → ArePassed events (place + 1) next moment →
     AreFar w events place next
@@ -184,14 +187,14 @@ far_to w events place next d moment rising within far between passed i e from lt
     ]
 
 -- up to the next place there is only that event
-pub far_next : (w : Window) (events : List Event) (place : ℕ) → IsFarAt w events place →
+pub far_next : (w : Window) (events : List TimedSignal) (place : ℕ) → IsFarAt w events place →
     AreFar w events place (place + 1)
 far_next w events place far i e from lt got odd =
     let same : place ≡ i = omega (arith, from, lt) in far e (ap (slice_get events) same ∙ got)
 
-pub far_at : (w : Window) (events : List Event) (place : ℕ) (d : Event) (r : Bool) → place < length events →
+pub far_at : (w : Window) (events : List TimedSignal) (place : ℕ) (d : TimedSignal) (r : Bool) → place < length events →
     (IsSeen w (get_or events place d).at.cell → r ≡ true) → r ≡ false → IsFarAt w events place
 far_at w events place d r within sees none e got g =
     let is = same_some (slice_get events place) e (get_or events place d) got
     (slice_get-get_or events place d within) in
-    false≢true (sym none ∙ sees (subst (λ (z : Event). IsSeen w z.at.cell) is g))
+    false≢true (sym none ∙ sees (subst (λ (z : TimedSignal). IsSeen w z.at.cell) is g))

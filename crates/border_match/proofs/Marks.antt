@@ -8,12 +8,12 @@ use Rattle.std.proofs.Math.Seq.{take-append_seam}
 use Rattle.std.proofs.lemmas.Bool.{false≢true}
 use Rattle.std.proofs.lemmas.Option.{slice_get_within}
 use Rattle.module_box.specs.Tiling.{owner_of}
-use Rattle.module_box.specs.declared.schedules.Event.{Event}
+use Rattle.module_box.specs.declared.schedules.TimedSignal.{TimedSignal}
 use Rattle.module_box.specs.declared.schedules.Moment.{Moment}
 use Rattle.module_box.proofs.BoxCells.{same_some}
 use Rattle.module_job.specs.Jobs.{JobView}
 use Rattle.border_match.specs.Boards.{AddsMark, AreMarked, DiffersAlways, Faults, IsAtEvent, IsEdgeNamed, IsListed}
-use Rattle.border_match.specs.Boards.{IsPlaceOf, IsReady, IsUnmarked, IsUnmarkedBelow, jobs_of}
+use Rattle.border_match.specs.Boards.{IsPlaceOf, AreReadyBorders, IsUnmarked, IsUnmarkedBelow, jobs_of}
 use Rattle.border_match.specs.declared.borders.Borders.{Borders}
 use Rattle.border_match.specs.declared.fault.BorderFault.{BorderFault}
 use Rattle.border_match.proofs.Modules.{there}
@@ -32,22 +32,22 @@ set_elsewhere (x ∷ xs) zero (suc p) other = refl
 set_elsewhere (x ∷ xs) (suc q) zero other = refl
 set_elsewhere (x ∷ xs) (suc q) (suc p) other = set_elsewhere xs q p (λ same. other (ap suc same))
 
-pub mark_added : (events : List Event) (at : Moment) (old new : List Bool) (place : ℕ) →
+pub mark_added : (events : List TimedSignal) (at : Moment) (old new : List Bool) (place : ℕ) →
     IsPlaceOf events at place → new ≡ slice_set old place true → AddsMark events at old new
 mark_added events at old new place is set = record {
   sized = ap length set ∙ length-set old place true;
   marks = λ p e marked got. elim (same_or_other p place) [
-    | inl same ↦ inr (ap (λ (z : Event). z.at)
+    | inl same ↦ inr (ap (λ (z : TimedSignal). z.at)
         (same_some (slice_get events p) e is.event got (ap (slice_get events) same ∙ is.got)) ∙ is.same)
     | inr other ↦ inl (sym (set_elsewhere old place p other) ∙ ap (λ l. slice_get l p) (sym set) ∙ marked)
   ];
 }
 
-pub none_added : (events : List Event) (at : Moment) (old : List Bool) → AddsMark events at old old
+pub none_added : (events : List TimedSignal) (at : Moment) (old : List Bool) → AddsMark events at old old
 none_added events at old = record { sized = refl; marks = λ p e marked got. inl marked }
 
 -- the edge that names what the new mark's event names
-pub still_marked : (b : Borders) (k : ℕ) (other : JobView) (event : Event) (old new : List Bool) →
+pub still_marked : (b : Borders) (k : ℕ) (other : JobView) (event : TimedSignal) (old new : List Bool) →
     slice_get (jobs_of b) k ≡ Some other → owner_of b.owners.now event.at.cell.x event.at.cell.y ≡ k →
     IsListed other.edges.events event → AddsMark b.job.now.halos.events event.at old new → AreMarked b old →
     AreMarked b new
@@ -94,7 +94,7 @@ written_back new rest items n count is =
 
 -- ---- one event more
 
-pub unmarked_step : (seen : List Bool) (events : List Event) (i : ℕ) (f : BorderFault) →
+pub unmarked_step : (seen : List Bool) (events : List TimedSignal) (i : ℕ) (f : BorderFault) →
     IsUnmarkedBelow (i + 1) seen events f → slice_get seen i ≡ Some true → IsUnmarkedBelow i seen events f
 unmarked_step seen events i f h marked = elim (lower_or_same h.unmarked.named.place i h.below) [
   | inl lt ↦ record { unmarked = h.unmarked; below = lt }
@@ -102,7 +102,7 @@ unmarked_step seen events i f h marked = elim (lower_or_same h.unmarked.named.pl
       (ap (slice_get seen) (sym same) ∙ h.unmarked.unmarked) marked))
 ]
 
-pub event_step : (seen : List Bool) (events : List Event) (i : ℕ) (e : Event) (f : BorderFault) →
+pub event_step : (seen : List Bool) (events : List TimedSignal) (i : ℕ) (e : TimedSignal) (f : BorderFault) →
     slice_get events i ≡ Some e → IsUnmarkedBelow (i + 1) seen events f →
     IsUnmarkedBelow i seen events f ⊎ IsAtEvent e f
 event_step seen events i e f got h = elim (lower_or_same h.unmarked.named.place i h.below) [
@@ -110,11 +110,11 @@ event_step seen events i e f got h = elim (lower_or_same h.unmarked.named.place 
   | inr same ↦
       let named = h.unmarked.named in
       let is = same_some (slice_get events i) named.event e (ap (slice_get events) (sym same) ∙ named.got) got in
-      inr (same_fault e.at.time e.at.cell f (sym named.time ∙ ap (λ (z : Event). z.at.time) is)
-      (sym named.cell ∙ ap (λ (z : Event). z.at.cell) is))
+      inr (same_fault e.at.time e.at.cell f (sym named.time ∙ ap (λ (z : TimedSignal). z.at.time) is)
+      (sym named.cell ∙ ap (λ (z : TimedSignal). z.at.cell) is))
 ]
 
-pub unmarked_all : (seen : List Bool) (events : List Event) (k : ℕ) (f : BorderFault) → length events ≤ k →
+pub unmarked_all : (seen : List Bool) (events : List TimedSignal) (k : ℕ) (f : BorderFault) → length events ≤ k →
     IsUnmarked seen events f → IsUnmarkedBelow k seen events f
 unmarked_all seen events k f le h =
     let within = slice_get_within events h.named.place h.named.event h.named.got in
@@ -126,7 +126,8 @@ mark_cases : (o : Bool) → (o ≡ true) ⊎ (o ≡ false)
 mark_cases true = inl refl
 mark_cases false = inr refl
 
-pub fault_unmarked : (b : Borders) (seen : List Bool) (f : BorderFault) → IsReady b → AreMarked b seen → Faults b f →
+pub fault_unmarked : (b : Borders) (seen : List Bool) (f : BorderFault) → AreReadyBorders b → AreMarked b seen →
+    Faults b f →
     IsEdgeNamed b f ⊎ (IsUnmarked seen b.job.now.halos.events f ⊎ DiffersAlways b f)
 fault_unmarked b seen f ready marked g = elim (fault_covered b f ready g) [
   | inl h ↦

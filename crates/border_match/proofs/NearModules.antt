@@ -14,7 +14,7 @@ use Rattle.module_box.proofs.BoxCells.{same_some}
 use Rattle.module_job.specs.Jobs.{JobView}
 use Rattle.border_match.proofs.Cells.{area_at, area_from, cell_placed, halo_out, whole_parts}
 use Rattle.border_match.specs.Boards.{AreColumnsNoted, AreNumbers, AreOwnersNoted, AreRowsNoted, IsAreaNoted}
-use Rattle.border_match.specs.Boards.{IsOwnerNoted, IsReady, KeepsNumbers, jobs_of, with_number}
+use Rattle.border_match.specs.Boards.{IsOwnerNoted, AreReadyBorders, KeepsNumbers, jobs_of, with_number}
 use Rattle.border_match.specs.declared.borders.Borders.{Borders}
 
 -- ---- one number more
@@ -92,14 +92,14 @@ own_noted b ks a same x y inside there out =
     absurd (false≢true (sym out ∙ ap (λ (z : Box2). in_box z x y) (sym same) ∙ inside))
 
 -- the cells of a module's box have that module as their owner
-pub owner_noted : (b : Borders) (ks : List ℕ) (k : ℕ) (j : JobView) (a : Box2) → IsReady b → a ≡ j.area →
+pub owner_noted : (b : Borders) (ks : List ℕ) (k : ℕ) (j : JobView) (a : Box2) → AreReadyBorders b → a ≡ j.area →
     slice_get (jobs_of b) k ≡ Some j → is_among ks k ≡ true → IsAreaNoted b ks a
 owner_noted b ks k j a ready same got among x y inside there out =
     let P : ℕ → Type 0 = λ n. is_among ks n ≡ true in
     subst P (sym (ready.0.only x y k j there got (ap (λ (z : Box2). in_box z x y) (sym same) ∙ inside))) among
 
 -- the owner of a cell has the cell in its box
-pub owner_holds : (b : Borders) (x y : ℤ) (j : JobView) (a : Box2) → IsReady b → in_box b.whole x y ≡ true →
+pub owner_holds : (b : Borders) (x y : ℤ) (j : JobView) (a : Box2) → AreReadyBorders b → in_box b.whole x y ≡ true →
     a ≡ j.area → slice_get (jobs_of b) (owner_of b.owners.now x y) ≡ Some j → in_box a x y ≡ true
 owner_holds b x y j a ready inside same got =
     let m = ready.0.holder x y inside in
@@ -122,7 +122,7 @@ columns_more b old new y z z' x a cx cy ex ey has le within before keeps here c 
     ]
 
 -- the columns behind x are outside of the rectangle or of the halo
-pub all_columns : (b : Borders) (ks : List ℕ) (y z x : ℕ) → IsReady b →
+pub all_columns : (b : Borders) (ks : List ℕ) (y z x : ℕ) → AreReadyBorders b →
     ((c : ℕ) → x ≤ c → c < b.job.now.area.x + b.job.now.area.w + 1 → b.whole.w ≤ c) → AreColumnsNoted b ks y z x →
     AreRowsNoted b ks y z
 all_columns b ks y z x ready end before c r left lt top under = elim (below_or_from c x) [
@@ -143,7 +143,7 @@ rows_more b old new x y z above keeps here c r left lt top under = elim (below_o
 ]
 
 -- the rows behind y are outside of the rectangle or of the halo
-pub all_rows : (b : Borders) (ks : List ℕ) (y : ℕ) → IsReady b →
+pub all_rows : (b : Borders) (ks : List ℕ) (y : ℕ) → AreReadyBorders b →
     ((r : ℕ) → y ≤ r → r < b.job.now.area.y + b.job.now.area.h + 1 → b.whole.h ≤ r) →
     AreRowsNoted b ks (b.job.now.area.y - 1) y → AreOwnersNoted b ks
 all_rows b ks y ready end above x z there =

@@ -6,7 +6,7 @@ use Rattle.std.proofs.lemmas.Bool.{cases_Bool}
 use Rattle.bbm_rule.specs.Plane.{is_at}
 use Rattle.circuit.specs.Meaning.{wires}
 use Rattle.module_box.specs.Schedules.{Signals, is_then, all_times_at, event_at, signal_at}
-use Rattle.module_box.specs.declared.schedules.Event.{Event}
+use Rattle.module_box.specs.declared.schedules.TimedSignal.{TimedSignal}
 use Rattle.module_box.specs.declared.schedules.AllTimes.{AllTimes}
 use Rattle.module_box.specs.declared.schedules.Signal.{Signal}
 use Rattle.module_box.specs.declared.schedules.Signal.TheVariants.{Zero}
@@ -28,13 +28,13 @@ all_times_below n (h ∷ hs) x y d all b = elim (cases_Bool (is_at h.cell x y)) 
   | inr e ↦ rw e (all_times_below n hs x y d (all_tail (λ (g : AllTimes). IsBelow n g.signal) h hs all) b)
 ]
 
-event_below : (n : ℕ) (es : List Event) (t : ℕ) (x y : ℤ) (d : Signal) → All (λ e. IsBelow n e.signal) es →
+event_below : (n : ℕ) (es : List TimedSignal) (t : ℕ) (x y : ℤ) (d : Signal) → All (λ e. IsBelow n e.signal) es →
     IsBelow n d → IsBelow n (unwrap_or (event_at es t x y) d)
 unfolding event_at
 event_below n [] t x y d all b = b
 event_below n (e ∷ es) t x y d all b = elim (cases_Bool (is_then e.at t x y)) [
-  | inl h ↦ rw h (all_head (λ (g : Event). IsBelow n g.signal) e es all)
-  | inr h ↦ rw h (event_below n es t x y d (all_tail (λ (g : Event). IsBelow n g.signal) e es all) b)
+  | inl h ↦ rw h (all_head (λ (g : TimedSignal). IsBelow n g.signal) e es all)
+  | inr h ↦ rw h (event_below n es t x y d (all_tail (λ (g : TimedSignal). IsBelow n g.signal) e es all) b)
 ]
 
 signal_below : (n : ℕ) (s : Signals) (t : ℕ) (x y : ℤ) → All (λ h. IsBelow n h.signal) s.all_times →

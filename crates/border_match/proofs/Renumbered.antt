@@ -7,13 +7,13 @@ use Rattle.std.proofs.lemmas.Bool.{cases_Bool, cond-true, cond-false}
 use Rattle.std.proofs.lemmas.Bool.Decides.{nat_tests}
 use Rattle.bbm_rule.specs.Plane.{is_at}
 use Rattle.module_box.specs.Schedules.{Signals, is_then, all_times_at, event_at, signal_at}
-use Rattle.module_box.specs.declared.schedules.Event.{Event}
+use Rattle.module_box.specs.declared.schedules.TimedSignal.{TimedSignal}
 use Rattle.module_box.specs.declared.schedules.AllTimes.{AllTimes}
 use Rattle.module_box.specs.declared.schedules.Signal.{Signal}
 use Rattle.module_box.specs.declared.schedules.Signal.TheVariants.{Zero}
 use Rattle.certificate.specs.Jobs.{event_by}
 use Rattle.module_job.specs.Signals.{renumber_signal, renumber_all_times, renumber_event, renumber_signals}
-use Rattle.certificate_lines.specs.declared.certificate_line.Border.{Border}
+use Rattle.certificate_lines.specs.declared.certificate_line.BorderLine.{BorderLine}
 
 module _ (f : ℕ → ℕ) where
   all_times_renumbered : (hs : List AllTimes) (x y : ℤ) →
@@ -26,7 +26,7 @@ module _ (f : ℕ → ℕ) where
         ∙ ap (option_map (renumber_signal f)) (sym (cond-false _ _ _ e))
   ]
 
-  event_renumbered : (es : List Event) (t : ℕ) (x y : ℤ) →
+  event_renumbered : (es : List TimedSignal) (t : ℕ) (x y : ℤ) →
       event_at (map (renumber_event f) es) t x y ≡ option_map (renumber_signal f) (event_at es t x y)
   unfolding event_at
   event_renumbered [] t x y = refl
@@ -55,7 +55,7 @@ module _ (f : ℕ → ℕ) where
   none_back None e = refl
   none_back (Some s) e = cc
 
-  pub no_event_back : (es : List Event) (t : ℕ) (x y : ℤ) → event_at (map (renumber_event f) es) t x y ≡ None →
+  pub no_event_back : (es : List TimedSignal) (t : ℕ) (x y : ℤ) → event_at (map (renumber_event f) es) t x y ≡ None →
       event_at es t x y ≡ None
   no_event_back es t x y e = none_back (event_at es t x y) (sym (event_renumbered es t x y) ∙ e)
 
@@ -67,7 +67,7 @@ not_zero t h = grind (arith, nat_tests)
 not_then : (t : ℕ) (b : Bool) → t % 2 ≡ 1 → ((t == 0) && b) ≡ false
 not_then t b h = ap (λ a. a && b) (not_zero t h)
 
-one_quiet : (n : ℕ) (e : Border) (t : Option ℕ) (s : Signal) (rest : List Event) (x y : ℤ) →
+one_quiet : (n : ℕ) (e : BorderLine) (t : Option ℕ) (s : Signal) (rest : List TimedSignal) (x y : ℤ) →
     IfSome t (λ t. (t % 2 ≡ 1) × (t < n)) → event_at rest 0 x y ≡ None →
     event_at (event_by e t s ++ rest) 0 x y ≡ None
 unfolding event_at
@@ -80,11 +80,11 @@ all_tail P x xs all = λ k d h. all (suc k) d (omega arith)
 all_head : {A : Type 0} (P : A → Type 0) (x : A) (xs : List A) → All P (x ∷ xs) → P x
 all_head P x xs all = all 0 x (omega arith)
 
-pub lines_quiet : (n : ℕ) (signal : Border → Signal) (es : List Border) (x y : ℤ) →
+pub lines_quiet : (n : ℕ) (signal : BorderLine → Signal) (es : List BorderLine) (x y : ℤ) →
     All (λ e. IfSome e.time (λ t. (t % 2 ≡ 1) × (t < n))) es →
     event_at (flat_map (λ e. event_by e e.time (signal e)) es) 0 x y ≡ None
 unfolding event_at
 lines_quiet n signal [] x y all = refl
 lines_quiet n signal (e ∷ es) x y all =
-    let P : Border → Type 0 = λ e. IfSome e.time (λ t. (t % 2 ≡ 1) × (t < n)) in
+    let P : BorderLine → Type 0 = λ e. IfSome e.time (λ t. (t % 2 ≡ 1) × (t < n)) in
     one_quiet n e e.time (signal e) _ x y (all_head P e es all) (lines_quiet n signal es x y (all_tail P e es all))

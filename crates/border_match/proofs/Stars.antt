@@ -22,7 +22,7 @@ use Rattle.module_job.specs.Jobs.{JobView}
 use Rattle.module_job.specs.Shapes.{shift_to_origin}
 use Rattle.module_job.specs.Signals.{renumber_signal}
 use Rattle.border_match.specs.Boards.{AreOwnersNoted, DiffersAlways, DiffersAlwaysAt, Faults, IsAround}
-use Rattle.border_match.specs.Boards.{IsReady, IsStarred, IsStarredAmong, IsStarredBelow, jobs_of}
+use Rattle.border_match.specs.Boards.{AreReadyBorders, IsStarred, IsStarredAmong, IsStarredBelow, jobs_of}
 use Rattle.border_match.specs.declared.borders.Borders.{Borders}
 use Rattle.border_match.specs.declared.fault.BorderFault.{BorderFault}
 use Rattle.border_match.proofs.Cells.{fault_around, reached}
@@ -145,7 +145,7 @@ dead_signal : (s : Signals) (x y : ℤ) → all_times_at s.all_times x y ≡ Non
 unfolding signal_at
 dead_signal s x y none quiet = ap₂ (λ h z. unwrap_or h (unwrap_or z Zero)) none quiet
 
-pub star_covered : (b : Borders) (ks : List ℕ) (f : BorderFault) (n : ℕ) → IsReady b → AreOwnersNoted b ks →
+pub star_covered : (b : Borders) (ks : List ℕ) (f : BorderFault) (n : ℕ) → AreReadyBorders b → AreOwnersNoted b ks →
     length ks ≤ n → Faults b f → DiffersAlways b f → IsStarredAmong (take n ks) b f
 star_covered b ks f n ready noted le g d =
     let x = f.cell.x in let y = f.cell.y in

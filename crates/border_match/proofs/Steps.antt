@@ -17,7 +17,7 @@ use Rattle.module_box.specs.Moves.{moved_cell, moved_event}
 use Rattle.module_box.specs.Schedules.{Signals, all_times_at, event_at, signal_at, is_then}
 use Rattle.module_box.specs.Tiling.{owner_of}
 use Rattle.module_box.specs.declared.boxes.Box2.{Box2}
-use Rattle.module_box.specs.declared.schedules.Event.{Event}
+use Rattle.module_box.specs.declared.schedules.TimedSignal.{TimedSignal}
 use Rattle.module_box.specs.declared.schedules.Moment.{Moment}
 use Rattle.module_box.specs.declared.schedules.Signal.TheVariants.{Zero}
 use Rattle.module_box.proofs.BoxCells.{same_some}
@@ -27,7 +27,8 @@ use Rattle.module_job.specs.Jobs.{JobView}
 use Rattle.module_job.specs.Shapes.{shape_of, shift_to_origin}
 use Rattle.module_job.specs.Signals.{renumber_signal}
 use Rattle.border_match.specs.BorderFaults.{border_cmp}
-use Rattle.border_match.specs.Boards.{AreOwnersNoted, jobs_of, IsReady, Faults, IsNamed, IsNamedBelow, IsEdgeNamed}
+use Rattle.border_match.specs.Boards.{AreOwnersNoted, jobs_of, AreReadyBorders, Faults, IsNamed, IsNamedBelow}
+use Rattle.border_match.specs.Boards.{IsEdgeNamed}
 use Rattle.border_match.specs.Boards.{IsEdgeNamedAmong, IsEdgeNamedAt, DiffersAlways}
 use Rattle.border_match.specs.Boards.{IsAround}
 use Rattle.border_match.specs.Boards.{IsAtEventOf}
@@ -52,18 +53,18 @@ before_at_after i m = grind arith
 
 -- ---- events
 
-pub named_step : (events : List Event) (i : ℕ) (e : Event) (f : BorderFault) → slice_get events i ≡ Some e →
+pub named_step : (events : List TimedSignal) (i : ℕ) (e : TimedSignal) (f : BorderFault) → slice_get events i ≡ Some e →
     IsNamedBelow (i + 1) events f →
     IsNamedBelow i events f ⊎ (f ≡ record { time = e.at.time; cell = e.at.cell })
 named_step events i e f got h = elim (lower_or_same h.named.place i h.below) [
   | inl lt ↦ inl (record { named = h.named; below = lt })
   | inr same ↦ inr (
       let is = same_some (slice_get events i) h.named.event e (ap (slice_get events) (sym same) ∙ h.named.got) got in
-      same_fault e.at.time e.at.cell f (sym h.named.time ∙ ap (λ (z : Event). z.at.time) is)
-      (sym h.named.cell ∙ ap (λ (z : Event). z.at.cell) is))
+      same_fault e.at.time e.at.cell f (sym h.named.time ∙ ap (λ (z : TimedSignal). z.at.time) is)
+      (sym h.named.cell ∙ ap (λ (z : TimedSignal). z.at.cell) is))
 ]
 
-pub named_step_of : (b : Borders) (k : ℕ) (events : List Event) (i : ℕ) (e : Event) (f : BorderFault) →
+pub named_step_of : (b : Borders) (k : ℕ) (events : List TimedSignal) (i : ℕ) (e : TimedSignal) (f : BorderFault) →
     slice_get events i ≡ Some e → IsNamedBelow (i + 1) events f → owner_of b.owners.now f.cell.x f.cell.y ≡ k →
     (IsNamedBelow i events f × (owner_of b.owners.now f.cell.x f.cell.y ≡ k)) ⊎ IsAtEventOf b k e f
 named_step_of b k events i e f got h owned = elim (named_step events i e f got h) [
@@ -71,26 +72,26 @@ named_step_of b k events i e f got h owned = elim (named_step events i e f got h
   | inr at ↦ inr (at, owned)
 ]
 
-pub named_all : (events : List Event) (k : ℕ) (f : BorderFault) → length events ≤ k → IsNamed events f →
+pub named_all : (events : List TimedSignal) (k : ℕ) (f : BorderFault) → length events ≤ k → IsNamed events f →
     IsNamedBelow k events f
 named_all events k f le h =
     let within = slice_get_within events h.place h.event h.got in
     record { named = h; below = omega (arith, within) }
 
 -- events that are counted from the corner of their module's box
-pub cornered : (other : JobView) (es : List Event) (moved : Signals) → es ≡ moved.events →
+pub cornered : (other : JobView) (es : List TimedSignal) (moved : Signals) → es ≡ moved.events →
     moved ≡ (shape_of other).edges →
     es ≡ map (moved_event (shift_to_origin other.area.x) (shift_to_origin other.area.y)) other.edges.events
 cornered other es moved same are = same ∙ ap (λ (s : Signals). s.events) are
 
-pub cornered_all : (dx dy : ℤ) (es events : List Event) (k : ℕ) → es ≡ map (moved_event dx dy) events →
+pub cornered_all : (dx dy : ℤ) (es events : List TimedSignal) (k : ℕ) → es ≡ map (moved_event dx dy) events →
     length es ≤ k → length events ≤ k
 cornered_all dx dy es events k are le =
     subst (λ n. n ≤ k) (ap length are ∙ length-map events (moved_event dx dy)) le
 
 -- the events from a place on and before another are at no odd time and cell around the module's box, so they are no
 -- faults
-pub far_step : (b : Borders) (other : JobView) (a corner : Box2) (w : Window) (es : List Event) (i next : ℕ)
+pub far_step : (b : Borders) (other : JobView) (a corner : Box2) (w : Window) (es : List TimedSignal) (i next : ℕ)
     (f : BorderFault) → a ≡ b.job.now.area → corner ≡ other.area → IsWindow a corner w →
     es ≡ map (moved_event (shift_to_origin other.area.x) (shift_to_origin other.area.y)) other.edges.events →
     AreFar w es i next → Faults b f → IsNamedBelow next other.edges.events f → IsNamedBelow i other.edges.events f
@@ -189,7 +190,7 @@ not_true b p q = false≢true (sym p ∙ q)
 
 -- ---- a fault is named by an event, or what holds at the other times differs
 
-event_named : (es : List Event) (f : BorderFault) → (event_at es f.time f.cell.x f.cell.y ≡ None) ⊎ IsNamed es f
+event_named : (es : List TimedSignal) (f : BorderFault) → (event_at es f.time f.cell.x f.cell.y ≡ None) ⊎ IsNamed es f
 unfolding event_at
 event_named [] f = inl refl
 event_named (e ∷ es) f = elim (cases_Bool (is_then e.at f.time f.cell.x f.cell.y)) [
@@ -215,7 +216,7 @@ same_without : (s : Signals) (t t' : ℕ) (x y : ℤ) → event_at s.events t x 
 unfolding signal_at
 same_without s t t' x y e e' = ap (λ z. unwrap_or (all_times_at s.all_times x y) (unwrap_or z Zero)) (e ∙ sym e')
 
-pub fault_covered : (b : Borders) (f : BorderFault) → IsReady b → Faults b f →
+pub fault_covered : (b : Borders) (f : BorderFault) → AreReadyBorders b → Faults b f →
     IsNamed b.job.now.halos.events f ⊎ (IsEdgeNamed b f ⊎ DiffersAlways b f)
 fault_covered b f ready g =
     let x = f.cell.x in

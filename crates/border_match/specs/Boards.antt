@@ -11,7 +11,7 @@ use Rattle.module_box.specs.Schedules.{event_at, signal_at}
 use Rattle.module_box.specs.Tiling.{Owning, rectangle, owner_of}
 use Rattle.module_box.specs.declared.boxes.Box2.{Box2}
 use Rattle.module_box.specs.declared.schedules.AllTimes.{AllTimes}
-use Rattle.module_box.specs.declared.schedules.Event.{Event}
+use Rattle.module_box.specs.declared.schedules.TimedSignal.{TimedSignal}
 use Rattle.module_box.specs.declared.schedules.Moment.{Moment}
 use Rattle.module_box.specs.declared.schedules.Signal.{Signal}
 use Rattle.module_job.specs.Jobs.{JobView}
@@ -64,8 +64,8 @@ abbrev pub jobs_of : Borders → List JobView
 jobs_of b = map arc_value b.jobs.now
 
 -- the owner of each cell is a job whose box has it, and no job has an event at time 0
-abbrev pub IsReady : Borders → Type 0
-IsReady b = IsBoard b.whole b.owners.now (jobs_of b) × IsQuiet b.job.now
+abbrev pub AreReadyBorders : Borders → Type 0
+AreReadyBorders b = IsBoard b.whole b.owners.now (jobs_of b) × IsQuiet b.job.now
 
 -- a border fault of the job that is searched
 abbrev pub Faults : Borders → BorderFault → Type 0
@@ -92,31 +92,31 @@ pub record IsAround (a : Box2) (x y : ℤ) : Type 0 where
 -- ---- which faults a part of the search finds
 
 -- an event of the list is at the time and cell of f
-pub record IsNamed (events : List Event) (f : BorderFault) : Type 0 where
+pub record IsNamed (events : List TimedSignal) (f : BorderFault) : Type 0 where
   pub place : ℕ
-  pub event : Event
+  pub event : TimedSignal
   pub got : slice_get events place ≡ Some event
   pub time : event.at.time ≡ f.time
   pub cell : event.at.cell ≡ f.cell
 
 -- the event is one of the list
-abbrev pub IsListed : List Event → Event → Type 0
+abbrev pub IsListed : List TimedSignal → TimedSignal → Type 0
 IsListed es e = (k : ℕ) × (slice_get es k ≡ Some e)
 
 -- f is at the time and cell of the event
-abbrev pub IsAtEvent : Event → BorderFault → Type 0
+abbrev pub IsAtEvent : TimedSignal → BorderFault → Type 0
 IsAtEvent e f = f ≡ record { time = e.at.time; cell = e.at.cell }
 
 -- the same, and the module with the number k has the cell
-abbrev pub IsAtEventOf : Borders → ℕ → Event → BorderFault → Type 0
+abbrev pub IsAtEventOf : Borders → ℕ → TimedSignal → BorderFault → Type 0
 IsAtEventOf b k e f = IsAtEvent e f × (owner_of b.owners.now f.cell.x f.cell.y ≡ k)
 
 -- an event of the list is at the time and cell of f, and the module with the number k has the cell
-abbrev pub IsNamedOf : Borders → ℕ → List Event → BorderFault → Type 0
+abbrev pub IsNamedOf : Borders → ℕ → List TimedSignal → BorderFault → Type 0
 IsNamedOf b k events f = IsNamed events f × (owner_of b.owners.now f.cell.x f.cell.y ≡ k)
 
 -- one of the first k events of the list is at the time and cell of f
-pub record IsNamedBelow (k : ℕ) (events : List Event) (f : BorderFault) : Type 0 where
+pub record IsNamedBelow (k : ℕ) (events : List TimedSignal) (f : BorderFault) : Type 0 where
   pub named : IsNamed events f
   pub below : named.place < k
 
@@ -169,30 +169,30 @@ IsStarredAmong ks b f = IsStarred b b.job.now.halos.all_times f
 -- ---- marks of the halo events that edges name
 
 -- the event at a place of the list is at this time and cell
-pub record IsPlaceOf (events : List Event) (at : Moment) (place : ℕ) : Type 0 where
-  pub event : Event
+pub record IsPlaceOf (events : List TimedSignal) (at : Moment) (place : ℕ) : Type 0 where
+  pub event : TimedSignal
   pub got : slice_get events place ≡ Some event
   pub same : event.at ≡ at
 
 -- each mark is an old one, or one of an event at this time and cell
-pub record AddsMark (events : List Event) (at : Moment) (old new : List Bool) : Type 0 where
+pub record AddsMark (events : List TimedSignal) (at : Moment) (old new : List Bool) : Type 0 where
   pub sized : length new ≡ length old
-  pub marks : (p : ℕ) (e : Event) → slice_get new p ≡ Some true → slice_get events p ≡ Some e →
+  pub marks : (p : ℕ) (e : TimedSignal) → slice_get new p ≡ Some true → slice_get events p ≡ Some e →
       (slice_get old p ≡ Some true) ⊎ (e.at ≡ at)
 
 -- there is a place for a mark for each halo event, and what a marked one names is named by an edge too
 pub record AreMarked (b : Borders) (seen : List Bool) : Type 0 where
   pub sized : length seen ≡ length b.job.now.halos.events
-  pub edges : (p : ℕ) (e : Event) (f : BorderFault) → slice_get seen p ≡ Some true →
+  pub edges : (p : ℕ) (e : TimedSignal) (f : BorderFault) → slice_get seen p ≡ Some true →
       slice_get b.job.now.halos.events p ≡ Some e → IsAtEvent e f → IsEdgeNamed b f
 
 -- an event of the list without a mark is at the time and cell of f
-pub record IsUnmarked (seen : List Bool) (events : List Event) (f : BorderFault) : Type 0 where
+pub record IsUnmarked (seen : List Bool) (events : List TimedSignal) (f : BorderFault) : Type 0 where
   pub named : IsNamed events f
   pub unmarked : slice_get seen named.place ≡ Some false
 
 -- the same of the first k events
-pub record IsUnmarkedBelow (k : ℕ) (seen : List Bool) (events : List Event) (f : BorderFault) : Type 0 where
+pub record IsUnmarkedBelow (k : ℕ) (seen : List Bool) (events : List TimedSignal) (f : BorderFault) : Type 0 where
   pub unmarked : IsUnmarked seen events f
   pub below : unmarked.named.place < k
 

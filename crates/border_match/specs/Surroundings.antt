@@ -5,7 +5,7 @@ use Rattle.std.specs.declared.cmp.Ordering.TheVariants.{Less}
 use Rattle.bbm_rule.specs.declared.block.Cell.{Cell}
 use Rattle.module_box.specs.Moments.{moment_cmp}
 use Rattle.module_box.specs.declared.boxes.Box2.{Box2}
-use Rattle.module_box.specs.declared.schedules.Event.{Event}
+use Rattle.module_box.specs.declared.schedules.TimedSignal.{TimedSignal}
 use Rattle.module_box.specs.declared.schedules.Moment.{Moment}
 use Rattle.border_match.specs.Boards.{IsAround}
 use Rattle.border_match.specs.declared.surroundings.Window.{Window}
@@ -34,17 +34,18 @@ AreFarBetween w at next =
     (m : Moment) → moment_cmp at m ≡ Less → moment_cmp m next ≡ Less → m.time % 2 ≡ 1 → ¬ IsSeen w m.cell
 
 -- the event at the place is at no cell of the window
-abbrev pub IsFarAt : Window → List Event → ℕ → Type 0
-IsFarAt w events place = (e : Event) → slice_get events place ≡ Some e → ¬ IsSeen w e.at.cell
+abbrev pub IsFarAt : Window → List TimedSignal → ℕ → Type 0
+IsFarAt w events place = (e : TimedSignal) → slice_get events place ≡ Some e → ¬ IsSeen w e.at.cell
 
 -- no event of the list from the first place on and before the second is at an odd time and at a cell of the window
-abbrev pub AreFar : Window → List Event → ℕ → ℕ → Type 0
-AreFar w events place next = (i : ℕ) (e : Event) → place ≤ i → i < next → slice_get events i ≡ Some e →
+abbrev pub AreFar : Window → List TimedSignal → ℕ → ℕ → Type 0
+AreFar w events place next = (i : ℕ) (e : TimedSignal) → place ≤ i → i < next → slice_get events i ≡ Some e →
     e.at.time % 2 ≡ 1 → ¬ IsSeen w e.at.cell
 
 -- the place of the first event from a place on that is not before the moment, or the end of the list
-pub record IsFirstFrom (events : List Event) (start : ℕ) (at : Moment) (place : ℕ) : Type 0 where
+pub record IsFirstFrom (events : List TimedSignal) (start : ℕ) (at : Moment) (place : ℕ) : Type 0 where
   pub after : start ≤ place
   pub within : place ≤ length events
-  pub passed : (i : ℕ) (e : Event) → start ≤ i → i < place → slice_get events i ≡ Some e → moment_cmp e.at at ≡ Less
-  pub rest : (i : ℕ) (e : Event) → place ≤ i → slice_get events i ≡ Some e → moment_cmp e.at at ≢ Less
+  pub passed : (i : ℕ) (e : TimedSignal) → start ≤ i → i < place → slice_get events i ≡ Some e →
+      moment_cmp e.at at ≡ Less
+  pub rest : (i : ℕ) (e : TimedSignal) → place ≤ i → slice_get events i ≡ Some e → moment_cmp e.at at ≢ Less

@@ -7,7 +7,7 @@ ghost use Rattle.module_box.specs.Locals.{circuit_wire};
 ghost use Rattle.module_box.specs.Moves.{IsNear, moved_all_times};
 ghost use Rattle.module_box.specs.Tiling.{owner_of};
 ghost use Rattle.module_job.specs.Signals.{IsBelow, renumber_signal};
-ghost use Rattle.border_match.specs.Boards.{AddsMark, AreMarked, AreNumbers, AreOwnersNoted, AreRowsNoted, Differ, Faults, IsEdgeNamed, IsEdgeNamedAt, DiffersAlways, DiffersAlwaysAt, IsAreaNoted, IsAtEvent, IsAtEventOf, IsListed, IsNamedOf, IsPlaceOf, IsUnmarked, IsNoted, IsReady, IsStarred, KeepsNumbers, MayBeFault, job_edge, job_halo, jobs_of, with_number};
+ghost use Rattle.border_match.specs.Boards.{AddsMark, AreMarked, AreNumbers, AreOwnersNoted, AreRowsNoted, Differ, Faults, IsEdgeNamed, IsEdgeNamedAt, DiffersAlways, DiffersAlwaysAt, IsAreaNoted, IsAtEvent, IsAtEventOf, IsListed, IsNamedOf, IsPlaceOf, IsUnmarked, IsNoted, AreReadyBorders, IsStarred, KeepsNumbers, MayBeFault, job_edge, job_halo, jobs_of, with_number};
 ghost use Rattle.border_match.specs.Candidates.{IsBetter, IsLeast};
 ghost use Rattle.border_match.specs.declared.fault.BorderFault.{BorderFault};
 
@@ -15,7 +15,7 @@ use crate::fault::{BorderFault, is_less, lesser};
 use crate::surroundings::{Leaps, Window, after_far, cell_around, place_from};
 use bbm_rule::Cell;
 use certificate::Job;
-use module_box::{AllTimes, Box2, Event, Moment, Owners, Signal, moved_cell};
+use module_box::{AllTimes, Box2, Moment, Owners, Signal, TimedSignal, moved_cell};
 use module_job::{Shape, shift_to_origin};
 use std::alloc::{AllocError, Global};
 use std::cmp::Ordering;
@@ -80,7 +80,7 @@ fn has_edge_star(job: &Job) -> bool
 
 // Returns what a module says of the cell and the time of an event of its halo. If no line has a star, the event itself
 // says it: no two events are of one cell and time, since they rise.
-fn halo_event_signal(job: &Job, event: Event) -> Signal
+fn halo_event_signal(job: &Job, event: TimedSignal) -> Signal
     requires near { IsNear event.at.cell }
     requires listed { IsListed job.now.halos.events event }
     ensures { result ≡ job_halo job.now event.at.time event.at.cell.x event.at.cell.y }
@@ -95,7 +95,7 @@ fn halo_event_signal(job: &Job, event: Event) -> Signal
 }
 
 // Returns what a module says of the cell and the time of an event of its ring.
-fn edge_event_signal(job: &Job, event: Event) -> Signal
+fn edge_event_signal(job: &Job, event: TimedSignal) -> Signal
     requires near { IsNear event.at.cell }
     requires listed { IsListed job.now.edges.events event }
     ensures { result ≡ job_edge job.now event.at.time event.at.cell.x event.at.cell.y }
@@ -118,7 +118,7 @@ fn mark(seen: &mut [bool], place: usize)
 }
 
 // Returns the fault that an event names, which may be none.
-fn fault_at(event: Event) -> BorderFault
+fn fault_at(event: TimedSignal) -> BorderFault
     ensures time { result.time ≡ event.at.time }
     ensures cell { result.cell ≡ event.at.cell }
 {
@@ -142,7 +142,7 @@ fn add_number(near: &mut Vec<usize>, number: usize) -> Result<(), AllocError>
 impl<'a> Borders<'a> {
     // The job of the module that has a cell of the rectangle.
     fn owner(&self, cell: Cell) -> &'a Job
-        requires ready { IsReady self.now }
+        requires ready { AreReadyBorders self.now }
         requires inside { IsTrue (in_box self.now.whole cell.x cell.y) }
         ensures { slice_get (jobs_of self.now) (owner_of self.now.owners.now cell.x cell.y)
             ≡ Some result.now }
@@ -160,7 +160,7 @@ impl<'a> Borders<'a> {
 
     // Whether the module says another thing of a cell of the rectangle than the module that has it.
     fn differs(&self, time: u32, cell: Cell) -> bool
-        requires ready { IsReady self.now }
+        requires ready { AreReadyBorders self.now }
         requires inside { IsTrue (in_box self.now.whole cell.x cell.y) }
         ensures { IsTrue result ↔ Differ self.now time cell.x cell.y }
     {
@@ -171,8 +171,8 @@ impl<'a> Borders<'a> {
     }
 
     // Returns the same for the cell and the time of an event of the module's halo, with one search less.
-    fn halo_event_differs(&self, event: Event) -> bool
-        requires ready { IsReady self.now }
+    fn halo_event_differs(&self, event: TimedSignal) -> bool
+        requires ready { AreReadyBorders self.now }
         requires inside { IsTrue (in_box self.now.whole event.at.cell.x event.at.cell.y) }
         requires listed { IsListed self.now.job.now.halos.events event }
         ensures { IsTrue result ↔ Differ self.now event.at.time event.at.cell.x event.at.cell.y }
@@ -184,8 +184,8 @@ impl<'a> Borders<'a> {
 
     // Returns the same for the cell and the time of an event of the ring of the module that has the cell, where `own`
     // is what the module says of them.
-    fn edge_event_differs(&self, owner: &Job, event: Event, own: Signal) -> bool
-        requires ready { IsReady self.now }
+    fn edge_event_differs(&self, owner: &Job, event: TimedSignal, own: Signal) -> bool
+        requires ready { AreReadyBorders self.now }
         requires inside { IsTrue (in_box self.now.whole event.at.cell.x event.at.cell.y) }
         requires owner { slice_get (jobs_of self.now)
             (owner_of self.now.owners.now event.at.cell.x event.at.cell.y) ≡ Some owner.now }
@@ -213,15 +213,15 @@ impl<'a> Borders<'a> {
 
     // Whether this is a border fault of the module.
     fn is_fault(&self, fault: BorderFault) -> bool
-        requires { IsReady self.now }
+        requires { AreReadyBorders self.now }
         ensures { IsTrue result ↔ Faults self.now fault }
     {
         self.may_be_fault(fault) && self.differs(fault.time, fault.cell)
     }
 
     // The lesser of the candidate and the fault that an event of the module's halo names.
-    fn with_halo_event(&self, best: Option<BorderFault>, event: Event) -> Option<BorderFault>
-        requires ready { IsReady self.now }
+    fn with_halo_event(&self, best: Option<BorderFault>, event: TimedSignal) -> Option<BorderFault>
+        requires ready { AreReadyBorders self.now }
         requires listed { IsListed self.now.job.now.halos.events event }
         ensures { IsBetter (Faults self.now) (IsAtEvent event) best result }
     {
@@ -280,11 +280,11 @@ impl<'a> Borders<'a> {
         best: Option<BorderFault>,
         number: usize,
         other: &Job,
-        event: Event,
+        event: TimedSignal,
         seen: &mut [bool],
         from: &mut usize,
     ) -> Option<BorderFault>
-        requires ready { IsReady self.now }
+        requires ready { AreReadyBorders self.now }
         requires numbered { slice_get (jobs_of self.now) number ≡ Some other.now }
         requires listed { IsListed other.now.edges.events event }
         requires marked { AreMarked self.now seen.old }
@@ -309,7 +309,7 @@ impl<'a> Borders<'a> {
 
     // The least of the candidate and the faults that the events of the module's halo without a mark name.
     fn with_halo_events(&self, best: Option<BorderFault>, seen: &[bool]) -> Option<BorderFault>
-        requires ready { IsReady self.now }
+        requires ready { AreReadyBorders self.now }
         requires sized { length seen.now ≡ length self.now.job.now.halos.events }
         ensures { IsBetter (Faults self.now) (IsUnmarked seen.now self.now.job.now.halos.events)
             best result }
@@ -332,7 +332,7 @@ impl<'a> Borders<'a> {
         other: &Job,
         seen: &mut [bool],
     ) -> Option<BorderFault>
-        requires ready { IsReady self.now }
+        requires ready { AreReadyBorders self.now }
         requires numbered { slice_get (jobs_of self.now) number ≡ Some other.now }
         requires marked { AreMarked self.now seen.old }
         ensures better { IsBetter (Faults self.now)
@@ -373,7 +373,7 @@ impl<'a> Borders<'a> {
         number: usize,
         seen: &mut [bool],
     ) -> Option<BorderFault>
-        requires ready { IsReady self.now }
+        requires ready { AreReadyBorders self.now }
         requires number { number < length self.now.jobs.now }
         requires marked { AreMarked self.now seen.old }
         ensures better { IsBetter (Faults self.now) (IsEdgeNamedAt number self.now) best result }
@@ -385,7 +385,7 @@ impl<'a> Borders<'a> {
     // Adds the number of the module that has the cell, unless it is this one. Returns the box of that module, whose
     // cells all have this owner.
     fn note_owner(&self, near: &mut Vec<usize>, cell: Cell) -> Result<Box2, AllocError>
-        requires ready { IsReady self.now }
+        requires ready { AreReadyBorders self.now }
         requires inside { IsTrue (in_box self.now.whole cell.x cell.y) }
         requires below { AreNumbers self.now near.old.items }
         ensures noted { IfOk result (IsAreaNoted self.now near.new.items) }
@@ -406,7 +406,7 @@ impl<'a> Borders<'a> {
     // Adds the numbers of the modules that have cells of row `y` in the columns of the halo. Returns the first row
     // below it in which another module may have such a cell.
     fn note_row(&self, near: &mut Vec<usize>, y: u32) -> Result<u32, AllocError>
-        requires ready { IsReady self.now }
+        requires ready { AreReadyBorders self.now }
         requires below { AreNumbers self.now near.old.items }
         requires inside { y < self.now.whole.h }
         requires row { y < self.now.job.now.area.y + self.now.job.now.area.h + 1 }
@@ -434,7 +434,7 @@ impl<'a> Borders<'a> {
     // The numbers of the modules that have cells of the module's halo. It leaps from box to box and not from cell to
     // cell, so a module among others of its size takes a dozen looks.
     fn near_modules(&self, alloc: Global) -> Result<Vec<usize>, AllocError>
-        requires { IsReady self.now }
+        requires { AreReadyBorders self.now }
         ensures noted { IfOk result (λ near. AreOwnersNoted self.now near.items) }
         ensures below { IfOk result (λ near. AreNumbers self.now near.items) }
     {
@@ -457,7 +457,7 @@ impl<'a> Borders<'a> {
         near: &[usize],
         seen: &mut [bool],
     ) -> Option<BorderFault>
-        requires ready { IsReady self.now }
+        requires ready { AreReadyBorders self.now }
         requires noted { AreOwnersNoted self.now near.now }
         requires below { AreNumbers self.now near.now }
         requires marked { AreMarked self.now seen.old }
@@ -473,7 +473,7 @@ impl<'a> Borders<'a> {
 
     // The lesser of the candidate and the first fault of a cell.
     fn with_first_at(&self, best: Option<BorderFault>, cell: Cell) -> Option<BorderFault>
-        requires { IsReady self.now }
+        requires { AreReadyBorders self.now }
         ensures { IsBetter (Faults self.now) (λ h. h.cell ≡ cell) best result }
     {
         'times: for time in 0..self.job.steps() {
@@ -489,7 +489,7 @@ impl<'a> Borders<'a> {
     // time. No line names time 0, so those signals are found there. The first fault is soon met, since only an even
     // time, or an odd one that a line names for the cell, is without one.
     fn with_cell(&self, best: Option<BorderFault>, cell: Cell) -> Option<BorderFault>
-        requires { IsReady self.now }
+        requires { AreReadyBorders self.now }
         ensures { IsBetter (Faults self.now) (DiffersAlwaysAt self.now cell) best result }
     {
         if !self.reaches(cell) || !self.differs(0, cell) {
@@ -506,7 +506,7 @@ impl<'a> Borders<'a> {
         corner: Box2,
         stars: &[AllTimes],
     ) -> Option<BorderFault>
-        requires ready { IsReady self.now }
+        requires ready { AreReadyBorders self.now }
         requires corner { (corner.x ≤ 512) × (corner.y ≤ 512) }
         ensures { IsBetter (Faults self.now)
             (IsStarred self.now (map (moved_all_times (pos corner.x) (pos corner.y)) stars.now))
@@ -525,7 +525,7 @@ impl<'a> Borders<'a> {
 
     // The same for the lines of the module's halo.
     fn with_halo_stars(&self, best: Option<BorderFault>) -> Option<BorderFault>
-        requires ready { IsReady self.now }
+        requires ready { AreReadyBorders self.now }
         ensures { IsBetter (Faults self.now)
             (IsStarred self.now self.now.job.now.halos.all_times) best result }
     {
@@ -536,7 +536,7 @@ impl<'a> Borders<'a> {
 
     // The same for the lines of the ring of a module.
     fn with_edge_stars(&self, best: Option<BorderFault>, other: &Job) -> Option<BorderFault>
-        requires ready { IsReady self.now }
+        requires ready { AreReadyBorders self.now }
         ensures { IsBetter (Faults self.now) (IsStarred self.now other.now.edges.all_times) best
             result }
     {
@@ -549,7 +549,7 @@ impl<'a> Borders<'a> {
     // are the numbers of the modules that have cells of the halo. A cell of which no line with a star speaks is `Zero`
     // for both modules.
     fn with_halo(&self, best: Option<BorderFault>, near: &[usize]) -> Option<BorderFault>
-        requires ready { IsReady self.now }
+        requires ready { AreReadyBorders self.now }
         requires noted { AreOwnersNoted self.now near.now }
         requires below { AreNumbers self.now near.now }
         ensures { IsBetter (Faults self.now) (DiffersAlways self.now) best result }
@@ -563,7 +563,7 @@ impl<'a> Borders<'a> {
 
     // The module's least border fault.
     pub(crate) fn least_fault(&self, alloc: Global) -> Result<Option<BorderFault>, AllocError>
-        requires { IsReady self.now }
+        requires { AreReadyBorders self.now }
         ensures { IfOk result (IsLeast (Faults self.now)) }
     {
         let near = self.near_modules(alloc)?;

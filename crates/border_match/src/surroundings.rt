@@ -8,7 +8,7 @@ ghost use Rattle.module_box.specs.Schedules.{IsRising, moment_of};
 ghost use Rattle.border_match.specs.Surroundings.{AreFar, AreFarBetween, IsAroundFrom, IsFarAt, IsFirstFrom, IsSeen, IsWindow};
 
 use bbm_rule::Cell;
-use module_box::{Box2, Event, Moment};
+use module_box::{Box2, Moment, TimedSignal};
 use std::cmp::Ordering;
 
 // How many far events in a row the search looks at before it leaps, as long as its leaps are long.
@@ -237,7 +237,7 @@ pub(crate) fn cell_around(area: Box2, corner: Box2, cell: Cell) -> Option<Cell>
 /// Returns the place of the first event from `from` on that is not before a moment.
 ///
 /// It looks first at the place `guess`, then at places ever further behind, and then between the last two.
-pub(crate) fn place_from(events: &[Event], from: usize, guess: usize, at: Moment) -> usize
+pub(crate) fn place_from(events: &[TimedSignal], from: usize, guess: usize, at: Moment) -> usize
     requires within { from ≤ length events.now }
     requires rising { IsRising moment_cmp moment_of events.now }
     ensures { IsFirstFrom events.now from at result }
@@ -268,7 +268,12 @@ pub(crate) fn place_from(events: &[Event], from: usize, guess: usize, at: Moment
 /// Returns a place after that of an event at a far cell. The events between the two are at far cells or even times.
 // Most runs of far events are short, and then a call would take longer than the step to the next event.
 #[inline(always)]
-pub(crate) fn after_far(window: Window, events: &[Event], place: usize, leaps: &mut Leaps) -> usize
+pub(crate) fn after_far(
+    window: Window,
+    events: &[TimedSignal],
+    place: usize,
+    leaps: &mut Leaps,
+) -> usize
     requires within { place < length events.now }
     requires rising { IsRising moment_cmp moment_of events.now }
     requires far { IsFarAt window events.now place }
@@ -283,7 +288,7 @@ pub(crate) fn after_far(window: Window, events: &[Event], place: usize, leaps: &
 
 // Returns the place behind a leap over the events that cannot be at a cell of the window.
 #[inline(never)]
-fn leap(window: Window, events: &[Event], place: usize, leaps: &mut Leaps) -> usize
+fn leap(window: Window, events: &[TimedSignal], place: usize, leaps: &mut Leaps) -> usize
     requires within { place < length events.now }
     requires rising { IsRising moment_cmp moment_of events.now }
     requires far { IsFarAt window events.now place }

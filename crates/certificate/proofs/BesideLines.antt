@@ -16,7 +16,7 @@ use Rattle.certificate_lines.specs.ModuleParts.{inner, is_module}
 use Rattle.certificate.specs.HaloPlaces.{AreHaloPlaces, edges_at, list_at}
 use Rattle.certificate.specs.SliceLines.{slice_lines}
 use Rattle.certificate_lines.specs.Modules.{AreModules, HasPorts, IsModule}
-use Rattle.certificate_lines.specs.Versions.{beside, lacks_wire, with_halos}
+use Rattle.certificate_lines.specs.Versions.{edge_lines_beside, lacks_wire, with_halos}
 use Rattle.certificate.specs.declared.beside.ModuleSlice.{ModuleSlice}
 use Rattle.certificate_lines.specs.declared.certificate_line.CertificateLine.{CertificateLine}
 use Rattle.certificate_lines.specs.declared.certificate_line.CertificateLine.TheVariants.{Module}
@@ -83,7 +83,7 @@ part_at parts i part lt is = mapped_at slice_lines parts i part (slice_get_read 
 pub record HaveListsFrom (g : Setting) (es : List CertificateLine) (done : ℕ) (lists : List (List ℕ)) : Type 0 where
   pub count : length lists ≡ length (modules_of es)
   pub each : (i : ℕ) (m : ModuleLines) → done ≤ i → slice_get (modules_of es) i ≡ Some m →
-      edges_at es (list_at lists i) ≡ beside g (modules_of es) m.area
+      edges_at es (list_at lists i) ≡ edge_lines_beside g (modules_of es) m.area
 
 module _ (g : Setting) (es : List CertificateLine) where
   pub all_lists : (lists : List (List ℕ)) → AreHaloPlaces g es lists → HaveListsFrom g es 0 lists
@@ -122,7 +122,7 @@ pub full_part : {g : Setting} {es : List CertificateLine} {lists : List (List �
     map slice_lines parts ≡ modules_of es → AreModules g (map slice_lines parts) →
     lacks_wire g (map slice_lines parts) ≡ false → HaveListsFrom g es number lists → number < length parts →
     part ≡ get_or parts number part → list_at lists number ≡ places →
-    ((h : Setting) → AreModules h (modules_of es) → edges_at es places ≡ beside h (modules_of es) part.area →
+    ((h : Setting) → AreModules h (modules_of es) → edges_at es places ≡ edge_lines_beside h (modules_of es) part.area →
     ◌≡◌ {A = ModuleLines} (record { area = part.area; lines = made })
     (with_halos h (modules_of es) (slice_lines part))) →
     lines ≡ made → IsFullPart g (map slice_lines parts) number part lines

@@ -6,7 +6,7 @@ use Rattle.std.specs.Ordering.{nat_cmp, is_lt, ordering_then}
 use Rattle.std.proofs.lemmas.Bool.{and_parts}
 use Rattle.module_box.specs.Moments.{cell_cmp, moment_cmp}
 use Rattle.module_box.specs.Schedules.{IsRising, moment_of, cell_of as all_times_cell}
-use Rattle.module_box.specs.declared.schedules.Event.{Event}
+use Rattle.module_box.specs.declared.schedules.TimedSignal.{TimedSignal}
 use Rattle.module_box.specs.declared.schedules.AllTimes.{AllTimes}
 use Rattle.module_box.specs.declared.schedules.Signal.{Signal}
 use Rattle.certificate_lines.specs.Entries.{edge_in, halo_in}
@@ -14,7 +14,7 @@ use Rattle.certificate.specs.Jobs.{all_times_by, event_by}
 use Rattle.certificate_lines.specs.Orders.{AreInOrder, rank_of, number_of, cell_of, line_cmp, is_cut, may_precede}
 use Rattle.certificate_lines.specs.Orders.{time_rank}
 use Rattle.module_job.specs.Signals.{renumber_all_times, renumber_event}
-use Rattle.certificate_lines.specs.declared.certificate_line.Border.{Border}
+use Rattle.certificate_lines.specs.declared.certificate_line.BorderLine.{BorderLine}
 use Rattle.certificate_lines.specs.declared.certificate_line.CertificateLine.{CertificateLine}
 use Rattle.certificate_lines.specs.declared.certificate_line.CertificateLine.TheVariants.{Module, Cut, Use, Keep, Edge}
 use Rattle.certificate_lines.specs.declared.certificate_line.CertificateLine.TheVariants.{Halo, Stop}
@@ -22,7 +22,7 @@ use Rattle.certificate_lines.proofs.Lists.{some_is}
 use Rattle.certificate_lines.proofs.Pairs.{Each, Pairs, pairs_flat, rising_of}
 
 -- one line comes before another
-abbrev pub Before : Border → Border → Type 0
+abbrev pub Before : BorderLine → BorderLine → Type 0
 Before d e = ordering_then (nat_cmp (time_rank d.time) (time_rank e.time)) (cell_cmp d.cell e.cell) ≡ Less
 
 each_of_test : (test : CertificateLine → Bool) (lines : List CertificateLine) → list_all test lines ≡ true →
@@ -43,15 +43,15 @@ is_less Less b e h = refl
 is_less Equal b e h = absurd cc
 is_less Greater b e h = absurd cc
 
-edge_before : (d e : Border) → may_precede (Edge d) (Edge e) ≡ true → Before d e
+edge_before : (d e : BorderLine) → may_precede (Edge d) (Edge e) ≡ true → Before d e
 unfolding may_precede line_cmp rank_of number_of cell_of is_cut
 edge_before d e h = is_less _ false refl h
 
-halo_before : (d e : Border) → may_precede (Halo d) (Halo e) ≡ true → Before d e
+halo_before : (d e : BorderLine) → may_precede (Halo d) (Halo e) ≡ true → Before d e
 unfolding may_precede line_cmp rank_of number_of cell_of is_cut
 halo_before d e h = is_less _ false refl h
 
-edge_first : (d : Border) (j : CertificateLine) → may_precede (Edge d) j ≡ true → Each (Before d) (edge_in j)
+edge_first : (d : BorderLine) (j : CertificateLine) → may_precede (Edge d) j ≡ true → Each (Before d) (edge_in j)
 unfolding Each
 edge_first d (Module b) h = tt
 edge_first d (Cut n) h = tt
@@ -61,7 +61,7 @@ edge_first d (Edge e) h = (edge_before d e h, tt)
 edge_first d (Halo e) h = tt
 edge_first d (Stop s) h = tt
 
-halo_first : (d : Border) (j : CertificateLine) → may_precede (Halo d) j ≡ true → Each (Before d) (halo_in j)
+halo_first : (d : BorderLine) (j : CertificateLine) → may_precede (Halo d) j ≡ true → Each (Before d) (halo_in j)
 unfolding Each
 halo_first d (Module b) h = tt
 halo_first d (Cut n) h = tt
@@ -126,7 +126,7 @@ halos_rise lines o = pairs_flat (λ i j. may_precede i j ≡ true) Before halo_i
 abbrev HeldBefore : AllTimes → AllTimes → Type 0
 HeldBefore a b = cell_cmp a.cell b.cell ≡ Less
 
-abbrev EventBefore : Event → Event → Type 0
+abbrev EventBefore : TimedSignal → TimedSignal → Type 0
 EventBefore a b = moment_cmp a.at b.at ≡ Less
 
 both_starred : (a b : Option ℕ) (c : Ordering) → a ≡ None → b ≡ None →
@@ -149,61 +149,65 @@ both_timed (Some a) (Some b) t v c s u h =
 both_timed None b t v c s u h = absurd cc
 both_timed (Some a) None t v c s u h = absurd cc
 
-module _ (σ : Border → Signal) where
-  all_times_first : (d : Border) (t : Option ℕ) → d.time ≡ t → (e : Border) (u : Option ℕ) → e.time ≡ u → Before d e →
+module _ (σ : BorderLine → Signal) where
+  all_times_first : (d : BorderLine) (t : Option ℕ) → d.time ≡ t → (e : BorderLine) (u : Option ℕ) → e.time ≡ u →
+      Before d e →
       Each (λ a. Each (HeldBefore a) (all_times_by e u (σ e))) (all_times_by d t (σ d))
   unfolding Each
   all_times_first d None s e None u h = ((both_starred d.time e.time (cell_cmp d.cell e.cell) s u h, tt), tt)
   all_times_first d None s e (Some v) u h = (tt, tt)
   all_times_first d (Some t) s e u v h = tt
 
-  event_first : (d : Border) (t : Option ℕ) → d.time ≡ t → (e : Border) (u : Option ℕ) → e.time ≡ u → Before d e →
+  event_first : (d : BorderLine) (t : Option ℕ) → d.time ≡ t → (e : BorderLine) (u : Option ℕ) → e.time ≡ u →
+      Before d e →
       Each (λ a. Each (EventBefore a) (event_by e u (σ e))) (event_by d t (σ d))
   unfolding Each moment_cmp
   event_first d None s e v u h = tt
   event_first d (Some t) s e None u h = (tt, tt)
   event_first d (Some t) s e (Some v) u h = ((both_timed d.time e.time t v (cell_cmp d.cell e.cell) s u h, tt), tt)
 
-  all_times_by_time : (d : Border) (t : Option ℕ) → d.time ≡ t →
-      Each (λ a. (e : Border) → Before d e → Each (HeldBefore a) (all_times_by e e.time (σ e))) (all_times_by d t (σ d))
+  all_times_by_time : (d : BorderLine) (t : Option ℕ) → d.time ≡ t →
+      Each (λ a. (e : BorderLine) → Before d e → Each (HeldBefore a) (all_times_by e e.time (σ e)))
+      (all_times_by d t (σ d))
   unfolding Each
   all_times_by_time d None s = ((λ e h. (all_times_first d None s e e.time refl h).0), tt)
   all_times_by_time d (Some t) s = tt
 
-  event_by_time : (d : Border) (t : Option ℕ) → d.time ≡ t →
-      Each (λ a. (e : Border) → Before d e → Each (EventBefore a) (event_by e e.time (σ e))) (event_by d t (σ d))
+  event_by_time : (d : BorderLine) (t : Option ℕ) → d.time ≡ t →
+      Each (λ a. (e : BorderLine) → Before d e → Each (EventBefore a) (event_by e e.time (σ e))) (event_by d t (σ d))
   unfolding Each
   event_by_time d None s = tt
   event_by_time d (Some t) s = ((λ e h. (event_first d (Some t) s e e.time refl h).0), tt)
 
-  all_times_alone : (d : Border) (t : Option ℕ) → Pairs HeldBefore (all_times_by d t (σ d))
+  all_times_alone : (d : BorderLine) (t : Option ℕ) → Pairs HeldBefore (all_times_by d t (σ d))
   unfolding Each Pairs
   all_times_alone d None = (tt, tt)
   all_times_alone d (Some t) = tt
 
-  event_alone : (d : Border) (t : Option ℕ) → Pairs EventBefore (event_by d t (σ d))
+  event_alone : (d : BorderLine) (t : Option ℕ) → Pairs EventBefore (event_by d t (σ d))
   unfolding Each Pairs
   event_alone d None = tt
   event_alone d (Some t) = (tt, tt)
 
-  all_times_pairs : (es : List Border) → Pairs Before es →
+  all_times_pairs : (es : List BorderLine) → Pairs Before es →
       Pairs HeldBefore (flat_map (λ e. all_times_by e e.time (σ e)) es)
   all_times_pairs es p = pairs_flat Before HeldBefore (λ e. all_times_by e e.time (σ e))
       (λ d. all_times_by_time d d.time refl)
       (λ d. all_times_alone d d.time) es p
 
-  event_pairs : (es : List Border) → Pairs Before es → Pairs EventBefore (flat_map (λ e. event_by e e.time (σ e)) es)
+  event_pairs : (es : List BorderLine) → Pairs Before es →
+      Pairs EventBefore (flat_map (λ e. event_by e e.time (σ e)) es)
   event_pairs es p = pairs_flat Before EventBefore (λ e. event_by e e.time (σ e)) (λ d. event_by_time d d.time refl)
       (λ d. event_alone d d.time) es p
 
   -- also by other numbers of the wires
-  pub all_times_rises : (f : ℕ → ℕ) (es : List Border) → Pairs Before es → (hs : List AllTimes) →
+  pub all_times_rises : (f : ℕ → ℕ) (es : List BorderLine) → Pairs Before es → (hs : List AllTimes) →
       map (renumber_all_times f) hs ≡ flat_map (λ e. all_times_by e e.time (σ e)) es →
       IsRising cell_cmp all_times_cell hs
   all_times_rises f es p hs e =
       rising_of cell_cmp all_times_cell (renumber_all_times f) (λ a. refl) hs _ e (all_times_pairs es p)
 
-  pub events_rise : (f : ℕ → ℕ) (es : List Border) → Pairs Before es → (hs : List Event) →
+  pub events_rise : (f : ℕ → ℕ) (es : List BorderLine) → Pairs Before es → (hs : List TimedSignal) →
       map (renumber_event f) hs ≡ flat_map (λ e. event_by e e.time (σ e)) es →
       IsRising moment_cmp moment_of hs
   events_rise f es p hs e = rising_of moment_cmp moment_of (renumber_event f) (λ a. refl) hs _ e (event_pairs es p)

@@ -24,9 +24,10 @@ use Rattle.certificate_lines.specs.Modules.{AreModules, AreUnstarred, HasPorts, 
 use Rattle.certificate_lines.specs.Modules.{IsStop}
 use Rattle.certificate_lines.specs.Orders.{AreInOrder, cell_of, line_cmp, may_precede, number_of, rank_of, time_rank}
 use Rattle.certificate_lines.specs.Rules.{is_local, whole}
-use Rattle.certificate_lines.specs.Versions.{beside, in_order, is_early, is_halo, is_haloless, is_strange, lacks_wire}
+use Rattle.certificate_lines.specs.Versions.{edge_lines_beside, in_order, is_early, is_halo, is_haloless, is_strange}
+use Rattle.certificate_lines.specs.Versions.{lacks_wire}
 use Rattle.certificate_lines.specs.Versions.{line_order, meant, with_halos, without_halos}
-use Rattle.certificate_lines.specs.declared.certificate_line.Border.{Border}
+use Rattle.certificate_lines.specs.declared.certificate_line.BorderLine.{BorderLine}
 use Rattle.certificate_lines.specs.declared.certificate_line.CertificateLine.{CertificateLine}
 use Rattle.certificate_lines.specs.declared.certificate_line.StopLine.{StopLine}
 use Rattle.certificate_lines.specs.declared.certificate_line.CertificateLine.TheVariants.{Module, Cut, Use, Keep, Edge}
@@ -81,7 +82,7 @@ mapped_at f xs k x e = slice_get-map f xs k ∙ ap (option_map f) e
 -- ---- the lines of a module with other halo lines
 
 -- what lines other than halo lines say is said without these
-pub without_same : {X : Type 0} (f : CertificateLine → List X) → ((e : Border) → f (Halo e) ≡ []) →
+pub without_same : {X : Type 0} (f : CertificateLine → List X) → ((e : BorderLine) → f (Halo e) ≡ []) →
     (lines : List CertificateLine) →
     flat_map f (without_halos lines) ≡ flat_map f lines
 unfolding without_halos is_halo
@@ -107,7 +108,7 @@ no_halo_left (Stop s ∷ lines) = no_halo_left lines
 
 -- a function of lines that finds nothing in halo lines and stops
 pub record IsOfEarly {X : Type 0} (f : CertificateLine → List X) : Type 0 where
-  pub halo : (e : Border) → f (Halo e) ≡ []
+  pub halo : (e : BorderLine) → f (Halo e) ≡ []
   pub stop : (s : StopLine) → f (Stop s) ≡ []
 
 -- finds all that it finds in the early lines
@@ -161,10 +162,10 @@ append_none [] = refl
 append_none (x ∷ xs) = ap (λ l. x ∷ l) (append_none xs)
 
 -- the lines of a module with these halo lines
-abbrev pub full_lines : List CertificateLine → List Border → List CertificateLine
+abbrev pub full_lines : List CertificateLine → List BorderLine → List CertificateLine
 full_lines lines hs = filter is_early lines ++ map Halo hs ++ map Stop (flat_map stop_in lines)
 
-full_parts : {X : Type 0} (f : CertificateLine → List X) (lines : List CertificateLine) (hs : List Border) →
+full_parts : {X : Type 0} (f : CertificateLine → List X) (lines : List CertificateLine) (hs : List BorderLine) →
     flat_map f (full_lines lines hs)
     ≡ flat_map f (filter is_early lines) ++ flat_map f (map Halo hs) ++ flat_map f (map Stop (flat_map stop_in lines))
 full_parts f lines hs =
@@ -173,7 +174,7 @@ full_parts f lines hs =
     (flat_map-append f (filter is_early lines) (map Halo hs))
 
 pub other_lines : {X : Type 0} (f : CertificateLine → List X) → IsOfEarly f →
-    (lines : List CertificateLine) (hs : List Border) →
+    (lines : List CertificateLine) (hs : List BorderLine) →
     flat_map f (full_lines lines hs) ≡ flat_map f lines
 other_lines f none lines hs =
     full_parts f lines hs
@@ -182,14 +183,14 @@ other_lines f none lines hs =
     ∙ append_none (flat_map f (filter is_early lines) ++ []) ∙ append_none (flat_map f (filter is_early lines))
     ∙ early_same f none lines
 
-pub halo_lines : (lines : List CertificateLine) (hs : List Border) → flat_map halo_in (full_lines lines hs) ≡ hs
+pub halo_lines : (lines : List CertificateLine) (hs : List BorderLine) → flat_map halo_in (full_lines lines hs) ≡ hs
 halo_lines lines hs =
     full_parts halo_in lines hs
     ∙ ap₂ (λ xs ys. xs ++ flat_map halo_in (map Halo hs) ++ ys) (early_halos lines)
     (nothing_in halo_in Stop (λ s. refl) (flat_map stop_in lines))
     ∙ append_none (flat_map halo_in (map Halo hs)) ∙ one_each halo_in Halo (λ e. refl) hs
 
-pub stop_lines : (lines : List CertificateLine) (hs : List Border) →
+pub stop_lines : (lines : List CertificateLine) (hs : List BorderLine) →
     flat_map stop_in (full_lines lines hs) ≡ flat_map stop_in lines
 stop_lines lines hs =
     full_parts stop_in lines hs
@@ -215,11 +216,11 @@ less_is Less b h = refl
 less_is Equal b h = absurd cc
 less_is Greater b h = absurd cc
 
-halos_follow : (d e : Border) → line_order d e ≡ Less → may_precede (Halo d) (Halo e) ≡ true
+halos_follow : (d e : BorderLine) → line_order d e ≡ Less → may_precede (Halo d) (Halo e) ≡ true
 unfolding may_precede line_cmp rank_of number_of cell_of line_order
 halos_follow d e h = less_is _ _ h
 
-before_halo : (i : CertificateLine) (e : Border) → is_early i ≡ true → may_precede i (Halo e) ≡ true
+before_halo : (i : CertificateLine) (e : BorderLine) → is_early i ≡ true → may_precede i (Halo e) ≡ true
 unfolding may_precede line_cmp rank_of is_early
 before_halo (Module b) e h = refl
 before_halo (Cut n) e h = refl
@@ -239,7 +240,7 @@ before_stop (Edge d) s h = refl
 before_stop (Halo d) s h = absurd cc
 before_stop (Stop t) s h = absurd cc
 
-halo_before_stop : (e : Border) (s : StopLine) → may_precede (Halo e) (Stop s) ≡ true
+halo_before_stop : (e : BorderLine) (s : StopLine) → may_precede (Halo e) (Stop s) ≡ true
 unfolding may_precede line_cmp rank_of
 halo_before_stop e s = refl
 
@@ -250,7 +251,7 @@ unfolding Each In
 each_mapped P to [] h = tt
 each_mapped P to (x ∷ xs) h = (h x (inl refl), each_mapped P to xs (λ y i. h y (inr i)))
 
-halo_pairs : (hs : List Border) → Rises hs → Pairs (λ i j. may_precede i j ≡ true) (map Halo hs)
+halo_pairs : (hs : List BorderLine) → Rises hs → Pairs (λ i j. may_precede i j ≡ true) (map Halo hs)
 unfolding Pairs
 halo_pairs [] p = tt
 halo_pairs (d ∷ hs) p = (
@@ -280,7 +281,7 @@ stops_among (Edge e ∷ lines) = stops_among lines
 stops_among (Halo e ∷ lines) = stops_among lines
 stops_among (Stop s ∷ lines) = ap (λ l. Stop s ∷ l) (stops_among lines)
 
-pub full_order : (lines : List CertificateLine) (hs : List Border) → AreInOrder lines → Rises hs →
+pub full_order : (lines : List CertificateLine) (hs : List BorderLine) → AreInOrder lines → Rises hs →
     AreInOrder (full_lines lines hs)
 full_order lines hs o p =
     let may = λ (i j : CertificateLine). may_precede i j ≡ true in
@@ -316,7 +317,7 @@ equal_parts Less b h = absurd cc
 equal_parts Equal b h = h
 equal_parts Greater b h = absurd cc
 
-same_place : (d e : Border) → line_order d e ≡ Equal → d.cell ≡ e.cell
+same_place : (d e : BorderLine) → line_order d e ≡ Equal → d.cell ≡ e.cell
 unfolding line_order
 same_place d e h = cell_exact d.cell e.cell
     (equal_parts (nat_cmp (time_rank d.time) (time_rank e.time)) (cell_cmp d.cell e.cell) h)
@@ -335,10 +336,10 @@ module _ (g : Setting) (ms : List ModuleLines) (good : AreModules g ms) where
   module_of : (m : ModuleLines) → In m ms → IsModule g m
   module_of m i = let p = placed m ms i in good.each p.0 m p.1
 
-  pub edge_of : (m : ModuleLines) (e : Border) → In m ms → In e (edges m) → IsEdge g m.area (known g.circuit m) e
+  pub edge_of : (m : ModuleLines) (e : BorderLine) → In m ms → In e (edges m) → IsEdge g m.area (known g.circuit m) e
   edge_of m e i j = all_in (IsEdge g m.area (known g.circuit m)) (edges m) (module_of m i).edge_lines e j
 
-  pub edge_cell : (m : ModuleLines) (e : Border) → In m ms → In e (edges m) → in_box m.area e.cell.x e.cell.y ≡ true
+  pub edge_cell : (m : ModuleLines) (e : BorderLine) → In m ms → In e (edges m) → in_box m.area e.cell.x e.cell.y ≡ true
   edge_cell m e i j = ring_inside m.area e.cell.x e.cell.y (edge_of m e i j).ring
 
   all_apart : Pairs Apart ms
@@ -366,32 +367,33 @@ module _ (g : Setting) (ms : List ModuleLines) (good : AreModules g ms) where
   all_distinct : AreDistinct (flat_map edges ms)
   all_distinct = distinct_over ms all_apart (λ n i. i)
 
-  pub in_beside : (area : Box2) (e : Border) → In e (beside g ms area) →
+  pub in_beside : (area : Box2) (e : BorderLine) → In e (edge_lines_beside g ms area) →
       (nat_lt 1 g.size.steps ≡ true) × (in_halo area e.cell.x e.cell.y ≡ true) × In e (flat_map edges ms)
-  unfolding beside In
+  unfolding edge_lines_beside In
   in_beside area e i = elim (cases_Bool (nat_lt 1 g.size.steps)) [
-    | inl long ↦ let r = in_filter (λ (e : Border). in_halo area e.cell.x e.cell.y) e (flat_map edges ms)
+    | inl long ↦ let r = in_filter (λ (e : BorderLine). in_halo area e.cell.x e.cell.y) e (flat_map edges ms)
         (subst (In e) (cond-true _ _ _ long) i) in (long, r.1, r.0)
     | inr short ↦ absurd (subst (In e) (cond-false _ _ _ short) i)
   ]
 
-  pub beside_in : (area : Box2) (e : Border) → nat_lt 1 g.size.steps ≡ true → in_halo area e.cell.x e.cell.y ≡ true →
-      In e (flat_map edges ms) → In e (beside g ms area)
-  unfolding beside
+  pub beside_in : (area : Box2) (e : BorderLine) → nat_lt 1 g.size.steps ≡ true →
+      in_halo area e.cell.x e.cell.y ≡ true →
+      In e (flat_map edges ms) → In e (edge_lines_beside g ms area)
+  unfolding edge_lines_beside
   beside_in area e long h i = subst (In e) (sym (cond-true _ _ _ long))
-      (filter_in (λ (e : Border). in_halo area e.cell.x e.cell.y) e (flat_map edges ms) i h)
+      (filter_in (λ (e : BorderLine). in_halo area e.cell.x e.cell.y) e (flat_map edges ms) i h)
 
-  pub distinct_beside : (area : Box2) → AreDistinct (beside g ms area)
-  unfolding beside Pairs
+  pub distinct_beside : (area : Box2) → AreDistinct (edge_lines_beside g ms area)
+  unfolding edge_lines_beside Pairs
   distinct_beside area = elim (cases_Bool (nat_lt 1 g.size.steps)) [
     | inl long ↦ subst AreDistinct (sym (cond-true _ _ _ long))
-        (pairs_filter (λ d e. line_order d e ≢ Equal) (λ (e : Border). in_halo area e.cell.x e.cell.y)
+        (pairs_filter (λ d e. line_order d e ≢ Equal) (λ (e : BorderLine). in_halo area e.cell.x e.cell.y)
         (flat_map edges ms) all_distinct)
     | inr short ↦ subst AreDistinct (sym (cond-false _ _ _ short)) tt
   ]
 
-  pub full_rises : (area : Box2) → Rises (in_order (beside g ms area))
-  full_rises area = ordered_rises (beside g ms area) (distinct_beside area)
+  pub full_rises : (area : Box2) → Rises (in_order (edge_lines_beside g ms area))
+  full_rises area = ordered_rises (edge_lines_beside g ms area) (distinct_beside area)
 
   -- ---- a module with the edge lines beside it
 
@@ -406,30 +408,30 @@ module _ (g : Setting) (ms : List ModuleLines) (good : AreModules g ms) where
     pub full_cuts : cuts full ≡ cuts m
     unfolding with_halos
     full_cuts = other_lines cut_in (record { halo = λ e. refl; stop = λ s. refl }) m.lines
-        (in_order (beside g ms m.area))
+        (in_order (edge_lines_beside g ms m.area))
 
     pub full_gates : gates full ≡ gates m
     unfolding with_halos
     full_gates = other_lines use_in (record { halo = λ e. refl; stop = λ s. refl }) m.lines
-        (in_order (beside g ms m.area))
+        (in_order (edge_lines_beside g ms m.area))
 
     pub full_edges : edges full ≡ edges m
     unfolding with_halos
     full_edges = other_lines edge_in (record { halo = λ e. refl; stop = λ s. refl }) m.lines
-        (in_order (beside g ms m.area))
+        (in_order (edge_lines_beside g ms m.area))
 
-    pub full_halos : halos full ≡ in_order (beside g ms m.area)
+    pub full_halos : halos full ≡ in_order (edge_lines_beside g ms m.area)
     unfolding with_halos
-    full_halos = halo_lines m.lines (in_order (beside g ms m.area))
+    full_halos = halo_lines m.lines (in_order (edge_lines_beside g ms m.area))
 
     pub full_keeps : keeps full ≡ keeps m
     unfolding with_halos
     full_keeps = other_lines keep_in (record { halo = λ e. refl; stop = λ s. refl }) m.lines
-        (in_order (beside g ms m.area))
+        (in_order (edge_lines_beside g ms m.area))
 
     pub full_stops : stops full ≡ stops m
     unfolding with_halos
-    full_stops = stop_lines m.lines (in_order (beside g ms m.area))
+    full_stops = stop_lines m.lines (in_order (edge_lines_beside g ms m.area))
 
     pub full_wires : cut_wires g.circuit full ≡ cut_wires g.circuit m
     full_wires = ap (flat_map (λ n. option_to_list (wire_of g.circuit n))) full_cuts
@@ -447,7 +449,8 @@ module _ (g : Setting) (ms : List ModuleLines) (good : AreModules g ms) where
         not_not false h = sym h
 
     -- the edge lines beside it may be its halo lines
-    halo_here : (e : Border) → In e (beside g ms m.area) → is_strange g.circuit (known g.circuit m) e.signal ≡ false →
+    halo_here : (e : BorderLine) → In e (edge_lines_beside g ms m.area) →
+        is_strange g.circuit (known g.circuit m) e.signal ≡ false →
         IsHalo g m.area (known g.circuit m) e
     halo_here e i known_there =
         let b = in_beside m.area e i in
@@ -461,7 +464,7 @@ module _ (g : Setting) (ms : List ModuleLines) (good : AreModules g ms) where
           border = record { time = is.border.time; signal = local_signal e.signal known_there };
         }
 
-    pub full_good : In m ms → ((e : Border) → In e (beside g ms m.area) →
+    pub full_good : In m ms → ((e : BorderLine) → In e (edge_lines_beside g ms m.area) →
         is_strange g.circuit (known g.circuit m) e.signal ≡ false) → IsModule g full
     unfolding with_halos
     full_good at known_there =
@@ -474,7 +477,7 @@ module _ (g : Setting) (ms : List ModuleLines) (good : AreModules g ms) where
           named = ap length full_wires ∙ is.named ∙ ap length (sym full_cuts);
           local = subst (λ cs. AreLocalLines g.circuit.netlist cs (gates full)) (sym full_wires)
               (subst (AreLocalLines g.circuit.netlist (cut_wires g.circuit m)) (sym full_gates) is.local);
-          order = full_order m.lines (in_order (beside g ms m.area)) is.order (full_rises m.area);
+          order = full_order m.lines (in_order (edge_lines_beside g ms m.area)) is.order (full_rises m.area);
           keep_lines = subst (λ gs. All (IsKeep g gs) (keeps full)) (sym full_gates)
               (subst (All (IsKeep g (gates m))) (sym full_keeps) is.keep_lines);
           unstarred = subst AreUnstarred (sym full_edges) is.unstarred;
@@ -482,8 +485,8 @@ module _ (g : Setting) (ms : List ModuleLines) (good : AreModules g ms) where
               (subst (All (IsEdge g m.area (known g.circuit m))) (sym full_edges) is.edge_lines);
           halo_lines = subst (λ ws. All (IsHalo g m.area ws) (halos full)) (sym full_known)
               (subst (All (IsHalo g m.area (known g.circuit m))) (sym full_halos)
-              (in_all (IsHalo g m.area (known g.circuit m)) (in_order (beside g ms m.area))
-              (λ e i. let j = in_ordered e (beside g ms m.area) i in halo_here e j (known_there e j))));
+              (in_all (IsHalo g m.area (known g.circuit m)) (in_order (edge_lines_beside g ms m.area))
+              (λ e i. let j = in_ordered e (edge_lines_beside g ms m.area) i in halo_here e j (known_there e j))));
           stop_lines = subst (λ ws. All (IsStop g m.area ws) (stops full)) (sym full_known)
               (subst (All (IsStop g m.area (known g.circuit m))) (sym full_stops) is.stop_lines);
         }
@@ -512,13 +515,16 @@ module _ (g : Setting) (ms : List ModuleLines) (good : AreModules g ms) where
     | inr fails ↦ fails
   ]
 
-  none_strange : lacks_wire g ms ≡ false → (m : ModuleLines) → In m ms → (e : Border) → In e (beside g ms m.area) →
+  none_strange : lacks_wire g ms ≡ false → (m : ModuleLines) → In m ms → (e : BorderLine) →
+      In e (edge_lines_beside g ms m.area) →
       is_strange g.circuit (known g.circuit m) e.signal ≡ false
   unfolding lacks_wire
   none_strange none m at e i =
-      none_passes (λ (e : Border). is_strange g.circuit (known g.circuit m) e.signal) (beside g ms m.area)
+      none_passes (λ (e : BorderLine). is_strange g.circuit (known g.circuit m) e.signal)
+      (edge_lines_beside g ms m.area)
       (none_passes (λ (m : ModuleLines).
-      list_any (λ e. is_strange g.circuit (known g.circuit m) e.signal) (beside g ms m.area)) ms none m at) e i
+      list_any (λ e. is_strange g.circuit (known g.circuit m) e.signal) (edge_lines_beside g ms m.area)) ms none m at) e
+      i
 
   pub full_modules : lacks_wire g ms ≡ false → AreModules g (map (with_halos g ms) ms)
   full_modules none = record {

@@ -20,7 +20,7 @@ use Rattle.module_box.specs.Tiling.{AreOwners, Owning, owner_of, rectangle}
 use Rattle.module_box.specs.declared.boxes.Box2.{Box2}
 use Rattle.module_box.proofs.RingTests.{ring_read}
 use Rattle.certificate_lines.specs.Entries.{edge_in}
-use Rattle.certificate_lines.specs.declared.certificate_line.Border.{Border}
+use Rattle.certificate_lines.specs.declared.certificate_line.BorderLine.{BorderLine}
 use Rattle.certificate_lines.specs.declared.certificate_line.CertificateLine.{CertificateLine}
 use Rattle.certificate_lines.specs.declared.certificate_line.CertificateLine.TheVariants.{Edge}
 use Rattle.certificate_lines.proofs.Lists.{some_is}
@@ -234,7 +234,7 @@ inner_block b c inner =
 
 -- ---- the edge lines at the places
 
-edges_more : (es : List CertificateLine) (l : List ℕ) (t : Bool) (place : ℕ) (e : Border) →
+edges_more : (es : List CertificateLine) (l : List ℕ) (t : Bool) (place : ℕ) (e : BorderLine) →
     slice_get es place ≡ Some (Edge e) →
     edges_at es (l ++ (if t then place ∷ [] else [])) ≡ edges_at es l ++ (if t then e ∷ [] else [])
 edges_more es l true place e at =
@@ -245,7 +245,7 @@ edges_more es l true place e at =
 edges_more es l false place e at = ap (edges_at es) (append-nil l) ∙ sym (append-nil (edges_at es l))
 
 module _ (es : List CertificateLine) (boxes : List Box2) where
-  pub edge_placed : (place : ℕ) (e : Border) (old new : List (List ℕ)) → slice_get es place ≡ Some (Edge e) →
+  pub edge_placed : (place : ℕ) (e : BorderLine) (old new : List (List ℕ)) → slice_get es place ≡ Some (Edge e) →
       HavePlace boxes (λ b. in_halo b e.cell.x e.cell.y) place old new → HaveEdges es boxes (e ∷ []) old new
   edge_placed place e old new at h = record {
     count = h.count;
@@ -256,12 +256,12 @@ module _ (es : List CertificateLine) (boxes : List Box2) where
   pub no_edges : (lists : List (List ℕ)) → HaveEdges es boxes [] lists lists
   no_edges lists = record { count = refl; each = λ i b box. sym (append-nil (edges_at es (list_at lists i))) }
 
-  pub edges_then : (more next : List Border) (old l new : List (List ℕ)) → HaveEdges es boxes more old l →
+  pub edges_then : (more next : List BorderLine) (old l new : List (List ℕ)) → HaveEdges es boxes more old l →
       HaveEdges es boxes next l new → HaveEdges es boxes (more ++ next) old new
   edges_then more next old l new h k = record {
     count = k.count ∙ h.count;
     each = λ i b box.
-        let keep = λ (e : Border). in_halo b e.cell.x e.cell.y in
+        let keep = λ (e : BorderLine). in_halo b e.cell.x e.cell.y in
         k.each i b box ∙ ap (λ m. m ++ filter keep next) (h.each i b box)
         ∙ append_assoc (edges_at es (list_at old i)) (filter keep more) (filter keep next)
         ∙ ap (λ m. edges_at es (list_at old i) ++ m) (sym (filter-append keep more next));

@@ -12,7 +12,7 @@ use Rattle.circuit.specs.Meaning.{Circuit}
 use Rattle.module_box.specs.Boxes.{in_box, in_halo}
 use Rattle.module_box.specs.Schedules.{event_at, all_times_at, is_then, signal_at}
 use Rattle.module_box.specs.declared.boxes.Box2.{Box2}
-use Rattle.module_box.specs.declared.schedules.Event.{Event}
+use Rattle.module_box.specs.declared.schedules.TimedSignal.{TimedSignal}
 use Rattle.module_box.specs.declared.schedules.AllTimes.{AllTimes}
 use Rattle.module_box.specs.declared.schedules.Signal.{Signal}
 use Rattle.module_box.specs.declared.schedules.Signal.TheVariants.{Zero}
@@ -20,8 +20,8 @@ use Rattle.certificate_lines.specs.Entries.{Setting, ModuleLines, edges}
 use Rattle.certificate.specs.Jobs.{event_by, all_times_by, line_signal, line_signals}
 use Rattle.certificate.specs.Laws.{HaloIsEdgeBeside}
 use Rattle.certificate_lines.specs.Modules.{AreModules}
-use Rattle.certificate_lines.specs.Versions.{beside, in_order, line_order}
-use Rattle.certificate_lines.specs.declared.certificate_line.Border.{Border}
+use Rattle.certificate_lines.specs.Versions.{edge_lines_beside, in_order, line_order}
+use Rattle.certificate_lines.specs.declared.certificate_line.BorderLine.{BorderLine}
 use Rattle.certificate.proofs.FullModules.{beside_in, edge_cell, edges_rising, full_halos, full_rises, in_beside}
 use Rattle.certificate.proofs.FullModules.{mapped_at, stands}
 use Rattle.certificate_lines.proofs.InList.{placed}
@@ -32,34 +32,34 @@ use Rattle.bbm_rule.proofs.SameCells.{cell_same}
 
 -- ---- what lines say of a cell is what those for the cell say
 
-unfoldable pub at_cell : ℤ → ℤ → List Border → List Border
+unfoldable pub at_cell : ℤ → ℤ → List BorderLine → List BorderLine
 at_cell x y es = filter (λ e. is_at e.cell x y) es
 
 both_false : (b : Bool) → (b && false) ≡ false
 both_false true = refl
 both_false false = refl
 
-pub all_times_past : (e : Border) (time : Option ℕ) (s : Signal) (rest : List AllTimes) (x y : ℤ) →
+pub all_times_past : (e : BorderLine) (time : Option ℕ) (s : Signal) (rest : List AllTimes) (x y : ℤ) →
     is_at e.cell x y ≡ false →
     all_times_at (all_times_by e time s ++ rest) x y ≡ all_times_at rest x y
 unfolding all_times_at
 all_times_past e None s rest x y h = cond-false _ _ _ h
 all_times_past e (Some t) s rest x y h = refl
 
-pub event_past : (e : Border) (time : Option ℕ) (s : Signal) (rest : List Event) (t : ℕ) (x y : ℤ) →
+pub event_past : (e : BorderLine) (time : Option ℕ) (s : Signal) (rest : List TimedSignal) (t : ℕ) (x y : ℤ) →
     is_at e.cell x y ≡ false → event_at (event_by e time s ++ rest) t x y ≡ event_at rest t x y
 unfolding event_at
 event_past e None s rest t x y h = refl
 event_past e (Some u) s rest t x y h = cond-false _ _ _ (ap (λ b. (u == t) && b) h ∙ both_false (u == t))
 
-all_times_on : (e : Border) (time : Option ℕ) (s : Signal) (rest other : List AllTimes) (x y : ℤ) →
+all_times_on : (e : BorderLine) (time : Option ℕ) (s : Signal) (rest other : List AllTimes) (x y : ℤ) →
     all_times_at rest x y ≡ all_times_at other x y →
     all_times_at (all_times_by e time s ++ rest) x y ≡ all_times_at (all_times_by e time s ++ other) x y
 unfolding all_times_at
 all_times_on e None s rest other x y h = ap (λ o. if is_at e.cell x y then Some s else o) h
 all_times_on e (Some t) s rest other x y h = h
 
-event_on : (e : Border) (time : Option ℕ) (s : Signal) (rest other : List Event) (t : ℕ) (x y : ℤ) →
+event_on : (e : BorderLine) (time : Option ℕ) (s : Signal) (rest other : List TimedSignal) (t : ℕ) (x y : ℤ) →
     event_at rest t x y ≡ event_at other t x y →
     event_at (event_by e time s ++ rest) t x y ≡ event_at (event_by e time s ++ other) t x y
 unfolding event_at
@@ -68,13 +68,13 @@ event_on e (Some u) s rest other t x y h =
     ap (λ o. if is_then (record { time = u; cell = e.cell }) t x y then Some s else o) h
 
 module _ (c : Circuit) (x y : ℤ) where
-  abbrev all_times_of : List Border → List AllTimes
+  abbrev all_times_of : List BorderLine → List AllTimes
   all_times_of es = flat_map (λ e. all_times_by e e.time (line_signal c e.signal)) es
 
-  abbrev events_of : List Border → List Event
+  abbrev events_of : List BorderLine → List TimedSignal
   events_of es = flat_map (λ e. event_by e e.time (line_signal c e.signal)) es
 
-  all_times_there : (es : List Border) →
+  all_times_there : (es : List BorderLine) →
       all_times_at (all_times_of es) x y ≡ all_times_at (all_times_of (at_cell x y es)) x y
   unfolding at_cell
   all_times_there [] = refl
@@ -88,7 +88,7 @@ module _ (c : Circuit) (x y : ℤ) where
         ∙ ap (λ ds. all_times_at (all_times_of ds) x y) (sym (cond-false _ (e ∷ at_cell x y es) (at_cell x y es) other))
   ]
 
-  events_there : (t : ℕ) (es : List Border) →
+  events_there : (t : ℕ) (es : List BorderLine) →
       event_at (events_of es) t x y ≡ event_at (events_of (at_cell x y es)) t x y
   unfolding at_cell
   events_there t [] = refl
@@ -101,12 +101,12 @@ module _ (c : Circuit) (x y : ℤ) where
         ∙ ap (λ ds. event_at (events_of ds) t x y) (sym (cond-false _ (e ∷ at_cell x y es) (at_cell x y es) other))
   ]
 
-  signal_there : (t : ℕ) (es : List Border) →
+  signal_there : (t : ℕ) (es : List BorderLine) →
       signal_at (line_signals c es) t x y ≡ signal_at (line_signals c (at_cell x y es)) t x y
   unfolding signal_at
   signal_there t es = ap₂ (λ h e. unwrap_or h (unwrap_or e Zero)) (all_times_there es) (events_there t es)
 
-  same_there : (t : ℕ) (es ds : List Border) → at_cell x y es ≡ at_cell x y ds →
+  same_there : (t : ℕ) (es ds : List BorderLine) → at_cell x y es ≡ at_cell x y ds →
       signal_at (line_signals c es) t x y ≡ signal_at (line_signals c ds) t x y
   same_there t es ds h = signal_there t es ∙ ap (λ l. signal_at (line_signals c l) t x y) h ∙ sym (signal_there t ds)
 
@@ -121,11 +121,11 @@ module _ (g : Setting) (ms : List ModuleLines) (good : AreModules g ms) (k : ℕ
   abbrev here : Cell
   here = record { x = x; y = y }
 
-  at_here : (e : Border) → is_at e.cell x y ≡ true → e.cell ≡ here
+  at_here : (e : BorderLine) → is_at e.cell x y ≡ true → e.cell ≡ here
   at_here e h = cell_same e.cell here h
 
   -- a module with an edge line for the cell is the owner
-  owns : (e : Border) (n : ModuleLines) → In n ms → In e (edges n) → is_at e.cell x y ≡ true → n ≡ owner
+  owns : (e : BorderLine) (n : ModuleLines) → In n ms → In e (edges n) → is_at e.cell x y ≡ true → n ≡ owner
   owns e n i j at =
       let p = placed n ms i in
       let inside : in_box n.area x y ≡ true =
@@ -135,37 +135,40 @@ module _ (g : Setting) (ms : List ModuleLines) (good : AreModules g ms) (k : ℕ
       (mapped_at (λ (m : ModuleLines). m.area) ms k owner numbered) inside owned in
       some_is n owner (sym p.1 ∙ ap (slice_get ms) same ∙ numbered)
 
-  of_owner : (e : Border) → In e (at_cell x y (in_order (beside g ms area))) → In e (at_cell x y (edges owner))
+  of_owner : (e : BorderLine) → In e (at_cell x y (in_order (edge_lines_beside g ms area))) →
+      In e (at_cell x y (edges owner))
   unfolding at_cell
   of_owner e i =
-      let r = in_filter (λ (e : Border). is_at e.cell x y) e (in_order (beside g ms area)) i in
-      let b = in_beside g ms good area e (in_ordered e (beside g ms area) r.0) in
+      let r = in_filter (λ (e : BorderLine). is_at e.cell x y) e (in_order (edge_lines_beside g ms area)) i in
+      let b = in_beside g ms good area e (in_ordered e (edge_lines_beside g ms area) r.0) in
       let n = in_flat edges e ms b.2 in
-      filter_in (λ (e : Border). is_at e.cell x y) e (edges owner)
+      filter_in (λ (e : BorderLine). is_at e.cell x y) e (edges owner)
       (subst (λ (m : ModuleLines). In e (edges m)) (owns e n.0 n.1 n.2 r.1) n.2) r.1
 
-  of_halo : (e : Border) → In e (at_cell x y (edges owner)) → In e (at_cell x y (in_order (beside g ms area)))
+  of_halo : (e : BorderLine) → In e (at_cell x y (edges owner)) →
+      In e (at_cell x y (in_order (edge_lines_beside g ms area)))
   unfolding at_cell
   of_halo e i =
-      let r = in_filter (λ (e : Border). is_at e.cell x y) e (edges owner) i in
+      let r = in_filter (λ (e : BorderLine). is_at e.cell x y) e (edges owner) i in
       let inside : in_halo area e.cell.x e.cell.y ≡ true =
       subst (λ (c : Cell). in_halo area c.x c.y ≡ true) (sym (at_here e r.1)) halo in
-      filter_in (λ (e : Border). is_at e.cell x y) e (in_order (beside g ms area))
-      (ordered_in e (beside g ms area)
+      filter_in (λ (e : BorderLine). is_at e.cell x y) e (in_order (edge_lines_beside g ms area))
+      (ordered_in e (edge_lines_beside g ms area)
       (beside_in g ms good area e long inside (flat_in edges e ms owner (stands ms k owner numbered) r.0))) r.1
 
-  pub lines_there : at_cell x y (in_order (beside g ms area)) ≡ at_cell x y (edges owner)
+  pub lines_there : at_cell x y (in_order (edge_lines_beside g ms area)) ≡ at_cell x y (edges owner)
   unfolding at_cell
   lines_there =
       rising_same _ _
-      (pairs_filter (λ d e. line_order d e ≡ Less) (λ (e : Border). is_at e.cell x y) (in_order (beside g ms area))
+      (pairs_filter (λ d e. line_order d e ≡ Less) (λ (e : BorderLine). is_at e.cell x y)
+      (in_order (edge_lines_beside g ms area))
       (full_rises g ms good area))
-      (pairs_filter (λ d e. line_order d e ≡ Less) (λ (e : Border). is_at e.cell x y) (edges owner)
+      (pairs_filter (λ d e. line_order d e ≡ Less) (λ (e : BorderLine). is_at e.cell x y) (edges owner)
       (edges_rising owner.lines (good.each k owner numbered).order))
       of_owner of_halo
 
 pub halo_is_edge_beside : HaloIsEdgeBeside
 halo_is_edge_beside g ms good i k m owner t x y at numbered odd early halo owned =
     ap (λ es. signal_at (line_signals g.circuit es) t x y) (full_halos g ms good m)
-    ∙ same_there g.circuit x y t (in_order (beside g ms m.area)) (edges owner)
+    ∙ same_there g.circuit x y t (in_order (edge_lines_beside g ms m.area)) (edges owner)
     (lines_there g ms good k owner numbered m.area x y (one_below t g.size.steps odd early) halo owned)

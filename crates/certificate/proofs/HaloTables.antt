@@ -14,8 +14,8 @@ use Rattle.certificate_lines.specs.Entries.{ModuleLines, Setting, areas, edge_in
 use Rattle.certificate_lines.specs.ModuleParts.{inner, is_module}
 use Rattle.certificate_lines.specs.Modules.{AreModules, IsModule}
 use Rattle.certificate_lines.specs.Rules.{whole}
-use Rattle.certificate_lines.specs.Versions.{beside}
-use Rattle.certificate_lines.specs.declared.certificate_line.Border.{Border}
+use Rattle.certificate_lines.specs.Versions.{edge_lines_beside}
+use Rattle.certificate_lines.specs.declared.certificate_line.BorderLine.{BorderLine}
 use Rattle.certificate_lines.specs.declared.certificate_line.CertificateLine.{CertificateLine}
 use Rattle.certificate_lines.specs.declared.certificate_line.CertificateLine.TheVariants.{Module, Cut, Use, Keep, Edge}
 use Rattle.certificate_lines.specs.declared.certificate_line.CertificateLine.TheVariants.{Halo, Stop}
@@ -97,7 +97,7 @@ module _ (es : List CertificateLine) (place : ℕ) (e : CertificateLine) (lt : p
   edges_of_other other = ap (flat_map edges)
       (ap modules_of (line_here es place e lt is) ∙ split_other e (drop (place + 1) es) other)
 
-pub none_more : (es : List CertificateLine) (place : ℕ) (more total : List Border) → length es ≤ place →
+pub none_more : (es : List CertificateLine) (place : ℕ) (more total : List BorderLine) → length es ≤ place →
     more ++ flat_map edges (modules_of (drop place es)) ≡ total → more ≡ total
 none_more es place more total le h =
     sym (append-nil more)
@@ -121,7 +121,7 @@ inner_edge g m good k d lt =
 -- edge lines are inside the rectangle and not on its rim
 pub inner_edges : (g : Setting) (ms : List ModuleLines) → AreModules g ms →
     All (λ e. IsInnerCell (whole g.size) e.cell) (flat_map edges ms)
-inner_edges g ms good = flat_all (λ (e : Border). IsInnerCell (whole g.size) e.cell) edges (IsModule g)
+inner_edges g ms good = flat_all (λ (e : BorderLine). IsInnerCell (whole g.size) e.cell) edges (IsModule g)
     (inner_edge g) ms (λ k d lt. good.each k _ (slice_get-get_or ms k d lt))
 
 pub even_areas : (g : Setting) (ms : List ModuleLines) → AreModules g ms → (k : ℕ) (b : Box2) →
@@ -141,7 +141,7 @@ module _ (g : Setting) (es : List CertificateLine) where
   -- without odd times the lists are empty
   pub none_placed : (lists : List (List ℕ)) → g.size.steps ≤ 1 → length lists ≡ length (modules_of es) →
       ((i : ℕ) → list_at lists i ≡ []) → AreHaloPlaces g es lists
-  unfolding beside
+  unfolding edge_lines_beside
   none_placed lists few count empty = record {
     count = count;
     each = λ i m at. ap (edges_at es) (empty i) ∙ sym (cond-false _ _ _ (short g.size.steps few));
@@ -150,12 +150,12 @@ module _ (g : Setting) (es : List CertificateLine) where
   pub all_placed : (boxes : List Box2) (old new : List (List ℕ)) → 1 < g.size.steps → boxes ≡ areas (modules_of es) →
       length old ≡ length (modules_of es) → ((i : ℕ) → list_at old i ≡ []) →
       HaveEdges es boxes (flat_map edges (modules_of es)) old new → AreHaloPlaces g es new
-  unfolding beside
+  unfolding edge_lines_beside
   all_placed boxes old new many are count empty h = record {
     count = h.count ∙ count;
     each = λ i m at.
         h.each i m.area (ap (λ bs. slice_get bs i) are ∙ area_of (modules_of es) i m at)
-        ∙ ap (λ l. edges_at es l ++ filter (λ (e : Border). in_halo m.area e.cell.x e.cell.y)
+        ∙ ap (λ l. edges_at es l ++ filter (λ (e : BorderLine). in_halo m.area e.cell.x e.cell.y)
         (flat_map edges (modules_of es))) (empty i)
         ∙ sym (cond-true _ _ _ (long g.size.steps many));
   }

@@ -18,7 +18,7 @@ use Rattle.pattern.specs.declared.layout_line.Rectangle.{Rectangle}
 use Rattle.pattern.specs.declared.layout_line.LayoutHeader.{LayoutHeader}
 use Rattle.pattern.specs.Lines.{AreGoodAfter, size_fault}
 use Rattle.pattern.proofs.InsideLemmas.{BeginsInside, size_sides, begins_inside, mirrors_fit, start_inside}
-use Rattle.pattern.proofs.RunLemmas.{among}
+use Rattle.pattern.proofs.PlaneRuns.{among}
 use Rattle.pattern.proofs.RectangleLemmas.{in_rectangle_cells}
 use Rattle.module_box.specs.Boxes.{in_box}
 use Rattle.module_box.specs.declared.schedules.Signal.TheVariants.{One, Zero}

@@ -11,7 +11,7 @@ use Rattle.bbm_rule.specs.declared.block.Cell.{Cell}
 use Rattle.circuit.specs.Meaning.{Circuit}
 use Rattle.module_box.specs.Moments.{cell_cmp}
 use Rattle.module_box.specs.Schedules.{event_at, all_times_at, signal_at}
-use Rattle.module_box.specs.declared.schedules.Event.{Event}
+use Rattle.module_box.specs.declared.schedules.TimedSignal.{TimedSignal}
 use Rattle.module_box.specs.declared.schedules.AllTimes.{AllTimes}
 use Rattle.module_box.specs.declared.schedules.Signal.{Signal}
 use Rattle.module_box.specs.declared.schedules.Signal.TheVariants.{Zero}
@@ -20,7 +20,7 @@ use Rattle.certificate_lines.specs.Modules.{AreUnstarred}
 use Rattle.certificate_lines.specs.Orders.{time_rank}
 use Rattle.certificate_lines.specs.Rules.{is_star, is_starred, same_cell}
 use Rattle.certificate_lines.specs.Versions.{line_order}
-use Rattle.certificate_lines.specs.declared.certificate_line.Border.{Border}
+use Rattle.certificate_lines.specs.declared.certificate_line.BorderLine.{BorderLine}
 use Rattle.certificate.proofs.HaloSignals.{event_past, all_times_past}
 use Rattle.certificate_lines.proofs.LineOrder.{In, Rises, each_in, not_itself}
 use Rattle.certificate_lines.proofs.Pairs.{Each, Pairs}
@@ -32,13 +32,13 @@ SaysAt t None = Unit {0}
 SaysAt t (Some u) = u ≡ t
 
 -- lines of the same time, or both with a `*`, for the same cell are nowhere apart in the order
-same_key : (d e : Border) → d.time ≡ e.time → d.cell ≡ e.cell → line_order d e ≡ Less → ⊥
+same_key : (d e : BorderLine) → d.time ≡ e.time → d.cell ≡ e.cell → line_order d e ≡ Less → ⊥
 unfolding line_order
 same_key d e time cell less =
     not_itself e (ap₂ (λ t c. ordering_then (nat_cmp (time_rank t) (time_rank e.time)) (cell_cmp c e.cell)) (sym time)
     (sym cell) ∙ less)
 
-other_cell : (d e : Border) → d.time ≡ e.time → line_order d e ≡ Less → is_at d.cell e.cell.x e.cell.y ≡ false
+other_cell : (d e : BorderLine) → d.time ≡ e.time → line_order d e ≡ Less → is_at d.cell e.cell.x e.cell.y ≡ false
 other_cell d e time less = elim (cases_Bool (is_at d.cell e.cell.x e.cell.y)) [
   | inl here ↦ absurd (same_key d e time (cell_same d.cell e.cell here) less)
   | inr other ↦ other
@@ -49,35 +49,35 @@ ranked : (a : ℕ) (o : Ordering) → ordering_then (nat_cmp (a + 1) 0) o ≡ Le
 ranked a o h = let z : nat_cmp (a + 1) 0 ≡ Greater = grind arith in
     absurd (let k : ordering_then Greater o ≡ Less = ap (λ c. ordering_then c o) (sym z) ∙ h in cc)
 
-timed_first : (d e : Border) (t : ℕ) → d.time ≡ Some t → e.time ≡ None → line_order d e ≡ Less → ⊥
+timed_first : (d e : BorderLine) (t : ℕ) → d.time ≡ Some t → e.time ≡ None → line_order d e ≡ Less → ⊥
 unfolding line_order
 timed_first d e t dt et less =
     ranked t (cell_cmp d.cell e.cell)
     (ap₂ (λ a b. ordering_then (nat_cmp (time_rank a) (time_rank b)) (cell_cmp d.cell e.cell)) (sym dt) (sym et) ∙ less)
 
 module _ (c : Circuit) where
-  abbrev all_times_of : List Border → List AllTimes
+  abbrev all_times_of : List BorderLine → List AllTimes
   all_times_of es = flat_map (λ e. all_times_by e e.time (line_signal c e.signal)) es
 
-  abbrev events_of : List Border → List Event
+  abbrev events_of : List BorderLine → List TimedSignal
   events_of es = flat_map (λ e. event_by e e.time (line_signal c e.signal)) es
 
   -- ---- a line with a `*`
 
-  all_times_first : (e : Border) (time : Option ℕ) (s : Signal) (rest : List AllTimes) → time ≡ None →
+  all_times_first : (e : BorderLine) (time : Option ℕ) (s : Signal) (rest : List AllTimes) → time ≡ None →
       all_times_at (all_times_by e time s ++ rest) e.cell.x e.cell.y ≡ Some s
   unfolding all_times_at
   all_times_first e None s rest none = cond-true _ _ _ (cell_itself e.cell)
   all_times_first e (Some t) s rest none = absurd cc
 
-  all_times_skips : (d e : Border) (time : Option ℕ) → d.time ≡ time → e.time ≡ None → line_order d e ≡ Less →
+  all_times_skips : (d e : BorderLine) (time : Option ℕ) → d.time ≡ time → e.time ≡ None → line_order d e ≡ Less →
       (s : Signal) (rest : List AllTimes) →
       all_times_at (all_times_by d time s ++ rest) e.cell.x e.cell.y ≡ all_times_at rest e.cell.x e.cell.y
   all_times_skips d e None dt et less s rest =
       all_times_past d None s rest e.cell.x e.cell.y (other_cell d e (dt ∙ sym et) less)
   all_times_skips d e (Some t) dt et less s rest = refl
 
-  all_times_there : (e : Border) (es : List Border) → Rises es → In e es → e.time ≡ None →
+  all_times_there : (e : BorderLine) (es : List BorderLine) → Rises es → In e es → e.time ≡ None →
       all_times_at (all_times_of es) e.cell.x e.cell.y ≡ Some (line_signal c e.signal)
   unfolding Pairs In
   all_times_there e [] r i none = absurd i
@@ -92,7 +92,7 @@ module _ (c : Circuit) where
 
   -- ---- a line with a time
 
-  not_starred : (e d : Border) (time : Option ℕ) → d.time ≡ time → is_starred e.cell d ≡ false →
+  not_starred : (e d : BorderLine) (time : Option ℕ) → d.time ≡ time → is_starred e.cell d ≡ false →
       (s : Signal) (rest : List AllTimes) →
       all_times_at (all_times_by d time s ++ rest) e.cell.x e.cell.y ≡ all_times_at rest e.cell.x e.cell.y
   not_starred e d None dt other s rest =
@@ -117,24 +117,25 @@ module _ (c : Circuit) where
   star_of None u e = absurd cc
   star_of (Some v) u e = refl
 
-  all_test : (test : Border → Bool) (es : List Border) → list_all test es ≡ true → (e : Border) → In e es →
+  all_test : (test : BorderLine → Bool) (es : List BorderLine) → list_all test es ≡ true → (e : BorderLine) → In e es →
       test e ≡ true
   unfolding In
   all_test test [] h e i = absurd i
   all_test test (d ∷ es) h e (inl same) = subst (λ x. test x ≡ true) same (and_parts (test d) (list_all test es) h).0
   all_test test (d ∷ es) h e (inr later) = all_test test es (and_parts (test d) (list_all test es) h).1 e later
 
-  after_timed : (e d : Border) (t : ℕ) → e.time ≡ Some t → line_order e d ≡ Less → is_starred e.cell d ≡ false
+  after_timed : (e d : BorderLine) (t : ℕ) → e.time ≡ Some t → line_order e d ≡ Less → is_starred e.cell d ≡ false
   after_timed e d t et less = by d.time refl
     where
       by : (time : Option ℕ) → d.time ≡ time → is_starred e.cell d ≡ false
       by None dt = absurd (timed_first e d t et dt less)
       by (Some u) dt = ap (λ x. is_star x && same_cell e.cell d.cell) dt
 
-  timed_itself : (e : Border) (t : ℕ) → e.time ≡ Some t → is_starred e.cell e ≡ false
+  timed_itself : (e : BorderLine) (t : ℕ) → e.time ≡ Some t → is_starred e.cell e ≡ false
   timed_itself e t et = ap (λ x. is_star x && same_cell e.cell e.cell) et
 
-  none_after : (e : Border) (t : ℕ) (es : List Border) → e.time ≡ Some t → Each (λ d. line_order e d ≡ Less) es →
+  none_after : (e : BorderLine) (t : ℕ) (es : List BorderLine) → e.time ≡ Some t →
+      Each (λ d. line_order e d ≡ Less) es →
       all_times_at (all_times_of es) e.cell.x e.cell.y ≡ None
   unfolding Each all_times_at
   none_after e t [] et a = refl
@@ -142,7 +143,8 @@ module _ (c : Circuit) where
       not_starred e d d.time refl (after_timed e d t et a.0) (line_signal c d.signal) (all_times_of es)
       ∙ none_after e t es et a.1
 
-  none_all_times : (e : Border) (t : ℕ) (es : List Border) → e.time ≡ Some t → Rises es → AreUnstarred es → In e es →
+  none_all_times : (e : BorderLine) (t : ℕ) (es : List BorderLine) → e.time ≡ Some t → Rises es → AreUnstarred es →
+      In e es →
       all_times_at (all_times_of es) e.cell.x e.cell.y ≡ None
   unfolding Pairs In AreUnstarred
   none_all_times e t [] et r u i = absurd i
@@ -156,7 +158,7 @@ module _ (c : Circuit) where
       (all_times_of es)
       ∙ none_all_times e t es et r.1 u.1 later
 
-  event_first : (e : Border) (time : Option ℕ) (t : ℕ) (s : Signal) (rest : List Event) → time ≡ Some t →
+  event_first : (e : BorderLine) (time : Option ℕ) (t : ℕ) (s : Signal) (rest : List TimedSignal) → time ≡ Some t →
       event_at (event_by e time s ++ rest) t e.cell.x e.cell.y ≡ Some s
   unfolding event_at
   event_first e None t s rest et = absurd cc
@@ -169,8 +171,8 @@ module _ (c : Circuit) where
       same_time : (a b : ℕ) → a ≡ b → (a == b) ≡ true
       same_time a b e = grind arith
 
-  event_skips : (d e : Border) (time : Option ℕ) (t : ℕ) → d.time ≡ time → e.time ≡ Some t → line_order d e ≡ Less →
-      (s : Signal) (rest : List Event) →
+  event_skips : (d e : BorderLine) (time : Option ℕ) (t : ℕ) → d.time ≡ time → e.time ≡ Some t → line_order d e ≡ Less →
+      (s : Signal) (rest : List TimedSignal) →
       event_at (event_by d time s ++ rest) t e.cell.x e.cell.y ≡ event_at rest t e.cell.x e.cell.y
   unfolding event_at
   event_skips d e None t dt et less s rest = refl
@@ -180,7 +182,7 @@ module _ (c : Circuit) where
     | inr other ↦ cond-false _ _ _ (ap (λ b. b && is_at d.cell e.cell.x e.cell.y) other)
   ]
 
-  event_there : (e : Border) (t : ℕ) (es : List Border) → Rises es → In e es → e.time ≡ Some t →
+  event_there : (e : BorderLine) (t : ℕ) (es : List BorderLine) → Rises es → In e es → e.time ≡ Some t →
       event_at (events_of es) t e.cell.x e.cell.y ≡ Some (line_signal c e.signal)
   unfolding Pairs In
   event_there e t [] r i et = absurd i
@@ -194,7 +196,8 @@ module _ (c : Circuit) where
 
   -- ---- either
 
-  said_by : (e : Border) (time : Option ℕ) (t : ℕ) (es : List Border) → e.time ≡ time → SaysAt t time → Rises es →
+  said_by : (e : BorderLine) (time : Option ℕ) (t : ℕ) (es : List BorderLine) → e.time ≡ time → SaysAt t time →
+      Rises es →
       AreUnstarred es → In e es →
       signal_at (line_signals c es) t e.cell.x e.cell.y ≡ line_signal c e.signal
   unfolding signal_at
@@ -207,6 +210,7 @@ module _ (c : Circuit) where
       ∙ ap (λ (o : Option Signal). unwrap_or o Zero) (event_there e t es r i time)
 
   -- a line of lines in order says the signal of its cell
-  pub line_said : (e : Border) (t : ℕ) (es : List Border) → SaysAt t e.time → Rises es → AreUnstarred es → In e es →
+  pub line_said : (e : BorderLine) (t : ℕ) (es : List BorderLine) → SaysAt t e.time → Rises es → AreUnstarred es →
+      In e es →
       signal_at (line_signals c es) t e.cell.x e.cell.y ≡ line_signal c e.signal
   line_said e t es says r u i = said_by e e.time t es refl says r u i

@@ -8,18 +8,18 @@ use Rattle.module_box.specs.Locals.{is_among}
 use Rattle.certificate_lines.specs.Entries.{Setting, ModuleLines, keep_in, keeps, stops}
 use Rattle.certificate.specs.Keeps.{is_kept, unkept, unkept_from}
 use Rattle.certificate.specs.Times.{all_stops, first_seen, last_seen, lines_by, time_lines}
-use Rattle.certificate_lines.specs.Versions.{beside, in_order, is_haloless, meant, with_halos}
+use Rattle.certificate_lines.specs.Versions.{edge_lines_beside, in_order, is_haloless, meant, with_halos}
 use Rattle.certificate.proofs.FullModules.{meant_new, meant_old, other_lines, stop_lines}
 
 module _ (g : Setting) (ms : List ModuleLines) where
   stops_full : (m : ModuleLines) → stops (with_halos g ms m) ≡ stops m
   unfolding with_halos
-  stops_full m = stop_lines m.lines (in_order (beside g ms m.area))
+  stops_full m = stop_lines m.lines (in_order (edge_lines_beside g ms m.area))
 
   keeps_full : (m : ModuleLines) → keeps (with_halos g ms m) ≡ keeps m
   unfolding with_halos
   keeps_full m = other_lines keep_in (record { halo = λ e. refl; stop = λ s. refl }) m.lines
-      (in_order (beside g ms m.area))
+      (in_order (edge_lines_beside g ms m.area))
 
   pub stops_of_all : (ns : List ModuleLines) → all_stops (map (with_halos g ms) ns) ≡ all_stops ns
   stops_of_all [] = refl

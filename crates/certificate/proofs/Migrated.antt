@@ -24,9 +24,10 @@ use Rattle.certificate_lines.specs.Rules.{cut_fault, is_edge_place, is_starred, 
 use Rattle.certificate_lines.specs.Rules.{border_count, border_fault, border_limit, end_fault, entry_fault, inner_fault}
 use Rattle.certificate_lines.specs.Rules.{is_incomplete, is_local, lacks_port, leaves_gap, line_fault, module_fault}
 use Rattle.certificate_lines.specs.Rules.{box_fault, is_misplaced, is_wrong_side, overlaps, words_fault}
-use Rattle.certificate_lines.specs.Versions.{AreGoodLines, beside, in_order, is_early, is_halo, is_haloless, is_strange}
+use Rattle.certificate_lines.specs.Versions.{AreGoodLines, edge_lines_beside, in_order, is_early, is_halo, is_haloless}
+use Rattle.certificate_lines.specs.Versions.{is_strange}
 use Rattle.certificate_lines.specs.Versions.{lacks_wire, meant, stripped, with_halos, without_halos}
-use Rattle.certificate_lines.specs.declared.certificate_line.Border.{Border}
+use Rattle.certificate_lines.specs.declared.certificate_line.BorderLine.{BorderLine}
 use Rattle.certificate_lines.specs.declared.certificate_line.CertificateLine.{CertificateLine}
 use Rattle.certificate_lines.specs.declared.certificate_line.CertificateLine.TheVariants.{Module, Cut, Use, Keep, Edge}
 use Rattle.certificate_lines.specs.declared.certificate_line.CertificateLine.TheVariants.{Halo, Stop}
@@ -68,7 +69,7 @@ unfolding stripped without_halos is_halo
 stored_line i other m = ap (λ l. record m { lines = l })
     (without_append m.lines (i ∷ []) ∙ ap (λ l. without_halos m.lines ++ l) (alone i other))
 
-dropped_line : (e : Border) (m : ModuleLines) → stripped (with_line (Halo e) m) ≡ stripped m
+dropped_line : (e : BorderLine) (m : ModuleLines) → stripped (with_line (Halo e) m) ≡ stripped m
 unfolding stripped without_halos is_halo
 dropped_line e m = ap (λ l. record m { lines = l })
     (without_append m.lines (Halo e ∷ []) ∙ append-nil (without_halos m.lines))
@@ -77,7 +78,8 @@ inner_step : (i : CertificateLine) → is_halo i ≡ false → (ms : List Module
     map stripped (change_last (with_line i) ms) ≡ change_last (with_line i) (map stripped ms)
 inner_step i other ms = map_changed stripped (with_line i) (with_line i) (stored_line i other) ms
 
-halo_step : (e : Border) (ms : List ModuleLines) → map stripped (change_last (with_line (Halo e)) ms) ≡ map stripped ms
+halo_step : (e : BorderLine) (ms : List ModuleLines) →
+    map stripped (change_last (with_line (Halo e)) ms) ≡ map stripped ms
 halo_step e ms = map_changed stripped (with_line (Halo e)) (λ m. m) (dropped_line e) ms ∙ unchanged (map stripped ms)
 
 module_step : (b : Box2) (ms : List ModuleLines) →
@@ -306,7 +308,7 @@ without_one before (Edge e) o = without_append before (Edge e ∷ [])
 without_one before (Halo e) o = absurd cc
 without_one before (Stop s) o = without_append before (Stop s ∷ [])
 
-without_last : (before : List CertificateLine) (e : Border) →
+without_last : (before : List CertificateLine) (e : BorderLine) →
     without_halos (before ++ Halo e ∷ []) ≡ without_halos before
 unfolding is_halo without_halos
 without_last before e = without_append before (Halo e ∷ []) ∙ append-nil (without_halos before)
@@ -352,10 +354,10 @@ edges_stripped g [] = refl
 edges_stripped g (m ∷ ms) = ap₂ (λ xs ys. xs ++ ys) (edges_kept g m) (edges_stripped g ms)
 
 beside_stripped : (g : Setting) (ms : List ModuleLines) (area : Box2) →
-    beside g (map stripped ms) area ≡ beside g ms area
-unfolding beside
+    edge_lines_beside g (map stripped ms) area ≡ edge_lines_beside g ms area
+unfolding edge_lines_beside
 beside_stripped g ms area = ap
-    (λ es. if nat_lt 1 g.size.steps then filter (λ (e : Border). in_halo area e.cell.x e.cell.y) es else [])
+    (λ es. if nat_lt 1 g.size.steps then filter (λ (e : BorderLine). in_halo area e.cell.x e.cell.y) es else [])
     (edges_stripped g ms)
 
 early_without : (lines : List CertificateLine) → filter is_early (without_halos lines) ≡ filter is_early lines
@@ -373,10 +375,12 @@ full_same : (g : Setting) (ms : List ModuleLines) (m : ModuleLines) →
     with_halos g (map stripped ms) (stripped m) ≡ with_halos g ms m
 unfolding with_halos stripped
 full_same g ms m =
-    ap₂ (λ (lines : List CertificateLine) (hs : List Border).
+    ap₂ (λ (lines : List CertificateLine) (hs : List BorderLine).
     record m { lines = lines ++ map Halo (in_order hs) ++ map Stop (stops (stripped m)) }) (early_without m.lines)
     (beside_stripped g ms m.area)
-    ∙ ap (λ ss. record m { lines = filter is_early m.lines ++ map Halo (in_order (beside g ms m.area)) ++ map Stop ss })
+    ∙ ap
+    (λ ss.
+    record m { lines = filter is_early m.lines ++ map Halo (in_order (edge_lines_beside g ms m.area)) ++ map Stop ss })
     (stops_kept g m)
 
 fulls_same : (g : Setting) (ms ns : List ModuleLines) →
@@ -391,16 +395,17 @@ migrated_modules g es = meant_new 2 g (modules_of (without_halos es)) refl
 
 lacks_one : (g : Setting) (ms : List ModuleLines) (m : ModuleLines) →
     list_any (λ e. is_strange g.circuit (known g.circuit (stripped m)) e.signal)
-    (beside g (map stripped ms) (stripped m).area)
-    ≡ list_any (λ e. is_strange g.circuit (known g.circuit m) e.signal) (beside g ms m.area)
+    (edge_lines_beside g (map stripped ms) (stripped m).area)
+    ≡ list_any (λ e. is_strange g.circuit (known g.circuit m) e.signal) (edge_lines_beside g ms m.area)
 lacks_one g ms m =
-    ap₂ (λ ws es. list_any (λ (e : Border). is_strange g.circuit ws e.signal) es) (known_kept g m)
-    (ap (beside g (map stripped ms)) (area_kept g m) ∙ beside_stripped g ms m.area)
+    ap₂ (λ ws es. list_any (λ (e : BorderLine). is_strange g.circuit ws e.signal) es) (known_kept g m)
+    (ap (edge_lines_beside g (map stripped ms)) (area_kept g m) ∙ beside_stripped g ms m.area)
 
 lacks_all : (g : Setting) (ms ns : List ModuleLines) →
     list_any (λ m. list_any (λ e. is_strange g.circuit (known g.circuit m) e.signal)
-    (beside g (map stripped ms) m.area)) (map stripped ns)
-    ≡ list_any (λ m. list_any (λ e. is_strange g.circuit (known g.circuit m) e.signal) (beside g ms m.area)) ns
+    (edge_lines_beside g (map stripped ms) m.area)) (map stripped ns)
+    ≡ list_any (λ m. list_any (λ e. is_strange g.circuit (known g.circuit m) e.signal) (edge_lines_beside g ms m.area))
+    ns
 lacks_all g ms [] = refl
 lacks_all g ms (n ∷ ns) = ap₂ (λ a b. a || b) (lacks_one g ms n) (lacks_all g ms ns)
 

@@ -12,10 +12,10 @@ use Rattle.pattern.specs.declared.layout_line.LayoutHeader.{LayoutHeader}
 use Rattle.pattern.specs.Lines.{size_fault}
 use Rattle.pattern.proofs.TakenLemmas.{is_sized}
 use Rattle.module_box.specs.Boxes.{in_box, in_ring}
-use Rattle.module_box.specs.Moves.{IsNear, IsSmall, moved_event}
+use Rattle.module_box.specs.Moves.{IsNear, IsSmallShift, moved_event}
 use Rattle.module_box.specs.Schedules.{Signals}
 use Rattle.module_box.specs.declared.boxes.Box2.{Box2}
-use Rattle.module_box.specs.declared.schedules.Event.{Event}
+use Rattle.module_box.specs.declared.schedules.TimedSignal.{TimedSignal}
 use Rattle.module_box.specs.declared.schedules.AllTimes.{AllTimes}
 use Rattle.module_box.specs.declared.schedules.Signal.{Signal}
 use Rattle.module_box.proofs.BoxCells.{in_box_nats}
@@ -26,7 +26,7 @@ use Rattle.certificate_lines.specs.Rules.{whole}
 use Rattle.module_job.specs.Shapes.{shift_to_origin, moved_stop}
 use Rattle.module_job.specs.Signals.{renumber_all_times, renumber_event, renumber_signals}
 use Rattle.certificate.specs.Timetables.{IsLow}
-use Rattle.certificate_lines.specs.declared.certificate_line.Border.{Border}
+use Rattle.certificate_lines.specs.declared.certificate_line.BorderLine.{BorderLine}
 use Rattle.module_job.specs.declared.job.Stop.{Stop}
 use Rattle.certificate.proofs.JobLemmas.{within_512}
 
@@ -84,17 +84,17 @@ unmapped P f [] all = All-nil (λ x. P (f x))
 unmapped P f (x ∷ xs) all = All-cons (λ x. P (f x)) x xs (All-head P (f x) (map f xs) all)
     (unmapped P f xs (All-tail P (f x) (map f xs) all))
 
-all_times_low : (e : Border) (t : Option ℕ) (s : Signal) → IsLow e.cell →
+all_times_low : (e : BorderLine) (t : Option ℕ) (s : Signal) → IsLow e.cell →
     All (λ (h : AllTimes). IsLow h.cell) (all_times_by e t s)
 all_times_low e None s low = All-cons (λ (h : AllTimes). IsLow h.cell) _ [] low (All-nil _)
 all_times_low e (Some t) s low = All-nil _
 
-event_low : (e : Border) (t : Option ℕ) (s : Signal) → IsLow e.cell →
-    All (λ (h : Event). IsLow h.at.cell) (event_by e t s)
+event_low : (e : BorderLine) (t : Option ℕ) (s : Signal) → IsLow e.cell →
+    All (λ (h : TimedSignal). IsLow h.at.cell) (event_by e t s)
 event_low e None s low = All-nil _
-event_low e (Some t) s low = All-cons (λ (h : Event). IsLow h.at.cell) _ [] low (All-nil _)
+event_low e (Some t) s low = All-cons (λ (h : TimedSignal). IsLow h.at.cell) _ [] low (All-nil _)
 
-pub low_all_times : (f : ℕ → ℕ) (c : Circuit) (es : List Border) (s : Signals) →
+pub low_all_times : (f : ℕ → ℕ) (c : Circuit) (es : List BorderLine) (s : Signals) →
     renumber_signals f s ≡ line_signals c es →
     All (λ e. IsLow e.cell) es → All (λ (h : AllTimes). IsLow h.cell) s.all_times
 low_all_times f c es s same all =
@@ -104,19 +104,22 @@ low_all_times f c es s same all =
     (flat_all (λ (h : AllTimes). IsLow h.cell) (λ e. all_times_by e e.time (line_signal c e.signal)) (λ e. IsLow e.cell)
     (λ e low. all_times_low e e.time (line_signal c e.signal) low) es all))
 
-pub low_events : (f : ℕ → ℕ) (c : Circuit) (es : List Border) (s : Signals) → renumber_signals f s ≡ line_signals c es →
-    All (λ e. IsLow e.cell) es → All (λ (h : Event). IsLow h.at.cell) s.events
+pub low_events : (f : ℕ → ℕ) (c : Circuit) (es : List BorderLine) (s : Signals) →
+    renumber_signals f s ≡ line_signals c es →
+    All (λ e. IsLow e.cell) es → All (λ (h : TimedSignal). IsLow h.at.cell) s.events
 low_events f c es s same all =
-    unmapped (λ (h : Event). IsLow h.at.cell) (renumber_event f) s.events
-    (subst (λ (hs : List Event). All (λ (h : Event). IsLow h.at.cell) hs) (sym (ap (λ (r : Signals). r.events) same))
-    (flat_all (λ (h : Event). IsLow h.at.cell) (λ e. event_by e e.time (line_signal c e.signal)) (λ e. IsLow e.cell)
+    unmapped (λ (h : TimedSignal). IsLow h.at.cell) (renumber_event f) s.events
+    (subst (λ (hs : List TimedSignal). All (λ (h : TimedSignal). IsLow h.at.cell) hs)
+    (sym (ap (λ (r : Signals). r.events) same))
+    (flat_all (λ (h : TimedSignal). IsLow h.at.cell) (λ e. event_by e e.time (line_signal c e.signal))
+    (λ e. IsLow e.cell)
     (λ e low. event_low e e.time (line_signal c e.signal) low) es all))
 
 -- ---- low cells are near, also where a box moves to the corner
-small_low : (z : ℤ) → (pos 0 ≤ℤ z) → (z ≤ℤ pos 511) → IsSmall z
+small_low : (z : ℤ) → (pos 0 ≤ℤ z) → (z ≤ℤ pos 511) → IsSmallShift z
 small_low z low high = (omega (arith, ints, low), omega (arith, ints, high))
 
-small_back : (z : ℤ) (n : ℕ) → n ≤ 512 → (pos 0 ≤ℤ z) → (z ≤ℤ pos 511) → IsSmall (z +ℤ shift_to_origin n)
+small_back : (z : ℤ) (n : ℕ) → n ≤ 512 → (pos 0 ≤ℤ z) → (z ≤ℤ pos 511) → IsSmallShift (z +ℤ shift_to_origin n)
 small_back z n few low high = (omega (arith, ints, low, few), omega (arith, ints, high))
 
 near_low : (c : Cell) → IsLow c → IsNear c
@@ -126,16 +129,17 @@ pub near_all_times : (hs : List AllTimes) → All (λ (h : AllTimes). IsLow h.ce
     All (λ (h : AllTimes). IsNear h.cell) hs
 near_all_times hs all = All-weaker _ _ (λ (h : AllTimes) l. near_low h.cell l) hs all
 
-pub near_events : (es : List Event) → All (λ (e : Event). IsLow e.at.cell) es → All (λ (e : Event). IsNear e.at.cell) es
-near_events es all = All-weaker _ _ (λ (e : Event) l. near_low e.at.cell l) es all
+pub near_events : (es : List TimedSignal) → All (λ (e : TimedSignal). IsLow e.at.cell) es →
+    All (λ (e : TimedSignal). IsNear e.at.cell) es
+near_events es all = All-weaker _ _ (λ (e : TimedSignal) l. near_low e.at.cell l) es all
 
-pub near_moved : (x y : ℕ) (es : List Event) → x ≤ 512 → y ≤ 512 → All (λ (e : Event). IsLow e.at.cell) es →
-    All (λ (e : Event). IsNear e.at.cell) (map (moved_event (shift_to_origin x) (shift_to_origin y)) es)
+pub near_moved : (x y : ℕ) (es : List TimedSignal) → x ≤ 512 → y ≤ 512 → All (λ (e : TimedSignal). IsLow e.at.cell) es →
+    All (λ (e : TimedSignal). IsNear e.at.cell) (map (moved_event (shift_to_origin x) (shift_to_origin y)) es)
 near_moved x y es few low all =
-    All-map (λ (e : Event). IsNear e.at.cell) (moved_event (shift_to_origin x) (shift_to_origin y)) es
-    (All-weaker (λ (e : Event). IsLow e.at.cell)
-    (λ (e : Event). IsNear (moved_event (shift_to_origin x) (shift_to_origin y) e).at.cell)
-    (λ (e : Event) l.
+    All-map (λ (e : TimedSignal). IsNear e.at.cell) (moved_event (shift_to_origin x) (shift_to_origin y)) es
+    (All-weaker (λ (e : TimedSignal). IsLow e.at.cell)
+    (λ (e : TimedSignal). IsNear (moved_event (shift_to_origin x) (shift_to_origin y) e).at.cell)
+    (λ (e : TimedSignal) l.
     (small_back e.at.cell.x x few l.column.0 l.column.1, small_back e.at.cell.y y low l.row.0 l.row.1)) es all)
 
 pub near_stops : (ss : List Stop) → All (λ (s : Stop). IsLow s.at.cell) ss → All (λ (s : Stop). IsNear s.at.cell) ss

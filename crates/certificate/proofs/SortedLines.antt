@@ -10,7 +10,7 @@ use Rattle.std.proofs.lemmas.List.Sorted.{sum_by-IsPermutation}
 use Rattle.std.proofs.lemmas.List.Sums.{sum_by-cons}
 use Rattle.std.proofs.lemmas.Option.{get_or_from_slice_get, slice_get_within}
 use Rattle.certificate_lines.specs.Versions.{in_order, line_order}
-use Rattle.certificate_lines.specs.declared.certificate_line.Border.{Border}
+use Rattle.certificate_lines.specs.declared.certificate_line.BorderLine.{BorderLine}
 use Rattle.certificate_lines.proofs.InList.{all_in}
 use Rattle.certificate.proofs.FullModules.{in_all, pairs_by_place}
 use Rattle.certificate_lines.proofs.LineOrder.{AreDistinct, In, Rises, in_each, each_in, in_ordered, line_total}
@@ -18,10 +18,10 @@ use Rattle.certificate_lines.proofs.LineOrder.{ordered_in, ordered_rises, rising
 use Rattle.certificate_lines.proofs.Pairs.{Each, Pairs, pairs_at}
 
 -- how many lines stand nowhere apart from the line
-beat : Border → Border → ℕ
+beat : BorderLine → BorderLine → ℕ
 beat e y = if is_eq (line_order e y) then 1 else 0
 
-abbrev count_at : Border → List Border → ℕ
+abbrev count_at : BorderLine → List BorderLine → ℕ
 count_at e ys = sum_by (beat e) ys
 
 eq_is : (o : Ordering) → is_eq o ≡ true → o ≡ Equal
@@ -34,27 +34,27 @@ not_eq Less h = refl
 not_eq Equal h = absurd (h refl)
 not_eq Greater h = refl
 
-cons_at : (e y : Border) (ys : List Border) → count_at e (y ∷ ys) ≡ beat e y + count_at e ys
+cons_at : (e y : BorderLine) (ys : List BorderLine) → count_at e (y ∷ ys) ≡ beat e y + count_at e ys
 cons_at e y ys = sum_by-cons (beat e) y ys
 
-beat_of : (e y : Border) (o : Ordering) → line_order e y ≡ o → beat e y ≡ (if is_eq o then 1 else 0)
+beat_of : (e y : BorderLine) (o : Ordering) → line_order e y ≡ o → beat e y ≡ (if is_eq o then 1 else 0)
 unfolding beat
 beat_of e y o h = ap (λ o. if is_eq o then 1 else 0) h
 
-beat_none : (e y : Border) → line_order e y ≢ Equal → beat e y ≡ 0
+beat_none : (e y : BorderLine) → line_order e y ≢ Equal → beat e y ≡ 0
 unfolding beat
 beat_none e y h = ap (λ b. if b then 1 else 0) (not_eq (line_order e y) h)
 
-beat_one : (e y : Border) → line_order e y ≡ Equal → beat e y ≡ 1
+beat_one : (e y : BorderLine) → line_order e y ≡ Equal → beat e y ≡ 1
 beat_one e y h = beat_of e y Equal h
 
-none_at : (e : Border) (ys : List Border) → Each (λ y. line_order e y ≢ Equal) ys → count_at e ys ≡ 0
+none_at : (e : BorderLine) (ys : List BorderLine) → Each (λ y. line_order e y ≢ Equal) ys → count_at e ys ≡ 0
 unfolding Each
 none_at e [] h = refl
 none_at e (y ∷ ys) h = let c = cons_at e y ys in let n = beat_none e y h.0 in let m = none_at e ys h.1 in
     omega (arith, c, n, m)
 
-first_or_later : (e y : Border) (ys : List Border) → Each (λ z. line_order y z ≢ Equal) ys → count_at e ys ≤ 1 →
+first_or_later : (e y : BorderLine) (ys : List BorderLine) → Each (λ z. line_order y z ≢ Equal) ys → count_at e ys ≤ 1 →
     (o : Ordering) → line_order e y ≡ o → count_at e (y ∷ ys) ≤ 1
 first_or_later e y ys d later Less h = let c = cons_at e y ys in let n = beat_of e y Less h in
     omega (arith, c, n, later)
@@ -67,12 +67,12 @@ first_or_later e y ys d later Equal h =
     (λ z i eq. each_in (λ z. line_order y z ≢ Equal) ys d z i (sym (line_total.congr e y z h) ∙ eq))) in
     omega (arith, c, n, m)
 
-one_at : (e : Border) (ys : List Border) → AreDistinct ys → count_at e ys ≤ 1
+one_at : (e : BorderLine) (ys : List BorderLine) → AreDistinct ys → count_at e ys ≤ 1
 unfolding Pairs
 one_at e [] p = omega arith
 one_at e (y ∷ ys) p = first_or_later e y ys p.0 (one_at e ys p.1) (line_order e y) refl
 
-itself : (y : Border) → line_order y y ≡ Equal
+itself : (y : BorderLine) → line_order y y ≡ Equal
 itself y = by (line_order y y) refl
   where
     by : (o : Ordering) → line_order y y ≡ o → line_order y y ≡ Equal
@@ -80,7 +80,7 @@ itself y = by (line_order y y) refl
     by Equal e = e
     by Greater e = absurd (let t = sym e ∙ line_total.antisymm y y ∙ ap ordering_reverse e in cc)
 
-all_other : (e : Border) (ys : List Border) → count_at e ys ≡ 0 → Each (λ y. line_order e y ≢ Equal) ys
+all_other : (e : BorderLine) (ys : List BorderLine) → count_at e ys ≡ 0 → Each (λ y. line_order e y ≢ Equal) ys
 unfolding Each
 all_other e [] n = tt
 all_other e (y ∷ ys) n =
@@ -89,7 +89,7 @@ all_other e (y ∷ ys) n =
       all_other e ys (omega (arith, c, n)),
     )
 
-distinct_by : (ys : List Border) → ((e : Border) → count_at e ys ≤ 1) → AreDistinct ys
+distinct_by : (ys : List BorderLine) → ((e : BorderLine) → count_at e ys ≤ 1) → AreDistinct ys
 unfolding Pairs
 distinct_by [] h = tt
 distinct_by (y ∷ ys) h = (
@@ -98,15 +98,15 @@ distinct_by (y ∷ ys) h = (
   distinct_by ys (λ e. let n = h e in let c = cons_at e y ys in omega (arith, n, c)),
 )
 
-kept_distinct : (xs ys : List Border) → IsPermutation xs ys → AreDistinct xs → AreDistinct ys
+kept_distinct : (xs ys : List BorderLine) → IsPermutation xs ys → AreDistinct xs → AreDistinct ys
 kept_distinct xs ys p d = distinct_by ys
     (λ e. let same = sum_by-IsPermutation (beat e) xs ys p in let one = one_at e xs d in omega (arith, same, one))
 
-kept_in : (xs ys : List Border) → IsPermutation xs ys → (x : Border) → In x ys → In x xs
+kept_in : (xs ys : List BorderLine) → IsPermutation xs ys → (x : BorderLine) → In x ys → In x xs
 kept_in xs ys p x i = all_in (λ y. In y xs) ys
     (All-permutation (λ y. In y xs) xs ys p (in_all (λ y. In y xs) xs (λ y j. j))) x i
 
-less_of : (a b : Border) → is_lt (line_order b a) ≡ false → line_order a b ≢ Equal → line_order a b ≡ Less
+less_of : (a b : BorderLine) → is_lt (line_order b a) ≡ false → line_order a b ≢ Equal → line_order a b ≡ Less
 less_of a b h n = by (line_order a b) refl
   where
     by : (o : Ordering) → line_order a b ≡ o → line_order a b ≡ Less
@@ -115,7 +115,7 @@ less_of a b h n = by (line_order a b) refl
     by Greater e = absurd (let t : line_order b a ≡ Less = line_total.antisymm b a ∙ ap ordering_reverse e in let k =
         sym h ∙ ap is_lt t in cc)
 
-sorted_rises : (ys : List Border) → IsSortedBy (λ a b. is_lt (line_order a b)) ys → AreDistinct ys → Rises ys
+sorted_rises : (ys : List BorderLine) → IsSortedBy (λ a b. is_lt (line_order a b)) ys → AreDistinct ys → Rises ys
 sorted_rises ys up d = pairs_by_place (λ a b. line_order a b ≡ Less) ys (λ i j a b lt ea eb.
     let la = slice_get_within ys i a ea in let lb = slice_get_within ys j b eb in
     let far = sorted_far (λ a b. is_lt (line_order a b)) (ranks_by line_total (λ e. e)) ys up i j a
@@ -125,7 +125,7 @@ sorted_rises ys up d = pairs_by_place (λ a b. line_order a b ≡ Less) ys (λ i
     less_of a b (ap (λ x. is_lt (line_order x a)) (sym gb) ∙ ap (λ x. is_lt (line_order (get_or ys j a) x)) (sym ga)
     ∙ far) (pairs_at (λ a b. line_order a b ≢ Equal) ys d i j a b lt ea eb))
 
-pub sorted_lines : (xs ys : List Border) → AreDistinct xs → IsPermutation xs ys →
+pub sorted_lines : (xs ys : List BorderLine) → AreDistinct xs → IsPermutation xs ys →
     IsSortedBy (λ a b. is_lt (line_order a b)) ys → ys ≡ in_order xs
 sorted_lines xs ys d p up =
     rising_same ys (in_order xs) (sorted_rises ys up (kept_distinct xs ys p d)) (ordered_rises xs d)

@@ -14,7 +14,7 @@ use Rattle.module_box.specs.declared.boxes.Box2.{Box2}
 use Rattle.pattern.specs.Layout.{cell}
 use Rattle.pattern.specs.Forms.{cell_from}
 use Rattle.pattern.specs.Text.{coordinate}
-use Rattle.certificate_lines.specs.declared.certificate_line.Border.{Border}
+use Rattle.certificate_lines.specs.declared.certificate_line.BorderLine.{BorderLine}
 use Rattle.certificate_lines.specs.declared.certificate_line.StopLine.{StopLine}
 use Rattle.certificate_lines.specs.declared.certificate_line.CertificateLine.TheVariants.{Module, Cut, Use, Keep, Edge}
 use Rattle.certificate_lines.specs.declared.certificate_line.CertificateLine.TheVariants.{Halo, Stop}
@@ -77,7 +77,7 @@ area_spelled ws v b at e =
     (number_at_spelled ws 1 x ex) (number_at_spelled ws 2 y ey) (number_at_spelled ws 3 w ew)
     (number_at_spelled ws 4 h eh))))))
 
-border_spelled : (ws : List (List ℕ)) (v : List ℕ) (b : Border) → is_word_at ws 0 v ≡ true → border_of ws ≡ Some b →
+border_spelled : (ws : List (List ℕ)) (v : List ℕ) (b : BorderLine) → is_word_at ws 0 v ≡ true → border_of ws ≡ Some b →
     ws ≡ v ∷ border_words b
 unfolding border_of timed_cell
 border_spelled ws v b at e =
@@ -89,7 +89,7 @@ border_spelled ws v b at e =
     option_and_then_some (λ s. Some (record { time = t; cell = c; signal = s })) (signal_at ws 4) b last
     (λ s signalled made.
     let place = cell_spelled ws 2 c at_cell in
-    subst (λ (q : Border). ws ≡ v ∷ border_words q) (same_Some (record { time = t; cell = c; signal = s }) b made)
+    subst (λ (q : BorderLine). ws ≡ v ∷ border_words q) (same_Some (record { time = t; cell = c; signal = s }) b made)
     (five_words ws v (time_word t) (decimal (coordinate c.x)) (decimal (coordinate c.y)) (signal_word s)
     (eqb-true _ _ found.0) (is_at_is ws 0 v at) (time_spelled ws 1 t timed) place.column place.row
     (signal_spelled ws 4 s signalled)))))

@@ -13,7 +13,7 @@ use Rattle.circuit.specs.Meaning.{Circuit, wires}
 use Rattle.module_box.specs.Locals.{LocalNet, circuit_wire}
 use Rattle.module_box.specs.Moments.{cell_cmp, moment_cmp}
 use Rattle.module_box.specs.Schedules.{IsRising, moment_of, cell_of}
-use Rattle.module_box.specs.declared.schedules.Event.{Event}
+use Rattle.module_box.specs.declared.schedules.TimedSignal.{TimedSignal}
 use Rattle.module_box.specs.declared.schedules.AllTimes.{AllTimes}
 use Rattle.module_box.specs.declared.schedules.Signal.{Signal}
 use Rattle.certificate.specs.Jobs.{all_times_by, event_by, line_signal}
@@ -21,11 +21,11 @@ use Rattle.certificate_lines.specs.Orders.{AreInOrder}
 use Rattle.module_job.specs.Signals.{IsBelow, renumber_signal, renumber_all_times, renumber_event}
 use Rattle.certificate.specs.NamedWires.{AreNamedWires, IsWireOf}
 use Rattle.certificate.specs.Timetables.{IsTimetable, borders_in}
-use Rattle.certificate_lines.specs.declared.certificate_line.Border.{Border}
+use Rattle.certificate_lines.specs.declared.certificate_line.BorderLine.{BorderLine}
 use Rattle.certificate_lines.specs.declared.certificate_line.CertificateLine.{CertificateLine}
 use Rattle.certificate.specs.declared.named_wires.NamedWire.{NamedWire}
-use Rattle.certificate.specs.declared.timetable.Side.{Side}
-use Rattle.certificate.specs.declared.timetable.Side.TheVariants.{Ring, Halo}
+use Rattle.certificate.specs.declared.timetable.Border.{Border}
+use Rattle.certificate.specs.declared.timetable.Border.TheVariants.{Ring, Halo}
 use Rattle.certificate.specs.declared.timetable.Timetable.{Timetable}
 use Rattle.certificate.proofs.BorderOrder.{Before, edges_rise, halos_rise, all_times_rises, events_rise}
 use Rattle.certificate_lines.proofs.Pairs.{Pairs}
@@ -39,22 +39,22 @@ one_flat f x = append-nil (f x)
 
 -- ---- one line
 
-renumbered_all_times : (f : ℕ → ℕ) (e : Border) (t : Option ℕ) (s : Signal) →
+renumbered_all_times : (f : ℕ → ℕ) (e : BorderLine) (t : Option ℕ) (s : Signal) →
     map (renumber_all_times f) (all_times_by e t s) ≡ all_times_by e t (renumber_signal f s)
 renumbered_all_times f e None s = refl
 renumbered_all_times f e (Some t) s = refl
 
-renumbered_event : (f : ℕ → ℕ) (e : Border) (t : Option ℕ) (s : Signal) →
+renumbered_event : (f : ℕ → ℕ) (e : BorderLine) (t : Option ℕ) (s : Signal) →
     map (renumber_event f) (event_by e t s) ≡ event_by e t (renumber_signal f s)
 renumbered_event f e None s = refl
 renumbered_event f e (Some t) s = refl
 
-own_all_times : (n : ℕ) (e : Border) (t : Option ℕ) (s : Signal) → IsBelow n s →
+own_all_times : (n : ℕ) (e : BorderLine) (t : Option ℕ) (s : Signal) → IsBelow n s →
     All (λ h. IsBelow n h.signal) (all_times_by e t s)
 own_all_times n e None s b = All-cons (λ h. IsBelow n h.signal) _ [] b (All-nil (λ h. IsBelow n h.signal))
 own_all_times n e (Some t) s b = All-nil (λ h. IsBelow n h.signal)
 
-own_event : (n : ℕ) (e : Border) (t : Option ℕ) (s : Signal) → IsBelow n s →
+own_event : (n : ℕ) (e : BorderLine) (t : Option ℕ) (s : Signal) → IsBelow n s →
     All (λ h. IsBelow n h.signal) (event_by e t s)
 own_event n e None s b = All-nil (λ h. IsBelow n h.signal)
 own_event n e (Some t) s b = All-cons (λ h. IsBelow n h.signal) _ [] b (All-nil (λ h. IsBelow n h.signal))
@@ -65,13 +65,13 @@ next_line f xs i x lt e = flat_map_more f [] (take i xs) x
     ∙ ap (flat_map f) (sym (take_more xs i x lt ∙ ap (λ y. take i xs ++ y ∷ []) (sym e)))
 
 module _ (c : Circuit) (l : LocalNet) where
-  more_all_times : (es : List Border) (e : Border) (s : Signal) (hs ns : List AllTimes) →
+  more_all_times : (es : List BorderLine) (e : BorderLine) (s : Signal) (hs ns : List AllTimes) →
       renumber_signal (circuit_wire l) s ≡ line_signal c e.signal → ns ≡ hs ++ all_times_by e e.time s →
       map (renumber_all_times (circuit_wire l)) hs ≡ flat_map (λ d. all_times_by d d.time (line_signal c d.signal)) es →
       map (renumber_all_times (circuit_wire l)) ns
       ≡ flat_map (λ d. all_times_by d d.time (line_signal c d.signal)) (es ++ e ∷ [])
   more_all_times es e s hs ns same grown h =
-      let by : Border → List AllTimes = λ d. all_times_by d d.time (line_signal c d.signal) in
+      let by : BorderLine → List AllTimes = λ d. all_times_by d d.time (line_signal c d.signal) in
       ap (map (renumber_all_times (circuit_wire l))) grown
       ∙ map-append (renumber_all_times (circuit_wire l)) hs (all_times_by e e.time s) ∙
       ap (λ xs. xs ++ map (renumber_all_times (circuit_wire l)) (all_times_by e e.time s)) h ∙
@@ -79,13 +79,13 @@ module _ (c : Circuit) (l : LocalNet) where
       (renumbered_all_times (circuit_wire l) e e.time s ∙ ap (all_times_by e e.time) same ∙ sym (one_flat by e)) ∙
       sym (flat_map-append by es (e ∷ []))
 
-  more_events : (es : List Border) (e : Border) (s : Signal) (hs ns : List Event) →
+  more_events : (es : List BorderLine) (e : BorderLine) (s : Signal) (hs ns : List TimedSignal) →
       renumber_signal (circuit_wire l) s ≡ line_signal c e.signal → ns ≡ hs ++ event_by e e.time s →
       map (renumber_event (circuit_wire l)) hs ≡ flat_map (λ d. event_by d d.time (line_signal c d.signal)) es →
       map (renumber_event (circuit_wire l)) ns
       ≡ flat_map (λ d. event_by d d.time (line_signal c d.signal)) (es ++ e ∷ [])
   more_events es e s hs ns same grown h =
-      let by : Border → List Event = λ d. event_by d d.time (line_signal c d.signal) in
+      let by : BorderLine → List TimedSignal = λ d. event_by d d.time (line_signal c d.signal) in
       ap (map (renumber_event (circuit_wire l))) grown
       ∙ map-append (renumber_event (circuit_wire l)) hs (event_by e e.time s) ∙
       ap (λ xs. xs ++ map (renumber_event (circuit_wire l)) (event_by e e.time s)) h ∙
@@ -93,7 +93,7 @@ module _ (c : Circuit) (l : LocalNet) where
       (renumbered_event (circuit_wire l) e e.time s ∙ ap (event_by e e.time) same ∙ sym (one_flat by e)) ∙
       sym (flat_map-append by es (e ∷ []))
 
-  pub with_border : (es : List Border) (e : Border) (s : Signal) (old new : Timetable) →
+  pub with_border : (es : List BorderLine) (e : BorderLine) (s : Signal) (old new : Timetable) →
       renumber_signal (circuit_wire l) s ≡ line_signal c e.signal → IsBelow (wires l.netlist) s →
       new.all_times.items ≡ old.all_times.items ++ all_times_by e e.time s →
       new.events.items ≡ old.events.items ++ event_by e e.time s → AreNamedWires c l new.slots →
@@ -127,7 +127,7 @@ module _ (c : Circuit) (l : LocalNet) where
     slots = slots;
   }
 
-  pub next_table : (side : Side) (lines : List CertificateLine) (i : ℕ) (line : CertificateLine) (t : Timetable) →
+  pub next_table : (side : Border) (lines : List CertificateLine) (i : ℕ) (line : CertificateLine) (t : Timetable) →
       i < length lines →
       line ≡ get_or lines i line →
       IsTimetable c l (flat_map (borders_in side) (take i lines) ++ borders_in side line) t →
@@ -135,7 +135,7 @@ module _ (c : Circuit) (l : LocalNet) where
   next_table side lines i line t lt e h =
       subst (λ es. IsTimetable c l es t) (next_line (borders_in side) lines i line lt e) h
 
-  pub all_lines : (side : Side) (lines : List CertificateLine) (i : ℕ) (t : Timetable) → length lines ≤ i →
+  pub all_lines : (side : Border) (lines : List CertificateLine) (i : ℕ) (t : Timetable) → length lines ≤ i →
       IsTimetable c l (flat_map (borders_in side) (take i lines)) t →
       IsTimetable c l (flat_map (borders_in side) lines) t
   all_lines side lines i t le h =
@@ -143,19 +143,20 @@ module _ (c : Circuit) (l : LocalNet) where
 
 -- ---- all lines
 
-pub borders_rise : (side : Side) (lines : List CertificateLine) → AreInOrder lines →
+pub borders_rise : (side : Border) (lines : List CertificateLine) → AreInOrder lines →
     Pairs Before (flat_map (borders_in side) lines)
 borders_rise Ring lines o = edges_rise lines o
 borders_rise Halo lines o = halos_rise lines o
 
-pub table_all_times_rises : (c : Circuit) (l : LocalNet) (side : Side) (lines : List CertificateLine) (t : Timetable) →
+pub table_all_times_rises : (c : Circuit) (l : LocalNet) (side : Border) (lines : List CertificateLine)
+    (t : Timetable) →
     AreInOrder lines → IsTimetable c l (flat_map (borders_in side) lines) t →
     IsRising cell_cmp cell_of t.all_times.items
 table_all_times_rises c l side lines t o h =
     all_times_rises (λ e. line_signal c e.signal) (circuit_wire l) (flat_map (borders_in side) lines)
     (borders_rise side lines o) t.all_times.items h.all_times
 
-pub table_events_rise : (c : Circuit) (l : LocalNet) (side : Side) (lines : List CertificateLine) (t : Timetable) →
+pub table_events_rise : (c : Circuit) (l : LocalNet) (side : Border) (lines : List CertificateLine) (t : Timetable) →
     AreInOrder lines → IsTimetable c l (flat_map (borders_in side) lines) t →
     IsRising moment_cmp moment_of t.events.items
 table_events_rise c l side lines t o h =

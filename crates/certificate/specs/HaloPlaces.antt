@@ -9,12 +9,12 @@ use Rattle.module_box.specs.Boxes.{in_box, in_halo, in_ring, IsEven}
 use Rattle.module_box.specs.Tiling.{AreOwners, Owning}
 use Rattle.module_box.specs.declared.boxes.Box2.{Box2}
 use Rattle.certificate_lines.specs.Entries.{ModuleLines, Setting, edge_in, modules_of}
-use Rattle.certificate_lines.specs.Versions.{beside}
-use Rattle.certificate_lines.specs.declared.certificate_line.Border.{Border}
+use Rattle.certificate_lines.specs.Versions.{edge_lines_beside}
+use Rattle.certificate_lines.specs.declared.certificate_line.BorderLine.{BorderLine}
 use Rattle.certificate_lines.specs.declared.certificate_line.CertificateLine.{CertificateLine}
 
 -- the edge lines at these places
-abbrev pub edges_at : List CertificateLine → List ℕ → List Border
+abbrev pub edges_at : List CertificateLine → List ℕ → List BorderLine
 edges_at es places = flat_map (λ k. flat_map edge_in (option_to_list (slice_get es k))) places
 
 -- the list of this number, or an empty one
@@ -44,7 +44,7 @@ pub record HavePlace (boxes : List Box2) (test : Box2 → Bool) (place : ℕ) (o
       list_at new i ≡ list_at old i ++ (if test b then place ∷ [] else [])
 
 -- each list has more places, at its end: those of these edge lines that are for cells in the halo of its box
-pub record HaveEdges (es : List CertificateLine) (boxes : List Box2) (more : List Border)
+pub record HaveEdges (es : List CertificateLine) (boxes : List Box2) (more : List BorderLine)
     (old new : List (List ℕ)) : Type 0 where
   pub count : length new ≡ length old
   pub each : (i : ℕ) (b : Box2) → slice_get boxes i ≡ Some b →
@@ -55,4 +55,4 @@ pub record HaveEdges (es : List CertificateLine) (boxes : List Box2) (more : Lis
 pub record AreHaloPlaces (g : Setting) (es : List CertificateLine) (lists : List (List ℕ)) : Type 0 where
   pub count : length lists ≡ length (modules_of es)
   pub each : (i : ℕ) (m : ModuleLines) → slice_get (modules_of es) i ≡ Some m →
-      edges_at es (list_at lists i) ≡ beside g (modules_of es) m.area
+      edges_at es (list_at lists i) ≡ edge_lines_beside g (modules_of es) m.area

@@ -7,13 +7,13 @@ use Rattle.pattern.specs.Layout.{Pattern, in_cells, in_rectangles}
 use Rattle.module_box.specs.Boxes.{in_box}
 use Rattle.module_box.specs.Locals.{AreLocalsOf, circuit_gate, circuit_wire}
 use Rattle.module_box.specs.Schedules.{Signals}
-use Rattle.module_box.specs.declared.schedules.Event.{Event}
+use Rattle.module_box.specs.declared.schedules.TimedSignal.{TimedSignal}
 use Rattle.module_box.specs.declared.schedules.AllTimes.{AllTimes}
 use Rattle.module_box.specs.declared.schedules.Signal.{Signal}
 use Rattle.module_box.specs.declared.schedules.Signal.TheVariants.{Zero, One, Wire}
 use Rattle.certificate_lines.specs.Entries.{ModuleLines, cuts, gates, keeps, edges, halos, stops, known}
 use Rattle.module_job.specs.Signals.{renumber_signal, renumber_demand, renumber_signals, renumber_stop}
-use Rattle.certificate_lines.specs.declared.certificate_line.Border.{Border}
+use Rattle.certificate_lines.specs.declared.certificate_line.BorderLine.{BorderLine}
 use Rattle.certificate_lines.specs.declared.certificate_line.StopLine.{StopLine}
 use Rattle.module_job.specs.declared.job.Demand.{Demand}
 use Rattle.module_job.specs.declared.job.Demand.TheVariants as Demanded
@@ -61,17 +61,17 @@ line_signal c None = One
 line_signal c (Some n) = signal_of (wire_of c n)
 
 -- a line with a `*` holds for all odd times
-abbrev pub all_times_by : Border → Option ℕ → Signal → List AllTimes
+abbrev pub all_times_by : BorderLine → Option ℕ → Signal → List AllTimes
 all_times_by e None signal = record { cell = e.cell; signal = signal } ∷ []
 all_times_by e (Some t) signal = []
 
 -- and a line with a time for that time
-abbrev pub event_by : Border → Option ℕ → Signal → List Event
+abbrev pub event_by : BorderLine → Option ℕ → Signal → List TimedSignal
 event_by e None signal = []
 event_by e (Some t) signal = record { at = record { time = t; cell = e.cell }; signal = signal } ∷ []
 
 -- what edge or halo lines say, one after the other
-abbrev pub line_signals : Circuit → List Border → Signals
+abbrev pub line_signals : Circuit → List BorderLine → Signals
 line_signals c es = record {
   all_times = flat_map (λ e. all_times_by e e.time (line_signal c e.signal)) es;
   events = flat_map (λ e. event_by e e.time (line_signal c e.signal)) es;

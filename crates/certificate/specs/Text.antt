@@ -6,7 +6,7 @@ use Rattle.section_text.specs.Spelling.{line_text}
 use Rattle.section_text.specs.declared.section.Form.TheVariants.{Header, Item, End}
 use Rattle.pattern.specs.Text.{cell_words}
 use Rattle.module_box.specs.declared.boxes.Box2.{Box2}
-use Rattle.certificate_lines.specs.declared.certificate_line.Border.{Border}
+use Rattle.certificate_lines.specs.declared.certificate_line.BorderLine.{BorderLine}
 use Rattle.certificate_lines.specs.declared.certificate_line.CertificateLine.{CertificateLine}
 use Rattle.certificate_lines.specs.declared.certificate_line.StopLine.{StopLine}
 use Rattle.certificate_lines.specs.declared.certificate_line.CertificateLine.TheVariants.{Module, Cut, Use, Keep, Edge}
@@ -29,7 +29,7 @@ signal_word None = codes "1"
 signal_word (Some name) = name
 
 -- the words of an edge or halo line behind the keyword
-abbrev pub border_words : Border → List (List ℕ)
+abbrev pub border_words : BorderLine → List (List ℕ)
 border_words e = time_word e.time ∷ (cell_words e.cell ++ signal_word e.signal ∷ [])
 
 -- the words of a stop behind the keyword

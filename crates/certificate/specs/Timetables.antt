@@ -9,19 +9,19 @@ use Rattle.certificate.specs.Jobs.{line_signals}
 use Rattle.certificate.specs.NamedWires.{AreNamedWires}
 use Rattle.certificate_lines.specs.Rules.{is_local}
 use Rattle.module_job.specs.Signals.{IsBelow, renumber_all_times, renumber_event}
-use Rattle.certificate_lines.specs.declared.certificate_line.Border.{Border}
+use Rattle.certificate_lines.specs.declared.certificate_line.BorderLine.{BorderLine}
 use Rattle.certificate_lines.specs.declared.certificate_line.CertificateLine.{CertificateLine}
-use Rattle.certificate.specs.declared.timetable.Side.{Side}
-use Rattle.certificate.specs.declared.timetable.Side.TheVariants.{Ring, Halo}
+use Rattle.certificate.specs.declared.timetable.Border.{Border}
+use Rattle.certificate.specs.declared.timetable.Border.TheVariants.{Ring, Halo}
 use Rattle.certificate.specs.declared.timetable.Timetable.{Timetable}
 
 -- what a line says of cells of this side
-abbrev pub borders_in : Side → CertificateLine → List Border
+abbrev pub borders_in : Border → CertificateLine → List BorderLine
 borders_in Ring i = edge_in i
 borders_in Halo i = halo_in i
 
 -- the wire that the line names, if it names one, is one of the module's
-abbrev pub IsNamedLocal : Circuit → LocalNet → Border → Type 0
+abbrev pub IsNamedLocal : Circuit → LocalNet → BorderLine → Type 0
 IsNamedLocal c l e = IfSome e.signal (λ name. IsTrue (is_local c l.circuit_wires name))
 
 -- the cell lies within 512 columns and rows
@@ -30,7 +30,7 @@ pub record IsLow (c : Cell) : Type 0 where
   pub row : (pos 0 ≤ℤ c.y) × (c.y ≤ℤ pos 511)
 
 -- what is held and what happens is what the lines say, each wire is one of the module's, and so are those in slots
-pub record IsTimetable (c : Circuit) (l : LocalNet) (es : List Border) (t : Timetable) : Type 0 where
+pub record IsTimetable (c : Circuit) (l : LocalNet) (es : List BorderLine) (t : Timetable) : Type 0 where
   pub all_times : map (renumber_all_times (circuit_wire l)) t.all_times.items ≡ (line_signals c es).all_times
   pub events : map (renumber_event (circuit_wire l)) t.events.items ≡ (line_signals c es).events
   pub own_all_times : All (λ h. IsBelow (wires l.netlist) h.signal) t.all_times.items

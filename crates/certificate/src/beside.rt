@@ -7,7 +7,7 @@ ghost use Rattle.certificate_lines.specs.Entries.{Setting, edge_in, modules_of, 
 ghost use Rattle.certificate_lines.specs.Modules.{AreModules};
 ghost use Rattle.certificate.specs.HaloPlaces.{edges_at};
 ghost use Rattle.certificate.specs.SliceLines.{slice_lines};
-ghost use Rattle.certificate_lines.specs.Versions.{beside, in_order, is_early, is_halo, with_halos};
+ghost use Rattle.certificate_lines.specs.Versions.{edge_lines_beside, in_order, is_early, is_halo, with_halos};
 ghost use Rattle.certificate_lines.specs.declared.certificate_line.CertificateLine.TheVariants.{Halo, Stop};
 
 use certificate_lines::{
@@ -89,8 +89,8 @@ fn halos_at<'a>(
 ) -> Result<Vec<StoredBorder<'a>>, AllocError>
     ensures { IfOk result (λ halos. (g : Setting) (area : Box2) →
         AreModules g (modules_of entries.now) →
-        edges_at entries.now places.now ≡ beside g (modules_of entries.now) area →
-        halos.items ≡ in_order (beside g (modules_of entries.now) area)) }
+        edges_at entries.now places.now ≡ edge_lines_beside g (modules_of entries.now) area →
+        halos.items ≡ in_order (edge_lines_beside g (modules_of entries.now) area)) }
 {
     let mut halos = lines_at(alloc, entries, places)?;
     halos.sort_by(|a, b| compare_borders(a, b))?;
@@ -191,7 +191,8 @@ pub(crate) fn full_lines<'a>(
     part: &ModuleSlice<'_, 'a>,
 ) -> Result<Vec<StoredLine<'a>>, AllocError>
     ensures { IfOk result (λ lines. (g : Setting) → AreModules g (modules_of entries.now) →
-        edges_at entries.now places.now ≡ beside g (modules_of entries.now) part.now.area →
+        edges_at entries.now places.now
+        ≡ edge_lines_beside g (modules_of entries.now) part.now.area →
         record { area = part.now.area; lines = lines.items }
         ≡ with_halos g (modules_of entries.now) (slice_lines part.now)) }
 {

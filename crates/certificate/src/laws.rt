@@ -1,7 +1,7 @@
 //! Laws of the definitions, each the contract of a function without a body.
 ghost use Rattle.certificate.specs.Laws.{FirstIsLeast, GoodWithoutHalos, HaloIsEdgeBeside, KeptIsOnTime, LastIsGreatest, LinesTell, MeantAreModules, PrintsWhatIsRead, ReadsWhatIsPrinted, SectionWithoutHalos};
 
-pub use module_job::laws::{equality_is_of_content, keys_tell_shapes, shapes_are_parts};
+pub use module_job::laws::{equality_is_of_content, shape_bytes_are_injective, shapes_are_parts};
 
 /// States that a certificate has one text.
 ///

@@ -18,7 +18,7 @@ use bbm_rule::{Cell, Grid};
 use certificate_lines::{PortTable, is_live, port_tables};
 use circuit::{Circuit, WireNo};
 use module_box::{Box2, Locals, Signal};
-use module_job::{Demand, Demands, Starts};
+use module_job::{Demand, EndDemands, StartSignals};
 use pattern::{Layout, LayoutHeader, Port, Rectangle, make_live, push_rectangle};
 use section_text::Name;
 use std::alloc::{AllocError, Global};
@@ -55,8 +55,8 @@ impl<'a> Model for LayoutTables<'a> {
 // What cells carry at time 0, and what they must be at the last time, one cell after the other.
 #[derive(Drop)]
 struct CellLists {
-    starts: Starts,
-    demands: Demands,
+    starts: StartSignals,
+    demands: EndDemands,
 }
 
 impl CellLists {
@@ -65,8 +65,8 @@ impl CellLists {
         ensures demands { IfOk result (λ lists. lists.demands ≡ []) }
     {
         Ok(CellLists {
-            starts: Starts::new(alloc, count)?,
-            demands: Demands::new(alloc, count)?,
+            starts: StartSignals::new(alloc, count)?,
+            demands: EndDemands::new(alloc, count)?,
         })
     }
 
@@ -363,7 +363,7 @@ impl<'a> LayoutTables<'a> {
         alloc: Global,
         area: Box2,
         locals: &Locals,
-    ) -> Result<(Starts, Demands), AllocError>
+    ) -> Result<(StartSignals, EndDemands), AllocError>
         requires columns { (area.x + area.w ≤ self.now.layout.size.w) × (area.x + area.w ≤ 512) }
         requires rows { (area.y + area.h ≤ self.now.layout.size.h) × (area.y + area.h ≤ 512) }
         requires ins { KnowsPorts (circuit_of self.now.circuit) locals.now.circuit_wires

@@ -11,7 +11,7 @@ mod cert;
 mod digest;
 mod halo_places;
 mod jobs;
-mod kept;
+mod keep_lines;
 pub mod laws;
 mod layout_tables;
 mod named_wires;
@@ -22,7 +22,7 @@ mod times;
 mod timetable;
 
 pub use cert::Cert;
-pub use certificate_lines::{Border, CertificateLine, Counts, StopLine};
+pub use certificate_lines::{BorderLine, CertificateLine, Counts, StopLine};
 pub use module_job::{Demand, Job, Shape, Stop, job_groups, shape_groups};
 pub use printing::{print_certificate, print_migrated};
 pub use reading::{read_certificate, read_certificate_with_digest};

@@ -8,7 +8,7 @@ ghost use Rattle.certificate.specs.Text.{area_words, time_word, signal_word, bor
 ghost use Rattle.certificate_lines.specs.Versions.{without_halos};
 
 use crate::cert::Cert;
-use certificate_lines::{Border, CertificateLine, StopLine, StoredLine};
+use certificate_lines::{BorderLine, CertificateLine, StopLine, StoredLine};
 use module_box::Box2;
 use pattern::print_cell;
 use section_text::{Name, print_number, print_word};
@@ -87,7 +87,7 @@ fn print_signal(out: &mut Vec<u8>, signal: Option<Name>) -> Result<(), AllocErro
     }
 }
 
-fn print_border(out: &mut Vec<u8>, word: &[u8], border: &Border) -> Result<(), AllocError>
+fn print_border(out: &mut Vec<u8>, word: &[u8], border: &BorderLine) -> Result<(), AllocError>
     ensures { OnOk result (out.new.items
         ≡ out.old.items ++ line_text word.now (border_words border.now)) }
 {

@@ -11,18 +11,18 @@ ghost use Rattle.certificate_lines.specs.Rules.{is_local};
 ghost use Rattle.module_job.specs.Signals.{IsBelow, renumber_signal, renumber_signals};
 ghost use Rattle.certificate.specs.Timetables.{IsTimetable, borders_in, IsNamedLocal};
 ghost use Rattle.certificate.specs.NamedWires.{AreNamedWires};
-ghost use Rattle.certificate_lines.specs.declared.certificate_line.Border.{Border};
+ghost use Rattle.certificate_lines.specs.declared.certificate_line.BorderLine.{BorderLine};
 
 use crate::named_wires::{NamedWire, SLOT_COUNT, empty_slots, slot_wire};
 use certificate_lines::{StoredBorder, StoredLine};
 use circuit::Circuit;
-use module_box::{AllTimes, Event, Locals, Moment, Schedule, Signal};
+use module_box::{AllTimes, Locals, Moment, Schedule, Signal, TimedSignal};
 use section_text::Name;
 use std::alloc::{AllocError, Global};
 
 /// The cells that a line is about: of the ring of a module's box, or of its halo.
 #[derive(Clone, Copy)]
-pub(crate) enum Side {
+pub(crate) enum Border {
     Ring,
     Halo,
 }
@@ -31,7 +31,7 @@ pub(crate) enum Side {
 #[derive(Drop)]
 struct Timetable<'a> {
     all_times: Vec<AllTimes>,
-    events: Vec<Event>,
+    events: Vec<TimedSignal>,
     slots: [Option<NamedWire<'a>>; SLOT_COUNT],
 }
 
@@ -69,7 +69,7 @@ impl<'a> Timetable<'a> {
         let cell = border.cell();
         match border.time() {
             None => self.all_times.push(AllTimes { cell, signal })?,
-            Some(time) => self.events.push(Event {
+            Some(time) => self.events.push(TimedSignal {
                 at: Moment { time, cell },
                 signal,
             })?,
@@ -86,7 +86,7 @@ impl<'a> Timetable<'a> {
         border: &StoredBorder<'a>,
     ) -> Result<(), AllocError>
         requires { IsNamedLocal (circuit_of circuit.now) locals.now border.now }
-        ensures { OnOk result ((es : List Border) →
+        ensures { OnOk result ((es : List BorderLine) →
             IsTimetable (circuit_of circuit.now) locals.now es self.old →
             IsTimetable (circuit_of circuit.now) locals.now (es ++ border.now ∷ []) self.new) }
     {
@@ -99,19 +99,19 @@ impl<'a> Timetable<'a> {
         &mut self,
         circuit: &Circuit,
         locals: &Locals,
-        side: Side,
+        side: Border,
         line: &StoredLine<'a>,
     ) -> Result<(), AllocError>
         requires { All (IsNamedLocal (circuit_of circuit.now) locals.now)
             (borders_in side line.now) }
-        ensures { OnOk result ((es : List Border) →
+        ensures { OnOk result ((es : List BorderLine) →
             IsTimetable (circuit_of circuit.now) locals.now es self.old →
             IsTimetable (circuit_of circuit.now) locals.now (es ++ borders_in side line.now)
             self.new) }
     {
         let border = match side {
-            Side::Ring => line.edge(),
-            Side::Halo => line.halo(),
+            Border::Ring => line.edge(),
+            Border::Halo => line.halo(),
         };
         match border {
             Some(border) => self.add(circuit, locals, &border),
@@ -125,7 +125,7 @@ pub(crate) fn signals_of(
     alloc: Global,
     circuit: &Circuit,
     locals: &Locals,
-    side: Side,
+    side: Border,
     lines: &[StoredLine],
 ) -> Result<Schedule, AllocError>
     requires order { AreInOrder lines.now }

@@ -8,12 +8,12 @@ use Rattle.std.proofs.lemmas.Option.{same_Some}
 use Rattle.std.proofs.lemmas.Slice.Eq.{bytes_eq-Decides}
 use Rattle.section_text.specs.Listed.{listed}
 use Rattle.section_text.specs.Words.{five, is_word, is_word_at, lone, lone_name, lone_number, ◌>>=◌}
-use Rattle.section_text.specs.declared.feed.FiveWords.{FiveWords}
+use Rattle.section_text.specs.declared.words.FiveWords.{FiveWords}
 use Rattle.section_text.specs.declared.section.Form.TheVariants.{Header, Item, End}
 use Rattle.certificate_lines.specs.Forms.{Line, area_of, border_of, form_of, short_form_of, stop_of}
 use Rattle.certificate_lines.specs.declared.certificate_line.CertificateLine.TheVariants.{Module, Cut, Use, Keep, Edge}
 use Rattle.certificate_lines.specs.declared.certificate_line.CertificateLine.TheVariants.{Halo, Stop}
-use Rattle.certificate_lines.specs.declared.certificate_line.Border.{Border}
+use Rattle.certificate_lines.specs.declared.certificate_line.BorderLine.{BorderLine}
 use Rattle.certificate_lines.specs.declared.certificate_line.StopLine.{StopLine}
 
 same_none : (b : Bool) (x : Option Line) → x ≡ None → (if b then None else x) ≡ None
@@ -23,13 +23,13 @@ same_none false x e = e
 -- ---- lines of five words
 
 -- a line that begins with `edge`
-pub edge_form : (ws : List (List ℕ)) (o : Option Border) → is_word_at ws 0 (codes "edge") ≡ true →
+pub edge_form : (ws : List (List ℕ)) (o : Option BorderLine) → is_word_at ws 0 (codes "edge") ≡ true →
     o ≡ border_of ws → (o >>= λ e. Some (Item (Edge e))) ≡ form_of ws
 unfolding form_of
 edge_form ws o edge is = ap (λ z. z >>= λ e. Some (Item (Edge e))) is ∙ sym (cond-true _ _ _ edge)
 
 -- a line that begins with `halo`
-pub halo_form : (ws : List (List ℕ)) (o : Option Border) → is_word_at ws 0 (codes "edge") ≡ false →
+pub halo_form : (ws : List (List ℕ)) (o : Option BorderLine) → is_word_at ws 0 (codes "edge") ≡ false →
     is_word_at ws 0 (codes "halo") ≡ true → o ≡ border_of ws → (o >>= λ e. Some (Item (Halo e))) ≡ form_of ws
 unfolding form_of
 halo_form ws o edge halo is =

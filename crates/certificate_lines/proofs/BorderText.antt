@@ -20,7 +20,7 @@ use Rattle.certificate_lines.specs.BorderWords.{leading_time, lone_signal, signa
 use Rattle.section_text.specs.declared.section.Form.TheVariants.{Item}
 use Rattle.certificate_lines.proofs.BorderLines.{edge_form, halo_form, stop_form}
 use Rattle.certificate_lines.specs.Forms.{border_of, form_of, signal_at, stop_of, time_at, timed_cell}
-use Rattle.certificate_lines.specs.declared.certificate_line.Border.{Border}
+use Rattle.certificate_lines.specs.declared.certificate_line.BorderLine.{BorderLine}
 use Rattle.certificate_lines.specs.declared.certificate_line.CertificateLine.TheVariants.{Edge, Halo, Stop}
 use Rattle.certificate_lines.specs.declared.certificate_line.StopLine.{StopLine}
 
@@ -152,16 +152,16 @@ signal_is l = elim (cases_Bool (bytes_eq l (codes "1"))) [
 
 -- ---- the content, step by step
 
-after_signal : Option ℕ → ℕ → ℕ → Option (List ℕ) → Option Border
+after_signal : Option ℕ → ℕ → ℕ → Option (List ℕ) → Option BorderLine
 after_signal t x y s = Some (record { time = t; cell = cell x y; signal = s })
 
-after_row : Option ℕ → ℕ → ℕ × List (List ℕ) → Option Border
+after_row : Option ℕ → ℕ → ℕ × List (List ℕ) → Option BorderLine
 after_row t x y = lone_signal y.1 >>= after_signal t x y.0
 
-after_column : Option ℕ → ℕ × List (List ℕ) → Option Border
+after_column : Option ℕ → ℕ × List (List ℕ) → Option BorderLine
 after_column t x = leading_number x.1 >>= after_row t x.0
 
-after_time : Option ℕ × List (List ℕ) → Option Border
+after_time : Option ℕ × List (List ℕ) → Option BorderLine
 after_time t = leading_number t.1 >>= after_column t.0
 
 not_five : (n : ℕ) → (suc (suc (suc (suc (suc (suc n))))) == 5) ≡ false
@@ -218,7 +218,7 @@ border_is k ws t after x rest y last time column row =
 
 -- ---- the form of the line
 
-pub edge_line : (l : List ℕ) (o : Option Border) → bytes_eq (take 5 l) (codes "edge ") ≡ true →
+pub edge_line : (l : List ℕ) (o : Option BorderLine) → bytes_eq (take 5 l) (codes "edge ") ≡ true →
     ((k : List ℕ) → o ≡ border_of (k ∷ words_of (take (length l - 5) (drop 5 l)))) →
     (o >>= λ e. Some (Item (Edge e))) ≡ form_of (words_of l)
 unfolding is_word_at
@@ -227,7 +227,7 @@ edge_line l o edge is =
     (is (codes "edge") ∙ ap (λ t. border_of (codes "edge" ∷ words_of t)) (take_rest l 5))
     ∙ ap form_of (sym (edge_words l edge))
 
-pub halo_line : (l : List ℕ) (o : Option Border) → bytes_eq (take 5 l) (codes "halo ") ≡ true →
+pub halo_line : (l : List ℕ) (o : Option BorderLine) → bytes_eq (take 5 l) (codes "halo ") ≡ true →
     ((k : List ℕ) → o ≡ border_of (k ∷ words_of (take (length l - 5) (drop 5 l)))) →
     (o >>= λ e. Some (Item (Halo e))) ≡ form_of (words_of l)
 unfolding is_word_at

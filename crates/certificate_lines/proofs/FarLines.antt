@@ -9,7 +9,7 @@ use Rattle.module_box.proofs.NearBoxes.{near_boxes}
 use Rattle.certificate_lines.specs.Entries.{ModuleLines, Setting, edges}
 use Rattle.certificate_lines.specs.ModuleParts.{AreInBox}
 use Rattle.certificate_lines.specs.Modules.{IsModule}
-use Rattle.certificate_lines.specs.declared.certificate_line.Border.{Border}
+use Rattle.certificate_lines.specs.declared.certificate_line.BorderLine.{BorderLine}
 use Rattle.certificate_lines.proofs.InList.{all_in}
 use Rattle.certificate_lines.proofs.LineOrder.{In}
 
@@ -23,17 +23,17 @@ none_passes test [] h = refl
 none_passes test (x ∷ xs) h =
     drop_if (test x) x (filter test xs) (h x (inl refl)) ∙ none_passes test xs (λ y i. h y (inr i))
 
-far_line : (a b : Box2) (e : Border) → is_near a b ≡ false → in_box b e.cell.x e.cell.y ≡ true →
+far_line : (a b : Box2) (e : BorderLine) → is_near a b ≡ false → in_box b e.cell.x e.cell.y ≡ true →
     in_halo a e.cell.x e.cell.y ≡ false
 far_line a b e far own = elim (cases_Bool (in_halo a e.cell.x e.cell.y)) [
   | inl reached ↦ absurd (false≢true (sym far ∙ near_boxes a b e.cell.x e.cell.y reached own))
   | inr not ↦ not
 ]
 
-pub far_lines : (a b : Box2) (es : List Border) → is_near a b ≡ false → AreInBox b es →
+pub far_lines : (a b : Box2) (es : List BorderLine) → is_near a b ≡ false → AreInBox b es →
     filter (λ e. in_halo a e.cell.x e.cell.y) es ≡ []
 far_lines a b es far own = none_passes (λ e. in_halo a e.cell.x e.cell.y) es
-    (λ e i. far_line a b e far (all_in (λ (d : Border). in_box b d.cell.x d.cell.y ≡ true) es own e i))
+    (λ e i. far_line a b e far (all_in (λ (d : BorderLine). in_box b d.cell.x d.cell.y ≡ true) es own e i))
 
 -- the edge lines of a module are for cells of its box
 pub own_lines : (g : Setting) (m : ModuleLines) → IsModule g m → AreInBox m.area (edges m)

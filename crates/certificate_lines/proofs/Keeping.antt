@@ -26,8 +26,8 @@ use Rattle.certificate_lines.specs.Modules.{IsModule}
 use Rattle.certificate_lines.specs.BuilderView.{AreBuilt, AreWires, IsBorderLine, IsInner, IsLastModule, IsTracked}
 use Rattle.certificate_lines.specs.BuilderView.{IsTrackedWith}
 use Rattle.certificate_lines.specs.BuilderView.{IsWritten}
-use Rattle.certificate_lines.specs.BuilderView.{counted, IsSmall, last_inner, outs_at, wires_in}
-use Rattle.certificate_lines.specs.declared.certificate_line.Border.{Border}
+use Rattle.certificate_lines.specs.BuilderView.{counted, AreSmallCounts, last_inner, outs_at, wires_in}
+use Rattle.certificate_lines.specs.declared.certificate_line.BorderLine.{BorderLine}
 use Rattle.certificate_lines.specs.declared.certificate_line.Counts.{Counts}
 use Rattle.certificate_lines.specs.declared.certificate_line.CertificateLine.{CertificateLine}
 use Rattle.certificate_lines.specs.declared.certificate_line.StopLine.{StopLine}
@@ -111,12 +111,12 @@ module _ (g : Setting) (es : List CertificateLine) (covered : Board) (counts : L
   few_lines : (m : ModuleLines) → IsModule g m → length (cuts m) ≤ 12
   few_lines m is = let n = is.named in let f = is.local.few_cuts in omega (arith, n, f)
 
-  pub small : (k : Counts) → last_of counts ≡ Some k → IsSmall k
+  pub small : (k : Counts) → last_of counts ≡ Some k → AreSmallCounts k
   small k some =
       let l = the_last k some in
       let written = last_written l.module_lines l.last in
       let is = written.good in
-      subst IsSmall (sym l.counted)
+      subst AreSmallCounts (sym l.counted)
       (record {
         few_cuts = few_lines l.module_lines is;
         few_gates = is.local.few_gates;
@@ -213,13 +213,15 @@ counted_keep k m = same_counts m.area _ _ _ _ _ _ _ _ _ _ (ap length (flat_same 
     (ap length (flat_same use_in m.lines (Keep k) refl)) (ap length (flat_same edge_in m.lines (Keep k) refl))
     (ap length (flat_same halo_in m.lines (Keep k) refl)) (ap length (flat_same stop_in m.lines (Keep k) refl))
 
-pub counted_edge : (d : Border) (m : ModuleLines) → counts_of (with_line (Edge d) m) ≡ counted (Edge d) (counts_of m)
+pub counted_edge : (d : BorderLine) (m : ModuleLines) →
+    counts_of (with_line (Edge d) m) ≡ counted (Edge d) (counts_of m)
 unfolding counted
 counted_edge d m = same_counts m.area _ _ _ _ _ _ _ _ _ _ (ap length (flat_same cut_in m.lines (Edge d) refl))
     (ap length (flat_same use_in m.lines (Edge d) refl)) (one_longer (edges m) _ d (edges_edge m d))
     (ap length (flat_same halo_in m.lines (Edge d) refl)) (ap length (flat_same stop_in m.lines (Edge d) refl))
 
-pub counted_halo : (d : Border) (m : ModuleLines) → counts_of (with_line (Halo d) m) ≡ counted (Halo d) (counts_of m)
+pub counted_halo : (d : BorderLine) (m : ModuleLines) →
+    counts_of (with_line (Halo d) m) ≡ counted (Halo d) (counts_of m)
 unfolding counted
 counted_halo d m = same_counts m.area _ _ _ _ _ _ _ _ _ _ (ap length (flat_same cut_in m.lines (Halo d) refl))
     (ap length (flat_same use_in m.lines (Halo d) refl)) (ap length (flat_same edge_in m.lines (Halo d) refl))
@@ -279,7 +281,7 @@ module _ (g : Setting) (es : List CertificateLine) (covered : Board) (counts : L
 
 module _ (g : Setting) (m : ModuleLines) (last : Option CertificateLine) (names : List (List ℕ)) (local : List ℕ)
     (e h : List Cell) (p : IsLastModule g m last names local e h) where
-  more_stars : (c : Cell) (f : CertificateLine → List Border) (i : CertificateLine) (old new : List Cell) →
+  more_stars : (c : Cell) (f : CertificateLine → List BorderLine) (i : CertificateLine) (old new : List Cell) →
       list_any (same_cell c) old ≡ list_any (is_starred c) (flat_map f m.lines)
       → list_any (same_cell c) new ≡ (list_any (same_cell c) old || list_any (is_starred c) (f i)) →
       list_any (same_cell c) new ≡ list_any (is_starred c) (flat_map f (m.lines ++ i ∷ []))

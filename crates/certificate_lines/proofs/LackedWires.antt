@@ -20,8 +20,8 @@ use Rattle.certificate_lines.specs.Entries.{last_of, modules_of}
 use Rattle.certificate_lines.specs.ModuleParts.{AreInBox, inner}
 use Rattle.certificate_lines.specs.Modules.{IsModule}
 use Rattle.certificate_lines.specs.Rules.{whole}
-use Rattle.certificate_lines.specs.Versions.{beside, is_strange, lacks_wire}
-use Rattle.certificate_lines.specs.declared.certificate_line.Border.{Border}
+use Rattle.certificate_lines.specs.Versions.{edge_lines_beside, is_strange, lacks_wire}
+use Rattle.certificate_lines.specs.declared.certificate_line.BorderLine.{BorderLine}
 use Rattle.certificate_lines.specs.declared.certificate_line.Counts.{Counts}
 use Rattle.certificate_lines.specs.declared.certificate_line.CertificateLine.{CertificateLine}
 use Rattle.certificate_lines.specs.declared.certificate_line.CertificateLine.TheVariants.{Module, Cut, Use, Keep, Edge}
@@ -74,12 +74,12 @@ any_of_flat keep test f xs =
 
 module _ (g : Setting) (ms : List ModuleLines) where
   long_beside : (area : Box2) → nat_lt 1 g.size.steps ≡ true →
-      filter (λ (e : Border). in_halo area e.cell.x e.cell.y) (flat_map edges ms) ≡ beside g ms area
-  unfolding beside
+      filter (λ (e : BorderLine). in_halo area e.cell.x e.cell.y) (flat_map edges ms) ≡ edge_lines_beside g ms area
+  unfolding edge_lines_beside
   long_beside area long = sym (cond-true _ _ _ long)
 
-  short_beside : (area : Box2) → nat_lt 1 g.size.steps ≡ false → beside g ms area ≡ []
-  unfolding beside
+  short_beside : (area : Box2) → nat_lt 1 g.size.steps ≡ false → edge_lines_beside g ms area ≡ []
+  unfolding edge_lines_beside
   short_beside area short = cond-false _ _ _ short
 
   pub lacked : nat_lt 1 g.size.steps ≡ true →
@@ -88,7 +88,7 @@ module _ (g : Setting) (ms : List ModuleLines) where
   lacked long =
       any_swap (λ n m. lacks_edge g.circuit (edges n) m) ms ms
       ∙ any_same (λ m. list_any (λ n. lacks_edge g.circuit (edges n) m) ms)
-      (λ m. list_any (λ e. is_strange g.circuit (known g.circuit m) e.signal) (beside g ms m.area)) ms (λ m.
+      (λ m. list_any (λ e. is_strange g.circuit (known g.circuit m) e.signal) (edge_lines_beside g ms m.area)) ms (λ m.
       any_of_flat (λ e. in_halo m.area e.cell.x e.cell.y)
       (λ e. is_strange g.circuit (known g.circuit m) e.signal) edges ms
       ∙ ap (list_any (λ e. is_strange g.circuit (known g.circuit m) e.signal)) (long_beside m.area long))
@@ -96,7 +96,8 @@ module _ (g : Setting) (ms : List ModuleLines) where
   pub none_lacked : nat_lt 1 g.size.steps ≡ false → false ≡ lacks_wire g ms
   unfolding lacks_wire
   none_lacked short =
-      sym (any_same (λ m. list_any (λ e. is_strange g.circuit (known g.circuit m) e.signal) (beside g ms m.area))
+      sym (any_same (λ m. list_any (λ e. is_strange g.circuit (known g.circuit m) e.signal)
+      (edge_lines_beside g ms m.area))
       (λ m. false) ms (λ m.
       ap (list_any (λ e. is_strange g.circuit (known g.circuit m) e.signal)) (short_beside m.area short)) ∙ none_any ms)
 

@@ -30,5 +30,5 @@ pub mod PortLemmas
 pub mod RowLemmas
 pub mod StarLemmas
 pub mod TableLemmas
-pub mod TileLemmas
+pub mod AllLiveCells
 pub mod UsedLemmas

@@ -10,7 +10,7 @@ use Rattle.std.proofs.lemmas.Cmp.{then_total, on_total, nat_cmp_total}
 use Rattle.module_box.proofs.Rising.{cell_total}
 use Rattle.certificate_lines.specs.Orders.{time_rank}
 use Rattle.certificate_lines.specs.Versions.{line_order, put_line, in_order}
-use Rattle.certificate_lines.specs.declared.certificate_line.Border.{Border}
+use Rattle.certificate_lines.specs.declared.certificate_line.BorderLine.{BorderLine}
 use Rattle.certificate_lines.proofs.Pairs.{Each, Pairs, each_map}
 
 -- ---- which elements a list has
@@ -118,13 +118,13 @@ pairs_filter R test (x ∷ xs) p = elim (cases_Bool (test x)) [
 
 pub line_total : IsTotalOrder line_order
 unfolding line_order
-line_total = then_total (on_total (λ (e : Border). time_rank e.time) nat_cmp_total)
-    (on_total (λ (e : Border). e.cell) cell_total)
+line_total = then_total (on_total (λ (e : BorderLine). time_rank e.time) nat_cmp_total)
+    (on_total (λ (e : BorderLine). e.cell) cell_total)
 
-abbrev pub Rises : List Border → Type 0
+abbrev pub Rises : List BorderLine → Type 0
 Rises = Pairs (λ d e. line_order d e ≡ Less)
 
-abbrev pub AreDistinct : List Border → Type 0
+abbrev pub AreDistinct : List BorderLine → Type 0
 AreDistinct = Pairs (λ d e. line_order d e ≢ Equal)
 
 less_apart : (o : Ordering) → o ≡ Less → o ≢ Equal
@@ -138,7 +138,7 @@ unfolding Pairs
 pairs_each R S h [] p = p
 pairs_each R S h (x ∷ xs) p = (each_map (R x) (S x) (h x) xs p.0, pairs_each R S h xs p.1)
 
-pub rising_distinct : (es : List Border) → Rises es → AreDistinct es
+pub rising_distinct : (es : List BorderLine) → Rises es → AreDistinct es
 rising_distinct es p = pairs_each (λ d e. line_order d e ≡ Less) (λ d e. line_order d e ≢ Equal)
     (λ d e. less_apart (line_order d e)) es p
 
@@ -154,10 +154,10 @@ is_before Less h = refl
 is_before Equal h = absurd cc
 is_before Greater h = absurd cc
 
-turned : (d e : Border) → line_order d e ≡ Greater → line_order e d ≡ Less
+turned : (d e : BorderLine) → line_order d e ≡ Greater → line_order e d ≡ Less
 turned d e h = line_total.antisymm e d ∙ ap ordering_reverse h
 
-put_parts : (x d e : Border) (es : List Border) (b : Bool) → (In x (put_line d es) → (d ≡ x) ⊎ In x es) →
+put_parts : (x d e : BorderLine) (es : List BorderLine) (b : Bool) → (In x (put_line d es) → (d ≡ x) ⊎ In x es) →
     In x (if b then d ∷ e ∷ es else e ∷ put_line d es) → (d ≡ x) ⊎ In x (e ∷ es)
 unfolding In
 put_parts x d e es true h i = i
@@ -167,7 +167,7 @@ put_parts x d e es false h (inr later) = elim (h later) [
   | inr more ↦ inr (inr more)
 ]
 
-put_back : (x d e : Border) (es : List Border) (b : Bool) → ((d ≡ x) ⊎ In x es → In x (put_line d es)) →
+put_back : (x d e : BorderLine) (es : List BorderLine) (b : Bool) → ((d ≡ x) ⊎ In x es → In x (put_line d es)) →
     (d ≡ x) ⊎ In x (e ∷ es) → In x (if b then d ∷ e ∷ es else e ∷ put_line d es)
 unfolding In
 put_back x d e es true h i = i
@@ -175,17 +175,17 @@ put_back x d e es false h (inl same) = inr (h (inl same))
 put_back x d e es false h (inr (inl same)) = inl same
 put_back x d e es false h (inr (inr later)) = inr (h (inr later))
 
-pub in_put : (x d : Border) (es : List Border) → In x (put_line d es) → (d ≡ x) ⊎ In x es
+pub in_put : (x d : BorderLine) (es : List BorderLine) → In x (put_line d es) → (d ≡ x) ⊎ In x es
 unfolding put_line In
 in_put x d [] i = i
 in_put x d (e ∷ es) i = put_parts x d e es (is_lt (line_order d e)) (in_put x d es) i
 
-pub put_in : (x d : Border) (es : List Border) → (d ≡ x) ⊎ In x es → In x (put_line d es)
+pub put_in : (x d : BorderLine) (es : List BorderLine) → (d ≡ x) ⊎ In x es → In x (put_line d es)
 unfolding put_line In
 put_in x d [] i = i
 put_in x d (e ∷ es) i = put_back x d e es (is_lt (line_order d e)) (put_in x d es) i
 
-pub put_rises : (d : Border) (es : List Border) → Rises es → Each (λ e. line_order d e ≢ Equal) es →
+pub put_rises : (d : BorderLine) (es : List BorderLine) → Rises es → Each (λ e. line_order d e ≢ Equal) es →
     Rises (put_line d es)
 unfolding put_line Each Pairs
 put_rises d [] p n = (tt, tt)
@@ -213,7 +213,7 @@ put_rises d (e ∷ es) p n = elim (cases_Bool (is_lt (line_order d e))) [
 
 -- ---- lines in order
 
-pub in_ordered : (x : Border) (ds : List Border) → In x (in_order ds) → In x ds
+pub in_ordered : (x : BorderLine) (ds : List BorderLine) → In x (in_order ds) → In x ds
 unfolding in_order In
 in_ordered x [] i = i
 in_ordered x (d ∷ ds) i = elim (in_put x d (in_order ds) i) [
@@ -221,13 +221,13 @@ in_ordered x (d ∷ ds) i = elim (in_put x d (in_order ds) i) [
   | inr later ↦ inr (in_ordered x ds later)
 ]
 
-pub ordered_in : (x : Border) (ds : List Border) → In x ds → In x (in_order ds)
+pub ordered_in : (x : BorderLine) (ds : List BorderLine) → In x ds → In x (in_order ds)
 unfolding in_order In
 ordered_in x [] i = i
 ordered_in x (d ∷ ds) (inl same) = put_in x d (in_order ds) (inl same)
 ordered_in x (d ∷ ds) (inr later) = put_in x d (in_order ds) (inr (ordered_in x ds later))
 
-pub ordered_rises : (ds : List Border) → AreDistinct ds → Rises (in_order ds)
+pub ordered_rises : (ds : List BorderLine) → AreDistinct ds → Rises (in_order ds)
 unfolding in_order Pairs
 ordered_rises [] p = tt
 ordered_rises (d ∷ ds) p =
@@ -237,16 +237,16 @@ ordered_rises (d ∷ ds) p =
 
 -- ---- lists that rise and have the same elements are the same
 
-never_before : (d e : Border) → line_order d e ≡ Less → line_order e d ≡ Less → ⊥
+never_before : (d e : BorderLine) → line_order d e ≡ Less → line_order e d ≡ Less → ⊥
 never_before d e h k = let t = sym h ∙ line_total.antisymm d e ∙ ap ordering_reverse k in cc
 
-pub not_itself : (d : Border) → line_order d d ≡ Less → ⊥
+pub not_itself : (d : BorderLine) → line_order d d ≡ Less → ⊥
 not_itself d h = never_before d d h h
 
-abbrev Among : List Border → List Border → Type 0
-Among xs ys = (x : Border) → In x xs → In x ys
+abbrev Among : List BorderLine → List BorderLine → Type 0
+Among xs ys = (x : BorderLine) → In x xs → In x ys
 
-first_same : (d e : Border) (ds es : List Border) → Rises (d ∷ ds) → Rises (e ∷ es) → Among (d ∷ ds) (e ∷ es) →
+first_same : (d e : BorderLine) (ds es : List BorderLine) → Rises (d ∷ ds) → Rises (e ∷ es) → Among (d ∷ ds) (e ∷ es) →
     Among (e ∷ es) (d ∷ ds) → d ≡ e
 unfolding Pairs In
 first_same d e ds es p q f g = elim (f d (inl refl)) [
@@ -258,7 +258,7 @@ first_same d e ds es p q f g = elim (f d (inl refl)) [
   ]
 ]
 
-rest_among : (d : Border) (ds es : List Border) → Rises (d ∷ ds) → Among (d ∷ ds) (d ∷ es) → Among ds es
+rest_among : (d : BorderLine) (ds es : List BorderLine) → Rises (d ∷ ds) → Among (d ∷ ds) (d ∷ es) → Among ds es
 unfolding Pairs In
 rest_among d ds es p f x i = elim (f x (inr i)) [
   | inl same ↦ absurd (not_itself d
@@ -266,7 +266,7 @@ rest_among d ds es p f x i = elim (f x (inr i)) [
   | inr later ↦ later
 ]
 
-pub rising_same : (xs ys : List Border) → Rises xs → Rises ys → Among xs ys → Among ys xs → xs ≡ ys
+pub rising_same : (xs ys : List BorderLine) → Rises xs → Rises ys → Among xs ys → Among ys xs → xs ≡ ys
 unfolding Pairs In
 rising_same [] [] p q f g = refl
 rising_same [] (y ∷ ys) p q f g = absurd (g y (inl refl))

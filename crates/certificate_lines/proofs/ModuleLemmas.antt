@@ -10,7 +10,7 @@ use Rattle.module_box.specs.Moments.{cell_cmp}
 use Rattle.certificate_lines.specs.Entries.{use_in, keep_in, edge_in, halo_in, stop_in}
 use Rattle.certificate_lines.specs.Orders.{AreInOrder, rank_of, number_of, cell_of, line_cmp, is_cut, may_precede}
 use Rattle.certificate_lines.specs.Orders.{may_follow}
-use Rattle.certificate_lines.specs.declared.certificate_line.Border.{Border}
+use Rattle.certificate_lines.specs.declared.certificate_line.BorderLine.{BorderLine}
 use Rattle.certificate_lines.specs.declared.certificate_line.CertificateLine.{CertificateLine}
 use Rattle.certificate_lines.specs.declared.certificate_line.StopLine.{StopLine}
 use Rattle.certificate_lines.specs.declared.certificate_line.CertificateLine.TheVariants.{Module, Cut, Use, Keep, Edge}
@@ -60,23 +60,23 @@ keep_then_use : (k g : ℕ) → may_precede (Keep k) (Use g) ≡ true → ⊥
 unfolding line_cmp rank_of is_cut
 keep_then_use k g e = later_kind (Keep k) (Use g) refl refl e
 
-edge_then_cut : (d : Border) (n : List ℕ) → may_precede (Edge d) (Cut n) ≡ true → ⊥
+edge_then_cut : (d : BorderLine) (n : List ℕ) → may_precede (Edge d) (Cut n) ≡ true → ⊥
 unfolding line_cmp rank_of is_cut
 edge_then_cut d n e = later_kind (Edge d) (Cut n) refl refl e
 
-halo_then_cut : (d : Border) (n : List ℕ) → may_precede (Halo d) (Cut n) ≡ true → ⊥
+halo_then_cut : (d : BorderLine) (n : List ℕ) → may_precede (Halo d) (Cut n) ≡ true → ⊥
 unfolding line_cmp rank_of is_cut
 halo_then_cut d n e = later_kind (Halo d) (Cut n) refl refl e
 
-edge_then_use : (d : Border) (g : ℕ) → may_precede (Edge d) (Use g) ≡ true → ⊥
+edge_then_use : (d : BorderLine) (g : ℕ) → may_precede (Edge d) (Use g) ≡ true → ⊥
 unfolding line_cmp rank_of is_cut
 edge_then_use d g e = later_kind (Edge d) (Use g) refl refl e
 
-halo_then_use : (d : Border) (g : ℕ) → may_precede (Halo d) (Use g) ≡ true → ⊥
+halo_then_use : (d : BorderLine) (g : ℕ) → may_precede (Halo d) (Use g) ≡ true → ⊥
 unfolding line_cmp rank_of is_cut
 halo_then_use d g e = later_kind (Halo d) (Use g) refl refl e
 
-halo_then_edge : (d e : Border) → may_precede (Halo d) (Edge e) ≡ true → ⊥
+halo_then_edge : (d e : BorderLine) → may_precede (Halo d) (Edge e) ≡ true → ⊥
 unfolding line_cmp rank_of is_cut
 halo_then_edge d e h = later_kind (Halo d) (Edge e) refl refl h
 
@@ -153,7 +153,7 @@ no_halo_before_use g (Edge d) h = refl
 no_halo_before_use g (Halo d) h = absurd (halo_then_use d g h)
 no_halo_before_use g (Stop s) h = refl
 
-pub no_halo_before_edge : (e : Border) (j : CertificateLine) → may_precede j (Edge e) ≡ true → halo_in j ≡ []
+pub no_halo_before_edge : (e : BorderLine) (j : CertificateLine) → may_precede j (Edge e) ≡ true → halo_in j ≡ []
 no_halo_before_edge e (Module b) h = refl
 no_halo_before_edge e (Cut m) h = refl
 no_halo_before_edge e (Use k) h = refl

@@ -22,7 +22,7 @@ use Rattle.certificate_lines.specs.Rules.{is_stop_place, signal_fault, wire_faul
 use Rattle.certificate_lines.specs.Rules.{border_limit, edge_fault, halo_fault, stop_fault}
 use Rattle.certificate_lines.specs.Modules.{AreUnstarred, IsEdge, IsHalo, IsKeep, IsModule, IsStop}
 use Rattle.certificate_lines.specs.BuilderView.{IsWritten}
-use Rattle.certificate_lines.specs.declared.certificate_line.Border.{Border}
+use Rattle.certificate_lines.specs.declared.certificate_line.BorderLine.{BorderLine}
 use Rattle.certificate_lines.specs.declared.certificate_line.CertificateLine.{CertificateLine}
 use Rattle.certificate_lines.specs.declared.certificate_line.StopLine.{StopLine}
 use Rattle.certificate_lines.specs.declared.certificate_line.CertificateLine.TheVariants.{Cut, Use, Keep, Edge, Halo}
@@ -93,7 +93,7 @@ cut_wires_cut c m n w e =
 
 -- ---- lines with a time beside those with a `*`
 
-unstarred_nil : (es : List Border) → es ≡ [] → AreUnstarred es
+unstarred_nil : (es : List BorderLine) → es ≡ [] → AreUnstarred es
 unfolding AreUnstarred
 unstarred_nil [] e = tt
 unstarred_nil (d ∷ es) e = absurd cc
@@ -108,14 +108,15 @@ first_free true here more h = refl
 first_free false true more h = absurd cc
 first_free false false more h = refl
 
-all_pushed : (test : Border → Bool) (es : List Border) (e : Border) → list_all test es ≡ true → test e ≡ true →
+all_pushed : (test : BorderLine → Bool) (es : List BorderLine) (e : BorderLine) → list_all test es ≡ true →
+    test e ≡ true →
     list_all test (es ++ e ∷ []) ≡ true
 all_pushed test [] e h k = rw k refl
 all_pushed test (d ∷ es) e h k =
     let both = and_parts (test d) (list_all test es) h in
     rw (both.0, all_pushed test es e both.1 k) refl
 
-unstarred_push : (es : List Border) (e : Border) → AreUnstarred es →
+unstarred_push : (es : List BorderLine) (e : BorderLine) → AreUnstarred es →
     (is_star e.time || not (list_any (is_starred e.cell) es)) ≡ true → AreUnstarred (es ++ e ∷ [])
 unfolding AreUnstarred
 unstarred_push [] e u h = (refl, tt)
@@ -131,7 +132,8 @@ unfolding is_time
 free_time steps starred None e = refl
 free_time steps starred (Some t) e = (and_parts (is_odd t && nat_lt t steps) (not starred) e).1
 
-free_of_star : (g : Setting) (area : Box2) (starred : Bool) (e : Border) → is_edge_place g.size area starred e ≡ true →
+free_of_star : (g : Setting) (area : Box2) (starred : Bool) (e : BorderLine) →
+    is_edge_place g.size area starred e ≡ true →
     (is_star e.time || not starred) ≡ true
 unfolding is_edge_place
 free_of_star g area starred e place =
@@ -335,7 +337,7 @@ good_border c count local placed signal e =
       names = rest.1;
     }
 
-edge_good : (g : Setting) (area : Box2) (local : List ℕ) (count : ℕ) (starred : Bool) (e : Border) →
+edge_good : (g : Setting) (area : Box2) (local : List ℕ) (count : ℕ) (starred : Bool) (e : BorderLine) →
     IsGoodBorder g.circuit count local (is_edge_place g.size area starred e) e.signal → IsEdge g area local e
 unfolding is_edge_place
 edge_good g area local count starred e good =
@@ -350,7 +352,7 @@ edge_good g area local count starred e good =
       };
     }
 
-halo_good : (g : Setting) (area : Box2) (local : List ℕ) (count : ℕ) (starred : Bool) (e : Border) →
+halo_good : (g : Setting) (area : Box2) (local : List ℕ) (count : ℕ) (starred : Bool) (e : BorderLine) →
     IsGoodBorder g.circuit count local (is_halo_place g.size area starred e) e.signal → IsHalo g area local e
 unfolding is_halo_place
 halo_good g area local count starred e good =
@@ -379,10 +381,10 @@ stop_good g area local count s good =
       wire = signal_good g.circuit local (Some s.wire) good.names;
     }
 
-pub edges_edge : (m : ModuleLines) (e : Border) → edges (with_line (Edge e) m) ≡ edges m ++ e ∷ []
+pub edges_edge : (m : ModuleLines) (e : BorderLine) → edges (with_line (Edge e) m) ≡ edges m ++ e ∷ []
 edges_edge m e = flat_push edge_in m.lines (Edge e)
 
-pub halos_halo : (m : ModuleLines) (e : Border) → halos (with_line (Halo e) m) ≡ halos m ++ e ∷ []
+pub halos_halo : (m : ModuleLines) (e : BorderLine) → halos (with_line (Halo e) m) ≡ halos m ++ e ∷ []
 halos_halo m e = flat_push halo_in m.lines (Halo e)
 
 pub stops_stop : (m : ModuleLines) (s : StopLine) → stops (with_line (Stop s) m) ≡ stops m ++ s ∷ []
@@ -459,7 +461,7 @@ keep_pushed g m written k follows good =
           written.few_borders in omega (arith, n, l, s, f);
     }
 
-module _ (g : Setting) (m : ModuleLines) (is : IsModule g m) (e : Border) where
+module _ (g : Setting) (m : ModuleLines) (is : IsModule g m) (e : BorderLine) where
   pub edge_pushed : may_follow m.lines (Edge e) ≡ true → edge_fault g m e ≡ None → IsWritten g (with_line (Edge e) m)
   edge_pushed follows good =
       let more = with_line (Edge e) m in

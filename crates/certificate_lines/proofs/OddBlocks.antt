@@ -22,7 +22,7 @@ use Rattle.certificate_lines.specs.BuilderView.{is_lacked, is_strange_outside, i
 use Rattle.certificate_lines.specs.Entries.{ModuleLines, areas, known}
 use Rattle.certificate_lines.specs.Rules.{is_local_wire}
 use Rattle.certificate_lines.specs.Versions.{is_strange}
-use Rattle.certificate_lines.specs.declared.certificate_line.Border.{Border}
+use Rattle.certificate_lines.specs.declared.certificate_line.BorderLine.{BorderLine}
 use Rattle.certificate_lines.proofs.AnyLines.{any_filter}
 use Rattle.certificate_lines.proofs.LackedWires.{any_either, any_same, any_swap, none_any}
 use Rattle.certificate_lines.proofs.Lists.{some_is}
@@ -209,22 +209,23 @@ module _ (c : Circuit) (ms : List ModuleLines) where
       (λ k m here. odd_halo m.area x y (not (is_local_wire (known c m) wire)) (even k m here))
 
   -- no module lacks `1`
-  pub lacked_constant : (e : Border) → e.signal ≡ None → false ≡ is_lacked c ms e
+  pub lacked_constant : (e : BorderLine) → e.signal ≡ None → false ≡ is_lacked c ms e
   lacked_constant e is =
       sym (ap (λ s. list_any (λ (m : ModuleLines). in_halo m.area e.cell.x e.cell.y && is_strange c (known c m) s) ms)
       is ∙ any_same (λ (m : ModuleLines). in_halo m.area e.cell.x e.cell.y && false) (λ m. false) ms
       (λ m. and_false (in_halo m.area e.cell.x e.cell.y)) ∙ none_any ms)
 
   -- the same, line by line or module by module
-  pub lacked_by_lines : (es : List Border) → list_any (is_lacked c ms) es ≡ list_any (lacks_edge c es) ms
+  pub lacked_by_lines : (es : List BorderLine) → list_any (is_lacked c ms) es ≡ list_any (lacks_edge c es) ms
   lacked_by_lines es =
-      any_swap (λ (e : Border) (m : ModuleLines). in_halo m.area e.cell.x e.cell.y && is_strange c (known c m) e.signal)
+      any_swap (λ (e : BorderLine) (m : ModuleLines).
+      in_halo m.area e.cell.x e.cell.y && is_strange c (known c m) e.signal)
       es ms
       ∙ any_same (λ m. list_any
-      (λ (e : Border). in_halo m.area e.cell.x e.cell.y && is_strange c (known c m) e.signal) es)
+      (λ (e : BorderLine). in_halo m.area e.cell.x e.cell.y && is_strange c (known c m) e.signal) es)
       (lacks_edge c es) ms
-      (λ m. sym (any_filter (λ (e : Border). in_halo m.area e.cell.x e.cell.y)
-      (λ (e : Border). is_strange c (known c m) e.signal) es))
+      (λ m. sym (any_filter (λ (e : BorderLine). in_halo m.area e.cell.x e.cell.y)
+      (λ (e : BorderLine). is_strange c (known c m) e.signal) es))
 
 -- ---- places in the rectangle
 

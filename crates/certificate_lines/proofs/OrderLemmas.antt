@@ -16,7 +16,7 @@ use Rattle.certificate_lines.specs.Entries.{edge_in, halo_in, last_of, stop_in}
 use Rattle.certificate_lines.specs.Orders.{AreInOrder, rank_of, number_of, cell_of, line_cmp, is_cut, may_precede}
 use Rattle.certificate_lines.specs.Orders.{may_follow}
 use Rattle.certificate_lines.specs.Versions.{line_order}
-use Rattle.certificate_lines.specs.declared.certificate_line.Border.{Border}
+use Rattle.certificate_lines.specs.declared.certificate_line.BorderLine.{BorderLine}
 use Rattle.certificate_lines.specs.declared.certificate_line.StopLine.{StopLine}
 use Rattle.certificate_lines.specs.BuilderView.{IsInner, inner_of, last_inner}
 use Rattle.certificate_lines.proofs.Growing.{last_pushed}
@@ -67,12 +67,12 @@ unfolding may_precede
 by_cuts i j h k = or_right _ (is_cut i && is_cut j) (rw (h, k) refl)
 
 -- two edge lines are in order by time and cell
-pub edges_precede : (d e : Border) → is_lt (line_order d e) ≡ may_precede (Edge d) (Edge e)
+pub edges_precede : (d e : BorderLine) → is_lt (line_order d e) ≡ may_precede (Edge d) (Edge e)
 unfolding may_precede line_cmp line_order rank_of number_of cell_of is_cut
 edges_precede d e = sym (or_none _)
 
 -- so are two halo lines
-pub halos_precede : (d e : Border) → is_lt (line_order d e) ≡ may_precede (Halo d) (Halo e)
+pub halos_precede : (d e : BorderLine) → is_lt (line_order d e) ≡ may_precede (Halo d) (Halo e)
 unfolding may_precede line_cmp line_order rank_of number_of cell_of is_cut
 halos_precede d e = sym (or_none _)
 
@@ -82,7 +82,7 @@ unfolding may_precede is_cut
 stops_precede s t = sym (or_none _)
 
 -- ---- a line by its kind
-pub edge_is : (l : CertificateLine) (e : Border) → e ∷ [] ≡ edge_in l → l ≡ Edge e
+pub edge_is : (l : CertificateLine) (e : BorderLine) → e ∷ [] ≡ edge_in l → l ≡ Edge e
 edge_is (Module b) e h = absurd cc
 edge_is (Cut n) e h = absurd cc
 edge_is (Use k) e h = absurd cc
@@ -91,7 +91,7 @@ edge_is (Edge d) e h = ap Edge (sym (ap (λ l. get_or l 0 e) h))
 edge_is (Halo d) e h = absurd cc
 edge_is (Stop s) e h = absurd cc
 
-pub halo_is : (l : CertificateLine) (e : Border) → e ∷ [] ≡ halo_in l → l ≡ Halo e
+pub halo_is : (l : CertificateLine) (e : BorderLine) → e ∷ [] ≡ halo_in l → l ≡ Halo e
 halo_is (Module b) e h = absurd cc
 halo_is (Cut n) e h = absurd cc
 halo_is (Use k) e h = absurd cc

@@ -6,7 +6,7 @@ use Rattle.std.specs.List.{list_any}
 use Rattle.std.proofs.lemmas.List.Folds.{list_any-append}
 use Rattle.bbm_rule.specs.declared.block.Cell.{Cell}
 use Rattle.certificate_lines.specs.Rules.{same_cell, is_star, is_starred}
-use Rattle.certificate_lines.specs.declared.certificate_line.Border.{Border}
+use Rattle.certificate_lines.specs.declared.certificate_line.BorderLine.{BorderLine}
 use Rattle.bbm_rule.proofs.SameCells.{cell_same}
 
 pub or_none : (a : Bool) → (a || false) ≡ a
@@ -39,14 +39,14 @@ inserted_by false keys c d h =
     list_any-append (same_cell c) keys (d ∷ [])
     ∙ ap (λ (b : Bool). list_any (same_cell c) keys || b) (or_none (same_cell c d))
 
-pub star_noted : (keys new : List Cell) (e : Border) → is_some e.time ≡ false →
+pub star_noted : (keys new : List Cell) (e : BorderLine) → is_some e.time ≡ false →
     new ≡ (if list_any (same_cell e.cell) keys then keys else keys ++ e.cell ∷ []) → (c : Cell) →
     list_any (same_cell c) new ≡ (list_any (same_cell c) keys || is_starred c e)
 star_noted keys new e none is c =
     ap (list_any (same_cell c)) is ∙ inserted_by _ keys c e.cell refl
     ∙ ap (λ (b : Bool). list_any (same_cell c) keys || b) (starred e.time (same_cell c e.cell) none)
 
-pub no_star : (keys : List Cell) (e : Border) → is_some e.time ≡ true → (c : Cell) →
+pub no_star : (keys : List Cell) (e : BorderLine) → is_some e.time ≡ true → (c : Cell) →
     list_any (same_cell c) keys ≡ (list_any (same_cell c) keys || is_starred c e)
 no_star keys e some c = sym (ap (λ (b : Bool). list_any (same_cell c) keys || b)
     (timed e.time (same_cell c e.cell) some) ∙ or_none _)

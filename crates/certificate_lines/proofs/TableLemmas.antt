@@ -35,10 +35,10 @@ use Rattle.certificate_lines.proofs.PortLemmas.{cell_passed, has_cell, in_box_ce
 
 -- ---- the ports in a box
 
-port_by : (ports : List Port) → HaveOwnCells ports → (i : ℕ) (p : Port) → slice_get ports i ≡ Some p →
+port_from_words : (ports : List Port) → HaveOwnCells ports → (i : ℕ) (p : Port) → slice_get ports i ≡ Some p →
     (o : Option (List ℕ)) → port_at ports p.cell.x p.cell.y ≡ o → o ≡ Some p.name
-port_by ports apart i p at None e = absurd (none_stands ports p.cell.x p.cell.y e i p at (cell_itself p.cell))
-port_by ports apart i p at (Some name) e =
+port_from_words ports apart i p at None e = absurd (none_stands ports p.cell.x p.cell.y e i p at (cell_itself p.cell))
+port_from_words ports apart i p at (Some name) e =
     let s = port_stands ports p.cell.x p.cell.y name e in
     let same : s.number ≡ i = apart s.number i s.port p s.numbered at (cell_same s.port.cell p.cell s.stands) in
     let here : s.port ≡ p = some_is s.port p (sym s.numbered ∙ ap (λ (k : ℕ). slice_get ports k) same ∙ at) in
@@ -47,7 +47,7 @@ port_by ports apart i p at (Some name) e =
 -- where no two ports stand at one cell, each is the port at its cell
 pub port_there : (ports : List Port) → HaveOwnCells ports → (i : ℕ) (p : Port) → slice_get ports i ≡ Some p →
     port_at ports p.cell.x p.cell.y ≡ Some p.name
-port_there ports apart i p at = port_by ports apart i p at _ refl
+port_there ports apart i p at = port_from_words ports apart i p at _ refl
 
 -- what a name of an option passes
 passed_name : (f : List ℕ → Bool) (o : Option (List ℕ)) → option_map_or f o false ≡ true →

@@ -2,8 +2,8 @@
 use Rattle.std.specs.Prelude.{ℕ, List, [], ◌∷◌, codes, Option, Some, None, if◌then◌else◌}
 use Rattle.std.specs.Str.{bytes_eq}
 use Rattle.section_text.specs.Words.{number_of, name_of, ◌>>=◌}
-use Rattle.pattern.specs.PortWords.{cell_by}
-use Rattle.certificate_lines.specs.declared.certificate_line.Border.{Border}
+use Rattle.pattern.specs.PortWords.{cell_from_words}
+use Rattle.certificate_lines.specs.declared.certificate_line.BorderLine.{BorderLine}
 use Rattle.certificate_lines.specs.declared.certificate_line.StopLine.{StopLine}
 
 -- the time that a word is, with `*` for every odd time
@@ -27,10 +27,10 @@ lone_signal (word ∷ []) = signal_by word
 lone_signal (word ∷ next ∷ others) = None
 
 -- the edge or halo line of four words
-unfoldable pub border_by : List ℕ → List ℕ → List ℕ → List ℕ → Option Border
+unfoldable pub border_by : List ℕ → List ℕ → List ℕ → List ℕ → Option BorderLine
 border_by time column row signal = do
   t ← time_by time
-  c ← cell_by column row
+  c ← cell_from_words column row
   s ← signal_by signal
   Some (record { time = t; cell = c; signal = s })
 
@@ -39,5 +39,5 @@ unfoldable pub stop_by : List ℕ → List ℕ → List ℕ → List ℕ → Opt
 stop_by time wire column row = do
   t ← number_of time
   n ← name_of wire
-  c ← cell_by column row
+  c ← cell_from_words column row
   Some (record { time = t; wire = n; cell = c })

@@ -16,7 +16,7 @@ use Rattle.certificate_lines.specs.Entries.{halos}
 use Rattle.certificate_lines.specs.Rules.{in_boxes, is_local, is_local_wire, is_star, is_starred, same_cell, lacks_port}
 use Rattle.certificate_lines.specs.Modules.{HasFewLines, IsModule}
 use Rattle.certificate_lines.specs.Versions.{is_strange}
-use Rattle.certificate_lines.specs.declared.certificate_line.Border.{Border}
+use Rattle.certificate_lines.specs.declared.certificate_line.BorderLine.{BorderLine}
 use Rattle.certificate_lines.specs.declared.certificate_line.Counts.{Counts}
 use Rattle.certificate_lines.specs.declared.certificate_line.CertificateLine.{CertificateLine}
 use Rattle.certificate_lines.specs.declared.certificate_line.CertificateLine.TheVariants.{Module, Cut, Use, Keep, Edge}
@@ -79,7 +79,7 @@ pub record IsTracked (g : Setting) (es : List CertificateLine) (covered : Board)
   pub last_module : (m : ModuleLines) → last_of (modules_of es) ≡ Some m → IsLastModule g m last names local e h
 
 -- one of these edge lines is for a cell in the halo of the module, and names a wire that is not local there
-abbrev pub lacks_edge : Circuit → List Border → ModuleLines → Bool
+abbrev pub lacks_edge : Circuit → List BorderLine → ModuleLines → Bool
 lacks_edge c es m = list_any (λ e. is_strange c (known c m) e.signal)
     (filter (λ e. in_halo m.area e.cell.x e.cell.y) es)
 
@@ -93,7 +93,7 @@ is_wire_lacked c ms cell wire =
     list_any (λ m. in_halo m.area cell.x cell.y && not (is_local_wire (known c m) wire)) ms
 
 -- some module has the cell of an edge line in its halo, and its wire is not local there
-abbrev pub is_lacked : Circuit → List ModuleLines → Border → Bool
+abbrev pub is_lacked : Circuit → List ModuleLines → BorderLine → Bool
 is_lacked c ms e = list_any (λ m. in_halo m.area e.cell.x e.cell.y && is_strange c (known c m) e.signal) ms
 
 -- the table is of the whole rectangle, its numbers are those of the modules that have the cells, and the boxes are even
@@ -155,13 +155,13 @@ counted (Halo e) k = record k { halos = k.halos + 1 }
 counted (Stop s) k = record k { stops = k.stops + 1 }
 
 -- no count is near its greatest value
-pub record IsSmall (k : Counts) : Type 0 where
+pub record AreSmallCounts (k : Counts) : Type 0 where
   pub few_cuts : k.cuts ≤ 12
   pub few_gates : k.gates ≤ 64
   pub few_borders : k.edges + k.halos + k.stops ≤ 65536
 
 -- those of the edge or halo lines that have a `*`
-abbrev pub starred : List Border → List Border
+abbrev pub starred : List BorderLine → List BorderLine
 starred lines = filter (λ e. is_star e.time) lines
 
 -- the wire that a line names is one of the circuit, and local unless the line cuts it

@@ -7,7 +7,7 @@ use Rattle.pattern.specs.declared.layout_line.Port.{Port}
 use Rattle.pattern.specs.declared.layout_line.LayoutHeader.{LayoutHeader}
 use Rattle.module_box.specs.Locals.{local_wires}
 use Rattle.module_box.specs.declared.boxes.Box2.{Box2}
-use Rattle.certificate_lines.specs.declared.certificate_line.Border.{Border}
+use Rattle.certificate_lines.specs.declared.certificate_line.BorderLine.{BorderLine}
 use Rattle.certificate_lines.specs.declared.certificate_line.Counts.{Counts}
 use Rattle.certificate_lines.specs.declared.certificate_line.CertificateLine.{CertificateLine}
 use Rattle.certificate_lines.specs.declared.certificate_line.StopLine.{StopLine}
@@ -78,12 +78,12 @@ use_in (Use k) = k ∷ []
 use_in _ = []
 
 -- an edge line, and no other line
-abbrev pub edge_in : CertificateLine → List Border
+abbrev pub edge_in : CertificateLine → List BorderLine
 edge_in (Edge e) = e ∷ []
 edge_in _ = []
 
 -- a halo line, and no other line
-abbrev pub halo_in : CertificateLine → List Border
+abbrev pub halo_in : CertificateLine → List BorderLine
 halo_in (Halo e) = e ∷ []
 halo_in _ = []
 
@@ -118,11 +118,11 @@ abbrev pub keeps : ModuleLines → List ℕ
 keeps m = flat_map keep_in m.lines
 
 -- the edge lines of a module
-abbrev pub edges : ModuleLines → List Border
+abbrev pub edges : ModuleLines → List BorderLine
 edges m = flat_map edge_in m.lines
 
 -- the halo lines of a module
-abbrev pub halos : ModuleLines → List Border
+abbrev pub halos : ModuleLines → List BorderLine
 halos m = flat_map halo_in m.lines
 
 -- the stops of a module

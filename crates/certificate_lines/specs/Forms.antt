@@ -8,7 +8,7 @@ use Rattle.module_box.specs.declared.boxes.Box2.{Box2}
 use Rattle.certificate_lines.specs.declared.certificate_line.CertificateLine.{CertificateLine}
 use Rattle.certificate_lines.specs.declared.certificate_line.CertificateLine.TheVariants.{Module, Cut, Use, Keep, Edge}
 use Rattle.certificate_lines.specs.declared.certificate_line.CertificateLine.TheVariants.{Halo, Stop}
-use Rattle.certificate_lines.specs.declared.certificate_line.Border.{Border}
+use Rattle.certificate_lines.specs.declared.certificate_line.BorderLine.{BorderLine}
 use Rattle.certificate_lines.specs.declared.certificate_line.StopLine.{StopLine}
 
 -- the header is its version
@@ -37,7 +37,7 @@ unfoldable pub signal_at : List (List ℕ) → ℕ → Option (Option (List ℕ)
 signal_at ws i = if is_word_at ws i (codes "1") then Some None else (name_at ws i >>= λ n. Some (Some n))
 
 -- a keyword, a time, a cell and a signal
-unfoldable pub timed_cell : List (List ℕ) → Option Border
+unfoldable pub timed_cell : List (List ℕ) → Option BorderLine
 timed_cell ws = do
   t ← time_at ws 1
   c ← cell_from ws 2
@@ -45,7 +45,7 @@ timed_cell ws = do
   Some (record { time = t; cell = c; signal = s })
 
 -- the content of an edge or halo line
-unfoldable pub border_of : List (List ℕ) → Option Border
+unfoldable pub border_of : List (List ℕ) → Option BorderLine
 border_of ws = if length ws == 5 then timed_cell ws else None
 
 -- a keyword, a number, a name and a cell

@@ -3,7 +3,7 @@ use Rattle.std.specs.Prelude.{Bool, true, false, if◌then◌else◌, IsTrue, Li
 use Rattle.std.specs.List.{All}
 use Rattle.module_box.specs.Boxes.{in_box}
 use Rattle.module_box.specs.declared.boxes.Box2.{Box2}
-use Rattle.certificate_lines.specs.declared.certificate_line.Border.{Border}
+use Rattle.certificate_lines.specs.declared.certificate_line.BorderLine.{BorderLine}
 use Rattle.certificate_lines.specs.declared.certificate_line.CertificateLine.{CertificateLine}
 use Rattle.certificate_lines.specs.declared.certificate_line.CertificateLine.TheVariants.{Module}
 
@@ -18,5 +18,5 @@ inner [] = []
 inner (i ∷ entries) = if is_module i then [] else i ∷ inner entries
 
 -- each of these lines is for a cell of the box
-abbrev pub AreInBox : Box2 → List Border → Type 0
+abbrev pub AreInBox : Box2 → List BorderLine → Type 0
 AreInBox area es = All (λ e. IsTrue (in_box area e.cell.x e.cell.y)) es

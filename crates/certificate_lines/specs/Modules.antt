@@ -12,22 +12,22 @@ use Rattle.certificate_lines.specs.Entries.{cut_wires, known}
 use Rattle.certificate_lines.specs.Orders.{AreInOrder}
 use Rattle.certificate_lines.specs.Rules.{whole, is_local, is_inverse_gate, is_star, is_starred, border_count}
 use Rattle.certificate_lines.specs.Rules.{border_limit}
-use Rattle.certificate_lines.specs.declared.certificate_line.Border.{Border}
+use Rattle.certificate_lines.specs.declared.certificate_line.BorderLine.{BorderLine}
 use Rattle.certificate_lines.specs.declared.certificate_line.StopLine.{StopLine}
 
 -- the time of an edge or halo line is odd and below the steps, and its signal is `1` or a local wire
-pub record IsBorder (g : Setting) (local : List ℕ) (e : Border) : Type 0 where
+pub record IsBorder (g : Setting) (local : List ℕ) (e : BorderLine) : Type 0 where
   pub time : IfSome e.time (λ t. (t % 2 ≡ 1) × (t < g.size.steps))
   pub signal : IfSome e.signal (λ name. IsTrue (is_local g.circuit local name))
 
 -- an edge is in the ring of the box, and not on the rim of the rectangle
-pub record IsEdge (g : Setting) (area : Box2) (local : List ℕ) (e : Border) : Type 0 where
+pub record IsEdge (g : Setting) (area : Box2) (local : List ℕ) (e : BorderLine) : Type 0 where
   pub ring : IsTrue (in_ring area e.cell.x e.cell.y)
   pub rim : IsFalse (in_ring (whole g.size) e.cell.x e.cell.y)
   pub border : IsBorder g local e
 
 -- a halo line is in the halo of the box, and inside the rectangle
-pub record IsHalo (g : Setting) (area : Box2) (local : List ℕ) (e : Border) : Type 0 where
+pub record IsHalo (g : Setting) (area : Box2) (local : List ℕ) (e : BorderLine) : Type 0 where
   pub halo : IsTrue (in_halo area e.cell.x e.cell.y)
   pub inside : IsTrue (in_box (whole g.size) e.cell.x e.cell.y)
   pub border : IsBorder g local e
@@ -44,7 +44,7 @@ pub record IsKeep (g : Setting) (used : List ℕ) (k : ℕ) : Type 0 where
   pub among : IsTrue (is_among used k)
 
 -- a line with a `*` and a later one with a time are for different cells
-unfoldable pub AreUnstarred : List Border → Type 0
+unfoldable pub AreUnstarred : List BorderLine → Type 0
 AreUnstarred [] = Unit {0}
 AreUnstarred (d ∷ es) = (list_all (λ e. is_star e.time || not (is_starred e.cell d)) es ≡ true) × AreUnstarred es
 

@@ -14,7 +14,7 @@ use Rattle.module_box.specs.Boxes.{in_box, in_ring, in_halo}
 use Rattle.module_box.specs.Locals.{is_among, cut_limit, use_limit}
 use Rattle.module_box.specs.Tiling.{rectangle_of}
 use Rattle.module_box.specs.declared.boxes.Box2.{Box2}
-use Rattle.certificate_lines.specs.declared.certificate_line.Border.{Border}
+use Rattle.certificate_lines.specs.declared.certificate_line.BorderLine.{BorderLine}
 use Rattle.certificate_lines.specs.declared.certificate_line.CertificateLine.{CertificateLine}
 use Rattle.certificate_lines.specs.declared.certificate_line.StopLine.{StopLine}
 use Rattle.certificate_lines.specs.declared.certificate_line.CertificateLine.TheVariants.{Module, Cut, Use, Keep, Edge}
@@ -146,7 +146,7 @@ abbrev pub same_cell : Cell → Cell → Bool
 same_cell c d = int_eq c.x d.x && int_eq c.y d.y
 
 -- whether a line has a `*` and is for the cell
-abbrev pub is_starred : Cell → Border → Bool
+abbrev pub is_starred : Cell → BorderLine → Bool
 is_starred c e = is_star e.time && same_cell c e.cell
 
 -- A time is odd and below the steps, and no line with a `*` of the same list is for the cell. A `*` is good.
@@ -155,12 +155,12 @@ is_time steps starred None = true
 is_time steps starred (Some t) = is_odd t && nat_lt t steps && not starred
 
 -- an edge is in the box's ring, and not on the rim of the rectangle, which is the rectangle's ring
-unfoldable pub is_edge_place : LayoutHeader → Box2 → Bool → Border → Bool
+unfoldable pub is_edge_place : LayoutHeader → Box2 → Bool → BorderLine → Bool
 is_edge_place s area starred e =
     in_ring area e.cell.x e.cell.y && not (in_ring (whole s) e.cell.x e.cell.y) && is_time s.steps starred e.time
 
 -- a halo line is in the box's halo, and inside the rectangle
-unfoldable pub is_halo_place : LayoutHeader → Box2 → Bool → Border → Bool
+unfoldable pub is_halo_place : LayoutHeader → Box2 → Bool → BorderLine → Bool
 is_halo_place s area starred e =
     in_halo area e.cell.x e.cell.y && in_box (whole s) e.cell.x e.cell.y && is_time s.steps starred e.time
 
@@ -195,12 +195,12 @@ abbrev pub border_count : ModuleLines → ℕ
 border_count m = length (edges m) + length (halos m) + length (stops m)
 
 -- the code of an edge line of a module
-abbrev pub edge_fault : Setting → ModuleLines → Border → Option RefusalCode
+abbrev pub edge_fault : Setting → ModuleLines → BorderLine → Option RefusalCode
 edge_fault g m e = border_fault g.circuit (border_count m) (known g.circuit m)
     (is_edge_place g.size m.area (list_any (is_starred e.cell) (edges m)) e) e.signal
 
 -- the code of a halo line of a module
-abbrev pub halo_fault : Setting → ModuleLines → Border → Option RefusalCode
+abbrev pub halo_fault : Setting → ModuleLines → BorderLine → Option RefusalCode
 halo_fault g m e = border_fault g.circuit (border_count m) (known g.circuit m)
     (is_halo_place g.size m.area (list_any (is_starred e.cell) (halos m)) e) e.signal
 

@@ -1,7 +1,7 @@
 -- Lines with references to names, and their views
 use Rattle.std.specs.Prelude.{Some, None}
 use Rattle.std.specs.Option.{option_map}
-use Rattle.certificate_lines.specs.declared.certificate_line.Border.{Border}
+use Rattle.certificate_lines.specs.declared.certificate_line.BorderLine.{BorderLine}
 use Rattle.certificate_lines.specs.declared.certificate_line.StopLine.{StopLine}
 use Rattle.certificate_lines.specs.declared.certificate_line.CertificateLine.{CertificateLine}
 use Rattle.certificate_lines.specs.declared.certificate_line.CertificateLine.TheVariants.{Module, Cut, Use, Keep, Edge}
@@ -29,7 +29,7 @@ abbrev pub stored_line : line.Inside → CertificateLine
 stored_line a = line_of a.content
 
 -- the edge or halo line that is kept, from its fields
-abbrev pub stored_border : border.Inside → Border
+abbrev pub stored_border : border.Inside → BorderLine
 stored_border a = record { time = a.time; cell = a.cell; signal = option_map (λ n. n.now) a.signal }
 
 -- the stop that is kept, from its fields

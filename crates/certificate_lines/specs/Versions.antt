@@ -14,31 +14,31 @@ use Rattle.circuit.specs.Meaning.{Circuit}
 use Rattle.certificate_lines.specs.Entries.{Setting, ModuleLines, edges, known, stops}
 use Rattle.certificate_lines.specs.Orders.{time_rank}
 use Rattle.certificate_lines.specs.Rules.{entry_fault, is_local}
-use Rattle.certificate_lines.specs.declared.certificate_line.Border.{Border}
+use Rattle.certificate_lines.specs.declared.certificate_line.BorderLine.{BorderLine}
 use Rattle.certificate_lines.specs.declared.certificate_line.CertificateLine.{CertificateLine}
 use Rattle.certificate_lines.specs.declared.certificate_line.CertificateLine.TheVariants.{Halo, Stop}
 
 -- ---- the order of edge and of halo lines
 
 -- lines with a `*` first, then by time; then by y and x
-unfoldable pub line_order : Border → Border → Ordering
+unfoldable pub line_order : BorderLine → BorderLine → Ordering
 line_order d e = ordering_then (nat_cmp (time_rank d.time) (time_rank e.time)) (cell_cmp d.cell e.cell)
 
 -- before the first line that it comes before
-unfoldable pub put_line : Border → List Border → List Border
+unfoldable pub put_line : BorderLine → List BorderLine → List BorderLine
 put_line d [] = d ∷ []
 put_line d (e ∷ es) = if is_lt (line_order d e) then d ∷ e ∷ es else e ∷ put_line d es
 
 -- the same lines in that order
-unfoldable pub in_order : List Border → List Border
+unfoldable pub in_order : List BorderLine → List BorderLine
 in_order [] = []
 in_order (d ∷ ds) = put_line d (in_order ds)
 
 -- ---- halos
 
 -- The edge lines of the modules for the cells in the halo of a box. If no odd time is below the steps, there are none.
-unfoldable pub beside : Setting → List ModuleLines → Box2 → List Border
-beside g ms area = if nat_lt 1 g.size.steps then filter (λ e. in_halo area e.cell.x e.cell.y)
+unfoldable pub edge_lines_beside : Setting → List ModuleLines → Box2 → List BorderLine
+edge_lines_beside g ms area = if nat_lt 1 g.size.steps then filter (λ e. in_halo area e.cell.x e.cell.y)
     (flat_map edges ms) else []
 
 -- whether a line is a halo line
@@ -63,7 +63,8 @@ is_early _ = true
 -- a module of version 2 as one of version 1, if these are all modules; its stops come after the halo lines
 unfoldable pub with_halos : Setting → List ModuleLines → ModuleLines → ModuleLines
 with_halos g ms m =
-    record m { lines = filter is_early m.lines ++ map Halo (in_order (beside g ms m.area)) ++ map Stop (stops m) }
+    record m
+    { lines = filter is_early m.lines ++ map Halo (in_order (edge_lines_beside g ms m.area)) ++ map Stop (stops m) }
 
 -- the version whose certificates have no halo lines
 abbrev pub is_haloless : ℕ → Bool
@@ -82,7 +83,8 @@ is_strange c local (Some name) = not (is_local c local name)
 
 -- an edge line for a cell in the halo of another module names a wire that is not local there
 unfoldable pub lacks_wire : Setting → List ModuleLines → Bool
-lacks_wire g ms = list_any (λ m. list_any (λ e. is_strange g.circuit (known g.circuit m) e.signal) (beside g ms m.area))
+lacks_wire g ms = list_any (λ m.
+    list_any (λ e. is_strange g.circuit (known g.circuit m) e.signal) (edge_lines_beside g ms m.area))
     ms
 
 -- ---- good lines

@@ -6,7 +6,7 @@ ghost use Rattle.std.specs.List.{list_any};
 ghost use Rattle.certificate_lines.specs.Entries.{ModuleLines, counts_of, known, modules_of, last_module, name_in};
 ghost use Rattle.certificate_lines.specs.Rules.{border_fault, entry_fault, end_fault, box_fault, module_fault, inner_fault, words_fault, is_incomplete, is_local};
 ghost use Rattle.module_box.specs.Boxes.{in_box};
-ghost use Rattle.certificate_lines.specs.BuilderView.{BuilderView, IsBorderLine, IsInner, IsSmall, NamesWire};
+ghost use Rattle.certificate_lines.specs.BuilderView.{BuilderView, IsBorderLine, IsInner, AreSmallCounts, NamesWire};
 ghost use Rattle.certificate_lines.specs.declared.certificate_line.CertificateLine.TheVariants.{Module};
 
 use crate::certificate_line::{CertificateLine, Counts};
@@ -14,7 +14,7 @@ use crate::counts::{count_in_last, last_counts, pop_module, push_entry, push_mod
 use crate::known::{learn_line, make_room_for_wires, put_away};
 use crate::line_tables::LineTables;
 use crate::local_names::LocalNames;
-use crate::order::does_follow;
+use crate::order::may_follow;
 use crate::rules::{
     border_code, cut_code, is_bad_place, is_bad_side, is_local_name, keep_code, may_be_edge,
     may_be_halo, may_be_stop, stop_code, use_code,
@@ -172,7 +172,7 @@ impl<'a> Builder<'a> {
     // The code of the tests that come after that of the order, where these are the counts of the last module.
     #[inline(always)]
     fn words_code(&mut self, counts: Counts, entry: &CertificateLine) -> Option<RefusalCode>
-        requires { IsSmall counts }
+        requires { AreSmallCounts counts }
         ensures code { (m : ModuleLines) → last_module self.old.entries ≡ Some m →
             counts ≡ counts_of m → result ≡ words_fault self.old.setting m entry.now }
         ensures same_lines { self.new ≡ self.old }
@@ -221,7 +221,7 @@ impl<'a> Builder<'a> {
         let Some(counts) = last_counts(&self.modules) else {
             return Some(RefusalCode::OutOfOrder);
         };
-        if !does_follow(self.entries.as_slice(), entry) {
+        if !may_follow(self.entries.as_slice(), entry) {
             return Some(RefusalCode::OutOfOrder);
         }
         self.words_code(counts, entry)

@@ -10,7 +10,7 @@ use section_text::Name;
 /// The time is `None` if the line has a `*`, for every odd time below the steps. The signal is a wire's name, or `None`
 /// for the constant `1`.
 #[derive(Clone, Copy)]
-pub struct Border {
+pub struct BorderLine {
     pub time: Option<u32>,
     pub cell: Cell,
     pub signal: Option<Name>,
@@ -36,9 +36,9 @@ pub enum CertificateLine {
     /// The number of an inverse gate that the module answers for: a keep fault is an assignment without a row.
     Keep(u32),
     /// The signal of a cell of the box's ring.
-    Edge(Border),
+    Edge(BorderLine),
     /// The signal of a cell of the box's halo.
-    Halo(Border),
+    Halo(BorderLine),
     /// A time at which a cell of the box is live exactly if a wire is true.
     Stop(StopLine),
 }

@@ -2,7 +2,7 @@
 ghost use Rattle.std.specs.Prelude.{◌≡◌, ◌+◌, ◌-◌, ◌<◌, ◌++◌, ◌∷◌, [], length, take, Some, OnOk, OnErr, IfErr};
 ghost use Rattle.section_text.specs.declared.section.LineFault.TheVariants.{Memory};
 ghost use Rattle.certificate_lines.specs.Entries.{change_last, last_of};
-ghost use Rattle.certificate_lines.specs.BuilderView.{counted, IsSmall};
+ghost use Rattle.certificate_lines.specs.BuilderView.{counted, AreSmallCounts};
 ghost use Rattle.certificate_lines.specs.declared.certificate_line.Counts.{Counts};
 ghost use Rattle.certificate_lines.specs.declared.certificate_line.CertificateLine.TheVariants.{Module};
 
@@ -15,7 +15,7 @@ use section_text::LineFault;
 #[inline(always)]
 #[tactic(auto, unfolding(crate::specs::BuilderView::counted))]
 fn count_line(counts: &mut Counts, entry: &CertificateLine)
-    requires { IsSmall counts.old }
+    requires { AreSmallCounts counts.old }
     ensures { counts.new ≡ counted entry.now counts.old }
 {
     match entry {
@@ -39,7 +39,7 @@ pub(crate) fn last_counts(modules: &[Counts]) -> Option<Counts>
 /// Counts one more line of the last module.
 #[inline(always)]
 pub(crate) fn count_in_last(modules: &mut Vec<Counts>, entry: &CertificateLine)
-    requires { (k : Counts) → last_of modules.old.items ≡ Some k → IsSmall k }
+    requires { (k : Counts) → last_of modules.old.items ≡ Some k → AreSmallCounts k }
     ensures { modules.new.items ≡ change_last (counted entry.now) modules.old.items }
 {
     if modules.is_empty() {

@@ -8,7 +8,7 @@ ghost use Rattle.section_text.specs.Feeds.{IsLine, line_bytes};
 ghost use Rattle.certificate_lines.specs.Forms.{Line as FormLine, area_of, border_of, form_of, short_form_of, stop_of};
 ghost use Rattle.certificate_lines.specs.BorderWords.{leading_time, signal_by};
 
-use crate::certificate_line::{Border, CertificateLine, StopLine};
+use crate::certificate_line::{BorderLine, CertificateLine, StopLine};
 use bbm_rule::Cell;
 use module_box::Box2;
 use pattern::cell_from_words;
@@ -59,7 +59,7 @@ fn signal_of(word: &[u8]) -> Option<Option<Name>>
 
 // The content of an edge or halo line, by what stands behind its keyword and a space.
 #[inline(always)]
-fn border_behind(line: &[u8]) -> Option<Border>
+fn border_behind(line: &[u8]) -> Option<BorderLine>
     ensures { (keyword : List ℕ) → result ≡ border_of (keyword ∷ words_of line.now) }
 {
     let (time, line) = take_time(line)?;
@@ -70,10 +70,10 @@ fn border_behind(line: &[u8]) -> Option<Border>
         x: x as i32,
         y: y as i32,
     };
-    Some(Border { time, cell, signal })
+    Some(BorderLine { time, cell, signal })
 }
 
-#[tactic(auto, unfolding(crate::specs::Forms::stop_of, crate::specs::Forms::timed_wire, pattern::specs::Forms::cell_from, section_text::specs::Words::number_at, section_text::specs::Words::name_at, pattern::specs::PortWords::cell_by))]
+#[tactic(auto, unfolding(crate::specs::Forms::stop_of, crate::specs::Forms::timed_wire, pattern::specs::Forms::cell_from, section_text::specs::Words::number_at, section_text::specs::Words::name_at, pattern::specs::PortWords::cell_from_words))]
 fn stop_of_words(words: &FiveWords) -> Option<StopLine>
     ensures { result ≡ stop_of (listed words.now) }
 {

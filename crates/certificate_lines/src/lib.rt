@@ -23,7 +23,7 @@ mod tiles;
 
 pub use blocks::odd_partner;
 pub use builder::Builder;
-pub use certificate_line::{Border, CertificateLine, Counts, StopLine};
+pub use certificate_line::{BorderLine, CertificateLine, Counts, StopLine};
 pub use counts::push_entry;
 pub use form::line_form;
 pub use line_tables::LineTables;

@@ -8,7 +8,7 @@ ghost use Rattle.certificate_lines.specs.BuilderView.{IsInner, last_inner};
 ghost use Rattle.certificate_lines.specs.declared.certificate_line.CertificateLine.{CertificateLine};
 ghost use Rattle.certificate_lines.specs.declared.certificate_line.CertificateLine.TheVariants.{Stop};
 
-use crate::certificate_line::{Border, CertificateLine, StopLine};
+use crate::certificate_line::{BorderLine, CertificateLine, StopLine};
 use crate::stored_line::{StoredBorder, StoredLine, StoredStop};
 use bbm_rule::Cell;
 use module_box::compare_cells;
@@ -103,7 +103,7 @@ fn does_any_precede(first: &CertificateLine, second: &CertificateLine) -> bool
 // Whether the first of two edge lines, or of two halo lines, may stand before the second.
 #[inline(always)]
 #[tactic(auto, unfolding(crate::specs::Versions::line_order))]
-fn does_border_precede(first: &StoredBorder, second: &Border) -> bool
+fn does_border_precede(first: &StoredBorder, second: &BorderLine) -> bool
     ensures { result ≡ is_lt (line_order first.now second.now) }
 {
     let first_time = rank_of_time(first.time());
@@ -166,7 +166,7 @@ fn does_precede(first: &StoredLine, second: &CertificateLine) -> bool
 ///
 /// A `module` line comes before all lines of its module.
 #[inline(always)]
-pub(crate) fn does_follow(entries: &[StoredLine], entry: &CertificateLine) -> bool
+pub(crate) fn may_follow(entries: &[StoredLine], entry: &CertificateLine) -> bool
     requires { IsInner entry.now }
     ensures { (lines : List CertificateLine) → AreInOrder lines →
         last_of lines ≡ last_inner entries.now →

@@ -5,7 +5,7 @@ ghost use Rattle.certificate_lines.specs.BuilderView.{AreLocalNames};
 ghost use Rattle.certificate_lines.specs.Entries.{ModuleLines, gates, last_module};
 ghost use Rattle.certificate_lines.specs.Rules.{is_wrong_side, is_misplaced, is_odd, is_local, is_local_wire, cut_fault, gate_fault, use_fault, keep_fault, is_time, is_edge_place, is_halo_place, is_stop_place, signal_fault, wire_fault, border_fault};
 
-use crate::certificate_line::{Border, StopLine};
+use crate::certificate_line::{BorderLine, StopLine};
 use crate::known::{are_all_new, knows, knows_all};
 use crate::line_tables::LineTables;
 use crate::lines::is_used;
@@ -247,7 +247,12 @@ fn is_good_time(steps: u32, starred: bool, time: Option<u32>) -> bool
 
 /// Returns whether an edge line may have its cell and time.
 #[tactic(auto, unfolding(crate::specs::Rules::is_edge_place))]
-pub(crate) fn may_be_edge(size: LayoutHeader, area: Box2, starred: bool, border: &Border) -> bool
+pub(crate) fn may_be_edge(
+    size: LayoutHeader,
+    area: Box2,
+    starred: bool,
+    border: &BorderLine,
+) -> bool
     ensures { result ≡ is_edge_place size area starred border.now }
 {
     if !area.in_ring(border.cell) {
@@ -261,7 +266,12 @@ pub(crate) fn may_be_edge(size: LayoutHeader, area: Box2, starred: bool, border:
 
 /// Returns whether a halo line may have its cell and time.
 #[tactic(auto, unfolding(crate::specs::Rules::is_halo_place))]
-pub(crate) fn may_be_halo(size: LayoutHeader, area: Box2, starred: bool, border: &Border) -> bool
+pub(crate) fn may_be_halo(
+    size: LayoutHeader,
+    area: Box2,
+    starred: bool,
+    border: &BorderLine,
+) -> bool
     ensures { result ≡ is_halo_place size area starred border.now }
 {
     if !area.in_halo(border.cell) {

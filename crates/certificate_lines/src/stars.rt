@@ -7,7 +7,7 @@ ghost use Rattle.certificate_lines.specs.Entries.{edge_in, halo_in};
 ghost use Rattle.certificate_lines.specs.Rules.{same_cell, is_starred};
 ghost use Rattle.bbm_rule.specs.declared.block.Cell.{Cell};
 
-use crate::certificate_line::{Border, CertificateLine};
+use crate::certificate_line::{BorderLine, CertificateLine};
 use bbm_rule::Cell;
 use indexmap::IndexSet;
 use std::alloc::AllocError;
@@ -40,7 +40,7 @@ fn insert_star(stars: &mut IndexSet<Cell>, cell: Cell)
 // Notes the cell of a line that has a `*`, where there is room.
 #[inline(always)]
 #[tactic(auto, using(crate::proofs::StarLemmas::star_noted, crate::proofs::StarLemmas::no_star))]
-fn note_star(stars: &mut IndexSet<Cell>, border: &Border)
+fn note_star(stars: &mut IndexSet<Cell>, border: &BorderLine)
     requires { length (starred (border.now ∷ [])) ≤ spare stars.old }
     ensures { (c : Cell) →
         list_any (same_cell c) stars.new.keys
@@ -54,7 +54,7 @@ fn note_star(stars: &mut IndexSet<Cell>, border: &Border)
 
 // Makes room for the cell of a line that has a `*`.
 #[inline(always)]
-fn make_room_for_star(stars: &mut IndexSet<Cell>, border: &Border) -> Result<(), AllocError>
+fn make_room_for_star(stars: &mut IndexSet<Cell>, border: &BorderLine) -> Result<(), AllocError>
     ensures keys { stars.new.keys ≡ stars.old.keys }
     ensures room { OnOk result (length (starred (border.now ∷ [])) ≤ spare stars.new) }
 {

@@ -5,7 +5,7 @@ ghost use Rattle.certificate_lines.specs.Entries.{edge_in, halo_in, name_in, sto
 ghost use Rattle.certificate_lines.specs.Versions.{is_halo};
 ghost use Rattle.certificate_lines.specs.declared.certificate_line.CertificateLine.TheVariants.{Module, Halo};
 
-use crate::certificate_line::{Border, CertificateLine, StopLine};
+use crate::certificate_line::{BorderLine, CertificateLine, StopLine};
 use bbm_rule::Cell;
 use module_box::Box2;
 use section_text::Name;
@@ -53,9 +53,9 @@ pub struct StoredBorder<'a> {
 }
 
 impl<'a> Model for StoredBorder<'a> {
-    ghost use Rattle.certificate_lines.specs.declared.certificate_line.Border.{Border};
+    ghost use Rattle.certificate_lines.specs.declared.certificate_line.BorderLine.{BorderLine};
 
-    ghost Value = { Border };
+    ghost Value = { BorderLine };
 
     ghost use Rattle.certificate_lines.specs.StoredLines.{stored_border};
 
@@ -81,10 +81,10 @@ impl<'a> Model for StoredStop<'a> {
 }
 
 // An edge or halo line of a wire, or of the constant `1`.
-fn border(time: Option<u32>, cell: Cell, signal: Option<Name>) -> Border
+fn border(time: Option<u32>, cell: Cell, signal: Option<Name>) -> BorderLine
     ensures { result ≡ record { time = time; cell = cell; signal = signal } }
 {
-    Border { time, cell, signal }
+    BorderLine { time, cell, signal }
 }
 
 impl<'a> StoredLine<'a> {

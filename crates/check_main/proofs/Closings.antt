@@ -6,15 +6,15 @@ use Rattle.std.specs.Prelude.{replicate}
 use Rattle.sha2.specs.Sha256.{sha256}
 use Rattle.certificate.specs.Grammars.{CertView}
 use Rattle.certificate.specs.Text.{certificate_text}
-use Rattle.audit_core.specs.Book.{BookView, IsReplayed, accepted_in, after_closing, new_book}
-use Rattle.audit_core.specs.Concluding.{AreOwnJobs}
-use Rattle.audit_core.specs.Replay.{Replayed, accepted_after, after_entry, beginning, has_closing, replay, replay_from}
-use Rattle.audit_core.specs.Verdicts.{AreHeldBelow, IsFirstMissing}
-use Rattle.audit_core.specs.declared.reply.Reply.{Reply}
-use Rattle.audit_core.specs.declared.reply.Reply.TheVariants as reply
-use Rattle.audit_core.proofs.Replays.{closed-by_its_history}
-use Rattle.audit_core.specs.declared.log_entry.LogEntry.{LogEntry}
-use Rattle.audit_core.specs.declared.log_entry.LogEntry.TheVariants.{Filed, Closing}
+use Rattle.core_book.specs.Book.{BookView, IsReplayed, accepted_in, after_closing, new_book}
+use Rattle.core_book.specs.Concluding.{AreOwnJobs}
+use Rattle.core_book.specs.Replay.{Replayed, accepted_after, after_entry, beginning, has_closing, replay, replay_from}
+use Rattle.core_book.specs.Verdicts.{AreHeldBelow, IsFirstMissing}
+use Rattle.core_book.specs.declared.reply.Reply.{Reply}
+use Rattle.core_book.specs.declared.reply.Reply.TheVariants as reply
+use Rattle.core_book.proofs.Replays.{closed-by_its_history}
+use Rattle.core_book.specs.declared.log_entry.LogEntry.{LogEntry}
+use Rattle.core_book.specs.declared.log_entry.LogEntry.TheVariants.{Filed, Closing}
 use Rattle.module_job.specs.Jobs.{JobView}
 use Rattle.verdict_book.specs.Counts.{no_counts}
 use Rattle.job_pool.specs.Work.{filed_by}

@@ -4,13 +4,13 @@ use Rattle.sha2.specs.Sha256.{sha256}
 use Rattle.certificate.specs.Grammars.{CertView}
 use Rattle.module_job.specs.Jobs.{JobView}
 use Rattle.certificate.specs.Text.{certificate_text}
-use Rattle.audit_core.specs.Book.{BookView, accepted_in, after_closing}
-use Rattle.audit_core.specs.Concluding.{AreOwnJobs}
-use Rattle.audit_core.specs.Filling.{IsFull, IsPartlyFilled}
-use Rattle.audit_core.specs.Verdicts.{AreHeldBelow}
-use Rattle.audit_core.specs.declared.log_entry.LogEntry.{LogEntry}
-use Rattle.audit_core.specs.declared.log_entry.LogEntry.TheVariants.{Filed, Closing}
-use Rattle.audit_core.specs.declared.log_entry.Filing.{Filing}
+use Rattle.core_book.specs.Book.{BookView, accepted_in, after_closing}
+use Rattle.core_book.specs.Concluding.{AreOwnJobs}
+use Rattle.core_book.specs.Filling.{IsFull, IsPartlyFilled}
+use Rattle.core_book.specs.Verdicts.{AreHeldBelow}
+use Rattle.core_book.specs.declared.log_entry.LogEntry.{LogEntry}
+use Rattle.core_book.specs.declared.log_entry.LogEntry.TheVariants.{Filed, Closing}
+use Rattle.core_book.specs.declared.log_entry.Filing.{Filing}
 
 -- the filings of a history
 abbrev pub filings_in : List LogEntry → List Filing

@@ -1,18 +1,18 @@
 -- The effect of the program on its streams: a command ran, or words that are not accepted are explained.
 --
 -- Read before: Stream.antt (`Serves`), Status.antt and Commands.antt; command_line/specs/CommandLine.antt (which words
--- are accepted); device/src/streams.rt (the members of a source and of a sink).
+-- are accepted); streams/src/streams.rt (the members of a source and of a sink).
 use Rattle.std.specs.Prelude.{◌≡◌, ◌⊎◌, ℕ, true, false, List, Option, Result, IfErr, OnOk}
 use Rattle.clap.specs.Walk.{Text}
 use Rattle.clap.specs.declared.error.kind.ErrorKind.{ErrorKind}
 use Rattle.clap.specs.declared.error.kind.ErrorKind.TheVariants.{DisplayHelp, DisplayVersion}
-use Rattle.device.specs.declared.streams.Source.{Ghosts as Source}
-use Rattle.device.specs.declared.streams.Sink.{Ghosts as Sink}
+use Rattle.streams.specs.declared.streams.Source.{Ghosts as Source}
+use Rattle.streams.specs.declared.streams.Sink.{Ghosts as Sink}
 use Rattle.command_line.specs.CommandLine.{AsksForHelp, IsAccepted, IsHelpAlone, asked_by}
 use Rattle.command_line.specs.declared.Request.{Request}
 use Rattle.command_line.specs.declared.Request.TheVariants.{Check}
 use Rattle.answers.specs.declared.outcome.Outcome.{Outcome}
-use Rattle.meaning.specs.Streams.{Gives, YesMeans}
+use Rattle.meaning.specs.Streams.{ReaderGives, YesMeans}
 use Rattle.check_main.specs.declared.fault.CheckFault.{CheckFault}
 use Rattle.check_main.specs.declared.fault.CheckFault.TheVariants.{Write, Memory}
 use Rattle.check_main.specs.declared.front.Streams.{Streams}
@@ -29,7 +29,7 @@ pub record AsksForCheck (words : List Text) : Type 0 where
 -- line of the bytes that it wrote, whatever its end.
 pub record YesPromises (P : List ℕ → Type 0) (EndsAsYes : Type 0)
     (left written_bytes written_bytes' : Option (List ℕ)) : Type 0 where
-  pub by_end : EndsAsYes → Gives P left
+  pub by_end : EndsAsYes → ReaderGives P left
   pub by_line : YesMeans P left written_bytes written_bytes'
 
 -- The command of a request ran on the streams, and its end gave the status.

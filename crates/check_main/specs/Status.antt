@@ -1,7 +1,7 @@
 -- The exit status for the end of a command, and the line for a fault.
 use Rattle.std.specs.Prelude.{◌≡◌, ◌++◌, ℕ, false, List, Ok, Err, Result, codes}
 use Rattle.std.specs.Io.KnownBytes.{Appends}
-use Rattle.device.specs.declared.streams.Sink.{Ghosts as Sink}
+use Rattle.streams.specs.declared.streams.Sink.{Ghosts as Sink}
 use Rattle.answers.specs.declared.outcome.Outcome.{Outcome}
 use Rattle.answers.specs.declared.outcome.Outcome.TheVariants.{Yes, No, Refused}
 use Rattle.check_main.specs.declared.fault.CheckFault.{CheckFault}

@@ -3,8 +3,8 @@ use Rattle.std.specs.Prelude.{◌≡◌, ◌≢◌, ◌<◌, ◌≤◌, ◌++◌
 use Rattle.std.specs.Prelude.{OnOk, length}
 use Rattle.std.specs.declared.option.Option.{Option}
 use Rattle.std.specs.Io.KnownBytes.{Consumes, IsAtEnd, Appends}
-use Rattle.device.specs.declared.streams.Source.{Ghosts as Source}
-use Rattle.device.specs.declared.streams.Sink.{Ghosts as Sink}
+use Rattle.streams.specs.declared.streams.Source.{Ghosts as Source}
+use Rattle.streams.specs.declared.streams.Sink.{Ghosts as Sink}
 use Rattle.section_text.specs.Feeds.{FeedView, text_limit}
 use Rattle.answers.specs.declared.outcome.Outcome.{Outcome}
 use Rattle.check_main.specs.declared.fault.CheckFault.{CheckFault}

@@ -1,16 +1,16 @@
 //! Runs the modules of a certificate by several workers, and keeps what they file.
 ghost use Rattle.std.specs.Prelude.{◌≡◌, ◌<◌, ◌≤◌, false, [], length, map, IfOk, OnOk};
 ghost use Rattle.std.specs.Arc.{arc_value};
-ghost use Rattle.audit_core.specs.Book.{IsReplayed};
-ghost use Rattle.audit_core.specs.Filling.{IsOpenFor};
+ghost use Rattle.core_book.specs.Book.{IsReplayed};
+ghost use Rattle.core_book.specs.Filling.{IsOpenFor};
 ghost use Rattle.module_job.specs.Groups.{AreGroups};
-ghost use Rattle.audit_core.specs.Concluding.{modules};
-ghost use Rattle.audit_core.specs.Replay.{has_closing};
-ghost use Rattle.audit_core.specs.Filling.{shapes_of};
+ghost use Rattle.core_book.specs.Concluding.{modules};
+ghost use Rattle.core_book.specs.Replay.{has_closing};
+ghost use Rattle.core_book.specs.Filling.{shapes_of};
 ghost use Rattle.check_main.specs.Audits.{IsAuditOf, IsClosedOnce, IsCompleted, filings_in};
 
-use audit_core::{BookState, fill_open};
 use certificate::{Cert, Job, job_groups};
+use core_book::{BookState, fill_open};
 use job_pool::{Gate, WorkEnd, work};
 use std::alloc::{AllocError, Global};
 use std::marker::Brand;

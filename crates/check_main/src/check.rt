@@ -8,9 +8,10 @@ ghost use Rattle.check_main.specs.Audits.{IsAuditOf};
 
 use crate::auditing::audit;
 use answers::{Answered, Outcome};
-use audit_core::{BookState, Unfinished, Verdict, conclude};
+use audit_core::conclude;
 use border_match::match_borders;
 use certificate::Cert;
+use core_book::{BookState, Unfinished, Verdict};
 use job_pool::Gate;
 use report::report_under;
 use std::alloc::{AllocError, Global};

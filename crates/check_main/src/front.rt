@@ -3,7 +3,7 @@ ghost use Rattle.std.specs.Prelude.{◌≡◌, ◌<◌, ◌≤◌, ◌⊎◌, fa
 ghost use Rattle.clap.specs.Walk.{texts};
 ghost use Rattle.clap.specs.Words.{kind_of};
 ghost use Rattle.command_line.specs.CommandLine.{IsAccepted, asked_by};
-ghost use Rattle.meaning.specs.Streams.{Gives};
+ghost use Rattle.meaning.specs.Streams.{ReaderGives};
 ghost use Rattle.headline.specs.RightInFull.{IsRightInFull};
 ghost use Rattle.headline.specs.Plain.{IsWrongIfPlain};
 ghost use Rattle.headline.specs.SmallDesigns.{IsNoSmallDesign};
@@ -21,11 +21,11 @@ use answers::Outcome;
 use clap::Error;
 use clap::error::ErrorKind;
 use command_line::{Asked, Request, read_words};
-use device::{Sink, Source};
 use job_pool::Gate;
 use std::alloc::Global;
 use std::sync::Wait;
 use std::thread::Threads;
+use streams::{Sink, Source};
 
 // Statuses.
 const DONE: u8 = 0;
@@ -92,14 +92,14 @@ where
 
     // A no of `check`: if the certificate is plain, the text is wrong. The lines of the report have a meaning.
     ensures wrong { AsksForCheck (texts words.entry.now) → result ≡ 1 →
-        Gives IsWrongIfPlain (R.left streams.old.reader) }
+        ReaderGives IsWrongIfPlain (R.left streams.old.reader) }
     ensures lines { AsksForCheck (texts words.entry.now) → result ≡ 1 →
         Relates LinesTell (R.left streams.old.reader) (W.written_bytes streams.old.writer)
         (W.written_bytes streams.new.writer) }
 
     // A refusal of `check`: the text is not the plain text of a small design.
     ensures small { AsksForCheck (texts words.entry.now) → result ≡ 3 →
-        Gives IsNoSmallDesign (R.left streams.old.reader) }
+        ReaderGives IsNoSmallDesign (R.left streams.old.reader) }
 {
     match read_words(alloc, words) {
         Ok(asked) => {
@@ -135,12 +135,12 @@ fn serve<T: Threads + Wait + Sync, R: Source, W: Sink, G: Gate + Sync>(
         YesPromises IsRightInFull (result ≡ Ok Outcome.Yes) (R.left reader.old)
         (W.written_bytes writer.old) (W.written_bytes writer.new) }
     ensures wrong { asked.request ≡ Request.Check → result ≡ Ok Outcome.No →
-        Gives IsWrongIfPlain (R.left reader.old) }
+        ReaderGives IsWrongIfPlain (R.left reader.old) }
     ensures lines { asked.request ≡ Request.Check → result ≡ Ok Outcome.No →
         Relates LinesTell (R.left reader.old) (W.written_bytes writer.old)
         (W.written_bytes writer.new) }
     ensures small { asked.request ≡ Request.Check → result ≡ Ok Outcome.Refused →
-        Gives IsNoSmallDesign (R.left reader.old) }
+        ReaderGives IsNoSmallDesign (R.left reader.old) }
 {
     match asked.request {
         Request::Check => check_stream(rt, alloc, reader, writer, asked.workers, gate),

@@ -2,7 +2,7 @@
 ghost use Rattle.std.specs.Prelude.{◌≡◌, ◌≢◌, ◌<◌, ◌≤◌, true, false, Ok, IfOk, IfErr, IsErrOf, OnOk, length};
 ghost use Rattle.std.specs.Io.KnownBytes.{Appends};
 ghost use Rattle.answers.specs.CheckText.{IsReportOf};
-ghost use Rattle.meaning.specs.Streams.{Gives};
+ghost use Rattle.meaning.specs.Streams.{ReaderGives};
 ghost use Rattle.headline.specs.RightInFull.{IsRightInFull};
 ghost use Rattle.headline.specs.Plain.{IsWrongIfPlain};
 ghost use Rattle.headline.specs.SmallDesigns.{IsNoSmallDesign};
@@ -17,12 +17,12 @@ ghost use Rattle.check_main.specs.Stream.{ReadsAll, Serves, GivesTooMuch, TakesP
 use crate::CheckFault;
 use crate::bundle::check_text;
 use answers::{Answered, Outcome, migrate_text, modules_text, run_text, value_text};
-use device::{Sink, Source};
 use job_pool::Gate;
 use section_text::{Feed, MAX_TEXT_BYTES, PushFault};
 use std::alloc::Global;
 use std::sync::Wait;
 use std::thread::Threads;
+use streams::{Sink, Source};
 
 // What one read asks for, in bytes.
 const MAX_READ_BYTES: usize = 65_536;
@@ -65,11 +65,11 @@ where
         result }
     ensures in_full { YesPromises IsRightInFull (result ≡ Ok Outcome.Yes) (R.left reader.old)
         (W.written_bytes writer.old) (W.written_bytes writer.new) }
-    ensures wrong { result ≡ Ok Outcome.No → Gives IsWrongIfPlain (R.left reader.old) }
+    ensures wrong { result ≡ Ok Outcome.No → ReaderGives IsWrongIfPlain (R.left reader.old) }
     ensures lines { result ≡ Ok Outcome.No →
         Relates LinesTell (R.left reader.old) (W.written_bytes writer.old)
         (W.written_bytes writer.new) }
-    ensures small { result ≡ Ok Outcome.Refused → Gives IsNoSmallDesign (R.left reader.old) }
+    ensures small { result ≡ Ok Outcome.Refused → ReaderGives IsNoSmallDesign (R.left reader.old) }
 {
     let feed = read_text(alloc, reader)?;
     let answered = check_text(rt, alloc, feed, workers, gate)?;

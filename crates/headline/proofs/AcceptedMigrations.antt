@@ -19,10 +19,10 @@ use Rattle.certificate_lines.specs.declared.certificate_line.CertificateLine.{Ce
 use Rattle.certificate.proofs.FullModules.{meant_modules, meant_old}
 use Rattle.certificate.proofs.Migrated.{migrated_lacks, migrated_modules}
 use Rattle.certificate.proofs.Soundness.{faultless_modules, read_complete, read_version}
-use Rattle.audit_core.specs.MigrationLaws.{IsAcceptedMigration}
-use Rattle.audit_core.specs.Verdicts.{Accepts, IsVerdict}
-use Rattle.audit_core.specs.declared.verdict.Verdict.TheVariants as verdict
-use Rattle.audit_core.proofs.Migrated.{migration_accepted}
+use Rattle.soundness.specs.MigrationLaws.{IsAcceptedMigration}
+use Rattle.core_book.specs.Verdicts.{Accepts, IsVerdict}
+use Rattle.core_book.specs.declared.verdict.Verdict.TheVariants as verdict
+use Rattle.soundness.proofs.Migrated.{migration_accepted}
 use Rattle.report.specs.ReportText.{report_lines}
 use Rattle.answers.specs.Answers.{Answered}
 use Rattle.answers.specs.BundleText.{Bundle, bundle_of}

@@ -47,14 +47,14 @@ use Rattle.certificate.specs.Keeps as keeps
 use Rattle.certificate.specs.Times as times
 use Rattle.local_run.specs.Order.{fault_cmp}
 use Rattle.local_run.specs.Runs.{local_run, local_step, with_halo}
-use Rattle.audit_core.proofs.NumberedSignals.{numbered, numbered_all_times, numbered_event, numbered_signals}
-use Rattle.audit_core.proofs.NumberedSignals.{place_among}
-use Rattle.audit_core.proofs.SomeJobs.{demanded, placed_gate, placed_gates, placed_stop, places}
-use Rattle.audit_core.specs.HeadlineLaws.{IsInputName}
-use Rattle.audit_core.specs.OnTime.{StopHolds}
-use Rattle.audit_core.specs.PlainCertificates.{IsPlain, TouchesRim}
+use Rattle.soundness.proofs.NumberedSignals.{numbered, numbered_all_times, numbered_event, numbered_signals}
+use Rattle.soundness.proofs.NumberedSignals.{place_among}
+use Rattle.soundness.proofs.SomeJobs.{demanded, placed_gate, placed_gates, placed_stop, places}
+use Rattle.soundness.specs.HeadlineLaws.{IsInputName}
+use Rattle.soundness.specs.OnTime.{StopHolds}
+use Rattle.soundness.specs.PlainCertificates.{IsPlain, TouchesRim}
 use Rattle.certificate_lines.specs.declared.certificate_line.StopLine.{StopLine}
-use Rattle.audit_core.specs.declared.verdict.ReportLine.TheVariants.{Meet}
+use Rattle.core_book.specs.declared.verdict.ReportLine.TheVariants.{Meet}
 use Rattle.answers.specs.BundleText.{Bundle, bundle_of}
 use Rattle.answers.specs.CheckText.{IsReportOf}
 use Rattle.answers.specs.declared.outcome.Outcome.{Outcome}
@@ -64,7 +64,7 @@ use Rattle.headline.specs.Laws.{ThereAndBackIsAccepted, TimedModulesAreAccepted}
 use Rattle.headline.specs.PlainLaws.{ThereAndBackIsPlain, ThereAndBackIsSmall}
 use Rattle.headline.specs.PlainNo.{plain_no}
 use Rattle.headline.specs.PlainYes.{plain_yes}
-use Rattle.headline.specs.SmallDesigns.{HasNoDelay, IsDesign, IsSmall, plain_lines, plain_text}
+use Rattle.headline.specs.SmallDesigns.{HasNoDelay, IsDesign, IsSmallDesign, plain_lines, plain_text}
 use Rattle.headline.specs.ThereAndBack.{there_and_back}
 use Rattle.headline.specs.TimedModules.{timed_modules}
 use Rattle.headline.specs.Witnesses.{PlainNoIsRefuted, PlainYesIsAccepted, SmallDesignIsAccepted, SmallDesignIsRefuted}
@@ -227,7 +227,7 @@ unfolding timed_modules there_and_back plain_yes plain_no bundle_of words.lines_
     end_demand
     port_at places placed_gate placed_gates place_among numbered numbered_all_times numbered_event numbered_signals
     demanded placed_stop bit row evaluate job_start job_demand local_run local_step with_halo step partner turned
-    signal_at all_times_at event_at times.numbered versions.beside versions.in_order versions.is_early
+    signal_at all_times_at event_at times.numbered versions.edge_lines_beside versions.in_order versions.is_early
     versions.with_halos versions.is_halo versions.lacks_wire fault_cmp keeps.unkept_from
 are_read = record {
   timed = record { layout = refl; tests = record { jobs = refl; kept = refl; borders = refl; on_time = refl } };
@@ -342,7 +342,7 @@ no_delay zero steps a b is =
     cc
 no_delay (suc k) steps a b is = absurd cc
 
-few : (b c : Cell) → IsSmall meeting (meeting_in b c)
+few : (b c : Cell) → IsSmallDesign meeting (meeting_in b c)
 few b c = record { wide = omega arith; high = omega arith; inputs = omega arith; gates = omega arith }
 
 right_design : IsDesign meeting right_layout

@@ -50,22 +50,22 @@ use Rattle.local_run.specs.declared.fault.Kind.TheVariants.{Edge, Stop, End}
 use Rattle.local_run.proofs.Decided.{decided}
 use Rattle.border_match.specs.BorderFaults.{IsBorderFault, IsLeastBorderFault}
 use Rattle.border_match.specs.declared.fault.BorderFault.{BorderFault}
-use Rattle.audit_core.specs.HeadlineLaws.{BelongTogether}
-use Rattle.audit_core.specs.PlainCertificates.{IsPlain, LineMeans, Shows}
-use Rattle.audit_core.specs.Verdicts.{IsToldOf, IsVerdict, lines_from, timing, unkept_lines}
-use Rattle.audit_core.specs.declared.verdict.Reasons.{Reasons}
-use Rattle.audit_core.specs.declared.verdict.ReportLine.{ReportLine}
-use Rattle.audit_core.specs.declared.verdict.ReportLine.TheVariants.{Local}
-use Rattle.audit_core.specs.declared.verdict.Verdict.{Verdict}
-use Rattle.audit_core.specs.declared.verdict.Verdict.TheVariants as verdict
-use Rattle.audit_core.proofs.FirstFaults.{ring_inside}
-use Rattle.audit_core.proofs.InputRuns.{read_layout-names}
-use Rattle.audit_core.proofs.PlainCertificates.{only_module, plain_lines}
-use Rattle.audit_core.proofs.SomeJobs.{are_jobs_of, job_of}
-use Rattle.audit_core.proofs.SomeVerdict.{IsVecOf, jobs_good, vec_of}
-use Rattle.audit_core.proofs.Trials.{all_at, all_below, at_every, at_odd, at_odd_times, edge_test, every_cell, given_of}
-use Rattle.audit_core.proofs.Trials.{implied, meets, meets_is, stop_test}
-use Rattle.audit_core.proofs.YesMeansCorrect.{IsRead}
+use Rattle.soundness.specs.HeadlineLaws.{BelongTogether}
+use Rattle.soundness.specs.PlainCertificates.{IsPlain, LineMeans, Shows}
+use Rattle.core_book.specs.Verdicts.{IsToldOf, IsVerdict, lines_from, timing, unkept_lines}
+use Rattle.core_book.specs.declared.verdict.Reasons.{Reasons}
+use Rattle.core_book.specs.declared.verdict.ReportLine.{ReportLine}
+use Rattle.core_book.specs.declared.verdict.ReportLine.TheVariants.{Local}
+use Rattle.core_book.specs.declared.verdict.Verdict.{Verdict}
+use Rattle.core_book.specs.declared.verdict.Verdict.TheVariants as verdict
+use Rattle.soundness.proofs.FirstFaults.{ring_inside}
+use Rattle.soundness.proofs.InputRuns.{read_layout-names}
+use Rattle.soundness.proofs.PlainCertificates.{only_module, plain_lines}
+use Rattle.soundness.proofs.SomeJobs.{are_jobs_of, job_of}
+use Rattle.soundness.proofs.SomeVerdict.{IsVecOf, jobs_good, vec_of}
+use Rattle.soundness.proofs.Trials.{all_at, all_below, at_every, at_odd, at_odd_times, edge_test, every_cell, given_of}
+use Rattle.soundness.proofs.Trials.{implied, meets, meets_is, stop_test}
+use Rattle.soundness.proofs.YesMeansCorrect.{IsRead}
 use Rattle.report.specs.ReportText.{fault_line, opening_lines, report_lines}
 use Rattle.answers.specs.Answers.{Answered}
 use Rattle.answers.specs.BundleText.{Bundle, bundle_of}

@@ -17,13 +17,13 @@ use Rattle.section_text.specs.declared.fault.Refusal.{Refusal}
 use Rattle.section_text.proofs.Again.{IsOneLine}
 use Rattle.section_text.proofs.Lines.{ended-cons, some_part}
 use Rattle.certificate.specs.declared.times.TimeLine.{TimeLine}
-use Rattle.audit_core.specs.Verdicts.{timing}
+use Rattle.core_book.specs.Verdicts.{timing}
 use Rattle.certificate_lines.specs.Entries.{modules_of}
 use Rattle.certificate.specs.Grammars.{CertView}
 use Rattle.certificate.specs.Text.{certificate_text}
 use Rattle.certificate_lines.proofs.Lists.{kept}
-use Rattle.audit_core.specs.declared.verdict.Verdict.{Verdict}
-use Rattle.audit_core.specs.declared.verdict.Verdict.TheVariants as verdict
+use Rattle.core_book.specs.declared.verdict.Verdict.{Verdict}
+use Rattle.core_book.specs.declared.verdict.Verdict.TheVariants as verdict
 use Rattle.report.specs.ReportText.{fault_line, refusal_line, report_lines, verdict_lines}
 use Rattle.meaning.specs.Streams.{SaysYes}
 use Rattle.headline.specs.Laws.{FourthLineIsLine}

@@ -18,7 +18,7 @@ use Rattle.certificate_lines.proofs.InList.{all_in}
 use Rattle.certificate.proofs.FullModules.{all_of_each, full_cuts, full_edges, full_gates, full_keeps, full_known}
 use Rattle.certificate.proofs.FullModules.{full_modules, full_stops, mapped_at, mapped_from}
 use Rattle.certificate_lines.proofs.LineOrder.{in_each}
-use Rattle.audit_core.proofs.NumberedSignals.{IsNamed, lines_back, numbered_event, numbered_all_times, numbered_signals}
+use Rattle.soundness.proofs.NumberedSignals.{IsNamed, lines_back, numbered_event, numbered_all_times, numbered_signals}
 use Rattle.certificate_lines.proofs.Pairs.{Each}
 
 -- ---- the job of a module with the edge lines beside it

@@ -43,7 +43,7 @@ use Rattle.certificate.specs.Text.{form_text as certificate_line}
 use Rattle.certificate_lines.specs.Versions.{is_halo, is_haloless, without_halos}
 use Rattle.certificate_lines.specs.declared.certificate_line.CertificateLine.{CertificateLine}
 use Rattle.certificate.proofs.Spelling.{form_line as certificate_spelled}
-use Rattle.audit_core.specs.Concluding.{port_names_of}
+use Rattle.core_book.specs.Concluding.{port_names_of}
 use Rattle.answers.specs.Answers.{Answered}
 use Rattle.answers.specs.BundleText.{Bundle, bundle_of}
 use Rattle.answers.specs.MigrateText.{IsMigrationOf, SaysMigration, bundle_text, certificate_lines, in_version_two}

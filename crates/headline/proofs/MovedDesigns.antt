@@ -6,13 +6,13 @@ use Rattle.circuit.specs.declared.circuit_line.CircuitLine.{CircuitLine}
 use Rattle.pattern.specs.Layout.{Pattern}
 use Rattle.module_box.specs.Boxes.{in_ring}
 use Rattle.certificate_lines.specs.Rules.{whole}
-use Rattle.audit_core.specs.PlainCertificates.{TouchesRim}
+use Rattle.soundness.specs.PlainCertificates.{TouchesRim}
 use Rattle.answers.specs.CheckText.{IsReportOf}
 use Rattle.answers.specs.declared.outcome.Outcome.{Outcome}
 use Rattle.answers.specs.declared.outcome.Outcome.TheVariants.{Yes}
 use Rattle.meaning.specs.Implements.{IsCorrect, run_under}
 use Rattle.headline.specs.MovedDesigns.{EachCorrectDesignGetsYes, HasRoom, enlarged, moved}
-use Rattle.headline.specs.SmallDesigns.{IsDesign, IsSmall, plain_text}
+use Rattle.headline.specs.SmallDesigns.{IsDesign, IsSmallDesign, plain_text}
 use Rattle.headline.proofs.MovedLines.{enlarged_good, moved_good}
 use Rattle.headline.proofs.MovedPlanes.{by_moved}
 use Rattle.headline.proofs.MovedRims.{not_rim}
@@ -32,7 +32,7 @@ design_moved circuit p design room = record {
   ports = named_moved circuit p design.ports;
 }
 
-small_moved : (circuit : List CircuitLine) (p : Pattern) → HasRoom circuit p → IsSmall circuit (moved p)
+small_moved : (circuit : List CircuitLine) (p : Pattern) → HasRoom circuit p → IsSmallDesign circuit (moved p)
 small_moved circuit p room =
     let wide = room.wide in
     let high = room.high in

@@ -14,12 +14,12 @@ use Rattle.module_job.specs.Jobs.{JobView}
 use Rattle.certificate.specs.Jobs.{AreJobsOf}
 use Rattle.certificate_lines.specs.Modules.{AreModules}
 use Rattle.certificate.specs.Text.{certificate_text}
-use Rattle.audit_core.proofs.ModuleJobs.{one_job}
-use Rattle.audit_core.specs.CoreLaws.{SaysTheSame}
-use Rattle.audit_core.specs.Verdicts.{IsVerdict}
-use Rattle.audit_core.specs.declared.verdict.Verdict.{Verdict}
-use Rattle.audit_core.specs.declared.verdict.Verdict.TheVariants as verdict
-use Rattle.audit_core.proofs.OneVerdict.{none-past, same-elements, verdict-is-one}
+use Rattle.soundness.proofs.ModuleJobs.{one_job}
+use Rattle.core_book.specs.CoreLaws.{SaysTheSame}
+use Rattle.core_book.specs.Verdicts.{IsVerdict}
+use Rattle.core_book.specs.declared.verdict.Verdict.{Verdict}
+use Rattle.core_book.specs.declared.verdict.Verdict.TheVariants as verdict
+use Rattle.core_book.proofs.OneVerdict.{none-past, same-elements, verdict-is-one}
 use Rattle.report.specs.ReportText.{fault_line, opening_lines, report_lines}
 use Rattle.answers.specs.BundleText.{Bundle, bundle_of}
 use Rattle.answers.specs.CheckText.{IsCertificateOf, IsReportOf, IsVerdictOn, SaysReport, verdict_outcome}

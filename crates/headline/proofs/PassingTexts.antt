@@ -11,10 +11,10 @@ use Rattle.certificate_lines.specs.Settings.{setting_of}
 use Rattle.certificate.specs.Grammars.{CertView, modules_in}
 use Rattle.certificate.specs.Jobs.{AreJobsOf}
 use Rattle.module_job.specs.Jobs.{JobView}
-use Rattle.audit_core.specs.Verdicts.{IsVerdict}
-use Rattle.audit_core.specs.declared.verdict.Verdict.TheVariants as verdict
-use Rattle.audit_core.proofs.SomeJobs.{are_jobs_of, job_of}
-use Rattle.audit_core.proofs.Trials.{PassTests, accepts}
+use Rattle.core_book.specs.Verdicts.{IsVerdict}
+use Rattle.core_book.specs.declared.verdict.Verdict.TheVariants as verdict
+use Rattle.soundness.proofs.SomeJobs.{are_jobs_of, job_of}
+use Rattle.soundness.proofs.Trials.{PassTests, accepts}
 use Rattle.report.specs.ReportText.{report_lines}
 use Rattle.answers.specs.Answers.{Answered}
 use Rattle.answers.specs.BundleText.{Bundle, bundle_of}

@@ -27,9 +27,9 @@ use Rattle.certificate_lines.specs.declared.certificate_line.CertificateLine.{Ce
 use Rattle.certificate_lines.specs.declared.certificate_line.CertificateLine.TheVariants.{Module, Cut, Use, Keep, Edge}
 use Rattle.certificate_lines.specs.declared.certificate_line.CertificateLine.TheVariants.{Halo, Stop}
 use Rattle.certificate_lines.proofs.Lists.{any_at}
-use Rattle.audit_core.specs.HeadlineLaws.{IsInputName}
-use Rattle.audit_core.specs.PlainCertificates.{IsPlain}
-use Rattle.audit_core.proofs.InputRuns.{IsPlaced, placed}
+use Rattle.soundness.specs.HeadlineLaws.{IsInputName}
+use Rattle.soundness.specs.PlainCertificates.{IsPlain}
+use Rattle.soundness.proofs.InputRuns.{IsPlaced, placed}
 use Rattle.headline.specs.RightInFull.{IsGoodDesign}
 use Rattle.headline.specs.Plain.{SaysPlain}
 use Rattle.headline.specs.SmallDesigns.{gate_numbers, plain_lines}

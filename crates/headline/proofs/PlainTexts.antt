@@ -11,7 +11,7 @@ use Rattle.module_box.specs.Locals.{is_among}
 use Rattle.certificate_lines.specs.Entries.{ModuleLines, Setting, cut_in, edge_in, keep_in, modules_of, stop_in, cuts}
 use Rattle.certificate_lines.specs.Entries.{edges, stops}
 use Rattle.certificate_lines.specs.Settings.{setting_of}
-use Rattle.certificate_lines.specs.Versions.{beside, in_order, is_haloless, meant, with_halos}
+use Rattle.certificate_lines.specs.Versions.{edge_lines_beside, in_order, is_haloless, meant, with_halos}
 use Rattle.certificate_lines.specs.declared.certificate_line.CertificateLine.{CertificateLine}
 use Rattle.certificate_lines.specs.declared.certificate_line.StopLine.{StopLine}
 use Rattle.certificate.specs.Arrivals.{AreOnTime}
@@ -31,26 +31,26 @@ use Rattle.certificate.specs.Text.{certificate_text}
 use Rattle.local_run.specs.declared.fault.Fault.{Fault}
 use Rattle.local_run.specs.declared.fault.Kind.{Kind}
 use Rattle.local_run.specs.declared.fault.Kind.TheVariants.{Edge, End, Stop as AtStop}
-use Rattle.audit_core.proofs.EarliestLines.{earliest_is_real}
+use Rattle.soundness.proofs.EarliestLines.{earliest_is_real}
 use Rattle.report.specs.ReportText.{report_lines}
 use Rattle.headline.specs.Plain.{HasRimTouch, IsWrongIfPlain, IsWrongText, SaysPlain}
 use Rattle.headline.specs.ReportLines.{EarliestIsReal, LinesMeanIfPlain, LinesTell, SaysNoWith}
 use Rattle.headline.specs.PlainLaws.{NoLinesTell, PlainIsDecided, PlainNoMeansWrong, YesKeepsOffRim}
-use Rattle.audit_core.specs.declared.verdict.ReportLine.TheVariants.{Local, Keep, Border, Unkept, Delay, Meet}
-use Rattle.audit_core.specs.FirstFaults.{HasAssignment, IsAsCertified, IsEarliestLine, IsReal}
-use Rattle.audit_core.specs.HeadlineLaws.{BelongTogether, HasInputNames, IsInputName}
+use Rattle.core_book.specs.declared.verdict.ReportLine.TheVariants.{Local, Keep, Border, Unkept, Delay, Meet}
+use Rattle.soundness.specs.FirstFaults.{HasAssignment, IsAsCertified, IsEarliestLine, IsReal}
+use Rattle.soundness.specs.HeadlineLaws.{BelongTogether, HasInputNames, IsInputName}
 use Rattle.meaning.specs.Implements.{IsCorrect}
-use Rattle.audit_core.specs.PlainCertificates.{DelayLineMeans, IsPlain, IsWrongDesign, LineMeans, MeetLineMeans}
-use Rattle.audit_core.specs.PlainCertificates.{TouchesRim}
-use Rattle.audit_core.specs.OnTime.{IsOnTime, StopHolds}
-use Rattle.audit_core.specs.Verdicts.{Accepts, IsVerdict}
-use Rattle.audit_core.specs.declared.verdict.ReportLine.{ReportLine}
-use Rattle.audit_core.specs.declared.verdict.Verdict.{Verdict}
-use Rattle.audit_core.specs.declared.verdict.Verdict.TheVariants as verdict
-use Rattle.audit_core.proofs.InputRuns.{read_layout-names}
-use Rattle.audit_core.proofs.PlainCertificates.{plain_no, plain_lines}
-use Rattle.audit_core.proofs.WholeRuns.{off_rim}
-use Rattle.audit_core.proofs.YesMeansCorrect.{IsRead, bundle_read}
+use Rattle.soundness.specs.PlainCertificates.{DelayLineMeans, IsPlain, IsWrongDesign, LineMeans, MeetLineMeans}
+use Rattle.soundness.specs.PlainCertificates.{TouchesRim}
+use Rattle.soundness.specs.OnTime.{IsOnTime, StopHolds}
+use Rattle.core_book.specs.Verdicts.{Accepts, IsVerdict}
+use Rattle.core_book.specs.declared.verdict.ReportLine.{ReportLine}
+use Rattle.core_book.specs.declared.verdict.Verdict.{Verdict}
+use Rattle.core_book.specs.declared.verdict.Verdict.TheVariants as verdict
+use Rattle.soundness.proofs.InputRuns.{read_layout-names}
+use Rattle.soundness.proofs.PlainCertificates.{plain_no, plain_lines}
+use Rattle.soundness.proofs.WholeRuns.{off_rim}
+use Rattle.soundness.proofs.YesMeansCorrect.{IsRead, bundle_read}
 use Rattle.answers.specs.Answers.{Answered}
 use Rattle.answers.specs.BundleText.{Bundle, bundle_of}
 use Rattle.answers.specs.CheckText.{SaysReport, verdict_outcome}
@@ -72,13 +72,14 @@ unfolding with_halos
 full_plain g ms lines p m plain = record {
   box = plain.box;
   inputs = subst (All (IsInputName lines))
-      (sym (other_lines cut_in (record { halo = λ e. refl; stop = λ s. refl }) m.lines (in_order (beside g ms m.area))))
+      (sym (other_lines cut_in (record { halo = λ e. refl; stop = λ s. refl }) m.lines
+      (in_order (edge_lines_beside g ms m.area))))
       plain.inputs;
   inverses = λ n gate at inverse.
       ap (λ ks. is_among ks n) (other_lines keep_in (record { halo = λ e. refl; stop = λ s. refl }) m.lines
-      (in_order (beside g ms m.area))) ∙ plain.inverses n gate at inverse;
+      (in_order (edge_lines_beside g ms m.area))) ∙ plain.inverses n gate at inverse;
   no_edge = other_lines edge_in (record { halo = λ e. refl; stop = λ s. refl }) m.lines
-      (in_order (beside g ms m.area)) ∙ plain.no_edge;
+      (in_order (edge_lines_beside g ms m.area)) ∙ plain.no_edge;
 }
 
 -- ---- what a module says, and what it means
@@ -93,10 +94,10 @@ with_halos_same : (g : Setting) (ms : List ModuleLines) (m : ModuleLines) → Ha
 unfolding with_halos
 with_halos_same g ms m = record {
   cuts_same = other_lines cut_in (record { halo = λ e. refl; stop = λ s. refl }) m.lines
-      (in_order (beside g ms m.area));
+      (in_order (edge_lines_beside g ms m.area));
   edges_same = other_lines edge_in (record { halo = λ e. refl; stop = λ s. refl }) m.lines
-      (in_order (beside g ms m.area));
-  stops_same = stop_lines m.lines (in_order (beside g ms m.area));
+      (in_order (edge_lines_beside g ms m.area));
+  stops_same = stop_lines m.lines (in_order (edge_lines_beside g ms m.area));
 }
 
 -- the module that module i means

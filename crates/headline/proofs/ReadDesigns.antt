@@ -27,9 +27,9 @@ use Rattle.pattern.specs.Layout.{Pattern, parts_of}
 use Rattle.pattern.specs.declared.layout_line.LayoutHeader.{LayoutHeader}
 use Rattle.pattern.specs.declared.layout_line.LayoutLine.{LayoutLine}
 use Rattle.pattern.proofs.Named.{faultless_named}
-use Rattle.audit_core.specs.Concluding.{port_names_of}
-use Rattle.audit_core.proofs.PortNames.{read_layout-is_named}
-use Rattle.audit_core.proofs.SomeVerdict.{first_none}
+use Rattle.core_book.specs.Concluding.{port_names_of}
+use Rattle.soundness.proofs.PortNames.{read_layout-is_named}
+use Rattle.soundness.proofs.SomeVerdict.{first_none}
 use Rattle.answers.specs.Answers.{Answered}
 use Rattle.answers.specs.BundleText.{Bundle, bundle_of}
 use Rattle.answers.specs.CheckText.{SaysReport}

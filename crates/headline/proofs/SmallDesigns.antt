@@ -59,25 +59,25 @@ use Rattle.pattern.specs.declared.layout_line.Port.{Port}
 use Rattle.pattern.proofs.Named.{faultless_named}
 use Rattle.module_box.specs.Boxes.{in_box}
 use Rattle.certificate_lines.proofs.BoxPlaces.{cells_inside}
-use Rattle.audit_core.specs.Concluding.{port_names_of}
-use Rattle.audit_core.specs.HeadlineLaws.{IsInputName}
-use Rattle.audit_core.specs.declared.verdict.Verdict.{Verdict}
-use Rattle.audit_core.proofs.InputRuns.{IsPlaced, placed, read_layout-names}
-use Rattle.audit_core.proofs.PortNames.{no_code, read_layout-is_named}
-use Rattle.audit_core.proofs.Trials.{range_at}
+use Rattle.core_book.specs.Concluding.{port_names_of}
+use Rattle.soundness.specs.HeadlineLaws.{IsInputName}
+use Rattle.core_book.specs.declared.verdict.Verdict.{Verdict}
+use Rattle.soundness.proofs.InputRuns.{IsPlaced, placed, read_layout-names}
+use Rattle.soundness.proofs.PortNames.{no_code, read_layout-is_named}
+use Rattle.soundness.proofs.Trials.{range_at}
 use Rattle.answers.specs.Answers.{Answered}
 use Rattle.answers.specs.BundleText.{Bundle, bundle_of}
 use Rattle.answers.specs.CheckText.{SaysReport, verdict_outcome}
 use Rattle.answers.specs.declared.outcome.Outcome.{Outcome}
 use Rattle.answers.specs.declared.outcome.Outcome.TheVariants.{Yes, No, Refused}
 use Rattle.answers.proofs.Bundles.{same_setting}
-use Rattle.headline.specs.SmallDesigns.{IsPlainText, IsSmall, gate_numbers, plain_lines}
+use Rattle.headline.specs.SmallDesigns.{IsPlainText, IsSmallDesign, gate_numbers, plain_lines}
 use Rattle.headline.specs.PlainLaws.{RefusedIsNoSmallDesign, SmallDesignIsDecided}
 use Rattle.headline.specs.Stops.{SaysBundle}
 use Rattle.headline.proofs.Migrations.{HasSections, IsGoodBundle, bundle_made, good_read, sections_read}
 use Rattle.headline.proofs.WrittenNames.{outs_have}
 use Rattle.headline.proofs.YesIsRight.{bundle_good, circuit_good}
-use Rattle.audit_core.specs.declared.verdict.Verdict.TheVariants as verdict
+use Rattle.core_book.specs.declared.verdict.Verdict.TheVariants as verdict
 use Rattle.headline.proofs.PlainLines.{all_inner, among_range, none_of, own_of, is_one, plain_lines_decide}
 use Rattle.std.proofs.lemmas.Grind.{flat_map-append}
 use Rattle.std.proofs.lemmas.Bool.Decides.{nat_tests}
@@ -586,7 +586,7 @@ side_ok n side few =
 
 module _ (circuit : List CircuitLine) (p : Pattern) (good : AreGood circuit)
     (layout_good : IsFaultless (layout_grammar (Some (port_names_of circuit))) p.size (parts_of p))
-    (small : IsSmall circuit p) where
+    (small : IsSmallDesign circuit p) where
   abbrev its_setting : Setting
   its_setting = setting_of circuit p
 

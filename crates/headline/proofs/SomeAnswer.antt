@@ -14,7 +14,7 @@ use Rattle.circuit.specs.Meaning.{AreOrdered}
 use Rattle.circuit.specs.Text.{value_lines}
 use Rattle.circuit.specs.declared.circuit_line.CircuitLine.{CircuitLine}
 use Rattle.circuit.proofs.Bridging.{gates_are_ordered}
-use Rattle.audit_core.proofs.SomeValues.{HasStop, HasValues, values_or_stop}
+use Rattle.soundness.proofs.SomeValues.{HasStop, HasValues, values_or_stop}
 use Rattle.report.specs.ReportText.{refusal_line}
 use Rattle.answers.specs.Answers.{Answered, with_value}
 use Rattle.answers.specs.BundleText.{bundle_of}

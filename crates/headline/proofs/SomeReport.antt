@@ -16,12 +16,12 @@ use Rattle.certificate_lines.specs.Modules.{AreModules}
 use Rattle.certificate_lines.specs.Settings.{setting_of}
 use Rattle.certificate.proofs.FullModules.{meant_modules}
 use Rattle.certificate.proofs.Soundness.{faultless_modules, read_complete}
-use Rattle.audit_core.specs.Concluding.{port_names_of}
-use Rattle.audit_core.proofs.SomeVerdict.{first_none, some_verdict}
+use Rattle.core_book.specs.Concluding.{port_names_of}
+use Rattle.soundness.proofs.SomeVerdict.{first_none, some_verdict}
 use Rattle.report.specs.ReportText.{report_lines}
 use Rattle.answers.specs.BundleText.{Bundle, bundle_of}
 use Rattle.answers.specs.CheckText.{IsReportOf, IsVerdictOn, SaysReport, verdict_outcome}
-use Rattle.audit_core.specs.declared.verdict.Verdict.{Verdict}
+use Rattle.core_book.specs.declared.verdict.Verdict.{Verdict}
 use Rattle.headline.specs.Laws.{HasAnAnswer}
 use Rattle.headline.proofs.SomeAnswer.{SaysSomething, answered_always}
 use Rattle.headline.proofs.YesIsRight.{bundle_good, certificate_faultless}

@@ -28,8 +28,8 @@ use Rattle.certificate_lines.proofs.BoxPlaces.{box_length, box_place}
 use Rattle.certificate_lines.proofs.LineOrder.{In, flat_in}
 use Rattle.certificate_lines.proofs.InList.{placed}
 use Rattle.certificate.proofs.FullModules.{stands}
-use Rattle.audit_core.proofs.SomeLeast.{Decided, HasOne, both_decided, bools_decided, some_decided, true_decided}
-use Rattle.audit_core.proofs.SomeVerdict.{vec_of}
+use Rattle.soundness.proofs.SomeLeast.{Decided, HasOne, both_decided, bools_decided, some_decided, true_decided}
+use Rattle.soundness.proofs.SomeVerdict.{vec_of}
 use Rattle.answers.specs.Answers.{with_value}
 use Rattle.answers.specs.RunText.{IsRunOf, RunAsked, SaysRunEnd, end_outcome, end_text, run_asked}
 use Rattle.headline.specs.Laws.{HasAnAnswer}

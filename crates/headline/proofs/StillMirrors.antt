@@ -25,12 +25,12 @@ use Rattle.pattern.specs.Lines.{size_fault}
 use Rattle.pattern.specs.Layout.{Pattern, in_layout, parts_of, plane_at, rectangle_cells}
 use Rattle.pattern.specs.Layout.{start}
 use Rattle.module_box.specs.Boxes.{in_box, in_ring, some_neighbour}
-use Rattle.audit_core.specs.PlainCertificates.{TouchesRim}
+use Rattle.soundness.specs.PlainCertificates.{TouchesRim}
 use Rattle.answers.specs.CheckText.{IsReportOf}
 use Rattle.answers.specs.declared.outcome.Outcome.TheVariants.{No}
 use Rattle.meaning.specs.Implements.{IsCorrect, LooksAsAsked, run_under}
 use Rattle.headline.specs.MovedDesigns.{HasRoom, SomeDesignNeedsRoom}
-use Rattle.headline.specs.SmallDesigns.{HasNoDelay, IsDesign, IsSmall, plain_text}
+use Rattle.headline.specs.SmallDesigns.{HasNoDelay, IsDesign, IsSmallDesign, plain_text}
 use Rattle.headline.proofs.AcceptedTexts.{no_of}
 use Rattle.headline.proofs.MovedDesigns.{each_gets_yes}
 use Rattle.headline.proofs.SomeReport.{some_report}
@@ -246,7 +246,7 @@ no_delay (suc k) steps a b e = absurd cc
 room : HasRoom constant rim_mirror
 room = record { wide = omega arith; high = omega arith; inputs = omega arith; gates = omega arith }
 
-small : IsSmall constant rim_mirror
+small : IsSmallDesign constant rim_mirror
 small = record { wide = omega arith; high = omega arith; inputs = omega arith; gates = omega arith }
 
 -- ---- it touches its rim

@@ -30,7 +30,7 @@ use Rattle.circuit.specs.declared.circuit_line.Kind.{Kind}
 use Rattle.circuit.specs.declared.circuit_line.Kind.TheVariants.{Input, Gate, Output, Spill}
 use Rattle.circuit.proofs.Bridging.{names_pass}
 use Rattle.circuit.proofs.Places.{Have, consume_have}
-use Rattle.audit_core.proofs.SomeVerdict.{first_none, no_code}
+use Rattle.soundness.proofs.SomeVerdict.{first_none, no_code}
 use Rattle.headline.proofs.Written.{HasLine, HasSection, IsWord, digits_word, has_section, line_by, name_word}
 
 -- ---- names and numbers

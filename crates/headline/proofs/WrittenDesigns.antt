@@ -35,9 +35,9 @@ use Rattle.certificate_lines.specs.declared.certificate_line.CertificateLine.{Ce
 use Rattle.certificate_lines.specs.declared.certificate_line.CertificateLine.TheVariants.{Module, Cut, Use, Keep}
 use Rattle.certificate.specs.Arrivals.{AreOnTime}
 use Rattle.certificate.specs.Text.{certificate_text}
-use Rattle.audit_core.specs.Concluding.{port_names_of}
-use Rattle.audit_core.specs.OnTime.{StopHolds}
-use Rattle.audit_core.specs.PlainCertificates.{TouchesRim}
+use Rattle.core_book.specs.Concluding.{port_names_of}
+use Rattle.soundness.specs.OnTime.{StopHolds}
+use Rattle.soundness.specs.PlainCertificates.{TouchesRim}
 use Rattle.answers.specs.BundleText.{Bundle}
 use Rattle.answers.specs.MigrateText.{bundle_text, certificate_lines, layout_lines}
 use Rattle.meaning.specs.Design.{SaysDesign}
@@ -45,7 +45,7 @@ use Rattle.meaning.specs.Headline.{IsRight}
 use Rattle.meaning.specs.Implements.{IsCorrect}
 use Rattle.headline.specs.Plain.{HasRimTouch}
 use Rattle.headline.specs.PlainLaws.{EachSmallDesignHasText, EachSmallDesignIsDecided}
-use Rattle.headline.specs.SmallDesigns.{AreInOrder, HasNoDelay, IsDesign, IsPlainText, IsSmall, gate_numbers}
+use Rattle.headline.specs.SmallDesigns.{AreInOrder, HasNoDelay, IsDesign, IsPlainText, IsSmallDesign, gate_numbers}
 use Rattle.headline.specs.SmallDesigns.{inverse_numbers, plain_lines, plain_text}
 use Rattle.headline.specs.Stops.{HasRightStops, SaysBundle}
 use Rattle.headline.proofs.Designs.{one_certificate, one_design}
@@ -153,7 +153,8 @@ number_lines mk line (k ∷ ks) h =
 
 -- ---- the text
 
-module _ (circuit : List CircuitLine) (p : Pattern) (design : IsDesign circuit p) (small : IsSmall circuit p) where
+module _ (circuit : List CircuitLine) (p : Pattern) (design : IsDesign circuit p)
+    (small : IsSmallDesign circuit p) where
   names : AreNames (defined circuit)
   names = all_names (defined circuit) design.names
 

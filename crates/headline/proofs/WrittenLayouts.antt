@@ -37,8 +37,8 @@ use Rattle.pattern.specs.declared.layout_line.Port.{Port}
 use Rattle.pattern.specs.declared.layout_line.Rectangle.{Rectangle}
 use Rattle.certificate_lines.specs.Rules.{whole}
 use Rattle.certificate_lines.proofs.Lists.{any_at}
-use Rattle.audit_core.specs.Concluding.{port_names_of}
-use Rattle.audit_core.proofs.PortNames.{in_lines, no_code, out_lines}
+use Rattle.core_book.specs.Concluding.{port_names_of}
+use Rattle.soundness.proofs.PortNames.{in_lines, no_code, out_lines}
 use Rattle.meaning.specs.Implements.{HaveNames, IsNamed}
 use Rattle.headline.proofs.Written.{HasLine, HasSection, has_section, line_by, name_word}
 use Rattle.headline.proofs.WrittenCircuits.{AreNames, decimal_word, has_name, named}

@@ -21,7 +21,7 @@ use Rattle.pattern.specs.Text.{layout_text}
 use Rattle.pattern.specs.declared.layout_line.LayoutHeader.{LayoutHeader}
 use Rattle.pattern.specs.declared.layout_line.LayoutLine.{LayoutLine}
 use Rattle.pattern.specs.declared.layout_line.LayoutLine.TheVariants.{Mirror, Ball, In, Out, Waste}
-use Rattle.audit_core.specs.Concluding.{port_names_of}
+use Rattle.core_book.specs.Concluding.{port_names_of}
 use Rattle.answers.specs.declared.outcome.Outcome.TheVariants.{Yes, Refused}
 use Rattle.meaning.specs.Printed.{BeginsWithDesign, IsForm, IsLine, layout_forms, part_form}
 use Rattle.headline.specs.Laws.{ReadIsPrinted, RightIsRightAsRead, YesMeansRight}

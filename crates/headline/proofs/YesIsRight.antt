@@ -47,15 +47,15 @@ use Rattle.certificate_lines.specs.declared.certificate_line.CertificateLine.{Ce
 use Rattle.certificate_lines.specs.declared.certificate_line.StopLine.{StopLine}
 use Rattle.certificate.proofs.MeantLines.{stops_meant}
 use Rattle.certificate.proofs.TimeLemmas.{all_in_modules}
-use Rattle.audit_core.specs.OnTime.{StopHolds}
-use Rattle.audit_core.specs.Concluding.{port_names_of}
-use Rattle.audit_core.proofs.SomeVerdict.{no_code}
+use Rattle.soundness.specs.OnTime.{StopHolds}
+use Rattle.core_book.specs.Concluding.{port_names_of}
+use Rattle.soundness.proofs.SomeVerdict.{no_code}
 use Rattle.meaning.specs.Implements.{IsCorrect}
-use Rattle.audit_core.specs.Verdicts.{IsVerdict}
+use Rattle.core_book.specs.Verdicts.{IsVerdict}
 use Rattle.report.specs.ReportText.{report_lines}
-use Rattle.audit_core.specs.declared.verdict.Verdict.{Verdict}
-use Rattle.audit_core.specs.declared.verdict.Verdict.TheVariants as verdict
-use Rattle.audit_core.proofs.YesMeansCorrect.{IsRead, yes_means-correct, yes_means-on_time}
+use Rattle.core_book.specs.declared.verdict.Verdict.{Verdict}
+use Rattle.core_book.specs.declared.verdict.Verdict.TheVariants as verdict
+use Rattle.soundness.proofs.YesMeansCorrect.{IsRead, yes_means-correct, yes_means-on_time}
 use Rattle.answers.specs.Answers.{Answered}
 use Rattle.pattern.specs.FromLines.{layout_of}
 use Rattle.answers.specs.BundleText.{Bundle, bundle_of}

@@ -13,9 +13,9 @@ use Rattle.pattern.specs.declared.layout_line.Rectangle.{Rectangle}
 use Rattle.answers.specs.CheckText.{IsReportOf}
 use Rattle.answers.specs.declared.outcome.Outcome.{Outcome}
 use Rattle.answers.specs.declared.outcome.Outcome.TheVariants.{No, Yes}
-use Rattle.audit_core.specs.PlainCertificates.{TouchesRim}
+use Rattle.soundness.specs.PlainCertificates.{TouchesRim}
 use Rattle.meaning.specs.Implements.{IsCorrect}
-use Rattle.headline.specs.SmallDesigns.{HasNoDelay, IsDesign, IsPlainText, IsSmall, plain_text}
+use Rattle.headline.specs.SmallDesigns.{HasNoDelay, IsDesign, IsPlainText, IsSmallDesign, plain_text}
 
 -- ---- a layout that is moved
 
@@ -60,7 +60,7 @@ pub record HasRoom (circuit : List CircuitLine) (layout : Pattern) : Type 0 wher
 -- report on this text has the outcome yes.
 pub record MovedGetsYes (circuit : List CircuitLine) (layout : Pattern) : Type 0 where
   pub design : IsDesign circuit (moved layout)
-  pub small : IsSmall circuit (moved layout)
+  pub small : IsSmallDesign circuit (moved layout)
   pub plain : IsPlainText (plain_text circuit (moved layout)) circuit (moved layout)
   pub correct : IsCorrect circuit (moved layout)
   pub off_rim : ¬ TouchesRim circuit (moved layout)

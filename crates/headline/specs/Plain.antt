@@ -1,13 +1,13 @@
 -- The meaning of a no of `check` if the certificate is plain: one module that is the whole rectangle.
 --
 -- Read before: all that meaning/specs/Headline.antt and Stops.antt name; certificate_lines/specs/Entries.antt up to
--- `keep_in` (the lines of a module); audit_core/specs/PlainCertificates.antt from `IsPlain` to `TouchesRim`.
+-- `keep_in` (the lines of a module); soundness/specs/PlainCertificates.antt from `IsPlain` to `TouchesRim`.
 use Rattle.std.specs.Prelude.{◌≡◌, ◌⊎◌, ℕ, List, [], ◌∷◌}
 use Rattle.circuit.specs.declared.circuit_line.CircuitLine.{CircuitLine}
 use Rattle.pattern.specs.Layout.{Pattern}
 use Rattle.certificate_lines.specs.Entries.{ModuleLines, modules_of}
 use Rattle.certificate_lines.specs.declared.certificate_line.CertificateLine.{CertificateLine}
-use Rattle.audit_core.specs.PlainCertificates.{IsPlain, TouchesRim}
+use Rattle.soundness.specs.PlainCertificates.{IsPlain, TouchesRim}
 use Rattle.meaning.specs.Design.{SaysDesign}
 use Rattle.meaning.specs.Headline.{IsRight}
 use Rattle.headline.specs.Stops.{HasRightStops, SaysBundle}

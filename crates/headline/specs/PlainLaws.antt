@@ -5,7 +5,7 @@ use Rattle.pattern.specs.Layout.{Pattern}
 use Rattle.answers.specs.CheckText.{IsReportOf}
 use Rattle.answers.specs.declared.outcome.Outcome.{Outcome}
 use Rattle.answers.specs.declared.outcome.Outcome.TheVariants.{Yes, No, Refused}
-use Rattle.audit_core.specs.PlainCertificates.{TouchesRim}
+use Rattle.soundness.specs.PlainCertificates.{TouchesRim}
 use Rattle.meaning.specs.Design.{SaysDesign}
 use Rattle.meaning.specs.Headline.{IsRight}
 use Rattle.meaning.specs.Implements.{IsCorrect}
@@ -13,7 +13,7 @@ use Rattle.headline.specs.Stops.{HasRightStops, SaysBundle}
 use Rattle.headline.specs.ThereAndBack.{there_and_back}
 use Rattle.headline.specs.Plain.{SaysPlain, HasRimTouch, IsWrongIfPlain}
 use Rattle.headline.specs.SmallDesigns.{plain_lines, plain_text, HasNoDelay, IsDesign, IsNoSmallDesign}
-use Rattle.headline.specs.SmallDesigns.{IsPlainText, IsSmall}
+use Rattle.headline.specs.SmallDesigns.{IsPlainText, IsSmallDesign}
 use Rattle.headline.specs.ReportLines.{LinesTell}
 
 -- A text that is reported with the outcome no is wrong if it is plain.
@@ -39,7 +39,7 @@ PlainLinesDecide = (text output : List ℕ) (outcome : Outcome) (circuit : List 
 -- keeps off its rim, and its stops, delays and meetings are right.
 abbrev pub SmallDesignIsDecided : Type 0
 SmallDesignIsDecided = (text output : List ℕ) (outcome : Outcome) (circuit : List CircuitLine) (layout : Pattern) →
-    IsPlainText text circuit layout → IsSmall circuit layout → IsReportOf text output outcome →
+    IsPlainText text circuit layout → IsSmallDesign circuit layout → IsReportOf text output outcome →
     (outcome ≢ Refused) × ((outcome ≡ Yes) ↔ (IsRight text × HasRightStops text × ¬ HasRimTouch text))
 
 -- So no such text is refused.
@@ -49,13 +49,13 @@ RefusedIsNoSmallDesign = (text output : List ℕ) → IsReportOf text output Ref
 -- Each small design has a plain text: its lines and the plain lines, each in its one spelling.
 abbrev pub EachSmallDesignHasText : Type 0
 EachSmallDesignHasText = (circuit : List CircuitLine) (layout : Pattern) → IsDesign circuit layout →
-    IsSmall circuit layout → IsPlainText (plain_text circuit layout) circuit layout
+    IsSmallDesign circuit layout → IsPlainText (plain_text circuit layout) circuit layout
 
 -- So `check` decides each small design, by this text. It does not refuse the text. It says yes exactly if the layout
 -- computes the circuit and keeps off its rim, and the circuit has no delay.
 abbrev pub EachSmallDesignIsDecided : Type 0
 EachSmallDesignIsDecided = (circuit : List CircuitLine) (layout : Pattern) (output : List ℕ) (outcome : Outcome) →
-    IsDesign circuit layout → IsSmall circuit layout → IsReportOf (plain_text circuit layout) output outcome →
+    IsDesign circuit layout → IsSmallDesign circuit layout → IsReportOf (plain_text circuit layout) output outcome →
     (outcome ≢ Refused)
     × ((outcome ≡ Yes) ↔ (IsCorrect circuit layout × HasNoDelay circuit × ¬ TouchesRim circuit layout))
 
@@ -73,7 +73,7 @@ pub record ThereAndBackIsSmall : Type 0 where
   pub circuit : List CircuitLine
   pub layout : Pattern
   pub plain : IsPlainText there_and_back circuit layout
-  pub small : IsSmall circuit layout
+  pub small : IsSmallDesign circuit layout
 
 -- the lines of a report with the outcome no have the meaning of `LinesTell`
 abbrev pub NoLinesTell : Type 0

@@ -1,7 +1,7 @@
 -- The meaning of the lines of a report that says no, of texts and bytes.
 --
 -- Read before: Plain.antt; report/specs/ReportText.antt up to `opening_lines` (how a line is spelled);
--- audit_core/specs/FirstFaults.antt from `IsAsCertified` on, without the laws; audit_core/specs/PlainCertificates.antt
+-- soundness/specs/FirstFaults.antt from `IsAsCertified` on, without the laws; soundness/specs/PlainCertificates.antt
 -- from `Shows` to `LineMeans`.
 use Rattle.std.specs.Prelude.{◌≡◌, ℕ, List, [], ◌∷◌, ◌++◌, slice_get, Some, Option, codes}
 use Rattle.std.specs.List.{All, flat_map}
@@ -10,13 +10,13 @@ use Rattle.circuit.specs.declared.circuit_line.CircuitLine.{CircuitLine}
 use Rattle.pattern.specs.Layout.{Pattern}
 use Rattle.certificate_lines.specs.Entries.{ModuleLines, modules_of}
 use Rattle.certificate_lines.specs.declared.certificate_line.CertificateLine.{CertificateLine}
-use Rattle.audit_core.specs.PlainCertificates.{LineMeans}
+use Rattle.soundness.specs.PlainCertificates.{LineMeans}
 use Rattle.headline.specs.Stops.{SaysBundle}
 use Rattle.section_text.specs.Spelling.{line_text}
 use Rattle.circuit.specs.Meaning.{Satisfies, Valuation}
 use Rattle.local_run.specs.declared.fault.Fault.{Fault}
-use Rattle.audit_core.specs.FirstFaults.{HasAssignment, IsEarliestLine, IsReal}
-use Rattle.audit_core.specs.declared.verdict.ReportLine.{ReportLine}
+use Rattle.soundness.specs.FirstFaults.{HasAssignment, IsEarliestLine, IsReal}
+use Rattle.core_book.specs.declared.verdict.ReportLine.{ReportLine}
 use Rattle.report.specs.ReportText.{fault_line, opening_lines}
 use Rattle.headline.specs.Plain.{SaysPlain}
 

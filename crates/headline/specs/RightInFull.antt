@@ -1,6 +1,6 @@
 -- The whole meaning of a yes of `check`, of texts and bytes alone.
 --
--- Read before: all that meaning/specs/Headline.antt and Stops.antt name; audit_core/specs/PlainCertificates.antt from
+-- Read before: all that meaning/specs/Headline.antt and Stops.antt name; soundness/specs/PlainCertificates.antt from
 -- `IsLiveOnRim` to `TouchesRim`; circuit/specs/Bridge.antt up to `AreGood` and Rules.antt up to `add_fault` (the rules
 -- of a circuit); pattern/specs/Lines.antt (those of a layout).
 use Rattle.std.specs.Prelude.{◌≡◌, ◌<◌, ℕ, List, [], ◌++◌, None, Some, slice_get, take}
@@ -12,7 +12,7 @@ use Rattle.circuit.specs.declared.circuit_line.CircuitLine.{CircuitLine}
 use Rattle.pattern.specs.Layout.{Pattern, parts_of}
 use Rattle.pattern.specs.Lines.{AreGoodAfter, size_fault}
 use Rattle.pattern.specs.Text.{layout_text}
-use Rattle.audit_core.specs.PlainCertificates.{TouchesRim}
+use Rattle.soundness.specs.PlainCertificates.{TouchesRim}
 use Rattle.meaning.specs.Headline.{IsRight}
 use Rattle.headline.specs.Stops.{HasRightStops}
 

@@ -23,7 +23,7 @@ use Rattle.certificate_lines.specs.Forms.{form_of as certificate_form}
 use Rattle.certificate.specs.Arrivals.{IsDelay}
 use Rattle.certificate.specs.Text.{certificate_text}
 use Rattle.meaning.specs.Implements.{IsNamed}
-use Rattle.audit_core.specs.Concluding.{port_names_of}
+use Rattle.core_book.specs.Concluding.{port_names_of}
 use Rattle.circuit.specs.declared.circuit_line.CircuitLine.{CircuitLine}
 use Rattle.pattern.specs.Layout.{Pattern, parts_of}
 use Rattle.certificate_lines.specs.Rules.{is_inverse_gate, whole}
@@ -59,7 +59,7 @@ pub record IsPlainText (text : List ℕ) (circuit : List CircuitLine) (layout : 
   pub certificate_is : IsSection certificate_form third 1 (plain_lines circuit layout)
 
 -- at most 64 by 64 cells, 12 inputs and 64 gates
-pub record IsSmall (circuit : List CircuitLine) (layout : Pattern) : Type 0 where
+pub record IsSmallDesign (circuit : List CircuitLine) (layout : Pattern) : Type 0 where
   pub wide : layout.size.w ≤ 64
   pub high : layout.size.h ≤ 64
   pub inputs : length (input_names circuit) ≤ 12
@@ -99,4 +99,4 @@ HasNoDelay circuit = (k steps a b : ℕ) → ¬ IsDelay (circuit_of circuit) k s
 -- the text is not the plain text of a small design
 abbrev pub IsNoSmallDesign : List ℕ → Type 0
 IsNoSmallDesign text = (circuit : List CircuitLine) (layout : Pattern) → IsPlainText text circuit layout →
-    ¬ IsSmall circuit layout
+    ¬ IsSmallDesign circuit layout

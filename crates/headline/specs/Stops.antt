@@ -3,7 +3,7 @@
 --
 -- Read before: all that meaning/specs/Headline.antt names; certificate_lines/specs/Entries.antt up to `stop_in` and
 -- Forms.antt (what a line of a certificate says); certificate/specs/Times.antt up to `times_of` and Arrivals.antt up
--- to `AreOnTime` (delays and meetings); audit_core/specs/OnTime.antt (`StopHolds`).
+-- to `AreOnTime` (delays and meetings); soundness/specs/OnTime.antt (`StopHolds`).
 use Rattle.std.specs.Prelude.{◌≡◌, ℕ, List, ◌++◌}
 use Rattle.std.specs.List.{All, flat_map}
 use Rattle.section_text.specs.SaidSection.{IsSection}
@@ -14,7 +14,7 @@ use Rattle.certificate.specs.Arrivals.{AreOnTime}
 use Rattle.certificate_lines.specs.Entries.{stop_in}
 use Rattle.certificate_lines.specs.Forms.{form_of as certificate_form}
 use Rattle.certificate_lines.specs.declared.certificate_line.CertificateLine.{CertificateLine}
-use Rattle.audit_core.specs.OnTime.{StopHolds}
+use Rattle.soundness.specs.OnTime.{StopHolds}
 use Rattle.meaning.specs.Design.{SaysDesign}
 
 -- The text says this circuit and this layout, and goes on with the lines of this certificate.

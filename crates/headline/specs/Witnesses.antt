@@ -8,9 +8,9 @@ use Rattle.circuit.specs.declared.circuit_line.CircuitLine.{CircuitLine}
 use Rattle.pattern.specs.Layout.{Pattern, cell}
 use Rattle.local_run.specs.declared.fault.Fault.{Fault}
 use Rattle.local_run.specs.declared.fault.Kind.TheVariants.{End}
-use Rattle.audit_core.specs.OnTime.{StopHolds}
-use Rattle.audit_core.specs.PlainCertificates.{Shows}
-use Rattle.audit_core.specs.declared.verdict.ReportLine.TheVariants.{Local, Meet}
+use Rattle.soundness.specs.OnTime.{StopHolds}
+use Rattle.soundness.specs.PlainCertificates.{Shows}
+use Rattle.core_book.specs.declared.verdict.ReportLine.TheVariants.{Local, Meet}
 use Rattle.answers.specs.CheckText.{IsReportOf}
 use Rattle.answers.specs.declared.outcome.Outcome.{Outcome}
 use Rattle.answers.specs.declared.outcome.Outcome.TheVariants.{Yes, No}
@@ -18,7 +18,7 @@ use Rattle.headline.specs.Plain.{SaysPlain}
 use Rattle.headline.specs.PlainNo.{plain_no}
 use Rattle.headline.specs.PlainYes.{plain_yes}
 use Rattle.headline.specs.ReportLines.{SaysNoWith}
-use Rattle.headline.specs.SmallDesigns.{IsDesign, IsSmall, plain_text}
+use Rattle.headline.specs.SmallDesigns.{IsDesign, IsSmallDesign, plain_text}
 
 -- `plain_yes` is plain, has at least two steps, and is reported with the outcome yes. After the first step, whatever
 -- the inputs, the ball of p is at (3, 3) if p has one, and that of q at (4, 4) if q has one. Both cells are of one
@@ -54,7 +54,7 @@ pub record HasSmallDesign (outcome : Outcome) : Type 0 where
   pub circuit : List CircuitLine
   pub layout : Pattern
   pub design : IsDesign circuit layout
-  pub small : IsSmall circuit layout
+  pub small : IsSmallDesign circuit layout
   pub steps : 2 ≤ layout.size.steps
   pub output : List ℕ
   pub reported : IsReportOf (plain_text circuit layout) output outcome

@@ -8,7 +8,7 @@ use Rattle.atomic_table.proofs.Lists.{at_index, at_map}
 use mathlib.Core.Option.{some}
 use lib.ListN.{get_elem?}
 use Rattle.job_pool.specs.declared.rule.View.{View}
-use Rattle.audit_core.specs.Draws.{end_of, times, IsDrawn}
+use Rattle.core_book.specs.Draws.{end_of, times, IsDrawn}
 use Rattle.job_pool.specs.Lists.{joined, top, front, AreAllDraws}
 use Rattle.job_pool.specs.Rule.{IsWhole}
 use Rattle.job_pool.proofs.Sums.{at_le, joined_drawn}

@@ -9,9 +9,9 @@ use Rattle.std.proofs.lemmas.List.Elements.{All-map}
 use Rattle.std.proofs.lemmas.List.Sums.{sum_by-cons}
 use mathlib.Core.Option.{some}
 use lib.ListN.{get_elem?}
-use Rattle.audit_core.specs.declared.claim.Claim.TheVariants.{Number, Empty}
-use Rattle.audit_core.specs.Claims.{claim_answer, claim_draws, has_ended}
-use Rattle.audit_core.specs.Draws.{end_of, total, IsDrawn}
+use Rattle.core_book.specs.declared.claim.Claim.TheVariants.{Number, Empty}
+use Rattle.core_book.specs.Claims.{claim_answer, claim_draws, has_ended}
+use Rattle.core_book.specs.Draws.{end_of, total, IsDrawn}
 use Rattle.job_pool.specs.declared.desk.Desk.{Desk}
 use Rattle.job_pool.specs.declared.worker.Worker.{Worker}
 use Rattle.job_pool.specs.Seats.{IsSeatOf, drawn_by}

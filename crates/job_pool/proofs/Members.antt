@@ -8,11 +8,11 @@ use Rattle.std.proofs.lemmas.Bool.Decides.{nat_tests}
 use Rattle.std.proofs.lemmas.List.{take_more}
 use Rattle.std.proofs.lemmas.List.Elements.{All-head, All-tail}
 use Rattle.std.proofs.lemmas.Option.{slice_get-map, slice_get_within}
-use Rattle.audit_core.specs.Draws.{total, times, IsDrawn}
+use Rattle.core_book.specs.Draws.{total, times, IsDrawn}
 use Rattle.module_job.specs.Groups.{AreGroups, IsFirstLike}
 use Rattle.module_job.specs.Jobs.{JobView}
 use Rattle.module_job.specs.Shapes.{ShapeView, shape_of}
-use Rattle.audit_core.specs.Filling.{shapes_of}
+use Rattle.core_book.specs.Filling.{shapes_of}
 use Rattle.job_pool.specs.Work.{due}
 use Rattle.job_pool.proofs.Sums.{times-append, total-add, total_same}
 

@@ -11,7 +11,7 @@ use Rattle.atomic_table.specs.Table.{State, Me, keeps, step, Allows, Splits, Joi
 use Rattle.atomic_table.proofs.Lists.{at_set, at_snoc, at_map, set_else, set_again}
 use Rattle.job_pool.specs.declared.rule.View.{View}
 use Rattle.job_pool.specs.declared.rule.Size.{Size}
-use Rattle.audit_core.specs.Draws.{total, times, IsDrawn}
+use Rattle.core_book.specs.Draws.{total, times, IsDrawn}
 use Rattle.job_pool.specs.Lists.{late}
 use Rattle.job_pool.specs.Rule.{Fits, IsDealt, MeetsRule, lists_of, view, drew, saw, Drew, Saw, fewer, one_place, both}
 use Rattle.job_pool.specs.Rule.{spent, IsWhole}

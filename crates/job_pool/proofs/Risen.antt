@@ -2,9 +2,9 @@
 use Rattle.std.proofs.Common.{◌≡◌, ℕ, zero, suc, ◌<◌, ◌≤◌, ◌++◌, List, [], ◌∷◌, length, take, drop, get_or, ap, sym}
 use Rattle.std.proofs.Common.{◌∙◌, subst, arith}
 use Rattle.std.proofs.lemmas.List.{length-map}
-use Rattle.audit_core.specs.Book.{count_after}
-use Rattle.audit_core.specs.declared.reply.Reply.{Reply}
-use Rattle.audit_core.specs.declared.reply.Reply.TheVariants.{Closed, Stranger, Double, Accepted}
+use Rattle.core_book.specs.Book.{count_after}
+use Rattle.core_book.specs.declared.reply.Reply.{Reply}
+use Rattle.core_book.specs.declared.reply.Reply.TheVariants.{Closed, Stranger, Double, Accepted}
 use Rattle.verdict_book.specs.Counts.{Counts, counted}
 use Rattle.job_pool.specs.declared.desk.Desk.{Desk}
 use Rattle.job_pool.specs.declared.worker.Worker.{Worker}

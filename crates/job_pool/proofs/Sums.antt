@@ -5,7 +5,7 @@ use Rattle.std.proofs.lemmas.List.{append-nil}
 use mathlib.Core.Option.{some, some-injective, some-ne-none}
 use lib.ListN.{get_elem?}
 use Rattle.std.proofs.lemmas.Bool.Decides.{nat_tests}
-use Rattle.audit_core.specs.Draws.{total, times, end_of, IsDrawn}
+use Rattle.core_book.specs.Draws.{total, times, end_of, IsDrawn}
 use Rattle.job_pool.specs.Lists.{late, early, top, front, joined}
 
 module _ {X : Type 0} where

@@ -1,6 +1,6 @@
 -- Lists of draws
 use Rattle.std.specs.Prelude.{◌≡◌, ℕ, ◌+◌, ◌≤◌, max, nat_lt, if◌then◌else◌, List, [], ◌∷◌, ◌++◌, length, All}
-use Rattle.audit_core.specs.Draws.{IsDrawn}
+use Rattle.core_book.specs.Draws.{IsDrawn}
 
 -- how many of a list are n or more
 abbrev pub late : ℕ → List ℕ → ℕ

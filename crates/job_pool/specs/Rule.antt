@@ -4,7 +4,7 @@ use Rattle.std.specs.Prelude.{◌≡◌, ℕ, ◌+◌, ◌-◌, ◌≤◌, max, 
 use mathlib.Core.Option.{some}
 use lib.ListN.{get_elem?}
 use Rattle.atomic_table.specs.Table.{State, Me, Step}
-use Rattle.audit_core.specs.Draws.{total, IsDrawn}
+use Rattle.core_book.specs.Draws.{total, IsDrawn}
 use Rattle.job_pool.specs.Lists.{late, top, front}
 use Rattle.job_pool.specs.declared.rule.Size.{Size}
 use Rattle.job_pool.specs.declared.rule.View.{View}

@@ -1,9 +1,9 @@
 -- A desk and its seats
 use Rattle.std.specs.Prelude.{◌≡◌, ℕ, ◌<◌, ◌≤◌, ◌++◌, List, [], ◌∷◌}
-use Rattle.audit_core.specs.Claims.{claim_answer, claim_draws}
-use Rattle.audit_core.specs.Draws.{end_of}
-use Rattle.audit_core.specs.declared.claim.Claim.{Claim}
-use Rattle.audit_core.specs.declared.claim.Claim.TheVariants.{Number, Empty}
+use Rattle.core_book.specs.Claims.{claim_answer, claim_draws}
+use Rattle.core_book.specs.Draws.{end_of}
+use Rattle.core_book.specs.declared.claim.Claim.{Claim}
+use Rattle.core_book.specs.declared.claim.Claim.TheVariants.{Number, Empty}
 use Rattle.job_pool.specs.declared.desk.Desk.{Desk}
 use Rattle.job_pool.specs.declared.desk.DeskSeat.{DeskSeat}
 

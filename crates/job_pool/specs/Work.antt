@@ -1,7 +1,7 @@
 -- The results of workers
 use Rattle.std.specs.Prelude.{◌≡◌, ℕ, ◌+◌, ◌-◌, ◌^◌, ◌<◌, ◌≤◌, false, List, [], ◌∷◌, map, slice_index_or, sum_by}
 use Rattle.std.specs.Prelude.{length}
-use Rattle.audit_core.specs.Draws.{end_of, times}
+use Rattle.core_book.specs.Draws.{end_of, times}
 use Rattle.verdict_book.specs.Counts.{Counts}
 use Rattle.job_pool.specs.Seats.{IsSeatOf, IsNewSeatOf, drawn_by, numbers_of}
 use Rattle.job_pool.specs.declared.desk.Desk.{Desk}
@@ -30,8 +30,8 @@ due groups (y ∷ ys) = times y groups + due groups ys
 
 module _ {F A : Type 0} where
   -- a worker that may begin
-  abbrev pub IsReady : Desk → Worker F A → Type 0
-  IsReady desk w = IsNewSeatOf desk w.seat × (w.starved ≡ false)
+  abbrev pub IsReadyWorker : Desk → Worker F A → Type 0
+  IsReadyWorker desk w = IsNewSeatOf desk w.seat × (w.starved ≡ false)
 
   -- A worker that did not stop out of memory filed as many findings as were due from it, and drew on to the end
   pub record HasWorked (desk : Desk) (groups : List ℕ) (before after : Worker F A) : Type 0 where

@@ -1,6 +1,6 @@
 //! The end of a desk.
 ghost use Rattle.std.specs.Prelude.{◌≡◌, ◌↔◌, ◌<◌, ◌≤◌, [], map, vec_len, vec_capacity, IfOk, IfErr, IsTrue, All, Any};
-ghost use Rattle.audit_core.specs.Draws.{end_of};
+ghost use Rattle.core_book.specs.Draws.{end_of};
 ghost use Rattle.job_pool.specs.Lists.{joined, AreAllDraws};
 ghost use Rattle.job_pool.specs.Seats.{IsSeatOf, drawn_by, numbers_of, seats_opened};
 

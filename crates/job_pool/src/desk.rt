@@ -1,11 +1,11 @@
 //! The desk as threads share it, and the seats that they draw with.
 ghost use Rattle.std.specs.Prelude.{◌≡◌, ◌-◌, ◌<◌, ◌≤◌, [], length, vec_len, vec_capacity, IfOk, All};
-ghost use Rattle.audit_core.specs.Draws.{end_of};
+ghost use Rattle.core_book.specs.Draws.{end_of};
 ghost use Rattle.job_pool.specs.Lists.{front, top};
 
 use crate::rule::{Claims, Looks, Numbered, Places, Size, View};
 use atomic_table::{Seat, Table};
-use audit_core::Claim;
+use core_book::Claim;
 use std::alloc::{AllocError, Global};
 
 /// A desk that hands out the numbers below a count, each once, to the seats that were opened with it.
@@ -43,7 +43,7 @@ pub struct DeskSeat {
 }
 
 impl DeskSeat {
-    ghost use Rattle.audit_core.specs.Claims.{has_ended};
+    ghost use Rattle.core_book.specs.Claims.{has_ended};
 
     // Whether the seat met the end: then it draws no more.
     fn has_ended(&self) -> bool

@@ -3,8 +3,8 @@ ghost use Rattle.std.specs.Prelude.{◌≡◌, ℕ, ◌+◌, ◌<◌, ◌≤◌,
 ghost use Rattle.std.specs.Arc.{arc_value};
 ghost use Rattle.module_job.specs.Groups.{AreGroups};
 ghost use Rattle.job_pool.specs.Seats.{IsNewSeatOf, numbers_of, seats_opened};
-ghost use Rattle.audit_core.specs.Filling.{shapes_of};
-ghost use Rattle.job_pool.specs.Work.{HasWorked, HaveRisen, IsReady, filed_by, seats_of, shares_of};
+ghost use Rattle.core_book.specs.Filling.{shapes_of};
+ghost use Rattle.job_pool.specs.Work.{HasWorked, HaveRisen, IsReadyWorker, filed_by, seats_of, shares_of};
 
 use crate::desk::{Desk, DeskSeat};
 use crate::gate::Gate;
@@ -138,7 +138,7 @@ fn hire<F: Filings, A: Ledger>(
     requires room_for_workers { vec_len shares ≤ vec_capacity workers }
     ensures count { vec_len result ≡ vec_len shares }
     ensures shares { shares_of result.items ≡ shares.items }
-    ensures ready { All (IsReady desk.now) result.items }
+    ensures ready { All (IsReadyWorker desk.now) result.items }
 {
     for share in shares {
         let Some(seat) = seats.pop() else {
@@ -162,7 +162,7 @@ fn run_all<F: Filings + Sync, A: Ledger + Sync, G: Gate + Sync, R: Threads + Wai
     workers: &mut [Worker<F, A>],
 )
     requires some { 0 < length workers.old }
-    requires ready { All (IsReady shared_work.now.desk.now) workers.old }
+    requires ready { All (IsReadyWorker shared_work.now.desk.now) workers.old }
     requires all { numbers_of shared_work.now.desk.now ≡ length shared_work.now.jobs.now }
     requires groups { AreGroups (shapes_of (map arc_value shared_work.now.jobs.now))
         shared_work.now.groups.now }

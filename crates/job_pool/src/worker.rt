@@ -1,20 +1,20 @@
 //! One worker.
 ghost use Rattle.std.specs.Prelude.{◌≡◌, ◌≢◌, ◌+◌, ◌<◌, IfOk, OnErr, OnOk, Some, length, map, slice_get, slice_index};
 ghost use Rattle.std.specs.Arc.{arc_value};
-ghost use Rattle.audit_core.specs.Draws.{times};
+ghost use Rattle.core_book.specs.Draws.{times};
 ghost use Rattle.module_job.specs.Groups.{AreGroups};
 ghost use Rattle.module_job.specs.Shapes.{shape_of};
 ghost use Rattle.local_run.specs.Shown.{digest_of, job_of};
 ghost use Rattle.verdict_book.specs.Counts.{counted};
 ghost use Rattle.verdict_book.specs.Replies.{IsReplyOf};
 ghost use Rattle.job_pool.specs.Seats.{numbers_of};
-ghost use Rattle.audit_core.specs.Filling.{IsOneMore, shapes_of};
-ghost use Rattle.job_pool.specs.Work.{HasRisen, HasWorked, IsReady};
+ghost use Rattle.core_book.specs.Filling.{IsOneMore, shapes_of};
+ghost use Rattle.job_pool.specs.Work.{HasRisen, HasWorked, IsReadyWorker};
 
 use crate::desk::{Desk, DeskSeat};
 use crate::gate::Gate;
-use audit_core::{Claim, Reply};
 use certificate::Job;
+use core_book::{Claim, Reply};
 use local_run::{Finding, run_job};
 use std::alloc::{AllocError, Global};
 use std::sync::ledger::Ledger;
@@ -52,7 +52,7 @@ impl<F: Filings, A: Ledger> Worker<F, A> {
         alloc: Global,
         shared_work: &SharedWork<'_, F, A, G>,
     )
-        requires ready { IsReady shared_work.now.desk.now self.old }
+        requires ready { IsReadyWorker shared_work.now.desk.now self.old }
         requires all { numbers_of shared_work.now.desk.now ≡ length shared_work.now.jobs.now }
         requires groups { AreGroups (shapes_of (map arc_value shared_work.now.jobs.now))
             shared_work.now.groups.now }

@@ -15,7 +15,7 @@ use Rattle.circuit.specs.Meaning.{Valuation}
 use Rattle.module_box.specs.Boxes.{in_box, in_halo}
 use Rattle.module_box.specs.Moments.{cell_cmp, moment_cmp}
 use Rattle.module_box.specs.Schedules.{IsRising, Signals, event_at, all_times_at, moment_of, signal_at}
-use Rattle.module_box.specs.declared.schedules.Event.{Event}
+use Rattle.module_box.specs.declared.schedules.TimedSignal.{TimedSignal}
 use Rattle.module_box.specs.declared.schedules.Moment.{Moment}
 use Rattle.module_box.specs.declared.schedules.Signal.TheVariants.{Zero}
 use Rattle.module_box.specs.Moves.{moved_signals}
@@ -30,7 +30,7 @@ use Rattle.local_run.specs.Runs.{with_halo, local_run}
 use Rattle.local_run.proofs.LocalRuns.{even_or_odd, local_even, local_odd, step_all_same}
 
 -- ---- the signal of an event
-pub event_there : (es : List Event) (k : ℕ) (m : Moment) (e : Event) → IsRising moment_cmp moment_of es →
+pub event_there : (es : List TimedSignal) (k : ℕ) (m : Moment) (e : TimedSignal) → IsRising moment_cmp moment_of es →
     slice_get es k ≡ Some e → e.at ≡ m → event_at es m.time m.cell.x m.cell.y ≡ Some e.signal
 event_there es k m e rising at same =
     event_found es k e m same at (is_first moment_cmp moment_of es k e moment_total rising at)
@@ -181,14 +181,15 @@ no_new_faults j u t o n k x y of stays halos edges from l f =
     }
 
 -- ---- events by their times
-pub met : (es : List Event) (t low high : ℕ) → high ≤ low → IsTimeBetween es t low high → IsTimeBetween es t low low
+pub met : (es : List TimedSignal) (t low high : ℕ) → high ≤ low → IsTimeBetween es t low high →
+    IsTimeBetween es t low low
 met es t low high l b = record {
   below = b.below;
   above = λ i e from ei. b.above i e (omega arith) ei;
 }
 
 -- before the search nothing is known, and then that events at a place and before it are earlier
-pub any_place : (es : List Event) (t : ℕ) → IsTimeBetween es t 0 (length es)
+pub any_place : (es : List TimedSignal) (t : ℕ) → IsTimeBetween es t 0 (length es)
 any_place es t = record {
   below = λ i e l ei. absurd (omega arith);
   above = λ i e from ei. let h = slice_get_within es i e ei in absurd (omega arith);
@@ -205,30 +206,31 @@ unfolding moment_cmp
 moment_less m n h = nat_less m.time n.time
     (λ e. less_greater (sym h ∙ ap (λ o. ordering_then o (cell_cmp m.cell n.cell)) e))
 
-later : (es : List Event) (i j : ℕ) (a b : Event) → IsRising moment_cmp moment_of es → i ≤ j → slice_get es i ≡ Some a →
+later : (es : List TimedSignal) (i j : ℕ) (a b : TimedSignal) → IsRising moment_cmp moment_of es → i ≤ j →
+    slice_get es i ≡ Some a →
     slice_get es j ≡ Some b → a.at.time ≤ b.at.time
 later es i j a b rising le ea eb = by_lt_or_le i j
     (λ l. moment_less a.at b.at (rising.rises i j a b l ea eb))
     (λ ge. let e : i ≡ j = omega arith in same_event (slice_get es j) a b (sym (ap (slice_get es) e) ∙ ea) eb)
   where
-    same_event : (o : Option Event) (a b : Event) → o ≡ Some a → o ≡ Some b → a.at.time ≤ b.at.time
+    same_event : (o : Option TimedSignal) (a b : TimedSignal) → o ≡ Some a → o ≡ Some b → a.at.time ≤ b.at.time
     same_event o a b ea eb = let e : a.at.time ≡ b.at.time = cc in omega arith
 
-pub raise_time : (es : List Event) (t low high m : ℕ) (a : Event) → IsRising moment_cmp moment_of es →
+pub raise_time : (es : List TimedSignal) (t low high m : ℕ) (a : TimedSignal) → IsRising moment_cmp moment_of es →
     IsTimeBetween es t low high → slice_get es m ≡ Some a → a.at.time < t → IsTimeBetween es t (m + 1) high
 raise_time es t low high m a rising b at less = record {
   below = λ i e l ei. let h = later es i m e a rising (omega arith) ei at in omega arith;
   above = b.above;
 }
 
-pub sure : (es : List Event) (t place : ℕ) (a : Event) → IsRising moment_cmp moment_of es → 0 < place →
+pub sure : (es : List TimedSignal) (t place : ℕ) (a : TimedSignal) → IsRising moment_cmp moment_of es → 0 < place →
     slice_get es (place - 1) ≡ Some a → a.at.time < t → IsTimeBetween es t place (length es)
 sure es t place a rising some at less =
     let e : place - 1 + 1 ≡ place = omega arith in
     subst (λ n. IsTimeBetween es t n (length es)) e
     (raise_time es t 0 (length es) (place - 1) a rising (any_place es t) at less)
 
-pub drop_time : (es : List Event) (t low high m : ℕ) (a : Event) → IsRising moment_cmp moment_of es →
+pub drop_time : (es : List TimedSignal) (t low high m : ℕ) (a : TimedSignal) → IsRising moment_cmp moment_of es →
     IsTimeBetween es t low high → slice_get es m ≡ Some a → t ≤ a.at.time → IsTimeBetween es t low m
 drop_time es t low high m a rising b at le = record {
   below = b.below;
@@ -236,29 +238,29 @@ drop_time es t low high m a rising b at le = record {
 }
 
 -- the bounds have met at an event: there is none between t and its time
-pub none_until : (es : List Event) (t low high n : ℕ) (a : Event) → IsRising moment_cmp moment_of es →
+pub none_until : (es : List TimedSignal) (t low high n : ℕ) (a : TimedSignal) → IsRising moment_cmp moment_of es →
     IsTimeBetween es t low high → high ≤ low → slice_get es low ≡ Some a → n ≤ a.at.time → HasNoEvents es t n
 none_until es t low high n a rising b met at le i e ei from to = by_lt_or_le i low
     (λ l. let h = b.below i e l ei in omega arith)
     (λ ge. let h = later es low i a e rising ge at ei in omega arith)
 
-pub none_before : (es : List Event) (t low high : ℕ) (a : Event) → IsRising moment_cmp moment_of es →
+pub none_before : (es : List TimedSignal) (t low high : ℕ) (a : TimedSignal) → IsRising moment_cmp moment_of es →
     IsTimeBetween es t low high → high ≤ low → slice_get es low ≡ Some a → HasNoEvents es t a.at.time
 none_before es t low high a rising b met at = none_until es t low high a.at.time a rising b met at (omega arith)
 
 -- that time is not before t
-pub above_at : (es : List Event) (t low high : ℕ) (a : Event) → IsTimeBetween es t low high → high ≤ low →
+pub above_at : (es : List TimedSignal) (t low high : ℕ) (a : TimedSignal) → IsTimeBetween es t low high → high ≤ low →
     slice_get es low ≡ Some a → t ≤ a.at.time
 above_at es t low high a b met at = b.above low a met at
 
 -- or at the end
-pub none_at_all : (es : List Event) (t low high n : ℕ) → IsTimeBetween es t low high → length es ≤ low →
+pub none_at_all : (es : List TimedSignal) (t low high n : ℕ) → IsTimeBetween es t low high → length es ≤ low →
     HasNoEvents es t n
 none_at_all es t low high n b met i e ei from to = by_lt_or_le i low
     (λ l. let h = b.below i e l ei in omega arith)
     (λ ge. none_there i e (omega arith) ei)
   where
-    none_there : (i : ℕ) (e : Event) → length es ≤ i → slice_get es i ≡ Some e → ⊥
+    none_there : (i : ℕ) (e : TimedSignal) → length es ≤ i → slice_get es i ≡ Some e → ⊥
     none_there i e l ei = let h = slice_get_within es i e ei in omega arith
 
 -- ---- where there are no events, signals stay

@@ -14,7 +14,7 @@ use Rattle.bbm_rule.proofs.Moving.{parity_moved, step_moved}
 use Rattle.circuit.specs.Meaning.{IsUndefined, Netlist, Satisfies, Valuation}
 use Rattle.module_box.specs.Boxes.{IsEven, in_box, in_ring}
 use Rattle.module_box.specs.Locals.{is_among}
-use Rattle.module_box.specs.Moves.{BoxMovesAlong, IsMovedBox, IsNear, IsSmall, moved_cell, moved_signals}
+use Rattle.module_box.specs.Moves.{BoxMovesAlong, IsMovedBox, IsNear, IsSmallShift, moved_cell, moved_signals}
 use Rattle.module_box.specs.Schedules.{Signals, signal_at}
 use Rattle.module_box.specs.declared.boxes.Box2.{Box2}
 use Rattle.module_box.specs.declared.schedules.Signal.TheVariants.{Zero}
@@ -304,7 +304,7 @@ fault_inside : (j : JobView) (f : Fault) → IsJob j → IsFault j f → in_box 
 fault_inside j f is fault = ∥∥₁_elim fault.shown (Prim.hlevel props)
     (λ h. under_inside j h.values f.time f.kind f.cell.x f.cell.y is h.differs)
 
-small_number : (z : ℤ) (n m w : ℕ) → z ≡ pos n → n < m + w → m + w ≤ 512 → IsSmall z
+small_number : (z : ℤ) (n m w : ℕ) → z ≡ pos n → n < m + w → m + w ≤ 512 → IsSmallShift z
 small_number z n m w e lt few = (omega (arith, ints, e), omega (arith, ints, e, lt, few))
 
 pub fault_near : (j : JobView) (f : Fault) → IsJob j → IsFault j f → IsNear f.cell

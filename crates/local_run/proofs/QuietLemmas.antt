@@ -7,7 +7,7 @@ use Rattle.bbm_rule.specs.declared.block.Cell.{Cell}
 use Rattle.module_box.specs.Schedules.{Signals, signal_at}
 use Rattle.module_box.specs.declared.boxes.Box2.{Box2}
 use Rattle.module_box.specs.declared.schedules.AllTimes.{AllTimes}
-use Rattle.module_box.specs.declared.schedules.Event.{Event}
+use Rattle.module_box.specs.declared.schedules.TimedSignal.{TimedSignal}
 use Rattle.module_box.specs.declared.schedules.Signal.TheVariants.{Zero}
 use Rattle.module_box.specs.Moves.{moved_signals}
 use Rattle.module_box.proofs.MovedBoxes.{signals_moved}
@@ -52,7 +52,8 @@ still_marked b c old new keeps marked x y lx ly ex ey free =
 -- where no line names the cell at the time, its signal is `Zero`
 pub zero_signal : (s : Signals) (t : ℕ) (x y : ℤ) →
     ((i : ℕ) (h : AllTimes) → slice_get s.all_times i ≡ Some h → (h.cell.x ≡ x) × (h.cell.y ≡ y) → ⊥) →
-    ((i : ℕ) (e : Event) → slice_get s.events i ≡ Some e → e.at.time ≡ t → (e.at.cell.x ≡ x) × (e.at.cell.y ≡ y) → ⊥) →
+    ((i : ℕ) (e : TimedSignal) → slice_get s.events i ≡ Some e → e.at.time ≡ t → (e.at.cell.x ≡ x) × (e.at.cell.y ≡ y) →
+    ⊥) →
     signal_at s t x y ≡ Zero
 unfolding signal_at
 zero_signal s t x y all_times events =
@@ -70,7 +71,7 @@ pub still_all_times : (s : Signals) (b : Box2) (old new : List ℕ) → KeepsMar
 still_all_times s b old new keeps all_times i h at = still_marked b h.cell old new keeps (all_times i h at)
 
 pub quiet_in : (s : Signals) (b : Box2) (t : ℕ) (marks : List ℕ) → AreAllTimesMarked s b marks →
-    ((i : ℕ) (e : Event) → slice_get s.events i ≡ Some e → e.at.time ≡ t → IsCellMarked b e.at.cell marks) →
+    ((i : ℕ) (e : TimedSignal) → slice_get s.events i ≡ Some e → e.at.time ≡ t → IsCellMarked b e.at.cell marks) →
     IsQuietIn s b t marks
 quiet_in s b t marks all_times events x y lx ly free = zero_signal s t (outer b.x x) (outer b.y y)
     (λ i h at e. all_times i h at x y lx ly e.0 e.1 free) (λ i v at same e. events i v at same x y lx ly e.0 e.1 free)
@@ -80,9 +81,9 @@ pub still_quiet : (s : Signals) (b : Box2) (t : ℕ) (old new : List ℕ) → Ke
 still_quiet s b t old new keeps quiet x y lx ly free = quiet x y lx ly (lacks_line b x y old new keeps free)
 
 -- the events from the first one of a time up to the first one of the next
-pub events_between : (es : List Event) (t m n : ℕ) (P : Event → Type 0) → IsTimeBetween es t m m →
+pub events_between : (es : List TimedSignal) (t m n : ℕ) (P : TimedSignal → Type 0) → IsTimeBetween es t m m →
     IsTimeBetween es (t + 1) n n →
-    ((i : ℕ) (e : Event) → m ≤ i → i < n → slice_get es i ≡ Some e → P e) → (i : ℕ) (e : Event) →
+    ((i : ℕ) (e : TimedSignal) → m ≤ i → i < n → slice_get es i ≡ Some e → P e) → (i : ℕ) (e : TimedSignal) →
     slice_get es i ≡ Some e → e.at.time ≡ t → P e
 events_between es t m n P from to have i e at same =
     by_lt_or_le i m (λ l. let h = from.below i e l at in absurd (omega arith)) (λ after.

@@ -2,7 +2,7 @@
 use Rattle.std.specs.Prelude.{◌≡◌, ℕ, ℤ, ◌+◌, ◌-◌, ◌%◌, Bool, false, ◌<◌, ◌≤◌, List, slice_get, Some}
 use Rattle.circuit.specs.Meaning.{Valuation}
 use Rattle.module_box.specs.Schedules.{Signals, signal_at}
-use Rattle.module_box.specs.declared.schedules.Event.{Event}
+use Rattle.module_box.specs.declared.schedules.TimedSignal.{TimedSignal}
 use Rattle.module_job.specs.Jobs.{JobView}
 use Rattle.local_run.specs.Runs.{local_run}
 
@@ -21,13 +21,13 @@ pub record IsOddOf (t o : ℕ) : Type 0 where
   pub next : o ≤ t + 1
 
 -- the times of the events before place `low` are less than t, and those from place `high` on are not
-pub record IsTimeBetween (es : List Event) (t low high : ℕ) : Type 0 where
-  pub below : (i : ℕ) (e : Event) → i < low → slice_get es i ≡ Some e → e.at.time < t
-  pub above : (i : ℕ) (e : Event) → high ≤ i → slice_get es i ≡ Some e → t ≤ e.at.time
+pub record IsTimeBetween (es : List TimedSignal) (t low high : ℕ) : Type 0 where
+  pub below : (i : ℕ) (e : TimedSignal) → i < low → slice_get es i ≡ Some e → e.at.time < t
+  pub above : (i : ℕ) (e : TimedSignal) → high ≤ i → slice_get es i ≡ Some e → t ≤ e.at.time
 
 -- none of the events is at a time from t on, before n
-abbrev pub HasNoEvents : List Event → ℕ → ℕ → Type 0
-HasNoEvents events t n = (i : ℕ) (e : Event) → slice_get events i ≡ Some e → t ≤ e.at.time → e.at.time < n → ⊥
+abbrev pub HasNoEvents : List TimedSignal → ℕ → ℕ → Type 0
+HasNoEvents events t n = (i : ℕ) (e : TimedSignal) → slice_get events i ≡ Some e → t ≤ e.at.time → e.at.time < n → ⊥
 
 -- Nothing changed at the even time t and at the odd one before. The signals of ring and halo stay as they were at the
 -- odd one until time n

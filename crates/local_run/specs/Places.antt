@@ -11,5 +11,5 @@ unfoldable pub outer : ℕ → ℕ → ℤ
 outer c k = pos (c + k) -ℤ pos 1
 
 -- the box is near the plane's corner, and so is the place
-abbrev pub IsSmall : Box2 → ℕ → ℕ → Type 0
-IsSmall b x y = (b.x ≤ 512) × (b.y ≤ 512) × (x ≤ 66) × (y ≤ 66)
+abbrev pub IsNearCorner : Box2 → ℕ → ℕ → Type 0
+IsNearCorner b x y = (b.x ≤ 512) × (b.y ≤ 512) × (x ≤ 66) × (y ≤ 66)

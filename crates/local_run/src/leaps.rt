@@ -6,11 +6,11 @@ ghost use Rattle.module_box.specs.Schedules.{IsRising, moment_of};
 ghost use Rattle.local_run.specs.Leaps.{HasNoEvents, IsLeap, IsSteady, IsTimeBetween};
 ghost use Rattle.local_run.specs.Scans.{IsNextStop};
 
-use module_box::{Event, Schedule};
+use module_box::{Schedule, TimedSignal};
 use module_job::{Job, Shape};
 
 /// Returns the place of the first event at the time or after it, or how many events there are.
-pub fn first_event(events: &[Event], time: u32) -> usize
+pub fn first_event(events: &[TimedSignal], time: u32) -> usize
     requires rising { IsRising moment_cmp moment_of events.now }
     ensures range { result ≤ length events.now }
     ensures first { IsTimeBetween events.now time result result }
@@ -29,7 +29,7 @@ pub fn first_event(events: &[Event], time: u32) -> usize
 }
 
 // A place before which all events are earlier than the time: the one that is asked about, if it is such, or the first.
-fn sure_place(events: &[Event], place: usize, time: u32) -> usize
+fn sure_place(events: &[TimedSignal], place: usize, time: u32) -> usize
     requires rising { IsRising moment_cmp moment_of events.now }
     ensures range { result ≤ length events.now }
     ensures below { IsTimeBetween events.now time result (length events.now) }
@@ -44,7 +44,7 @@ fn sure_place(events: &[Event], place: usize, time: u32) -> usize
 }
 
 /// Returns the same as [`first_event`], by a search from a place on. If the event is near it, a few looks are enough.
-pub fn first_event_from(events: &[Event], place: usize, time: u32) -> usize
+pub fn first_event_from(events: &[TimedSignal], place: usize, time: u32) -> usize
     requires rising { IsRising moment_cmp moment_of events.now }
     ensures range { result ≤ length events.now }
     ensures first { IsTimeBetween events.now time result result }
@@ -62,7 +62,7 @@ pub fn first_event_from(events: &[Event], place: usize, time: u32) -> usize
 }
 
 // The first time from `time` on at which there is an event, or `end`, whichever comes first.
-fn next_event(events: &[Event], time: u32, end: u32) -> u32
+fn next_event(events: &[TimedSignal], time: u32, end: u32) -> u32
     requires rising { IsRising moment_cmp moment_of events.now }
     requires range { time ≤ end }
     ensures range { (time ≤ result) × (result ≤ end) }

@@ -11,7 +11,7 @@ ghost use Rattle.std.specs.Prelude.{ℕ, ◌≢◌, MatchOption, ◌≡◌, ◌<
 use crate::leaps::first_event_from;
 use bbm_rule::Cell;
 use bbm_rule::marks::mark;
-use module_box::{AllTimes, Box2, Event, Moment, Schedule, Signal};
+use module_box::{AllTimes, Box2, Moment, Schedule, Signal, TimedSignal};
 use module_job::{Job, Shape};
 use std::alloc::{AllocError, Global};
 
@@ -71,12 +71,12 @@ fn mark_all_times(marks: &mut [u64], area: Box2, list: &[AllTimes])
 }
 
 // Marks the cells of the events from place `first` up to place `end`.
-fn mark_events(marks: &mut [u64], area: Box2, list: &[Event], first: usize, end: usize)
+fn mark_events(marks: &mut [u64], area: Box2, list: &[TimedSignal], first: usize, end: usize)
     requires room_for_marks { HasRoom area marks.old }
     requires range { end ≤ length list.now }
     ensures keeps { KeepsMarks marks.old marks.new }
-    ensures marked { (i : ℕ) (e : Event) → first ≤ i → i < end → slice_get list.now i ≡ Some e →
-        IsCellMarked area e.at.cell marks.new }
+    ensures marked { (i : ℕ) (e : TimedSignal) → first ≤ i → i < end →
+        slice_get list.now i ≡ Some e → IsCellMarked area e.at.cell marks.new }
 {
     for k in first..end {
         mark_cell(marks, area, list[k].at.cell);
@@ -87,7 +87,7 @@ fn mark_events(marks: &mut [u64], area: Box2, list: &[Event], first: usize, end:
 fn mark_events_at(
     marks: &mut [u64],
     area: Box2,
-    list: &[Event],
+    list: &[TimedSignal],
     place: usize,
     time: u32,
 ) -> EventPlaces
@@ -95,7 +95,7 @@ fn mark_events_at(
     requires rising { IsRising moment_cmp moment_of list.now }
     requires range { time < 65536 }
     ensures keeps { KeepsMarks marks.old marks.new }
-    ensures marked { (i : ℕ) (e : Event) → slice_get list.now i ≡ Some e → e.at.time ≡ time →
+    ensures marked { (i : ℕ) (e : TimedSignal) → slice_get list.now i ≡ Some e → e.at.time ≡ time →
         IsCellMarked area e.at.cell marks.new }
 {
     let first = first_event_from(list, place, time);
@@ -167,7 +167,7 @@ impl LinePlaces {
 const MOST_NEAR_LINES: usize = 8;
 
 // The signal of the event of a moment, if it is among the events at a few places.
-fn event_near(events: &[Event], moment: Moment, near: EventPlaces) -> Option<Signal>
+fn event_near(events: &[TimedSignal], moment: Moment, near: EventPlaces) -> Option<Signal>
     requires { IsRising moment_cmp moment_of events.now }
     ensures { IfSome result
         (λ s. event_at events.now moment.time moment.cell.x moment.cell.y ≡ Some s) }

@@ -5,7 +5,7 @@ ghost use Rattle.module_box.specs.Boxes.{in_box, in_ring};
 ghost use Rattle.module_box.specs.Schedules.{signal_at};
 ghost use Rattle.module_job.specs.Jobs.{job_demand, job_start};
 ghost use Rattle.module_job.specs.Signals.{IsBelow, IsDemandBelow};
-ghost use Rattle.local_run.specs.Places.{inner, outer, IsSmall};
+ghost use Rattle.local_run.specs.Places.{inner, outer, IsNearCorner};
 
 use crate::lines::{EventPlaces, signal_near};
 use bbm_rule::Cell;
@@ -17,7 +17,7 @@ use module_job::{Demand, Job, Shape};
 /// Columns and rows are below 67, and the box's corner has coordinates of at most 512.
 #[tactic(auto, unfolding(crate::specs::Places::inner))]
 pub fn inner_cell(area: Box2, x: usize, y: usize) -> Cell
-    requires { IsSmall area x y }
+    requires { IsNearCorner area x y }
     ensures x { result.x ≡ inner area.x x }
     ensures y { result.y ≡ inner area.y y }
 {
@@ -64,7 +64,7 @@ pub fn start_at(job: &Job, x: usize, y: usize) -> Signal
 /// Returns a column from `x` on, at most the box width. All cells of row `y` from `x` to before it are dead at time 0.
 ///
 /// Contracts do not exclude that the cell at the result is dead too.
-pub fn next_start(job: &Job, x: usize, y: usize) -> usize
+pub fn skip_dead_starts(job: &Job, x: usize, y: usize) -> usize
     requires { (x ≤ job.now.area.w) × (y < job.now.area.h) }
     ensures range { (x ≤ result) × (result ≤ job.now.area.w) }
     ensures dead { (k : ℕ) → x ≤ k → k < result →
@@ -73,7 +73,7 @@ pub fn next_start(job: &Job, x: usize, y: usize) -> usize
     let width = job.area().w as usize;
     let first = width * y;
     let shape: &Shape = job.shape();
-    shape.next_start(first + x, first + width) - first
+    shape.skip_dead_starts(first + x, first + width) - first
 }
 
 /// Returns what the cell at a column and row of the box must be at the last time.
@@ -90,7 +90,7 @@ pub fn demand_at(job: &Job, x: usize, y: usize) -> Demand
 /// the last time.
 ///
 /// Contracts do not exclude that the cell at the result must be dead too.
-pub fn next_demand(job: &Job, x: usize, y: usize) -> usize
+pub fn skip_dead_demands(job: &Job, x: usize, y: usize) -> usize
     requires { (x ≤ job.now.area.w) × (y < job.now.area.h) }
     ensures range { (x ≤ result) × (result ≤ job.now.area.w) }
     ensures dead { (k : ℕ) → x ≤ k → k < result →
@@ -99,7 +99,7 @@ pub fn next_demand(job: &Job, x: usize, y: usize) -> usize
     let width = job.area().w as usize;
     let first = width * y;
     let shape: &Shape = job.shape();
-    shape.next_demand(first + x, first + width) - first
+    shape.skip_dead_demands(first + x, first + width) - first
 }
 
 /// Returns what the cell at a column and row of the box carries at an odd time, if it is in the ring. Its event is

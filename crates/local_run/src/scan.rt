@@ -11,7 +11,7 @@ ghost use Rattle.local_run.specs.Scans.{IsFirst, IsFound, IsFree, IsLeastBelow, 
 
 use crate::fault::{Fault, Kind};
 use crate::marked_planes::MarkedPlanes;
-use crate::places::{demand_at, edge_at, inner_cell, is_ring, next_demand, place_of};
+use crate::places::{demand_at, edge_at, inner_cell, is_ring, place_of, skip_dead_demands};
 use crate::values::Values;
 use module_box::Signal;
 use module_job::{Demand, Job, Stop};
@@ -101,7 +101,7 @@ fn next_column(marked_planes: &MarkedPlanes, job: &Job, kind: Kind, x: usize, y:
     match kind {
         Kind::End if !marked_planes.may_be_live(1 + x, 1 + y) => {
             let live = marked_planes.next_live(1 + x, 1 + y) - 1;
-            next_demand(job, x, y).min(live)
+            skip_dead_demands(job, x, y).min(live)
         }
         _ => x,
     }

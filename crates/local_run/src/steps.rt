@@ -7,7 +7,7 @@ ghost use Rattle.local_run.specs.Places.{inner};
 ghost use Rattle.local_run.specs.Scans.{HasHalo, IsReady, PutsCell, Shows};
 
 use crate::marked_planes::MarkedPlanes;
-use crate::places::{next_start, start_at};
+use crate::places::{skip_dead_starts, start_at};
 use crate::values::Values;
 use module_box::Signal;
 use module_job::Job;
@@ -42,10 +42,10 @@ pub fn put_start(marked_planes: &mut MarkedPlanes, values: &Values, job: &Job)
 {
     let area = job.area();
     'rows: for y in 0..area.h as usize {
-        let mut x = next_start(job, 0, y);
+        let mut x = skip_dead_starts(job, 0, y);
         'cells: while x < area.w as usize {
             put_start_cell(marked_planes, values, job, x, y);
-            x = next_start(job, x + 1, y);
+            x = skip_dead_starts(job, x + 1, y);
         }
     }
 }

@@ -15,7 +15,7 @@ use Rattle.circuit.specs.declared.circuit_line.GateKind.TheVariants.{Source, Fre
 use Rattle.circuit.specs.declared.circuit_line.GateKind.TheVariants.{Unswitch, Uninteract}
 use Rattle.circuit.specs.Meaning.{Gate, Netlist}
 use Rattle.module_box.specs.declared.schedules.AllTimes.{AllTimes}
-use Rattle.module_box.specs.declared.schedules.Event.{Event}
+use Rattle.module_box.specs.declared.schedules.TimedSignal.{TimedSignal}
 use Rattle.module_box.specs.declared.schedules.Signal.{Signal}
 use Rattle.module_box.specs.declared.schedules.Signal.TheVariants.{Zero, One, Wire}
 use Rattle.std.specs.Ordering.{on}
@@ -75,7 +75,7 @@ all_times_decides a b =
     both _ _ (cell_decides a.cell b.cell) (signal_decides a.signal b.signal)
     (λ cell signal i. record { cell = cell i; signal = signal i }) (λ e. ap (λ h. h.cell) e) (λ e. ap (λ h. h.signal) e)
 
-pub event_decides : (a b : Event) → Decides (same_event a b) (a ≡ b)
+pub event_decides : (a b : TimedSignal) → Decides (same_event a b) (a ≡ b)
 event_decides a b =
     both _ _ (Decides-eqb a.at.time b.at.time)
     (both {R = (a.at.cell ≡ b.at.cell) × (a.signal ≡ b.signal)} _ _ (cell_decides a.at.cell b.at.cell)

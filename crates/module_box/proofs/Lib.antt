@@ -15,5 +15,5 @@ pub mod EqualTests
 pub mod SeenValues
 pub mod MovedBoxes
 pub mod NearBoxes
-pub mod Telling
+pub mod InjectiveNumbers
 pub mod FromCorner

@@ -14,7 +14,7 @@ use Rattle.module_box.specs.Moves.{moved_cell, moved_all_times, moved_event, mov
 use Rattle.module_box.specs.Moves.{SignalsMoveAlong}
 use Rattle.module_box.specs.Schedules.{IsRising, Signals, cell_of, moment_of, all_times_at, event_at, signal_at}
 use Rattle.module_box.specs.declared.boxes.Box2.{Box2}
-use Rattle.module_box.specs.declared.schedules.Event.{Event}
+use Rattle.module_box.specs.declared.schedules.TimedSignal.{TimedSignal}
 use Rattle.module_box.specs.declared.schedules.AllTimes.{AllTimes}
 use Rattle.module_box.specs.declared.schedules.Signal.TheVariants.{Zero}
 
@@ -88,7 +88,7 @@ all_times_moved dx dy [] x y = refl
 all_times_moved dx dy (h ∷ hs) x y =
     λ i. if at_moved dx dy h.cell x y i then Some h.signal else all_times_moved dx dy hs x y i
 
-event_moved : (dx dy : ℤ) (es : List Event) (t : ℕ) (x y : ℤ) →
+event_moved : (dx dy : ℤ) (es : List TimedSignal) (t : ℕ) (x y : ℤ) →
     event_at (map (moved_event dx dy) es) t (x +ℤ dx) (y +ℤ dy) ≡ event_at es t x y
 unfolding event_at
 event_moved dx dy [] t x y = refl
@@ -128,7 +128,7 @@ pub cell_cmp_moved : (dx dy : ℤ) (a b : Cell) → cell_cmp (moved_cell dx dy a
 unfolding cell_cmp
 cell_cmp_moved dx dy a b = ap₂ ordering_then (cmp_moved a.y b.y dy) (cmp_moved a.x b.x dx)
 
-moment_cmp_moved : (dx dy : ℤ) (d e : Event) →
+moment_cmp_moved : (dx dy : ℤ) (d e : TimedSignal) →
     moment_cmp (moved_event dx dy d).at (moved_event dx dy e).at ≡ moment_cmp d.at e.at
 unfolding moment_cmp
 moment_cmp_moved dx dy d e = ap (ordering_then (nat_cmp d.at.time e.at.time)) (cell_cmp_moved dx dy d.at.cell e.at.cell)
@@ -156,7 +156,7 @@ pub all_times_rising : (dx dy : ℤ) (hs : List AllTimes) → IsRising cell_cmp 
 all_times_rising dx dy hs rising =
     rising_mapped cell_cmp cell_of (moved_all_times dx dy) (λ a b. cell_cmp_moved dx dy a.cell b.cell) hs rising
 
-pub events_rising : (dx dy : ℤ) (es : List Event) → IsRising moment_cmp moment_of es →
+pub events_rising : (dx dy : ℤ) (es : List TimedSignal) → IsRising moment_cmp moment_of es →
     IsRising moment_cmp moment_of (map (moved_event dx dy) es)
 events_rising dx dy es rising =
     rising_mapped moment_cmp moment_of (moved_event dx dy) (λ a b. moment_cmp_moved dx dy a b) es rising

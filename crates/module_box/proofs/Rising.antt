@@ -12,7 +12,7 @@ use Rattle.bbm_rule.specs.Plane.{is_at}
 use Rattle.bbm_rule.specs.declared.block.Cell.{Cell}
 use Rattle.module_box.specs.declared.schedules.Moment.{Moment}
 use Rattle.module_box.specs.declared.schedules.AllTimes.{AllTimes}
-use Rattle.module_box.specs.declared.schedules.Event.{Event}
+use Rattle.module_box.specs.declared.schedules.TimedSignal.{TimedSignal}
 use Rattle.module_box.specs.Moments.{cell_cmp, moment_cmp}
 use Rattle.module_box.specs.Schedules.{IsRising, is_then, all_times_at, event_at}
 
@@ -165,7 +165,8 @@ all_times_some (g ∷ hs) (suc i) h e f = elim (cases_Bool (is_at g.cell h.cell.
   | inr n ↦ cond-false _ _ _ n ∙ all_times_some hs i h e (λ j h' lt. f (suc j) h' (omega arith))
 ]
 
-pub event_none : (es : List Event) (m : Moment) → ((i : ℕ) (e : Event) → slice_get es i ≡ Some e → e.at ≢ m) →
+pub event_none : (es : List TimedSignal) (m : Moment) →
+    ((i : ℕ) (e : TimedSignal) → slice_get es i ≡ Some e → e.at ≢ m) →
     event_at es m.time m.cell.x m.cell.y ≡ None
 unfolding event_at
 event_none [] m f = refl
@@ -174,8 +175,8 @@ event_none (h ∷ hs) m f = elim (cases_Bool (is_then h.at m.time m.cell.x m.cel
   | inr e ↦ cond-false _ _ _ e ∙ event_none hs m (λ i h'. f (suc i) h')
 ]
 
-pub event_some : (es : List Event) (i : ℕ) (h : Event) → slice_get es i ≡ Some h →
-    ((j : ℕ) (h' : Event) → j < i → slice_get es j ≡ Some h' → h'.at ≢ h.at) →
+pub event_some : (es : List TimedSignal) (i : ℕ) (h : TimedSignal) → slice_get es i ≡ Some h →
+    ((j : ℕ) (h' : TimedSignal) → j < i → slice_get es j ≡ Some h' → h'.at ≢ h.at) →
     event_at es h.at.time h.at.cell.x h.at.cell.y ≡ Some h.signal
 unfolding event_at
 event_some [] i h e f = absurd (none_some e)
@@ -197,8 +198,8 @@ pub all_times_found : (hs : List AllTimes) (i : ℕ) (h : AllTimes) (c : Cell) �
 all_times_found hs i h c same e f =
     subst (λ (c : Cell). all_times_at hs c.x c.y ≡ Some h.signal) same (all_times_some hs i h e f)
 
-pub event_found : (es : List Event) (i : ℕ) (h : Event) (m : Moment) → h.at ≡ m → slice_get es i ≡ Some h →
-    ((j : ℕ) (h' : Event) → j < i → slice_get es j ≡ Some h' → h'.at ≢ h.at) →
+pub event_found : (es : List TimedSignal) (i : ℕ) (h : TimedSignal) (m : Moment) → h.at ≡ m → slice_get es i ≡ Some h →
+    ((j : ℕ) (h' : TimedSignal) → j < i → slice_get es j ≡ Some h' → h'.at ≢ h.at) →
     event_at es m.time m.cell.x m.cell.y ≡ Some h.signal
 event_found es i h m same e f =
     subst (λ (m : Moment). event_at es m.time m.cell.x m.cell.y ≡ Some h.signal) same (event_some es i h e f)

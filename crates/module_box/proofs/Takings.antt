@@ -109,10 +109,11 @@ rows_done columns b free number upto old new t past = record {
 }
 
 -- all rows of the box were taken
-pub rows_all : (columns : ℕ) (b : Box2) (free number row : ℕ) (old new : List ℕ) → IsEven b → FitsTable columns b →
+pub all_rows_are_taken : (columns : ℕ) (b : Box2) (free number row : ℕ) (old new : List ℕ) → IsEven b →
+    FitsTable columns b →
     b.y / 2 + b.h / 2 ≤ row →
     TakesRows columns b free number (row * columns) old new → TakesBox columns b free number (length old) old new
-rows_all columns b free number row old new even fits le t =
+all_rows_are_taken columns b free number row old new even fits le t =
     rows_done columns b free number (row * columns) old new t
     (λ k p l h. let a = among_from b columns k even h in let r = row_from columns row k fits.some p in
     omega (arith, a.bottom, r, le))

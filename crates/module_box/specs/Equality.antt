@@ -12,7 +12,7 @@ use Rattle.circuit.specs.declared.circuit_line.GateKind.TheVariants.{Source, Fre
 use Rattle.circuit.specs.declared.circuit_line.GateKind.TheVariants.{Unswitch, Uninteract}
 use Rattle.circuit.specs.Meaning.{Gate, Netlist}
 use Rattle.module_box.specs.declared.schedules.AllTimes.{AllTimes}
-use Rattle.module_box.specs.declared.schedules.Event.{Event}
+use Rattle.module_box.specs.declared.schedules.TimedSignal.{TimedSignal}
 use Rattle.module_box.specs.declared.schedules.Signal.{Signal}
 use Rattle.module_box.specs.declared.schedules.Signal.TheVariants.{Zero, One, Wire}
 use Rattle.module_box.specs.Schedules.{Signals}
@@ -44,7 +44,7 @@ abbrev pub same_all_times : AllTimes → AllTimes → Bool
 same_all_times = eq_of_both (on (λ h. h.cell) same_cell) (on (λ h. h.signal) same_signal)
 
 -- whether two events are the same
-abbrev pub same_event : Event → Event → Bool
+abbrev pub same_event : TimedSignal → TimedSignal → Bool
 same_event = eq_of_both (on (λ e. e.at.time) nat_eq)
     (eq_of_both (on (λ e. e.at.cell) same_cell) (on (λ e. e.signal) same_signal))
 

@@ -5,7 +5,7 @@ use Rattle.bbm_rule.specs.declared.block.Cell.{Cell}
 use Rattle.module_box.specs.Boxes.{in_box, in_ring, in_halo}
 use Rattle.module_box.specs.Schedules.{Signals, signal_at}
 use Rattle.module_box.specs.declared.boxes.Box2.{Box2}
-use Rattle.module_box.specs.declared.schedules.Event.{Event}
+use Rattle.module_box.specs.declared.schedules.TimedSignal.{TimedSignal}
 use Rattle.module_box.specs.declared.schedules.AllTimes.{AllTimes}
 
 -- by dx columns and dy rows
@@ -17,7 +17,7 @@ abbrev pub moved_all_times : ℤ → ℤ → AllTimes → AllTimes
 moved_all_times dx dy h = record { cell = moved_cell dx dy h.cell; signal = h.signal }
 
 -- an event, moved by dx columns and dy rows
-abbrev pub moved_event : ℤ → ℤ → Event → Event
+abbrev pub moved_event : ℤ → ℤ → TimedSignal → TimedSignal
 moved_event dx dy e = record { at = record { time = e.at.time; cell = moved_cell dx dy e.at.cell }; signal = e.signal }
 
 -- the signals of a schedule, moved by dx columns and dy rows
@@ -33,12 +33,12 @@ pub record IsMovedBox (dx dy : ℤ) (b b' : Box2) : Type 0 where
   pub h : b'.h ≡ b.h
 
 -- A number that is added to another of these without going out of the range of 32 bits
-abbrev pub IsSmall : ℤ → Type 0
-IsSmall z = (negsuc 1023 ≤ℤ z) × (z ≤ℤ pos 1023)
+abbrev pub IsSmallShift : ℤ → Type 0
+IsSmallShift z = (negsuc 1023 ≤ℤ z) × (z ≤ℤ pos 1023)
 
 -- a cell near the corner of the plane
 abbrev pub IsNear : Cell → Type 0
-IsNear c = IsSmall c.x × IsSmall c.y
+IsNear c = IsSmallShift c.x × IsSmallShift c.y
 
 -- ---- laws
 

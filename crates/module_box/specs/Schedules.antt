@@ -7,14 +7,14 @@ use Rattle.bbm_rule.specs.Plane.{is_at}
 use Rattle.bbm_rule.specs.declared.block.Cell.{Cell}
 use Rattle.module_box.specs.declared.schedules.Moment.{Moment}
 use Rattle.module_box.specs.declared.schedules.AllTimes.{AllTimes}
-use Rattle.module_box.specs.declared.schedules.Event.{Event}
+use Rattle.module_box.specs.declared.schedules.TimedSignal.{TimedSignal}
 use Rattle.module_box.specs.declared.schedules.Signal.{Signal}
 use Rattle.module_box.specs.declared.schedules.Signal.TheVariants.{Zero}
 
 -- the signals at all times and the events of a schedule
 pub record Signals : Type 0 where
   pub all_times : List AllTimes
-  pub events : List Event
+  pub events : List TimedSignal
 
 -- whether the moment is time t at the cell (x, y)
 abbrev pub is_then : Moment → ℕ → ℤ → ℤ → Bool
@@ -26,7 +26,7 @@ all_times_at [] x y = None
 all_times_at (h ∷ hs) x y = if is_at h.cell x y then Some h.signal else all_times_at hs x y
 
 -- the signal of the first element with the time t and the cell (x, y)
-unfoldable pub event_at : List Event → ℕ → ℤ → ℤ → Option Signal
+unfoldable pub event_at : List TimedSignal → ℕ → ℤ → ℤ → Option Signal
 event_at [] t x y = None
 event_at (e ∷ es) t x y = if is_then e.at t x y then Some e.signal else event_at es t x y
 
@@ -44,5 +44,5 @@ abbrev pub cell_of : AllTimes → Cell
 cell_of h = h.cell
 
 -- the time and the cell of an event
-abbrev pub moment_of : Event → Moment
+abbrev pub moment_of : TimedSignal → Moment
 moment_of e = e.at

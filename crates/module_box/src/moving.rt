@@ -2,16 +2,16 @@
 
 ghost use Rattle.std.specs.Prelude.{◌≡◌, IfOk, OnOk, map};
 ghost use Rattle.std.specs.List.{All};
-ghost use Rattle.module_box.specs.Moves.{IsNear, IsSmall, moved_cell, moved_event, moved_all_times, moved_signals};
+ghost use Rattle.module_box.specs.Moves.{IsNear, IsSmallShift, moved_cell, moved_event, moved_all_times, moved_signals};
 
-use crate::schedules::{AllTimes, Event, Moment, Schedule};
+use crate::schedules::{AllTimes, Moment, Schedule, TimedSignal};
 use bbm_rule::Cell;
 use std::alloc::{AllocError, Global};
 
 /// Returns the cell that lies `dx` columns and `dy` rows further. All these numbers are from -1024 to 1023.
 pub fn moved_cell(cell: Cell, dx: i32, dy: i32) -> Cell
     requires cell { IsNear cell }
-    requires by { IsSmall dx × IsSmall dy }
+    requires by { IsSmallShift dx × IsSmallShift dy }
     ensures { result ≡ moved_cell dx dy cell }
 {
     Cell {
@@ -22,7 +22,7 @@ pub fn moved_cell(cell: Cell, dx: i32, dy: i32) -> Cell
 
 fn moved_all_times(all_times: AllTimes, dx: i32, dy: i32) -> AllTimes
     requires cell { IsNear all_times.cell }
-    requires by { IsSmall dx × IsSmall dy }
+    requires by { IsSmallShift dx × IsSmallShift dy }
     ensures { result ≡ moved_all_times dx dy all_times }
 {
     AllTimes {
@@ -33,12 +33,12 @@ fn moved_all_times(all_times: AllTimes, dx: i32, dy: i32) -> AllTimes
 
 /// Returns the event at the cell that lies `dx` columns and `dy` rows further. All these numbers are from -1024 to
 /// 1023.
-pub fn moved_event(event: Event, dx: i32, dy: i32) -> Event
+pub fn moved_event(event: TimedSignal, dx: i32, dy: i32) -> TimedSignal
     requires cell { IsNear event.at.cell }
-    requires by { IsSmall dx × IsSmall dy }
+    requires by { IsSmallShift dx × IsSmallShift dy }
     ensures { result ≡ moved_event dx dy event }
 {
-    Event {
+    TimedSignal {
         at: Moment {
             time: event.at.time,
             cell: moved_cell(event.at.cell, dx, dy),
@@ -54,7 +54,7 @@ fn moved_all_times_list(
     dy: i32,
 ) -> Result<Vec<AllTimes>, AllocError>
     requires cells { All (λ h. IsNear h.cell) all_times.now }
-    requires by { IsSmall dx × IsSmall dy }
+    requires by { IsSmallShift dx × IsSmallShift dy }
     ensures { IfOk result (λ v. v.items ≡ map (moved_all_times dx dy) all_times.now) }
 {
     let mut moved = Vec::with_capacity(alloc, all_times.len())?;
@@ -64,9 +64,14 @@ fn moved_all_times_list(
     Ok(moved)
 }
 
-fn moved_events(alloc: Global, events: &[Event], dx: i32, dy: i32) -> Result<Vec<Event>, AllocError>
+fn moved_events(
+    alloc: Global,
+    events: &[TimedSignal],
+    dx: i32,
+    dy: i32,
+) -> Result<Vec<TimedSignal>, AllocError>
     requires cells { All (λ e. IsNear e.at.cell) events.now }
-    requires by { IsSmall dx × IsSmall dy }
+    requires by { IsSmallShift dx × IsSmallShift dy }
     ensures { IfOk result (λ v. v.items ≡ map (moved_event dx dy) events.now) }
 {
     let mut moved = Vec::with_capacity(alloc, events.len())?;
@@ -82,7 +87,7 @@ impl Schedule {
     pub fn moved(&self, alloc: Global, dx: i32, dy: i32) -> Result<Schedule, AllocError>
         requires all_times { All (λ h. IsNear h.cell) self.now.all_times }
         requires events { All (λ e. IsNear e.at.cell) self.now.events }
-        requires by { IsSmall dx × IsSmall dy }
+        requires by { IsSmallShift dx × IsSmallShift dy }
         ensures { IfOk result (λ s. s ≡ moved_signals dx dy self.now) }
     {
         let all_times = moved_all_times_list(alloc, self.all_times(), dx, dy)?;

@@ -35,7 +35,7 @@ pub struct AllTimes {
 
 /// A signal that a cell has at one time.
 #[derive(Clone, Copy, Debug, PartialEq, Eq)]
-pub struct Event {
+pub struct TimedSignal {
     pub at: Moment,
     pub signal: Signal,
 }
@@ -45,7 +45,7 @@ pub struct Event {
 #[derive(Debug, Drop)]
 pub struct Schedule {
     all_times: Vec<AllTimes>,
-    events: Vec<Event>,
+    events: Vec<TimedSignal>,
 }
 
 impl Model for Schedule {
@@ -100,7 +100,7 @@ fn find_all_times(all_times: &[AllTimes], cell: Cell) -> Option<Signal>
 }
 
 // the signal that the list has for the cell at the time.
-fn find_event(events: &[Event], moment: Moment) -> Option<Signal>
+fn find_event(events: &[TimedSignal], moment: Moment) -> Option<Signal>
     requires { IsRising moment_cmp moment_of events.now }
     ensures { result ≡ event_at events.now moment.time moment.cell.x moment.cell.y }
 {
@@ -123,7 +123,7 @@ impl Schedule {
     ///
     /// The signals at all times rise strictly by y, then x of their cells. The events rise strictly by time, then y,
     /// then x.
-    pub fn new(all_times: Vec<AllTimes>, events: Vec<Event>) -> Schedule
+    pub fn new(all_times: Vec<AllTimes>, events: Vec<TimedSignal>) -> Schedule
         requires all_times { IsRising cell_cmp cell_of all_times.items }
         requires events { IsRising moment_cmp moment_of events.items }
         ensures all_times { result.all_times ≡ all_times.items }
@@ -141,7 +141,7 @@ impl Schedule {
     }
 
     /// Returns the events, rising strictly by time, then y, then x.
-    pub fn events(&self) -> &[Event]
+    pub fn events(&self) -> &[TimedSignal]
         ensures same_list { result.now ≡ self.now.events }
         ensures rising { IsRising moment_cmp moment_of result.now }
     {

@@ -112,14 +112,14 @@ fn push_outs(words: &mut Vec<u64>, gate: LocalGate) -> Result<u64, AllocError>
 // The words of all wires. A bit of `defined` is set where all gates have a row there. For each gate there is a word,
 // whose bits are set where it is the first that has none.
 #[derive(Drop)]
-struct Column {
+struct ValueWords {
     words: Vec<u64>,
     undefined: Vec<u64>,
     defined: u64,
 }
 
 // The words of all wires, those that are given first.
-fn words_of(alloc: Global, given: &[u64], gates: &[LocalGate]) -> Result<Column, AllocError>
+fn words_of(alloc: Global, given: &[u64], gates: &[LocalGate]) -> Result<ValueWords, AllocError>
     ensures long { IfOk result (λ c. length c.words.items
         ≡ wires_after (length given.now) (map kept_gate gates.now)) }
     ensures count { IfOk result (λ c. length c.undefined.items ≡ length gates.now) }
@@ -136,7 +136,7 @@ fn words_of(alloc: Global, given: &[u64], gates: &[LocalGate]) -> Result<Column,
         undefined.push(first)?;
         defined ^= first;
     }
-    Ok(Column {
+    Ok(ValueWords {
         words,
         undefined,
         defined,
@@ -252,7 +252,7 @@ impl Wiring {
     }
 
     // The word of each wire: at bit b its value under assignment 64 * chunk + b.
-    fn column(&self, alloc: Global, chunk: u32) -> Result<Column, AllocError>
+    fn column(&self, alloc: Global, chunk: u32) -> Result<ValueWords, AllocError>
         ensures ordered { AreOrdered self.now.given self.now.gates }
         ensures count { IfOk result (λ c. length c.words.items ≡ wires self.now) }
         ensures gates { IfOk result (λ c. length c.undefined.items ≡ length self.now.gates) }

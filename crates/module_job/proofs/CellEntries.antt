@@ -5,7 +5,7 @@ use Rattle.std.proofs.lemmas.Bool.{cases_Bool, cond-true, cond-false}
 use Rattle.std.proofs.lemmas.Bool.Decides.{nat_tests}
 use Rattle.std.proofs.lemmas.List.{append_assoc, length-map}
 use Rattle.module_box.specs.Numbers.{AreTelling}
-use Rattle.module_box.proofs.Telling.{same_head, same_tail}
+use Rattle.module_box.proofs.InjectiveNumbers.{same_head, same_tail}
 use Rattle.module_job.specs.Keys.{cell_entry, cells_numbers, entries_from}
 
 -- ---- one cell

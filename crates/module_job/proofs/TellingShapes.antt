@@ -11,8 +11,8 @@ use Rattle.std.proofs.lemmas.Nat.{from_le_bytes-to_le_bytes_2, from_le_bytes-to_
 use Rattle.module_box.specs.Numbers.{AreTelling, counted, netlist_numbers}
 use Rattle.module_box.specs.declared.schedules.Signal.{Signal}
 use Rattle.module_box.specs.declared.schedules.Signal.TheVariants.{Zero, One, Wire}
-use Rattle.module_box.proofs.Telling.{counted_tell, listed, lists_tell, netlists_tell, same_head, same_length}
-use Rattle.module_box.proofs.Telling.{same_tail}
+use Rattle.module_box.proofs.InjectiveNumbers.{counted_tell, listed, lists_tell, netlists_tell, same_head, same_length}
+use Rattle.module_box.proofs.InjectiveNumbers.{same_tail}
 use Rattle.module_job.specs.Keys.{BytesTellNumbers, NumbersTellShapes, cell_numbers, cells_numbers, demand_number}
 use Rattle.module_job.specs.Keys.{event_numbers, all_times_numbers, integer_number, number_bytes, shape_numbers}
 use Rattle.module_job.specs.Keys.{signal_number, signals_numbers, stop_numbers}

@@ -3,8 +3,8 @@ use Rattle.std.specs.Prelude.{ℕ, zero, suc, ◌<◌, List, map}
 use Rattle.std.specs.List.{All}
 use Rattle.module_box.specs.declared.schedules.Signal.{Signal}
 use Rattle.module_box.specs.declared.schedules.Signal.TheVariants.{Zero, One, Wire}
-use Rattle.module_job.specs.declared.cell_lists.Demands.TheInside as OfDemands
-use Rattle.module_job.specs.declared.cell_lists.Starts.TheInside as OfStarts
+use Rattle.module_job.specs.declared.cell_lists.EndDemands.TheInside as OfDemands
+use Rattle.module_job.specs.declared.cell_lists.StartSignals.TheInside as OfStarts
 use Rattle.module_job.specs.declared.job.Demand.{Demand}
 use Rattle.module_job.specs.declared.job.Demand.TheVariants as Demanded
 

@@ -7,7 +7,7 @@ use Rattle.sha2.specs.Sha256.{sha256}
 use Rattle.bbm_rule.specs.declared.block.Cell.{Cell}
 use Rattle.module_box.specs.Numbers.{AreTelling, counted, netlist_numbers}
 use Rattle.module_box.specs.Schedules.{Signals}
-use Rattle.module_box.specs.declared.schedules.Event.{Event}
+use Rattle.module_box.specs.declared.schedules.TimedSignal.{TimedSignal}
 use Rattle.module_box.specs.declared.schedules.AllTimes.{AllTimes}
 use Rattle.module_box.specs.declared.schedules.Signal.{Signal}
 use Rattle.module_box.specs.declared.schedules.Signal.TheVariants.{Zero, One, Wire}
@@ -60,7 +60,7 @@ abbrev pub all_times_numbers : AllTimes → List ℕ
 all_times_numbers h = cell_numbers h.cell ++ signal_numbers h.signal
 
 -- the numbers of an event
-abbrev pub event_numbers : Event → List ℕ
+abbrev pub event_numbers : TimedSignal → List ℕ
 event_numbers e = (e.at.time ∷ cell_numbers e.at.cell) ++ signal_numbers e.signal
 
 -- the numbers of a stop

@@ -2,7 +2,7 @@
 use Rattle.std.specs.Prelude.{◌≡◌, ℕ, ◌<◌, Bool, true, false, map}
 use Rattle.circuit.specs.Meaning.{Valuation}
 use Rattle.module_box.specs.Schedules.{Signals}
-use Rattle.module_box.specs.declared.schedules.Event.{Event}
+use Rattle.module_box.specs.declared.schedules.TimedSignal.{TimedSignal}
 use Rattle.module_box.specs.declared.schedules.AllTimes.{AllTimes}
 use Rattle.module_box.specs.declared.schedules.Signal.{Signal}
 use Rattle.module_box.specs.declared.schedules.Signal.TheVariants.{Zero, One, Wire}
@@ -56,7 +56,7 @@ abbrev pub renumber_all_times : (ℕ → ℕ) → AllTimes → AllTimes
 renumber_all_times f h = record h { signal = renumber_signal f h.signal }
 
 -- the event with another number for its wire
-abbrev pub renumber_event : (ℕ → ℕ) → Event → Event
+abbrev pub renumber_event : (ℕ → ℕ) → TimedSignal → TimedSignal
 renumber_event f e = record e { signal = renumber_signal f e.signal }
 
 -- the stop with another number for its wire

@@ -1,13 +1,13 @@
 -- The summary of a shape: some of its numbers, by which most shapes that differ can be told apart at once
 use Rattle.std.specs.Prelude.{ℕ, ◌-◌, pos, List, ◌∷◌, ◌++◌, length, slice_get, unwrap_or}
-use Rattle.module_box.specs.declared.schedules.Event.{Event}
+use Rattle.module_box.specs.declared.schedules.TimedSignal.{TimedSignal}
 use Rattle.module_box.specs.declared.schedules.AllTimes.{AllTimes}
 use Rattle.module_box.specs.declared.schedules.Signal.TheVariants.{Zero}
 use Rattle.module_job.specs.Keys.{all_times_numbers, event_numbers}
 use Rattle.module_job.specs.Shapes.{ShapeView}
 
 -- the last event, or that the cell (0, 0) is dead at time 0 if there is none
-abbrev pub last_event : List Event → Event
+abbrev pub last_event : List TimedSignal → TimedSignal
 last_event events = unwrap_or (slice_get events (length events - 1))
     (record { at = record { time = 0; cell = record { x = pos 0; y = pos 0 } }; signal = Zero })
 

@@ -17,11 +17,11 @@ use std::marker::Model;
 ///
 /// A dead cell takes no memory but a bit.
 #[derive(Drop)]
-pub struct Starts {
+pub struct StartSignals {
     numbers: SparseNumbers,
 }
 
-impl Model for Starts {
+impl Model for StartSignals {
     ghost use Rattle.std.specs.Prelude.{List};
     ghost use Rattle.module_box.specs.declared.schedules.Signal.{Signal};
 
@@ -38,11 +38,11 @@ impl Model for Starts {
 ///
 /// A cell that must be dead takes no memory but a bit.
 #[derive(Drop)]
-pub struct Demands {
+pub struct EndDemands {
     numbers: SparseNumbers,
 }
 
-impl Model for Demands {
+impl Model for EndDemands {
     ghost use Rattle.std.specs.Prelude.{List};
     ghost use Rattle.module_job.specs.declared.job.Demand.{Demand};
 
@@ -55,7 +55,7 @@ impl Model for Demands {
     ghost invariant = { AreDemands };
 }
 
-impl Starts {
+impl StartSignals {
     ghost use Rattle.module_job.specs.CellLists.{numbered_signal};
 
     // The signal of a number.
@@ -71,10 +71,10 @@ impl Starts {
     }
 
     /// Creates an empty list, with bits for the first cells.
-    pub fn new(alloc: Global, room: usize) -> Result<Starts, AllocError>
+    pub fn new(alloc: Global, room: usize) -> Result<StartSignals, AllocError>
         ensures { IfOk result (λ starts. starts ≡ []) }
     {
-        Ok(Starts {
+        Ok(StartSignals {
             numbers: SparseNumbers::new(alloc, room)?,
         })
     }
@@ -99,17 +99,17 @@ impl Starts {
     pub(crate) fn at(&self, place: usize) -> Signal
         ensures { result ≡ unwrap_or (slice_get self.now place) Signal.Zero }
     {
-        Starts::numbered(self.numbers.at(place))
+        StartSignals::numbered(self.numbers.at(place))
     }
 
     /// Returns a place from `place` to `end`, such that all cells from `place` to before it carry `Zero`.
-    pub(crate) fn next(&self, place: usize, end: usize) -> usize
+    pub(crate) fn skip_dead(&self, place: usize, end: usize) -> usize
         requires { (place ≤ end) × (end < 2 ^ 32) }
         ensures range { (place ≤ result) × (result ≤ end) }
         ensures dead { (u : ℕ) → place ≤ u → u < result →
             unwrap_or (slice_get self.now u) Signal.Zero ≡ Signal.Zero }
     {
-        self.numbers.next(place, end)
+        self.numbers.skip_zeros(place, end)
     }
 
     /// Adds how many cells there are, the entries of what they carry, and a 0.
@@ -122,17 +122,17 @@ impl Starts {
     }
 }
 
-impl PartialEq for Starts {
+impl PartialEq for StartSignals {
     ghost eq = { pointwise same_signal };
 
     ghost laws = { partial_equiv_from_equiv (lists_equiv signal_equivalence) };
 
-    fn eq(&self, other: &Starts) -> bool {
+    fn eq(&self, other: &StartSignals) -> bool {
         self.numbers == other.numbers
     }
 }
 
-impl Demands {
+impl EndDemands {
     ghost use Rattle.module_job.specs.CellLists.{numbered_demand};
 
     // The demand of a number.
@@ -149,10 +149,10 @@ impl Demands {
     }
 
     /// Creates an empty list, with bits for the first cells.
-    pub fn new(alloc: Global, room: usize) -> Result<Demands, AllocError>
+    pub fn new(alloc: Global, room: usize) -> Result<EndDemands, AllocError>
         ensures { IfOk result (λ demands. demands ≡ []) }
     {
-        Ok(Demands {
+        Ok(EndDemands {
             numbers: SparseNumbers::new(alloc, room)?,
         })
     }
@@ -177,17 +177,17 @@ impl Demands {
     pub(crate) fn at(&self, place: usize) -> Demand
         ensures { result ≡ unwrap_or (slice_get self.now place) Demand.Dead }
     {
-        Demands::numbered(self.numbers.at(place))
+        EndDemands::numbered(self.numbers.at(place))
     }
 
     /// Returns a place from `place` to `end`, such that all cells from `place` to before it must be dead.
-    pub(crate) fn next(&self, place: usize, end: usize) -> usize
+    pub(crate) fn skip_dead(&self, place: usize, end: usize) -> usize
         requires { (place ≤ end) × (end < 2 ^ 32) }
         ensures range { (place ≤ result) × (result ≤ end) }
         ensures dead { (u : ℕ) → place ≤ u → u < result →
             unwrap_or (slice_get self.now u) Demand.Dead ≡ Demand.Dead }
     {
-        self.numbers.next(place, end)
+        self.numbers.skip_zeros(place, end)
     }
 
     /// Adds how many cells there are, the entries of what they must be, and a 0.
@@ -200,12 +200,12 @@ impl Demands {
     }
 }
 
-impl PartialEq for Demands {
+impl PartialEq for EndDemands {
     ghost eq = { pointwise same_demand };
 
     ghost laws = { partial_equiv_from_equiv (lists_equiv demand_equivalence) };
 
-    fn eq(&self, other: &Demands) -> bool {
+    fn eq(&self, other: &EndDemands) -> bool {
         self.numbers == other.numbers
     }
 }

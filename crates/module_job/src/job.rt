@@ -3,7 +3,7 @@ ghost use Rattle.std.specs.Prelude.{◌≡◌, ◌<◌, ◌≤◌, pos, length, 
 ghost use Rattle.std.specs.Arc.{arc_value};
 ghost use Rattle.circuit.specs.Meaning.{wires};
 ghost use Rattle.module_box.specs.Locals.{circuit_gate, circuit_wire, is_among};
-ghost use Rattle.module_box.specs.Moves.{IsNear, IsSmall};
+ghost use Rattle.module_box.specs.Moves.{IsNear, IsSmallShift};
 ghost use Rattle.module_box.specs.Schedules.{signal_at};
 ghost use Rattle.module_job.specs.Jobs.{IsJob, job_demand, job_start};
 ghost use Rattle.module_job.specs.Shapes.{shift_to_origin, shape_of};
@@ -13,7 +13,7 @@ use crate::stops::moved_stop;
 use bbm_rule::Cell;
 use circuit::{GateNo, WireNo};
 use indexmap::IndexSet;
-use module_box::{Box2, Event, Moment, Signal, Wiring, moved_cell, moved_event, place_in};
+use module_box::{Box2, Moment, Signal, TimedSignal, Wiring, moved_cell, moved_event, place_in};
 use std::marker::Model;
 use std::sync::Arc;
 
@@ -78,7 +78,7 @@ impl Model for Job {
 pub fn shift_to_origin(corner: u32) -> i32
     requires { corner ≤ 512 }
     ensures distance_is_exact { result ≡ shift_to_origin corner }
-    ensures small { IsSmall result }
+    ensures small { IsSmallShift result }
 {
     0 - corner as i32
 }
@@ -87,7 +87,7 @@ pub fn shift_to_origin(corner: u32) -> i32
 fn shift_from_origin(corner: u32) -> i32
     requires { corner ≤ 512 }
     ensures distance_is_exact { result ≡ pos corner }
-    ensures small { IsSmall result }
+    ensures small { IsSmallShift result }
 {
     corner as i32
 }
@@ -202,7 +202,7 @@ impl Job {
     }
 
     /// Returns one of these signals, by its place in their order.
-    pub fn edge_event(&self, place: usize) -> Event
+    pub fn edge_event(&self, place: usize) -> TimedSignal
         requires { place < length self.now.edges.events }
         ensures { slice_get self.now.edges.events place ≡ Some result }
     {
@@ -218,7 +218,7 @@ impl Job {
     }
 
     /// Returns one of these signals, by its place in their order.
-    pub fn halo_event(&self, place: usize) -> Event
+    pub fn halo_event(&self, place: usize) -> TimedSignal
         requires { place < length self.now.halos.events }
         ensures { slice_get self.now.halos.events place ≡ Some result }
     {

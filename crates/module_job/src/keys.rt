@@ -7,7 +7,7 @@ ghost use Rattle.module_job.specs.Keys.{cell_numbers, cells_numbers, demand_numb
 use crate::job::{Demand, Stop};
 use crate::shape::Shape;
 use bbm_rule::Cell;
-use module_box::{AllTimes, Event, Schedule, Signal};
+use module_box::{AllTimes, Schedule, Signal, TimedSignal};
 use sha2::{Digest, Sha256};
 use std::alloc::{AllocError, Global};
 
@@ -63,7 +63,7 @@ fn push_all_times(numbers: &mut Vec<u64>, all_times: AllTimes) -> Result<(), All
     Ok(())
 }
 
-fn push_event(numbers: &mut Vec<u64>, event: Event) -> Result<(), AllocError>
+fn push_event(numbers: &mut Vec<u64>, event: TimedSignal) -> Result<(), AllocError>
     ensures { OnOk result (numbers.new.items ≡ numbers.old.items ++ event_numbers event) }
 {
     numbers.push(event.at.time as u64)?;
@@ -94,7 +94,7 @@ fn push_all_times_list(
     Ok(())
 }
 
-fn push_events(numbers: &mut Vec<u64>, events: &[Event]) -> Result<(), AllocError>
+fn push_events(numbers: &mut Vec<u64>, events: &[TimedSignal]) -> Result<(), AllocError>
     ensures { OnOk result (numbers.new.items
         ≡ numbers.old.items ++ flat_map event_numbers events.now) }
 {

@@ -18,7 +18,7 @@ pub fn shapes_are_parts()
 /// States that shapes that differ have different numbers, and that different numbers have different bytes.
 ///
 /// If two such shapes have one [`key`](crate::Shape::key), these bytes are a collision of SHA-256.
-pub fn keys_tell_shapes()
+pub fn shape_bytes_are_injective()
     ensures numbers { NumbersTellShapes }
     ensures bytes { BytesTellNumbers }
 {}

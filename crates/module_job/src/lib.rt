@@ -15,7 +15,7 @@ mod sparse_numbers;
 mod stops;
 mod summaries;
 
-pub use cell_lists::{Demands, Starts};
+pub use cell_lists::{EndDemands, StartSignals};
 pub use groups::{job_groups, shape_groups};
 pub use job::{Demand, Job, Stop, shift_to_origin};
 pub use shape::Shape;

@@ -2,7 +2,7 @@
 ghost use Rattle.std.specs.Prelude.{ℕ, ◌≡◌, ◌^◌, ◌<◌, ◌≤◌, slice_get, unwrap_or};
 ghost use Rattle.module_box.specs.Locals.{is_among};
 
-use crate::cell_lists::{Demands, Starts};
+use crate::cell_lists::{EndDemands, StartSignals};
 use crate::job::{Demand, Stop};
 use module_box::{Schedule, Signal, Wiring};
 use std::marker::Model;
@@ -22,9 +22,9 @@ pub struct Shape {
     /// The gates, over wires of its own.
     pub wiring: Wiring,
     /// The signals of the cells at time 0, row by row.
-    pub starts: Starts,
+    pub starts: StartSignals,
     /// The demands on the cells at the last time, row by row.
-    pub demands: Demands,
+    pub demands: EndDemands,
     /// The signals of the cells of the ring at odd times.
     pub edges: Schedule,
     /// The signals of the cells of the halo at odd times.
@@ -92,26 +92,26 @@ impl Shape {
     /// 0.
     ///
     /// Contracts do not exclude that the cell at the result is dead too.
-    pub fn next_start(&self, place: usize, end: usize) -> usize
+    pub fn skip_dead_starts(&self, place: usize, end: usize) -> usize
         requires { (place ≤ end) × (end < 2 ^ 32) }
         ensures range { (place ≤ result) × (result ≤ end) }
         ensures dead { (u : ℕ) → place ≤ u → u < result →
             unwrap_or (slice_get self.now.starts u) Signal.Zero ≡ Signal.Zero }
     {
-        self.starts.next(place, end)
+        self.starts.skip_dead(place, end)
     }
 
     /// Returns a place from `place` to `end`, such that all cells of the box from `place` to before it must be dead at
     /// the last time.
     ///
     /// Contracts do not exclude that the cell at the result must be dead too.
-    pub fn next_demand(&self, place: usize, end: usize) -> usize
+    pub fn skip_dead_demands(&self, place: usize, end: usize) -> usize
         requires { (place ≤ end) × (end < 2 ^ 32) }
         ensures range { (place ≤ result) × (result ≤ end) }
         ensures dead { (u : ℕ) → place ≤ u → u < result →
             unwrap_or (slice_get self.now.demands u) Demand.Dead ≡ Demand.Dead }
     {
-        self.demands.next(place, end)
+        self.demands.skip_dead(place, end)
     }
 
     /// Returns what the cells of the ring carry at odd times.

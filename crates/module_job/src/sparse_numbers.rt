@@ -135,7 +135,7 @@ impl SparseNumbers {
     ///
     /// Contracts do not exclude that the number at the result is 0 too. It is `place` itself if the marks end before
     /// `end`.
-    pub(crate) fn next(&self, place: usize, end: usize) -> usize
+    pub(crate) fn skip_zeros(&self, place: usize, end: usize) -> usize
         requires { (place ≤ end) × (end < 2 ^ 32) }
         ensures range { (place ≤ result) × (result ≤ end) }
         ensures zeros { (u : ℕ) → place ≤ u → u < result →

@@ -5,18 +5,18 @@ ghost use Rattle.module_job.specs.Summaries.{last_all_times, last_event, shape_s
 use crate::keys::{integer_number, signal_number};
 use crate::shape::Shape;
 use bbm_rule::Cell;
-use module_box::{AllTimes, Event, Moment, Signal};
+use module_box::{AllTimes, Moment, Signal, TimedSignal};
 
 // The cell of a signal that a list does not have.
 const CORNER: Cell = Cell { x: 0, y: 0 };
 
 // The last event, or that the corner is dead at time 0 if there is none.
-fn last_event(events: &[Event]) -> Event
+fn last_event(events: &[TimedSignal]) -> TimedSignal
     ensures { result ≡ last_event events.now }
 {
     match events.last() {
         Some(event) => *event,
-        None => Event {
+        None => TimedSignal {
             at: Moment {
                 time: 0,
                 cell: CORNER,

@@ -10,7 +10,7 @@ pub mod Named
 pub mod Printed
 pub mod InsideLemmas
 pub mod StartLemmas
-pub mod RunLemmas
+pub mod PlaneRuns
 pub mod Spelling
 pub mod RoundTrip
 pub mod PortLines

@@ -6,15 +6,15 @@ use Rattle.pattern.specs.declared.layout_line.Port.{Port}
 use Rattle.pattern.specs.Layout.{cell}
 
 -- the cell of two words
-unfoldable pub cell_by : List ℕ → List ℕ → Option Cell
-cell_by column row = do
+unfoldable pub cell_from_words : List ℕ → List ℕ → Option Cell
+cell_from_words column row = do
   x ← number_of column
   y ← number_of row
   Some (cell x y)
 
 -- the port of three words
-unfoldable pub port_by : List ℕ → List ℕ → List ℕ → Option Port
-port_by name column row = do
+unfoldable pub port_from_words : List ℕ → List ℕ → List ℕ → Option Port
+port_from_words name column row = do
   n ← name_of name
-  c ← cell_by column row
+  c ← cell_from_words column row
   Some (record { name = n; cell = c })

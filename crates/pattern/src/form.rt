@@ -3,7 +3,7 @@ ghost use Rattle.std.specs.Prelude.{◌≡◌, ◌≤◌};
 ghost use Rattle.section_text.specs.Listed.{four_listed, listed};
 ghost use Rattle.section_text.specs.Words.{words_of};
 ghost use Rattle.section_text.specs.Feeds.{IsLine, line_bytes};
-ghost use Rattle.pattern.specs.PortWords.{cell_by, port_by};
+ghost use Rattle.pattern.specs.PortWords.{cell_from_words, port_from_words};
 ghost use Rattle.pattern.specs.Forms.{cell_from, lone_cell, port_of, rectangle_of, size_of, form_of};
 
 use crate::layout_line::{LayoutHeader, LayoutLine, Port, Rectangle};
@@ -21,9 +21,9 @@ fn lone_cell_on(feed: &Feed, line: &Line) -> Option<Cell>
 }
 
 /// Returns the cell that two words are, by its column and its row, or `None` if one of them is no number.
-#[tactic(auto, unfolding(crate::specs::PortWords::cell_by, crate::specs::Layout::cell))]
+#[tactic(auto, unfolding(crate::specs::PortWords::cell_from_words, crate::specs::Layout::cell))]
 pub fn cell_from_words(column: &[u8], row: &[u8]) -> Option<Cell>
-    ensures { result ≡ cell_by column.now row.now }
+    ensures { result ≡ cell_from_words column.now row.now }
 {
     let x = read_number(column)?;
     let y = read_number(row)?;
@@ -33,9 +33,10 @@ pub fn cell_from_words(column: &[u8], row: &[u8]) -> Option<Cell>
     })
 }
 
-#[tactic(auto, unfolding(crate::specs::PortWords::port_by))]
+#[tactic(auto, unfolding(crate::specs::PortWords::port_from_words))]
 fn port_of_words(words: &FourWords) -> Option<Port>
-    ensures { result ≡ port_by words.now.second.now words.now.third.now words.now.fourth.now }
+    ensures { result
+        ≡ port_from_words words.now.second.now words.now.third.now words.now.fourth.now }
 {
     let name = Name::of(words.second)?;
     let cell = cell_from_words(words.third, words.fourth)?;

@@ -4,9 +4,9 @@ ghost use Rattle.std.specs.Prelude.{◌<◌, ◌≤◌};
 
 use crate::bundles::{NO, YES};
 use crate::gates::{Hold, Holding};
-use audit_core::{Filing, LogEntry, Reply};
 use certificate::read_certificate;
-use check_main::{Audited, Feed, Outcome, Over, audit, check_stream, check_text};
+use check_main::{Audited, Feed, Outcome, Watched, audit, check_stream, check_text};
+use core_book::{Filing, LogEntry, Reply};
 use job_pool::{Gate, OpenGate};
 use std::alloc::Global;
 use std::process::Abort;
@@ -24,8 +24,8 @@ fn is_checked<G: Gate + Sync, T: Threads + Wait + Sync>(
 ) -> bool
     requires { (0 < workers) × (workers ≤ 64) }
 {
-    let mut reader = Over::new(text.as_bytes());
-    let mut writer = Over::new(Vec::new(alloc));
+    let mut reader = Watched::new(text.as_bytes());
+    let mut writer = Watched::new(Vec::new(alloc));
     let result = check_stream(rt, alloc, &mut reader, &mut writer, workers, gate);
     let (outcome, written) = if text == GOOD {
         (Outcome::Yes, YES)

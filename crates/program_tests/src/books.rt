@@ -5,8 +5,8 @@
 ghost use Rattle.std.specs.Prelude.{◌≡◌, []};
 
 use crate::gates::{Counts, are_all, count_one, no_counts};
-use audit_core::{BookState, LogEntry, NotFiled, Reply};
 use certificate::Job;
+use core_book::{BookState, LogEntry, NotFiled, Reply};
 use local_run::{Finding, run_job};
 use std::alloc::{AllocError, Global};
 use std::marker::Brand;

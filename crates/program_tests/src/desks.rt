@@ -2,7 +2,7 @@
 ghost use Rattle.std.specs.Prelude.{◌≡◌, ◌<◌, ◌≤◌, All, vec_len};
 ghost use Rattle.job_pool.specs.Seats.{IsSeatOf};
 
-use audit_core::Claim;
+use core_book::Claim;
 use job_pool::*;
 use std::alloc::{AllocError, Global};
 use std::process::Abort;

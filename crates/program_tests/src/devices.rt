@@ -1,5 +1,5 @@
 //! Readers and writers that fail, and the program over them.
-use check_main::{OpenGate, Over, Streams, program};
+use check_main::{OpenGate, Streams, Watched, program};
 use std::alloc::Global;
 use std::io;
 use std::io::{ErrorKind, Read, Write};
@@ -102,9 +102,9 @@ pub(crate) fn call<'a, T: Threads + Wait + Sync, R: Read + Drop>(
     errors: FailingWriter,
 ) -> Seen {
     let mut streams = Streams {
-        reader: Over::new(reader),
-        writer: Over::new(writer),
-        errors: Over::new(errors),
+        reader: Watched::new(reader),
+        writer: Watched::new(writer),
+        errors: Watched::new(errors),
     };
     let status = program(rt, alloc, words, &mut streams, &OpenGate);
     let Streams { writer, errors, .. } = streams;

@@ -2,7 +2,7 @@
 ghost use Rattle.std.specs.Prelude.{◌≡◌, []};
 
 use crate::books::{filed, new_state};
-use audit_core::{BookState, Mismatch, Reply};
+use core_book::{BookState, Mismatch, Reply};
 use local_run::run_job;
 use std::alloc::Global;
 use std::marker::Brand;

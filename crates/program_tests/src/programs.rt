@@ -3,7 +3,7 @@
 use crate::bundles::{NO, YES};
 use crate::devices::{FailingReader, FailingWriter, Letters, Seen, call};
 use crate::gates::{Hold, Holding};
-use check_main::{CheckFault, OpenGate, Over, Streams, program};
+use check_main::{CheckFault, OpenGate, Streams, Watched, program};
 use std::alloc::Global;
 use std::sync::Wait;
 use std::thread::Threads;
@@ -253,9 +253,9 @@ fn names_each_fault_in_words(rt: HostRuntime) {
 fn hands_on_the_number_of_workers(rt: HostRuntime) {
     let gate = Holding::new(Hold::FirstTwo);
     let mut streams = Streams {
-        reader: Over::new(GOOD.as_bytes()),
-        writer: Over::new(Vec::new(rt.alloc())),
-        errors: Over::new(Vec::new(rt.alloc())),
+        reader: Watched::new(GOOD.as_bytes()),
+        writer: Watched::new(Vec::new(rt.alloc())),
+        errors: Watched::new(Vec::new(rt.alloc())),
     };
     let words = ["check", "--workers", "2"];
     let status = program(&rt, rt.alloc(), &words, &mut streams, &gate);
@@ -271,9 +271,9 @@ fn survives_want_of_memory(rt: HostRuntime) {
     for command in &COMMANDS {
         let (mut room, mut said) = ([0u8; 640], [0u8; 144]);
         let mut streams = Streams {
-            reader: Over::new(command.text.as_bytes()),
-            writer: Over::new(room.as_mut_slice()),
-            errors: Over::new(said.as_mut_slice()),
+            reader: Watched::new(command.text.as_bytes()),
+            writer: Watched::new(room.as_mut_slice()),
+            errors: Watched::new(said.as_mut_slice()),
         };
         let status = program(&rt, rt.alloc(), command.words, &mut streams, &OpenGate);
         let left = streams.writer.into_inner().len();

@@ -1,7 +1,7 @@
 //! Devices that fail once and then go on, and writers that take few bytes a call.
 
 use crate::bundles::{NO, YES};
-use check_main::{CheckFault, Outcome, Over, Sink, Source, Streams, check_stream, program};
+use check_main::{CheckFault, Outcome, Sink, Source, Streams, Watched, check_stream, program};
 use job_pool::OpenGate;
 use std::alloc::Global;
 use std::io;
@@ -67,11 +67,11 @@ fn read_with<T: Threads + Wait + Sync>(
     text: &str,
     before: usize,
 ) -> (Result<Outcome, CheckFault>, usize, bool) {
-    let mut reader = Over::new(StumblingReader {
+    let mut reader = Watched::new(StumblingReader {
         text: text.as_bytes(),
         before: Some(before),
     });
-    let mut writer = Over::new(Vec::new(alloc));
+    let mut writer = Watched::new(Vec::new(alloc));
     let ended = check_stream(rt, alloc, &mut reader, &mut writer, 2, &OpenGate);
     let was_told = reader.failed();
     // the next read goes well
@@ -101,8 +101,8 @@ fn written_with<T: Threads + Wait + Sync>(
     before: usize,
     errs: bool,
 ) -> (Result<Outcome, CheckFault>, Vec<u8>, bool) {
-    let mut reader = Over::new(ALONE.as_bytes());
-    let mut writer = Over::new(StumblingWriter {
+    let mut reader = Watched::new(ALONE.as_bytes());
+    let mut writer = Watched::new(StumblingWriter {
         taken: Vec::new(alloc),
         piece: 7,
         before: Some(before),
@@ -133,14 +133,14 @@ fn a_write_that_fails_once_ends_it(rt: HostRuntime) {
 /// Returns what is written of the report on a text, if a write takes `piece` bytes.
 fn report_by<T: Threads + Wait + Sync>(rt: &T, alloc: Global, text: &str, piece: usize) -> Vec<u8> {
     let mut streams = Streams {
-        reader: Over::new(text.as_bytes()),
-        writer: Over::new(StumblingWriter {
+        reader: Watched::new(text.as_bytes()),
+        writer: Watched::new(StumblingWriter {
             taken: Vec::new(alloc),
             piece,
             before: None,
             errs: false,
         }),
-        errors: Over::new(Vec::new(alloc)),
+        errors: Watched::new(Vec::new(alloc)),
     };
     program(rt, alloc, &["check"], &mut streams, &OpenGate);
     let StumblingWriter { taken, .. } = streams.writer.into_inner();

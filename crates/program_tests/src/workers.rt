@@ -2,8 +2,8 @@
 ghost use Rattle.std.specs.Prelude.{◌≡◌, ◌<◌, ◌≤◌, [], length};
 
 use crate::books::new_state;
-use audit_core::BookState;
 use certificate::{Job, job_groups};
+use core_book::BookState;
 use job_pool::{OpenGate, WorkEnd, work};
 use std::alloc::{AllocError, Global};
 use std::marker::Brand;

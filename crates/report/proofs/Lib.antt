@@ -1,1 +1,1 @@
-mod Opening
+mod OpeningLines

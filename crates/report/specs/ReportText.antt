@@ -19,11 +19,11 @@ use Rattle.local_run.specs.declared.fault.KeepFault.{KeepFault}
 use Rattle.local_run.specs.declared.fault.Kind.{Kind}
 use Rattle.local_run.specs.declared.fault.Kind.TheVariants.{Edge, Stop, End}
 use Rattle.border_match.specs.declared.fault.BorderFault.{BorderFault}
-use Rattle.audit_core.specs.Verdicts.{timing}
-use Rattle.audit_core.specs.declared.verdict.ReportLine.{ReportLine}
-use Rattle.audit_core.specs.declared.verdict.ReportLine.TheVariants.{Local, Keep, Border, Unkept, Delay, Meet}
-use Rattle.audit_core.specs.declared.verdict.Verdict.{Verdict}
-use Rattle.audit_core.specs.declared.verdict.Verdict.TheVariants.{Yes, No}
+use Rattle.core_book.specs.Verdicts.{timing}
+use Rattle.core_book.specs.declared.verdict.ReportLine.{ReportLine}
+use Rattle.core_book.specs.declared.verdict.ReportLine.TheVariants.{Local, Keep, Border, Unkept, Delay, Meet}
+use Rattle.core_book.specs.declared.verdict.Verdict.{Verdict}
+use Rattle.core_book.specs.declared.verdict.Verdict.TheVariants.{Yes, No}
 
 -- the line for a refusal: `refused`, the line of the text, and the code
 abbrev pub refusal_line : Refusal → List ℕ

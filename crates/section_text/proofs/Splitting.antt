@@ -148,9 +148,10 @@ pub one_of_three : (l : List ℕ) → words_of l ≡ l ∷ [] → None ≡ three
 unfolding three
 one_of_three l a = rw a refl
 
-pub two_of_three : (l w r : List ℕ) → words_of l ≡ w ∷ words_of r → words_of r ≡ r ∷ [] → None ≡ three (words_of l)
+pub two_words_are_not_three : (l w r : List ℕ) → words_of l ≡ w ∷ words_of r → words_of r ≡ r ∷ [] →
+    None ≡ three (words_of l)
 unfolding three
-two_of_three l w r a b = rw (a, b) refl
+two_words_are_not_three l w r a b = rw (a, b) refl
 
 pub three_are : (l w r v s : List ℕ) → words_of l ≡ w ∷ words_of r → words_of r ≡ v ∷ words_of s →
     words_of s ≡ s ∷ [] → Some (w ∷ v ∷ s ∷ []) ≡ three (words_of l)

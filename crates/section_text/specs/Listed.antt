@@ -1,8 +1,8 @@
 -- Three, four or five words that the code points to, as a list.
 use Rattle.std.specs.Prelude.{ℕ, List, [], ◌∷◌}
-use Rattle.section_text.specs.declared.feed.ThreeWords.{ThreeWords}
-use Rattle.section_text.specs.declared.feed.FourWords.{FourWords}
-use Rattle.section_text.specs.declared.feed.FiveWords.{FiveWords}
+use Rattle.section_text.specs.declared.words.ThreeWords.{ThreeWords}
+use Rattle.section_text.specs.declared.words.FourWords.{FourWords}
+use Rattle.section_text.specs.declared.words.FiveWords.{FiveWords}
 
 -- the list of three words
 abbrev pub three_listed : ThreeWords → List (List ℕ)

@@ -1,31 +1,32 @@
 //! A text in pieces, taken line by line.
-ghost use Rattle.std.specs.Prelude.{drop, take, ◌≡◌, ◌==◌, ℕ, ◌+◌, ◌-◌, ◌^◌, ◌<◌, ◌≤◌, ◌↔◌, true, false, List, [], ◌∷◌, ◌++◌, length, Option, Some, None, Ok, Err, IsTrue, IsOk, IfOk, IfErr, ◌≢◌, OnOk, OnErr, IfNone, IfSome, MatchOption, unwrap_or, slice_get, slice_range, option_and_then, map};
+ghost use Rattle.std.specs.Prelude.{drop, take, ◌≡◌, ◌==◌, ◌+◌, ◌-◌, ◌^◌, ◌<◌, ◌≤◌, ◌↔◌, true, false, [], ◌++◌, length, Option, Some, None, Ok, Err, IfOk, IfErr, ◌≢◌, OnOk, OnErr, IfSome, unwrap_or, slice_get};
 ghost use Rattle.std.specs.Option.{option_copied, option_map, ForSome};
-ghost use Rattle.std.specs.List.{flat_map, position, list_all};
-ghost use Rattle.section_text.specs.Words.{lines_of, is_digit, is_number, read_on, is_word_at, is_line_feed, is_space, rest_of, words_of, number_of, number_at, name_at, names_at, names_beside_arrow, lone, lone_number, lone_name, second_of_two, three, four, five, words_left};
+ghost use Rattle.std.specs.List.{flat_map, position};
+ghost use Rattle.section_text.specs.Words.{lines_of, is_word_at, is_line_feed, rest_of, words_of, number_at, names_beside_arrow, lone, lone_number, lone_name, second_of_two, three, four, five};
 ghost use Rattle.section_text.specs.declared.code.RefusalCode.TheVariants.{TextCut};
 ghost use Rattle.section_text.specs.declared.fault.ReadFault.TheVariants.{Memory};
-ghost use Rattle.section_text.specs.Leading.{leading_number};
 ghost use Rattle.section_text.specs.Listed.{three_listed, four_listed, listed};
 ghost use Rattle.section_text.specs.Faults.{refusal};
 ghost use Rattle.section_text.specs.Section.{ended_line};
 ghost use Rattle.section_text.specs.Seeding.{first_section, seed_of};
-ghost use Rattle.section_text.specs.Feeds.{FeedView, ahead, after_lines, IsLine, line_bytes, text_limit, TakesLine, RunsOut};
+ghost use Rattle.section_text.specs.Feeds.{FeedView, ahead, IsLine, line_bytes, text_limit, TakesLine, RunsOut};
 
 use crate::code::RefusalCode;
 use crate::fault::{PushFault, ReadFault, Refusal};
 use crate::name::Name;
 use crate::names::Names;
+use crate::number::read_number;
 use crate::seed::Seed;
+use crate::words::{
+    FiveWords, FourWords, ThreeWords, five_in, four_in, is_one_word, names_beside_arrow_in,
+    next_word, second_of_two, three_in, word_in, words_in,
+};
 use memchr::{memchr, memmem};
 use std::alloc::Global;
 use std::marker::Model;
 
 /// The limit on the length of a text, in bytes: 16 MiB.
 pub const MAX_TEXT_BYTES: usize = 16_777_216;
-
-// The most digits of a number.
-const MAX_DIGITS: usize = 9;
 
 // The most bytes of a text that a seed is of: 1 MiB, which is more than the longest circuit section has.
 const MAX_SEEDED_BYTES: usize = 1_048_576;
@@ -69,168 +70,6 @@ pub struct Line {
     to: usize,
 }
 
-/// The words of a line of three, in order.
-#[derive(Clone, Copy)]
-pub struct ThreeWords<'a> {
-    pub first: &'a [u8],
-    pub second: &'a [u8],
-    pub third: &'a [u8],
-}
-
-/// The words of a line of four, in order.
-#[derive(Clone, Copy)]
-pub struct FourWords<'a> {
-    pub first: &'a [u8],
-    pub second: &'a [u8],
-    pub third: &'a [u8],
-    pub fourth: &'a [u8],
-}
-
-/// The words of a line of five, in order.
-#[derive(Clone, Copy)]
-pub struct FiveWords<'a> {
-    pub first: &'a [u8],
-    pub second: &'a [u8],
-    pub third: &'a [u8],
-    pub fourth: &'a [u8],
-    pub fifth: &'a [u8],
-}
-
-// Where the first space of a line is. Inlined, the loop takes twice the instructions for a byte, since the compiler
-// keeps a count for each word that follows.
-#[inline(never)]
-fn first_space(line: &[u8]) -> Option<usize>
-    ensures { result ≡ position is_space line.now }
-{
-    line.iter().position(|b| *b == b' ')
-}
-
-// The first word of a line that has more, and what stands behind its space.
-fn split_word(line: &[u8]) -> Option<(&[u8], &[u8])>
-    ensures some { IfSome result (λ r. words_of line.now ≡ r.0.now ∷ words_of r.1.now) }
-    ensures none { result ≡ None → words_of line.now ≡ line.now ∷ [] }
-{
-    let space = first_space(line)?;
-    Some((&line[..space], &line[space + 1..]))
-}
-
-// The first word of a line, and what stands behind its space, if it has one.
-fn next_word(line: &[u8]) -> (&[u8], Option<&[u8]>)
-    ensures { words_of line.now ≡ result.0.now ∷ words_left (option_copied result.1) }
-{
-    match split_word(line) {
-        Some((word, rest)) => (word, Some(rest)),
-        None => (line, None),
-    }
-}
-
-// The part of a line from one of its words on, or `None` past the last one.
-fn words_from(line: &[u8], index: usize) -> Option<&[u8]>
-    ensures { words_left (option_copied result) ≡ drop index (words_of line.now) }
-{
-    let mut rest = line;
-    for i in 0..index {
-        let Some((_, behind)) = split_word(rest) else {
-            return None;
-        };
-        rest = behind;
-    }
-    Some(rest)
-}
-
-fn is_one_word(line: &[u8]) -> bool
-    ensures { result ≡ (length (words_of line.now) == 1) }
-{
-    match split_word(line) {
-        Some(_) => false,
-        None => true,
-    }
-}
-
-// The second word of a line of two, or `None` for any other line.
-fn second_of_two(line: &[u8]) -> Option<&[u8]>
-    ensures { option_copied result ≡ second_of_two (words_of line.now) }
-{
-    let Some((_, rest)) = split_word(line) else {
-        return None;
-    };
-    match split_word(rest) {
-        Some(_) => None,
-        None => Some(rest),
-    }
-}
-
-// The words of a line of three.
-fn three_in(line: &[u8]) -> Option<ThreeWords<'_>>
-    ensures { option_map three_listed result ≡ three (words_of line.now) }
-{
-    let Some((first, rest)) = split_word(line) else {
-        return None;
-    };
-    let Some((second, third)) = split_word(rest) else {
-        return None;
-    };
-    match split_word(third) {
-        Some(_) => None,
-        None => Some(ThreeWords {
-            first,
-            second,
-            third,
-        }),
-    }
-}
-
-// The words of a line of four.
-fn four_in(line: &[u8]) -> Option<FourWords<'_>>
-    ensures { option_map four_listed result ≡ four (words_of line.now) }
-{
-    let Some((first, rest)) = split_word(line) else {
-        return None;
-    };
-    let Some((second, rest)) = split_word(rest) else {
-        return None;
-    };
-    let Some((third, fourth)) = split_word(rest) else {
-        return None;
-    };
-    match split_word(fourth) {
-        Some(_) => None,
-        None => Some(FourWords {
-            first,
-            second,
-            third,
-            fourth,
-        }),
-    }
-}
-
-// The words of a line of five: the first one, and those of a line of four.
-fn five_in(line: &[u8]) -> Option<FiveWords<'_>>
-    ensures { option_map listed result ≡ five (words_of line.now) }
-{
-    let Some((first, rest)) = split_word(line) else {
-        return None;
-    };
-    let Some(
-        FourWords {
-            first: second,
-            second: third,
-            third: fourth,
-            fourth: fifth,
-        },
-    ) = four_in(rest)
-    else {
-        return None;
-    };
-    Some(FiveWords {
-        first,
-        second,
-        third,
-        fourth,
-        fifth,
-    })
-}
-
 // The bytes, or the first of them where there are more than so many.
 fn first_bytes(bytes: &[u8], most: usize) -> &[u8]
     ensures { result.now ≡ take most bytes.now }
@@ -264,176 +103,6 @@ fn first_line_feed(bytes: &[u8]) -> Option<usize>
     ensures { result ≡ position is_line_feed bytes.now }
 {
     memchr(b'\n', bytes)
-}
-
-fn word_in(line: &[u8], index: usize) -> Option<&[u8]>
-    ensures { option_copied result ≡ slice_get (words_of line.now) index }
-{
-    let (word, _) = next_word(words_from(line, index)?);
-    Some(word)
-}
-
-// The names that the next `count` words of what is left of a line are, and what is left behind them.
-fn take_names(left: Option<&[u8]>, count: usize) -> Option<(Names, Option<&[u8]>)>
-    requires { count ≤ 4 }
-    ensures names { option_map (λ r. r.0) result
-        ≡ names_at (words_left (option_copied left.entry)) 0 count }
-    ensures left { IfSome result (λ r. words_left (option_copied r.1)
-        ≡ drop count (words_left (option_copied left.entry))) }
-{
-    let mut names = Names::new();
-    let mut rest = left;
-    for i in 0..count {
-        let (word, behind) = next_word(rest?);
-        names.push(Name::of(word)?);
-        rest = behind;
-    }
-    Some((names, rest))
-}
-
-// The names on both sides of an arrow, from a word on to the end of the line.
-fn names_beside_arrow_in(
-    line: &[u8],
-    from: usize,
-    before: usize,
-    after: usize,
-) -> Option<(Names, Names)>
-    requires before { before ≤ 4 }
-    requires after { after ≤ 4 }
-    ensures { result ≡ names_beside_arrow (words_of line.now) from before after }
-{
-    let (ins, rest) = take_names(words_from(line, from), before)?;
-    let (arrow, rest) = next_word(rest?);
-    if arrow != b"->".as_slice() {
-        return None;
-    }
-    let (outs, rest) = take_names(rest, after)?;
-    match rest {
-        Some(_) => None,
-        None => Some((ins, outs)),
-    }
-}
-
-fn words_in(line: &[u8]) -> usize
-    ensures { result ≡ length (words_of line.now) }
-{
-    1 + line.iter().filter(|b| **b == b' ').count()
-}
-
-// The number that at most nine digits spell, or `None` if some byte is no digit.
-fn read_digits(word: &[u8]) -> Option<u32>
-    requires at_most_9 { length word.now ≤ 9 }
-    ensures number { IfSome result (λ n. (list_all is_digit word.now ≡ true)
-        × (n ≡ read_on 0 word.now)) }
-    ensures other { IfNone result (list_all is_digit word.now ≡ false) }
-{
-    let mut number = 0u32;
-    for b in word {
-        if !b.is_ascii_digit() {
-            return None;
-        }
-        number = 10 * number + u32::from(*b - b'0');
-    }
-    Some(number)
-}
-
-// Whether a word may be a number by its length and its first byte.
-fn may_be_number(word: &[u8]) -> bool
-    ensures number { is_number word.now ≡ true → result ≡ true }
-    ensures at_most_9 { result ≡ true → length word.now ≤ 9 }
-    ensures other { result ≡ true → list_all is_digit word.now ≡ is_number word.now }
-{
-    match word {
-        [] => false,
-        [first, rest @ ..] => rest.len() < 9 && (rest.is_empty() || *first > b'0'),
-    }
-}
-
-/// Returns the number that a word is, or `None` for any other word.
-///
-/// A number is `0`, or at most nine digits of which the first is not `0`.
-pub fn read_number(word: &[u8]) -> Option<u32>
-    ensures number { result ≡ number_of word.now }
-    ensures small { IfSome result (λ n. n < 10 ^ 9) }
-{
-    if may_be_number(word) {
-        read_digits(word)
-    } else {
-        None
-    }
-}
-
-// The number whose first digit is given and whose others a line begins with, and what stands behind the number's space.
-#[inline(always)]
-fn take_digits(first: u8, line: &[u8]) -> Option<(u32, &[u8])>
-    requires first { (49 ≤ first) × (first ≤ 57) }
-    ensures number { option_map (λ r. (r.0, words_of r.1.now)) result
-        ≡ leading_number (words_of (first ∷ line.now)) }
-    ensures small { IfSome result (λ r. r.0 < 10 ^ 9) }
-{
-    let mut number = u32::from(first - b'0');
-    let most = line.len().min(MAX_DIGITS - 1);
-    for at in 0..most {
-        let b = line[at];
-        if !b.is_ascii_digit() {
-            return if b == b' ' {
-                Some((number, &line[at + 1..]))
-            } else {
-                None
-            };
-        }
-        number = 10 * number + u32::from(b - b'0');
-    }
-    if most < line.len() && line[most] == b' ' {
-        Some((number, &line[most + 1..]))
-    } else {
-        None
-    }
-}
-
-// The number `0` of a line that goes on so behind this digit, and what stands behind its space.
-fn take_zero(line: &[u8]) -> Option<(u32, &[u8])>
-    ensures number { option_map (λ r. (r.0, words_of r.1.now)) result
-        ≡ leading_number (words_of (48 ∷ line.now)) }
-    ensures small { IfSome result (λ r. r.0 < 10 ^ 9) }
-{
-    match line {
-        [b' ', rest @ ..] => Some((0, rest)),
-        _ => None,
-    }
-}
-
-// The number of a line of this first byte, and what stands behind its space.
-#[inline(always)]
-fn take_from(first: u8, line: &[u8]) -> Option<(u32, &[u8])>
-    ensures number { option_map (λ r. (r.0, words_of r.1.now)) result
-        ≡ leading_number (words_of (first ∷ line.now)) }
-    ensures small { IfSome result (λ r. r.0 < 10 ^ 9) }
-{
-    if first == b'0' {
-        return take_zero(line);
-    }
-    if first.is_ascii_digit() {
-        take_digits(first, line)
-    } else {
-        None
-    }
-}
-
-/// Reads the number that is the first of several words of a line, and passes the space behind it.
-///
-/// It returns the number and the rest of the line, or `None` if the first word is no number or the line has no other
-/// word. It passes over the digits once.
-#[inline(always)]
-pub fn take_number(line: &[u8]) -> Option<(u32, &[u8])>
-    ensures number { option_map (λ r. (r.0, words_of r.1.now)) result
-        ≡ leading_number (words_of line.now) }
-    ensures small { IfSome result (λ r. r.0 < 10 ^ 9) }
-{
-    match line {
-        [] => None,
-        [first, rest @ ..] => take_from(*first, rest),
-    }
 }
 
 impl Feed {

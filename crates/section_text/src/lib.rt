@@ -8,22 +8,24 @@ mod keyword;
 pub mod laws;
 mod name;
 mod names;
+mod number;
 mod ports;
 mod reader;
 mod section;
 mod seed;
 mod spelling;
+mod words;
 
 pub use code::RefusalCode;
 pub use fault::{PushFault, ReadFault, Refusal};
-pub use feed::{
-    Feed, FiveWords, FourWords, Line, MAX_TEXT_BYTES, ThreeWords, read_number, take_number,
-};
+pub use feed::{Feed, Line, MAX_TEXT_BYTES};
 pub use keyword::is_keyword;
 pub use name::Name;
 pub use names::Names;
+pub use number::{read_number, take_number};
 pub use ports::PortNames;
 pub use reader::{Section, read_section};
 pub use section::{Form, LineFault};
 pub use seed::Seed;
 pub use spelling::{print_number, print_word};
+pub use words::{FiveWords, FourWords, ThreeWords};

@@ -4,9 +4,9 @@ use Rattle.std.specs.Prelude.{is_some}
 use Rattle.module_job.specs.Jobs.{JobView}
 use Rattle.local_run.specs.Shown.{digest_of, number_of, job_of}
 use Rattle.local_run.specs.declared.finding.Finding.{Finding}
-use Rattle.audit_core.specs.Book.{BookView, found_in, is_job_of, reply_to}
-use Rattle.audit_core.specs.Replay.{rule}
-use Rattle.audit_core.specs.declared.reply.Reply.{Reply}
+use Rattle.core_book.specs.Book.{BookView, found_in, is_job_of, reply_to}
+use Rattle.core_book.specs.Replay.{rule}
+use Rattle.core_book.specs.declared.reply.Reply.{Reply}
 use Rattle.verdict_book.specs.Replies.{IsReplyOf}
 
 pub ruled_by : (b : BookView) (f : Finding) (r : Reply) (digest : List ℕ) (jobs : List JobView) → r ≡ reply_to b f →

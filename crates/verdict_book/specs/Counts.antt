@@ -1,7 +1,7 @@
 -- The counts of a share
 use Rattle.std.specs.Prelude.{ℕ, ◌+◌}
-use Rattle.audit_core.specs.Book.{count_after}
-use Rattle.audit_core.specs.declared.reply.Reply.{Reply}
+use Rattle.core_book.specs.Book.{count_after}
+use Rattle.core_book.specs.declared.reply.Reply.{Reply}
 
 -- the replies, and those of them that were `Accepted`
 pub record Counts : Type 0 where

@@ -1,9 +1,9 @@
 -- The replies that a finding may get
 use Rattle.std.specs.Prelude.{◌≡◌, ℕ, Bool, false, List, length}
 use Rattle.module_job.specs.Jobs.{JobView}
-use Rattle.audit_core.specs.Book.{is_job_of}
-use Rattle.audit_core.specs.Replay.{rule}
-use Rattle.audit_core.specs.declared.reply.Reply.{Reply}
+use Rattle.core_book.specs.Book.{is_job_of}
+use Rattle.core_book.specs.Replay.{rule}
+use Rattle.core_book.specs.declared.reply.Reply.{Reply}
 
 -- The reply of an open book with this digest and these jobs to a finding of another digest, number and job. `taken`
 -- says whether one is held for the number already.

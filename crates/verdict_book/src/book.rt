@@ -1,14 +1,14 @@
 //! The locked book.
 ghost use Rattle.std.specs.Prelude.{◌≡◌, ◌≢◌, ◌≤◌, ◌<◌, ℕ, [], replicate, IfErr, IfOk, OnErr};
 ghost use Rattle.local_run.specs.Shown.{digest_of, job_of, number_of};
-ghost use Rattle.audit_core.specs.declared.reply.Reply.TheVariants.{Closed};
+ghost use Rattle.core_book.specs.declared.reply.Reply.TheVariants.{Closed};
 ghost use Rattle.verdict_book.specs.Counts.{counted, no_counts};
 ghost use Rattle.verdict_book.specs.Replies.{IsReplyOf};
 
 use crate::filings::Filings;
 use crate::locked::LockedBook;
 use crate::share::Share;
-use audit_core::{BookState, NotFiled, Reply};
+use core_book::{BookState, NotFiled, Reply};
 use local_run::Finding;
 use std::alloc::{AllocError, Global};
 use std::marker::Model;

@@ -1,12 +1,12 @@
 //! The end of a locked book.
 ghost use Rattle.std.specs.Prelude.{◌≡◌, ◌<◌, ◌↔◌, false, length, sum_by, vec_len, IfErr, IfOk, IsErr};
-ghost use Rattle.audit_core.specs.Book.{IsReplayed, accepted_in};
-ghost use Rattle.audit_core.specs.Replay.{has_closing};
+ghost use Rattle.core_book.specs.Book.{IsReplayed, accepted_in};
+ghost use Rattle.core_book.specs.Replay.{has_closing};
 
 use crate::book::Book;
 use crate::filings::Filings;
 use crate::share::Share;
-use audit_core::BookState;
+use core_book::BookState;
 use std::sync::ledger::Ledger;
 
 /// The book out of its lock, and what all its shares counted.

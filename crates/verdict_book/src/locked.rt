@@ -1,13 +1,13 @@
 //! The value under the lock.
 ghost use Rattle.std.specs.Prelude.{◌≡◌, ◌≢◌, ◌<◌, ◌≤◌, false, [], length, sum_by, vec_len, IfErr, IfOk, OnErr, OnOk};
-ghost use Rattle.audit_core.specs.Book.{IsReplayed, accepted_in, after_filing, reply_to};
-ghost use Rattle.audit_core.specs.Replay.{has_closing};
+ghost use Rattle.core_book.specs.Book.{IsReplayed, accepted_in, after_filing, reply_to};
+ghost use Rattle.core_book.specs.Replay.{has_closing};
 ghost use Rattle.local_run.specs.Shown.{digest_of, job_of, number_of};
 
 use crate::filings::Filings;
 use crate::gathering::Gathered;
 use crate::share::Share;
-use audit_core::{BookState, NotFiled, Reply};
+use core_book::{BookState, NotFiled, Reply};
 use local_run::Finding;
 use std::sync::ledger;
 use std::sync::ledger::Ledger;
@@ -32,7 +32,7 @@ pub struct LockedBook<F: Filings, A: Ledger> {
 }
 
 impl<F: Filings, A: Ledger> LockedBook<F, A> {
-    ghost use Rattle.audit_core.specs.declared.reply.Reply.TheVariants.{Closed};
+    ghost use Rattle.core_book.specs.declared.reply.Reply.TheVariants.{Closed};
     ghost use Rattle.verdict_book.specs.Counts.{counted};
     ghost use Rattle.verdict_book.specs.Replies.{IsReplyOf};
 

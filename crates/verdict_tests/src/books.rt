@@ -4,8 +4,8 @@
 //! A call that finds no memory is made once more. So each growth can be refused in turn (`rt try --test --fail-alloc
 //! N`), and the sequences must still end as they should.
 
-use audit_core::*;
 use certificate::Job;
+use core_book::*;
 use local_run::{Finding, run_job};
 use std::alloc::Global;
 use std::process::Abort;

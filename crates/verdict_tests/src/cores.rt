@@ -5,7 +5,7 @@
 
 use crate::books::finding;
 use crate::verdicts::is_missing;
-use audit_core::*;
+use core_book::*;
 use std::alloc::Global;
 use std::process::Abort;
 use test_support::{GOOD, Work, work_of};

@@ -4,7 +4,7 @@
 //! N`), and the books must still be full in the end.
 
 use crate::verdicts::{book_of, is_yes};
-use audit_core::*;
+use core_book::*;
 use std::alloc::Global;
 use std::process::Abort;
 use test_support::{ALONE, GOOD, Work, work_of};

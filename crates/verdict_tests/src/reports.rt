@@ -1,9 +1,9 @@
 //! A report with a line of each kind; the digest of its certificate was made with `sha256sum`.
 
-use audit_core::{ReportLine, Verdict};
 use bbm_rule::Cell;
 use border_match::BorderFault;
 use certificate::read_certificate;
+use core_book::{ReportLine, Verdict};
 use local_run::{Fault, Kind};
 use report::report_text;
 use std::alloc::{AllocError, Global};

@@ -1,7 +1,7 @@
 //! Signals of cells at times, and equal schedules.
 
 use bbm_rule::Cell;
-use module_box::{AllTimes, Event, Moment, Schedule, Signal};
+use module_box::{AllTimes, Moment, Schedule, Signal, TimedSignal};
 use std::alloc::Global;
 use std::process::Abort;
 
@@ -12,7 +12,7 @@ fn schedule(rt: &impl Abort, alloc: Global, time: u32, live: Cell) -> Schedule {
         cell: HELD,
         signal: Signal::Wire(7),
     };
-    let event = Event {
+    let event = TimedSignal {
         at: Moment { time, cell: live },
         signal: Signal::One,
     };

@@ -4,11 +4,11 @@ use Rattle.std.specs.Arc.{arc_value}
 use Rattle.std.proofs.lemmas.Bool.{and_from, and_parts}
 use Rattle.module_job.specs.Jobs.{JobView}
 use Rattle.certificate.specs.Times.{are_all_obeyed, time_lines}
-use Rattle.audit_core.specs.Concluding.{modules, setting}
-use Rattle.audit_core.specs.Verdicts.{AreLeastFaults, lines_from, timing, unkept_lines}
-use Rattle.audit_core.specs.declared.verdict.ReportLine.TheVariants.{Unkept}
+use Rattle.core_book.specs.Concluding.{modules, setting}
+use Rattle.core_book.specs.Verdicts.{AreLeastFaults, lines_from, timing, unkept_lines}
+use Rattle.core_book.specs.declared.verdict.ReportLine.TheVariants.{Unkept}
 use Rattle.audit_core.proofs.Conclusions.{AreAllFaults, verdict-yes, verdict-no, is_empty_list}
-use Rattle.audit_core.proofs.YesMeansCorrect.{IsRead, yes_means-correct, yes_means-on_time}
+use Rattle.soundness.proofs.YesMeansCorrect.{IsRead, yes_means-correct, yes_means-on_time}
 use Rattle.audit_core.proofs.concluding.conclude.Goals as goal
 use Rattle.audit_core.proofs.concluding.conclude.Goals.{After-is_empty}
 

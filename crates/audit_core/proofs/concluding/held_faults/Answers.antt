@@ -1,8 +1,8 @@
 use Rattle.std.proofs.Common.{◌≡◌, ◌∙◌, ◌+◌, ℕ, sym, subst, map}
 use Rattle.std.specs.Arc.{arc_value}
 use Rattle.module_job.specs.Jobs.{JobView}
-use Rattle.audit_core.specs.Verdicts.{IsFirstMissing, IsHeld}
-use Rattle.audit_core.proofs.HeldJobs.{AreFaultsBelow, first-missing, job-at, one-more}
+use Rattle.core_book.specs.Verdicts.{IsFirstMissing, IsHeld}
+use Rattle.core_book.proofs.HeldJobs.{AreFaultsBelow, first-missing, job-at, one-more}
 use Rattle.audit_core.proofs.concluding.held_faults.Goals as goal
 
 pub returns-in_default-clause-missing : goal.returns-in_default-clause-missing

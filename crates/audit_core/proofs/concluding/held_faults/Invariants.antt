@@ -1,6 +1,6 @@
 use Rattle.std.proofs.Common.{map}
 use Rattle.std.specs.Arc.{arc_value}
-use Rattle.audit_core.proofs.HeldJobs.{AreFaultsBelow}
+use Rattle.core_book.proofs.HeldJobs.{AreFaultsBelow}
 use Rattle.audit_core.proofs.concluding.held_faults.Given as goal
 
 -- the jobs before this one have a finding, and these are their least faults

@@ -1,5 +1,5 @@
-use Rattle.audit_core.specs.Verdicts.{lines_from}
-use Rattle.audit_core.proofs.ReportLines.{all_modules, one_module_more}
+use Rattle.core_book.specs.Verdicts.{lines_from}
+use Rattle.core_book.proofs.ReportLines.{all_modules, one_module_more}
 use Rattle.audit_core.proofs.concluding.module_lines.Goals as goal
 
 pub modules-preserved : goal.modules-preserved

@@ -1,5 +1,5 @@
 use Rattle.std.proofs.Common.{◌≡◌, ◌++◌, drop}
-use Rattle.audit_core.specs.Verdicts.{lines_from}
+use Rattle.core_book.specs.Verdicts.{lines_from}
 use Rattle.audit_core.proofs.concluding.module_lines.Given as goal
 
 -- the lines so far and those on the other modules are all lines

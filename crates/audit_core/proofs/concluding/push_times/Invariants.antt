@@ -1,5 +1,5 @@
 use Rattle.std.proofs.Common.{◌≡◌, ◌++◌, map, take}
-use Rattle.audit_core.specs.Verdicts.{timing}
+use Rattle.core_book.specs.Verdicts.{timing}
 use Rattle.audit_core.proofs.concluding.push_times.Given as goal
 
 abbrev pub invariant-times : goal.invariant-times

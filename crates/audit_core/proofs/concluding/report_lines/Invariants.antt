@@ -1,6 +1,6 @@
 use Rattle.std.proofs.Common.{◌≡◌, ◌++◌, map, take}
-use Rattle.audit_core.specs.Verdicts.{lines_from}
-use Rattle.audit_core.specs.declared.verdict.ReportLine.TheVariants.{Unkept}
+use Rattle.core_book.specs.Verdicts.{lines_from}
+use Rattle.core_book.specs.declared.verdict.ReportLine.TheVariants.{Unkept}
 use Rattle.audit_core.proofs.concluding.report_lines.Given as goal
 
 -- the lines on the modules, and those on the gates so far

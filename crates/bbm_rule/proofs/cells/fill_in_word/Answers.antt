@@ -1,4 +1,4 @@
-use Rattle.bbm_rule.proofs.FillLemmas.{cells_filled}
+use Rattle.bbm_rule.proofs.FilledRuns.{cells_filled}
 use Rattle.bbm_rule.proofs.cells.fill_in_word.Goals as goal
 
 pub returns : goal.returns

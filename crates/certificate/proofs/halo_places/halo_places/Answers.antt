@@ -6,7 +6,7 @@ use Rattle.module_box.specs.Tiling.{AreOwners}
 use Rattle.module_box.specs.declared.boxes.Box2.{Box2}
 use Rattle.certificate_lines.specs.Entries.{ModuleLines, areas, edges, modules_of}
 use Rattle.certificate_lines.specs.Settings.{setting_of}
-use Rattle.certificate_lines.specs.declared.certificate_line.Border.{Border}
+use Rattle.certificate_lines.specs.declared.certificate_line.BorderLine.{BorderLine}
 use Rattle.certificate.specs.HaloPlaces.{IsInnerCell}
 use Rattle.certificate.proofs.HaloTables.{all_placed, even_areas, inner_edges, none_placed}
 use Rattle.certificate.proofs.halo_places.halo_places.Goals as goal
@@ -47,7 +47,7 @@ pub push_modules-requires-clause-inner : goal.push_modules-requires-clause-inner
 push_modules-requires-clause-inner c =
     let p = c.args.tables.now in let g = setting_of p.circuit p.layout in
     let ms = modules_of c.args.entries.now in
-    subst (λ (b : Box2). All (λ (e : Border). IsInnerCell b e.cell) (flat_map edges ms))
+    subst (λ (b : Box2). All (λ (e : BorderLine). IsInnerCell b e.cell) (flat_map edges ms))
     (sym c.in_ok-owners.ensures.rectangle) (inner_edges g ms c.requires.modules)
 
 pub returns : goal.returns

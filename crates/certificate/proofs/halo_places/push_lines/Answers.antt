@@ -4,7 +4,7 @@ use Rattle.std.proofs.lemmas.List.{length-map}
 use Rattle.std.proofs.lemmas.Option.{slice_get-get_or}
 use Rattle.module_box.specs.Tiling.{rectangle}
 use Rattle.certificate_lines.specs.Entries.{edge_in}
-use Rattle.certificate_lines.specs.declared.certificate_line.Border.{Border}
+use Rattle.certificate_lines.specs.declared.certificate_line.BorderLine.{BorderLine}
 use Rattle.certificate_lines.proofs.FlatParts.{flat_at}
 use Rattle.certificate.specs.HaloPlaces.{HaveEdges, IsInnerCell}
 use Rattle.certificate.proofs.HaloLists.{edges_then, still_ready}
@@ -13,7 +13,7 @@ use Rattle.certificate.proofs.halo_places.push_lines.Goals as goal
 
 pub push_line-requires-clause-inner : goal.push_line-requires-clause-inner
 push_line-requires-clause-inner c =
-    flat_at (λ (e : Border). IsInnerCell (rectangle c.args.owners.now) e.cell) edge_in c.args.lines.now
+    flat_at (λ (e : BorderLine). IsInnerCell (rectangle c.args.owners.now) e.cell) edge_in c.args.lines.now
     c.requires.inner c.lines.number c.index-lines-number.result c.lines-test.true c.index-lines-number.is
 
 pub lines-preserved : goal.lines-preserved

@@ -4,7 +4,7 @@ use Rattle.std.proofs.lemmas.List.{length-map}
 use Rattle.module_box.specs.Tiling.{rectangle}
 use Rattle.certificate_lines.specs.Entries.{edge_in, edges, modules_of}
 use Rattle.certificate_lines.specs.ModuleParts.{inner}
-use Rattle.certificate_lines.specs.declared.certificate_line.Border.{Border}
+use Rattle.certificate_lines.specs.declared.certificate_line.BorderLine.{BorderLine}
 use Rattle.certificate_lines.proofs.FlatParts.{all_left, all_right}
 use Rattle.certificate_lines.proofs.LinesLeft.{rest_of_lines}
 use Rattle.certificate.specs.HaloPlaces.{AreReady, HaveEdges, IsInnerCell}
@@ -20,7 +20,7 @@ push_lines-requires-clause-inner c =
     let are : lines ≡ inner (drop (place + 1) es) =
     c.inner_lines-lines.ensures ∙ ap inner (rest_of_lines es (place + 1)) in
     let more = c.lines.invariant.lists.0 in
-    let P : Border → Type 0 = λ e. IsInnerCell (rectangle c.args.owners.now) e.cell in
+    let P : BorderLine → Type 0 = λ e. IsInnerCell (rectangle c.args.owners.now) e.cell in
     let split : more ++ (flat_map edge_in lines ++ flat_map edges (modules_of (drop (place + 1) es)))
     ≡ flat_map edges (modules_of es) =
     ap (λ l. more ++ l) (sym (edges_of_module es place c.index-entries-place.result c.lines-test.true
@@ -82,7 +82,7 @@ lines-preserved c =
 pub returns : goal.returns
 returns c =
     let es = c.args.entries.now in
-    subst (λ (all : List Border). HaveEdges es c.args.boxes.now all (map (λ l. l.items) c.args.lists.now.items)
+    subst (λ (all : List BorderLine). HaveEdges es c.args.boxes.now all (map (λ l. l.items) c.args.lists.now.items)
     (map (λ l. l.items) c.lines.lists.items))
     (none_more es c.lines.place c.lines.invariant.lists.0 (flat_map edges (modules_of es)) c.lines-test.false
     c.lines.invariant.lists.2) c.lines.invariant.lists.1

@@ -5,10 +5,10 @@ use Rattle.std.proofs.lemmas.Result.{IfOk-weaker}
 use Rattle.circuit.specs.Bridge.{circuit_of}
 use Rattle.circuit.specs.Meaning.{wires}
 use Rattle.module_box.specs.Locals.{circuit_wire}
-use Rattle.module_box.specs.Moves.{IsNear, IsSmall, moved_signals}
+use Rattle.module_box.specs.Moves.{IsNear, IsSmallShift, moved_signals}
 use Rattle.module_box.specs.Schedules.{Signals}
 use Rattle.module_box.specs.declared.boxes.Box2.{Box2}
-use Rattle.module_box.specs.declared.schedules.Event.{Event}
+use Rattle.module_box.specs.declared.schedules.TimedSignal.{TimedSignal}
 use Rattle.module_job.specs.Shapes.{shift_to_origin, from_corner}
 use Rattle.module_job.specs.Signals.{IsBelow, renumber_signals}
 use Rattle.certificate.specs.Timetables.{borders_in}
@@ -17,7 +17,7 @@ use Rattle.module_job.proofs.ShapeParts.{placed_again}
 use Rattle.certificate.proofs.jobs.own_signals.Goals as goal
 
 -- a small number is passed as it is
-passed : (z r : ℤ) → r ≡ z → IsSmall r → to_z w32 (of_z w32 r) ≡ z
+passed : (z r : ℤ) → r ≡ z → IsSmallShift r → to_z w32 (of_z w32 r) ≡ z
 passed z r e small = omega (arith, ints, e, small)
 
 pub moved-requires-clause-all_times : goal.moved-requires-clause-all_times
@@ -35,8 +35,9 @@ moved-requires-clause-events c =
     c.requires.low)
 
 -- what is moved back by these numbers
-moved_back : (x y : ℕ) (dx dy : ℤ) (s own : Signals) → dx ≡ shift_to_origin x → IsSmall dx → dy ≡ shift_to_origin y →
-    IsSmall dy →
+moved_back : (x y : ℕ) (dx dy : ℤ) (s own : Signals) → dx ≡ shift_to_origin x → IsSmallShift dx →
+    dy ≡ shift_to_origin y →
+    IsSmallShift dy →
     own ≡ moved_signals (to_z w32 (of_z w32 dx)) (to_z w32 (of_z w32 dy)) s →
     own ≡ moved_signals (shift_to_origin x) (shift_to_origin y) s
 moved_back x y dx dy s own e p f q is =
@@ -87,7 +88,7 @@ returns-clause-near c =
     let low = low_events (circuit_wire c.args.locals.now) (circuit_of c.args.circuit.now)
     (flat_map (borders_in c.args.side) c.args.lines.now) s c.in_ok-signals.ensures.same_signals c.requires.low in
     IfOk-weaker c.moved.result _ _ (λ own is.
-    subst (λ (t : Signals). All (λ (e : Event). IsNear e.at.cell) t.events)
+    subst (λ (t : Signals). All (λ (e : TimedSignal). IsNear e.at.cell) t.events)
     (sym (moved_back x y _ _ s own c.shift_to_origin.ensures.distance_is_exact c.shift_to_origin.ensures.small
     c.shift_to_origin-2.ensures.distance_is_exact c.shift_to_origin-2.ensures.small
     is))

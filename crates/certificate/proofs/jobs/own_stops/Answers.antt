@@ -4,7 +4,7 @@ use Rattle.std.specs.List.{All, flat_map}
 use Rattle.std.proofs.lemmas.Int.{ints}
 use Rattle.std.proofs.lemmas.Result.{IfOk-weaker}
 use Rattle.circuit.specs.Bridge.{circuit_of}
-use Rattle.module_box.specs.Moves.{IsNear, IsSmall}
+use Rattle.module_box.specs.Moves.{IsNear, IsSmallShift}
 use Rattle.module_box.specs.declared.boxes.Box2.{Box2}
 use Rattle.certificate_lines.specs.Entries.{stop_in}
 use Rattle.module_job.specs.Shapes.{shift_to_origin, moved_stop, stops_from_corner}
@@ -24,12 +24,12 @@ moved_stops-requires-clause-cells c =
     (flat_map stop_in c.args.lines.now) c.in_ok-stops.stops.items c.in_ok-stops.ensures c.requires.low))
 
 -- a small number is passed as it is
-passed : (z r : ℤ) → r ≡ z → IsSmall r → to_z w32 (of_z w32 r) ≡ z
+passed : (z r : ℤ) → r ≡ z → IsSmallShift r → to_z w32 (of_z w32 r) ≡ z
 passed z r e small = omega (arith, ints, e, small)
 
 -- what is moved back by these numbers
-moved_back : (x y : ℕ) (dx dy : ℤ) (ss given own : List Stop) → dx ≡ shift_to_origin x → IsSmall dx →
-    dy ≡ shift_to_origin y → IsSmall dy →
+moved_back : (x y : ℕ) (dx dy : ℤ) (ss given own : List Stop) → dx ≡ shift_to_origin x → IsSmallShift dx →
+    dy ≡ shift_to_origin y → IsSmallShift dy →
     given ≡ ss →
     own ≡ map (moved_stop (to_z w32 (of_z w32 dx)) (to_z w32 (of_z w32 dy))) given →
     own ≡ map (moved_stop (shift_to_origin x) (shift_to_origin y)) ss

@@ -1,6 +1,6 @@
 use Rattle.std.proofs.Common.{◌∙◌, refl, arith}
 use Rattle.pattern.proofs.InsideLemmas.{size_sides}
-use Rattle.pattern.proofs.RunLemmas.{inside_is_layout}
+use Rattle.pattern.proofs.PlaneRuns.{inside_is_layout}
 use Rattle.certificate.proofs.layout_tables.grid_of.Goals as goal
 
 pub new-requires-clause-width : goal.new-requires-clause-width

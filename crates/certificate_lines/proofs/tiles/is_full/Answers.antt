@@ -2,7 +2,7 @@ use Rattle.std.proofs.Common.{◌≡◌, ◌∙◌, ℕ, ap, arith}
 use Rattle.std.specs.List.{list_all, flat_map, range_with_len}
 use Rattle.bbm_rule.specs.Board.{live}
 use Rattle.pattern.specs.Layout.{row_cells, rectangle_cells}
-use Rattle.certificate_lines.proofs.TileLemmas.{rows_longer}
+use Rattle.certificate_lines.proofs.AllLiveCells.{rows_longer}
 use Rattle.certificate_lines.proofs.tiles.is_full.Goals as goal
 
 pub loop-y-preserved : goal.loop-y-preserved

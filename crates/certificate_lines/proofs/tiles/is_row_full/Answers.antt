@@ -1,5 +1,5 @@
 use Rattle.bbm_rule.specs.Board.{live}
-use Rattle.certificate_lines.proofs.TileLemmas.{row_full}
+use Rattle.certificate_lines.proofs.AllLiveCells.{row_full}
 use Rattle.certificate_lines.proofs.tiles.is_row_full.Goals as goal
 
 pub returns : goal.returns

@@ -1,8 +1,8 @@
 -- The book is filled up behind what the workers filed, and closed.
 use Rattle.std.proofs.Common.{◌∙◌, ap, arith, map, subst, sym}
 use Rattle.std.specs.Arc.{arc_value}
-use Rattle.audit_core.specs.Concluding.{AreOwnJobs}
-use Rattle.audit_core.proofs.Fillings.{clones-same}
+use Rattle.core_book.specs.Concluding.{AreOwnJobs}
+use Rattle.core_book.proofs.Fillings.{clones-same}
 use Rattle.check_main.proofs.Closings.{audit_of, completed_closed, many_filings, no_history, own_digest, own_jobs}
 use Rattle.check_main.proofs.auditing.audit.Goals as goal
 

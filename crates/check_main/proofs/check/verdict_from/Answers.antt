@@ -1,7 +1,7 @@
 -- The book of an audit lacks no finding.
 use Rattle.std.proofs.Common.{◌∙◌, Err, List, ap, length, map, subst, sym}
 use Rattle.std.specs.Arc.{arc_value}
-use Rattle.audit_core.specs.Verdicts.{AreHeldBelow}
+use Rattle.core_book.specs.Verdicts.{AreHeldBelow}
 use Rattle.module_job.specs.Jobs.{JobView}
 use Rattle.check_main.proofs.Closings.{none_missing}
 use Rattle.check_main.proofs.check.verdict_from.Goals as goal

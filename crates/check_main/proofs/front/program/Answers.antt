@@ -4,8 +4,8 @@ use Rattle.std.proofs.Common.{sym}
 use Rattle.clap.specs.Words.{HasKind, IsAmong, Kinds, kind_of}
 use Rattle.clap.specs.declared.error.Error.{Error}
 use Rattle.clap.specs.declared.error.kind.ErrorKind.TheVariants.{DisplayHelp, DisplayVersion, OutOfMemory}
-use Rattle.device.specs.declared.streams.Source.{Ghosts as Source}
-use Rattle.device.specs.declared.streams.Sink.{Ghosts as Sink}
+use Rattle.streams.specs.declared.streams.Source.{Ghosts as Source}
+use Rattle.streams.specs.declared.streams.Sink.{Ghosts as Sink}
 use Rattle.command_line.specs.declared.Request.{Request}
 use Rattle.headline.specs.RightInFull.{IsRightInFull}
 use Rattle.answers.specs.declared.outcome.Outcome.{Outcome}

@@ -3,7 +3,7 @@ use Rattle.std.specs.Vec.Iter.{into_iter_items}
 use Rattle.job_pool.specs.declared.desk.DeskSeat.{DeskSeat}
 use Rattle.job_pool.specs.declared.worker.Worker.{Worker}
 use Rattle.job_pool.specs.Seats.{IsNewSeatOf}
-use Rattle.job_pool.specs.Work.{IsReady}
+use Rattle.job_pool.specs.Work.{IsReadyWorker}
 use Rattle.job_pool.proofs.Ends.{all_front, all_last, all_push, passed}
 use Rattle.job_pool.proofs.pool.hire.Goals as goal
 
@@ -23,6 +23,6 @@ loop-share-preserved g c = let desk = c.args.desk.now in let i = c.loop-share.in
       all = passed (λ (w : Worker g.row.F.Denot g.row.A.Denot). w.share) c.loop-share.workers.items
           c.push_reserved.new.self.items _ (into_iter_items c.loop-share.share-iterator)
           (into_iter_items c.next.new.self) c.args.shares.items p.items t.0 i.all;
-      ready = all_push (IsReady desk) c.loop-share.workers.items c.push_reserved.new.self.items _ p.items i.ready
+      ready = all_push (IsReadyWorker desk) c.loop-share.workers.items c.push_reserved.new.self.items _ p.items i.ready
           (new, refl);
     }

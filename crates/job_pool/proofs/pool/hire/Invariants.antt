@@ -1,7 +1,7 @@
 use Rattle.std.proofs.Common.{◌≡◌, ◌+◌, ◌≤◌, ◌++◌, vec_len, vec_capacity, All}
 use Rattle.std.specs.Vec.Iter.{into_iter_items, into_iter_len}
 use Rattle.job_pool.specs.Seats.{IsNewSeatOf}
-use Rattle.job_pool.specs.Work.{IsReady, shares_of}
+use Rattle.job_pool.specs.Work.{IsReadyWorker, shares_of}
 use Rattle.job_pool.proofs.pool.hire.Given as goal
 
 abbrev pub invariant-loop-share : goal.invariant-loop-share
@@ -13,5 +13,5 @@ invariant-loop-share g l = let rest = l.share-iterator in record {
   count : vec_len l.workers + into_iter_len rest ≡ vec_len l.fn.shares;
   room : vec_len l.fn.shares ≤ vec_capacity l.workers;
   all : shares_of l.workers.items ++ into_iter_items rest ≡ l.fn.shares.items;
-  ready : All (IsReady l.desk) l.workers.items;
+  ready : All (IsReadyWorker l.desk) l.workers.items;
 }

@@ -7,7 +7,7 @@ use Rattle.module_job.specs.Shapes.{shape_of}
 use Rattle.job_pool.specs.declared.desk.DeskSeat.{DeskSeat}
 use Rattle.job_pool.specs.declared.worker.Worker.{Worker}
 use Rattle.job_pool.specs.Seats.{IsSeatOf, drawn_by}
-use Rattle.audit_core.specs.Filling.{shapes_of}
+use Rattle.core_book.specs.Filling.{shapes_of}
 use Rattle.job_pool.specs.Work.{filed_by, seats_of, shares_of}
 use Rattle.job_pool.proofs.Members.{groups_below}
 use Rattle.job_pool.proofs.Filed.{all_seats, every_number_was_filed, whole}

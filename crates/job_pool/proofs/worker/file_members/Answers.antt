@@ -7,7 +7,7 @@ use Rattle.module_job.specs.Shapes.{shape_of}
 use Rattle.module_job.proofs.FirstShapes.{value_at}
 use Rattle.local_run.specs.Shown.{job_of}
 use Rattle.verdict_book.specs.Counts.{Counts}
-use Rattle.audit_core.specs.Filling.{shapes_of}
+use Rattle.core_book.specs.Filling.{shapes_of}
 use Rattle.job_pool.proofs.Members.{member_shape, times_step}
 use Rattle.job_pool.proofs.Risen.{risen_more, risen_still}
 use Rattle.job_pool.proofs.worker.file_members.Goals as goal

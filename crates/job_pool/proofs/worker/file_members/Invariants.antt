@@ -1,6 +1,6 @@
 -- the findings of the members so far were filed
 use Rattle.std.proofs.Common.{◌≡◌, ◌+◌, take}
-use Rattle.audit_core.specs.Draws.{times}
+use Rattle.core_book.specs.Draws.{times}
 use Rattle.job_pool.specs.Work.{HasRisen}
 use Rattle.job_pool.proofs.worker.file_members.Given as goal
 

@@ -2,7 +2,7 @@ use Rattle.std.proofs.Common.{map, ◌∙◌, arith, rules}
 use Rattle.std.specs.Arc.{arc_value}
 use Rattle.local_run.specs.Shown.{job_of}
 use Rattle.module_job.proofs.FirstShapes.{value_at}
-use Rattle.audit_core.specs.Filling.{shapes_of}
+use Rattle.core_book.specs.Filling.{shapes_of}
 use Rattle.job_pool.proofs.Members.{not_first}
 use Rattle.job_pool.proofs.worker.run_group.Goals as goal
 

@@ -1,5 +1,5 @@
 use Rattle.std.proofs.Common.{ℕ, ◌≡◌, ◌<◌, ◌≤◌, slice_get, Some}
-use Rattle.module_box.specs.declared.schedules.Event.{Event}
+use Rattle.module_box.specs.declared.schedules.TimedSignal.{TimedSignal}
 use Rattle.local_run.specs.Quiet.{HasRoom, IsCellMarked, KeepsMarks}
 use Rattle.local_run.proofs.lines.mark_events.Given as goal
 
@@ -8,6 +8,6 @@ abbrev pub invariant-loop-k : goal.invariant-loop-k
 invariant-loop-k l = record {
   room : HasRoom l.area l.marks;
   keeps : KeepsMarks l.fn.marks l.marks;
-  marked : (i : ℕ) (e : Event) → l.first ≤ i → i < l.k → slice_get l.list i ≡ Some e →
+  marked : (i : ℕ) (e : TimedSignal) → l.first ≤ i → i < l.k → slice_get l.list i ≡ Some e →
       IsCellMarked l.area e.at.cell l.marks;
 }

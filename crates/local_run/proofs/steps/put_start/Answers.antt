@@ -24,7 +24,7 @@ pub cells-init : goal.cells-init
 cells-init c =
     let j = c.args.job.now in
     let m = c.rows.invariant in
-    let next = c.next_start-x.ensures in
+    let next = c.skip_dead_starts-x.ensures in
     let room = c.requires.ready.room in
     let count = c.requires.ready.count in
     record {
@@ -50,7 +50,7 @@ cells-preserved c =
     let room = c.requires.ready.room in
     let count = c.requires.ready.count in
     let ew : c.area-area.result.w ≡ j.area.w = ap (λ (b : Box2). b.w) c.area-area.ensures.area in
-    let next = c.next_start-x-in-cells.ensures in
+    let next = c.skip_dead_starts-x-in-cells.ensures in
     let range = next.range in
     let s0 = m.size.0 in
     let s1 = m.size.1 in

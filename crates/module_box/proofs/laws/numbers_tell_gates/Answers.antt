@@ -1,4 +1,4 @@
-use Rattle.module_box.proofs.Telling.{netlists_tell}
+use Rattle.module_box.proofs.InjectiveNumbers.{netlists_tell}
 use Rattle.module_box.proofs.laws.numbers_tell_gates.Goals as goal
 
 pub returns : goal.returns

@@ -1,6 +1,6 @@
 use Rattle.std.proofs.Common.{arith}
 use Rattle.std.proofs.lemmas.Grind.{common_steps}
-use Rattle.module_box.proofs.Telling.{range_more}
+use Rattle.module_box.proofs.InjectiveNumbers.{range_more}
 use Rattle.module_box.proofs.numbers.push_wires_from.Goals as goal
 
 pub loop-place-preserved : goal.loop-place-preserved

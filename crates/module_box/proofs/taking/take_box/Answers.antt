@@ -1,6 +1,6 @@
 use Rattle.std.proofs.Common.{sym, subst, arith}
 use Rattle.module_box.specs.Taking.{TakesBox}
-use Rattle.module_box.proofs.Takings.{rows_begun, rows_cut, rows_all, row_stops, row_goes_on}
+use Rattle.module_box.proofs.Takings.{rows_begun, rows_cut, all_rows_are_taken, row_stops, row_goes_on}
 use Rattle.module_box.proofs.taking.take_box.Goals as goal
 
 pub rows-init : goal.rows-init
@@ -31,5 +31,5 @@ pub returns : goal.returns
 returns c =
     subst (λ z. TakesBox c.args.columns c.args.area c.args.free c.args.number z c.args.table.now c.rows.table)
     (sym c.rows.invariant.sized)
-    (rows_all c.args.columns c.args.area c.args.free c.args.number c.rows.row c.args.table.now c.rows.table
+    (all_rows_are_taken c.args.columns c.args.area c.args.free c.args.number c.rows.row c.args.table.now c.rows.table
     c.requires.even c.requires.fits c.rows-test.false c.rows.invariant)

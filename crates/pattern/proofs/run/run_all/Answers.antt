@@ -1,7 +1,7 @@
 use Rattle.std.proofs.Common.{refl, arith, ap, ◌∙◌, sym}
 use Rattle.bbm_rule.specs.Plane.{State}
 use Rattle.bbm_rule.specs.Board.{live}
-use Rattle.pattern.proofs.RunLemmas.{run_none, stays_none, stepped, stays_more, run_leaves, runs_inside, at_err, at_ok}
+use Rattle.pattern.proofs.PlaneRuns.{run_none, stays_none, stepped, stays_more, run_leaves, runs_inside, at_err, at_ok}
 use Rattle.pattern.proofs.run.run_all.Goals as goal
 
 pub loop-t-init : goal.loop-t-init

@@ -5,7 +5,7 @@ use Rattle.pattern.specs.LayoutView.{pattern_of}
 use Rattle.section_text.specs.Words.{has}
 use Rattle.pattern.specs.Run.{LeavesAt, EndsWith}
 use Rattle.pattern.proofs.InsideLemmas.{size_sides}
-use Rattle.pattern.proofs.RunLemmas.{leaves_at, ends_with}
+use Rattle.pattern.proofs.PlaneRuns.{leaves_at, ends_with}
 use Rattle.pattern.proofs.run.run_plain.Goals as goal
 
 pub returns-in-Some : goal.returns-in-Some

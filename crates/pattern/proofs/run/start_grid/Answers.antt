@@ -7,7 +7,7 @@ use Rattle.pattern.specs.Layout.{Pattern, in_cells, start}
 use Rattle.pattern.specs.LayoutView.{pattern_of}
 use Rattle.section_text.specs.Words.{has}
 use Rattle.pattern.proofs.InsideLemmas.{size_sides, begins_inside, start_inside}
-use Rattle.pattern.proofs.RunLemmas.{among, inside_is_layout}
+use Rattle.pattern.proofs.PlaneRuns.{among, inside_is_layout}
 use Rattle.pattern.proofs.run.start_grid.Goals as goal
 
 pub new-requires-clause-width : goal.new-requires-clause-width

@@ -1,5 +1,5 @@
 use Rattle.std.proofs.Common.{arith, ap, sym, ◌∙◌}
-use Rattle.audit_core.specs.Draws.{end_of}
+use Rattle.core_book.specs.Draws.{end_of}
 use Rattle.job_pool.proofs.Sums.{end_of-snoc}
 use Rattle.program_tests.proofs.desks.draw_all.Goals as goal
 

@@ -1,5 +1,5 @@
 use Rattle.std.proofs.Common.{◌-◌}
-use Rattle.audit_core.specs.Draws.{end_of}
+use Rattle.core_book.specs.Draws.{end_of}
 use Rattle.job_pool.specs.Seats.{IsSeatOf}
 use Rattle.program_tests.proofs.desks.draw_all.Given as goal
 

@@ -1,6 +1,6 @@
 use Rattle.std.proofs.Common.{◌≡◌, ◌∙◌, rules}
 use Rattle.std.specs.String.{string_bytes}
-use Rattle.report.proofs.Opening.{opening_made}
+use Rattle.report.proofs.OpeningLines.{opening_made}
 use Rattle.report.proofs.printing.opening_text.Goals as goal
 
 pub returns : goal.returns

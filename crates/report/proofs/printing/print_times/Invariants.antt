@@ -1,6 +1,6 @@
 use Rattle.std.proofs.Common.{◌≡◌, ◌++◌, take}
 use Rattle.std.specs.List.{flat_map}
-use Rattle.audit_core.specs.Verdicts.{timing}
+use Rattle.core_book.specs.Verdicts.{timing}
 use Rattle.report.specs.ReportText.{fault_line}
 use Rattle.report.proofs.printing.print_times.Given as goal
 

@@ -6,8 +6,8 @@ use Rattle.circuit.specs.Bridge.{circuit_of}
 use Rattle.certificate.specs.Grammars.{modules_in}
 use Rattle.certificate.specs.Times.{time_lines}
 use Rattle.certificate.specs.declared.times.TimeLine.{TimeLine}
-use Rattle.audit_core.specs.Verdicts.{timing}
-use Rattle.audit_core.specs.declared.verdict.Verdict.{Verdict}
+use Rattle.core_book.specs.Verdicts.{timing}
+use Rattle.core_book.specs.declared.verdict.Verdict.{Verdict}
 use Rattle.report.specs.ReportText.{fault_line, verdict_lines}
 use Rattle.report.proofs.printing.print_verdict.Goals as goal
 

@@ -6,7 +6,7 @@ use Rattle.module_box.specs.Boxes.{in_box}
 use Rattle.certificate_lines.specs.BuilderView.{is_lacked}
 use Rattle.certificate_lines.specs.Entries.{edge_in, modules_of}
 use Rattle.certificate_lines.specs.Rules.{whole}
-use Rattle.certificate_lines.specs.declared.certificate_line.Border.{Border}
+use Rattle.certificate_lines.specs.declared.certificate_line.BorderLine.{BorderLine}
 use Rattle.certificate_lines.proofs.AnyLines.{any_here}
 use Rattle.certificate_lines.proofs.FlatParts.{flat_at}
 use Rattle.certificate_lines.proofs.OddBlocks.{lacked_by_lines}
@@ -14,7 +14,7 @@ use Rattle.certificate_lines.proofs.builder.Builder.lacks_some_beside.Goals as g
 
 pub is_unknown_line_beside-requires-clause-inside : goal.is_unknown_line_beside-requires-clause-inside
 is_unknown_line_beside-requires-clause-inside c =
-    flat_at (λ (e : Border). IsTrue (in_box (whole c.args.self.now.setting.size) e.cell.x e.cell.y)) edge_in
+    flat_at (λ (e : BorderLine). IsTrue (in_box (whole c.args.self.now.setting.size) e.cell.x e.cell.y)) edge_in
     c.args.lines.now c.requires.inside c.lines.line-index c.line-item.result c.lines-test.true c.line-item.is
 
 pub returns-then-is_unknown_line_beside : goal.returns-then-is_unknown_line_beside

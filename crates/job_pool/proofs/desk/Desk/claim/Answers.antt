@@ -1,7 +1,7 @@
 use Rattle.std.proofs.Common.{◌≡◌, ◌≤◌, ◌+◌, ap, sym, ◌∙◌, arith, [], ◌∷◌, ◌++◌}
 use Rattle.std.proofs.lemmas.Bool.Decides.{nat_tests}
 use Rattle.job_pool.specs.declared.rule.View.{View}
-use Rattle.audit_core.specs.Draws.{end_of}
+use Rattle.core_book.specs.Draws.{end_of}
 use Rattle.job_pool.specs.Lists.{top}
 use Rattle.job_pool.proofs.Sums.{none_late, pushed, end_of-snoc}
 use Rattle.job_pool.proofs.Moves.{claims}

@@ -1,10 +1,10 @@
 use Rattle.std.proofs.Common.{rules, arith, ap, sym, ◌∙◌, ◌≡◌, ◌+◌, ◌<◌, All, length, map, subst}
 use Rattle.std.specs.Arc.{arc_value}
 use Rattle.std.proofs.lemmas.List.{length-map}
-use Rattle.audit_core.specs.Draws.{end_of, times}
+use Rattle.core_book.specs.Draws.{end_of, times}
 use Rattle.module_job.specs.Shapes.{shape_of}
 use Rattle.job_pool.specs.Seats.{drawn_by}
-use Rattle.audit_core.specs.Filling.{shapes_of}
+use Rattle.core_book.specs.Filling.{shapes_of}
 use Rattle.job_pool.proofs.Sums.{end_of-snoc}
 use Rattle.job_pool.proofs.Members.{due_more, groups_below}
 use Rattle.job_pool.proofs.Filed.{empty_adds_none}

@@ -1,5 +1,5 @@
 use Rattle.std.proofs.Common.{◌≡◌, ◌+◌, ◌-◌, false}
-use Rattle.audit_core.specs.Draws.{end_of}
+use Rattle.core_book.specs.Draws.{end_of}
 use Rattle.job_pool.specs.Seats.{IsSeatOf, drawn_by}
 use Rattle.job_pool.specs.Work.{HasRisen, due}
 use Rattle.job_pool.proofs.worker.Worker.run.Given as goal

@@ -1,7 +1,7 @@
 use Rattle.std.proofs.Common.{List, sym, subst}
 use Rattle.module_box.specs.Moments.{cell_cmp, moment_cmp}
 use Rattle.module_box.specs.Schedules.{IsRising, cell_of, moment_of}
-use Rattle.module_box.specs.declared.schedules.Event.{Event}
+use Rattle.module_box.specs.declared.schedules.TimedSignal.{TimedSignal}
 use Rattle.module_box.specs.declared.schedules.AllTimes.{AllTimes}
 use Rattle.module_box.proofs.MovedBoxes.{all_times_rising, events_rising}
 use Rattle.module_box.proofs.schedules.Schedule.moved.Goals as goal
@@ -13,5 +13,5 @@ new-requires-clause-all_times c =
 
 pub new-requires-clause-events : goal.new-requires-clause-events
 new-requires-clause-events c =
-    subst (λ (es : List Event). IsRising moment_cmp moment_of es) (sym c.in_ok-events.ensures)
+    subst (λ (es : List TimedSignal). IsRising moment_cmp moment_of es) (sym c.in_ok-events.ensures)
     (events_rising _ _ c.events.result.now c.events.ensures.rising)

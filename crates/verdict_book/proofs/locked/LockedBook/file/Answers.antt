@@ -1,10 +1,10 @@
 use Rattle.std.proofs.Common.{◌≡◌, ◌∙◌, ◌+◌, ◌∷◌, [], ap, arith, length, length-append, sym, false}
-use Rattle.audit_core.specs.Book.{BookView, accepted_in, after_filing, count_after, filing_of}
-use Rattle.audit_core.specs.Replay.{has_closing}
-use Rattle.audit_core.specs.declared.log_entry.LogEntry.TheVariants.{Filed}
-use Rattle.audit_core.proofs.BookLaws.{closed-answers-closed}
-use Rattle.audit_core.proofs.Filings.{count_after-other}
-use Rattle.audit_core.proofs.Replays.{has_closing-push}
+use Rattle.core_book.specs.Book.{BookView, accepted_in, after_filing, count_after, filing_of}
+use Rattle.core_book.specs.Replay.{has_closing}
+use Rattle.core_book.specs.declared.log_entry.LogEntry.TheVariants.{Filed}
+use Rattle.core_book.proofs.BookLaws.{closed-answers-closed}
+use Rattle.core_book.proofs.Filings.{count_after-other}
+use Rattle.core_book.proofs.Replays.{has_closing-push}
 use Rattle.verdict_book.specs.Counts.{Counts, counted}
 use Rattle.verdict_book.proofs.Ruled.{ruled_by}
 use Rattle.verdict_book.proofs.locked.LockedBook.file.Goals as goal

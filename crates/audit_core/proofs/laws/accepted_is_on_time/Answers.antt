@@ -1,5 +1,0 @@
-use Rattle.audit_core.proofs.WholeRuns.{on_time}
-use Rattle.audit_core.proofs.laws.accepted_is_on_time.Goals as goal
-
-pub returns : goal.returns
-returns c = on_time

@@ -1,5 +1,0 @@
-use Rattle.audit_core.proofs.EventLaws.{draws-each-once, empty-where_all_are_drawn}
-use Rattle.audit_core.proofs.laws.core_draws_each_once.Goals as goal
-
-pub returns : goal.returns
-returns c = record { once = draws-each-once; empty = empty-where_all_are_drawn }

@@ -1,5 +1,0 @@
-use Rattle.audit_core.proofs.FullBooks.{full_book_holds-all}
-use Rattle.audit_core.proofs.laws.full_book_holds_all.Goals as goal
-
-pub returns : goal.returns
-returns c = full_book_holds-all

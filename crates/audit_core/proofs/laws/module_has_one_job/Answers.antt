@@ -1,6 +1,0 @@
-use Rattle.audit_core.proofs.ModuleJobs.{one_job}
-use Rattle.audit_core.proofs.SomeJobs.{some_job}
-use Rattle.audit_core.proofs.laws.module_has_one_job.Goals as goal
-
-pub returns : goal.returns
-returns c = record { one = one_job; some = some_job }

@@ -1,0 +1,10 @@
+-- What the lines so far keep is noted.
+use Rattle.std.proofs.Common.{◌≡◌, ◌||◌, ℕ, take}
+use Rattle.std.specs.List.{flat_map}
+use Rattle.module_box.specs.Locals.{is_among}
+use Rattle.certificate_lines.specs.Entries.{keep_in}
+use Rattle.certificate.proofs.keep_lines.note_keeps.Given as goal
+
+abbrev pub invariant-loop-line : goal.invariant-loop-line
+invariant-loop-line l = (n : ℕ) →
+    is_among l.kept.keys n ≡ (is_among l.fn.kept.keys n || is_among (flat_map keep_in (take l.line-index l.lines)) n)

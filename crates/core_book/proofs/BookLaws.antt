@@ -1,0 +1,185 @@
+-- The laws of books
+use Rattle.std.proofs.Common.{◌≡◌, ◌≢◌, ◌∙◌, ◌<◌, ℕ, Bool, true, false, not, List, length, get_or, Option, None, Some}
+use Rattle.std.proofs.Common.{refl, sym, ap, subst, arith, nat_eq, nat_lt}
+use Rattle.std.specs.Prelude.{is_some, if◌then◌else◌, slice_get, IsSome}
+use Rattle.std.specs.Option.{option_eq}
+use Rattle.std.specs.Cmp.Lexicographic.{pointwise, bytes_decides}
+use Rattle.std.proofs.lemmas.Bool.Decides.{nat_tests}
+use Rattle.std.proofs.lemmas.List.{get_or-set_same, get_or-set_other}
+use Rattle.std.proofs.lemmas.Option.{slice_get_within, same_Some}
+use Rattle.module_job.specs.Equality.{same_job}
+use Rattle.module_job.specs.Jobs.{JobView}
+use Rattle.module_job.proofs.EqualJobs.{jobs_decide}
+use Rattle.local_run.specs.Faults.{IsLeastFault, IsLeastKeepFault}
+use Rattle.local_run.specs.Shown.{digest_of, number_of, job_of, fault_of, keep_of}
+use Rattle.local_run.specs.declared.finding.Finding.{Finding}
+use Rattle.local_run.proofs.Least.{least_unique, least_keep_unique}
+use Rattle.core_book.specs.Book.{BookView, IsOwn, after_filing, found_in, is_job_of, reply_to}
+use Rattle.core_book.specs.Laws.{AcceptsItsOwn, BooksAgree, ClosedAnswersClosed, DoublesWhatIsHeld}
+use Rattle.core_book.specs.Laws.{HoldsWhatIsAccepted, HoldsNothingElse, KeepsWhatIsHeld, KnowsItsOwn, StaysBook}
+use Rattle.core_book.specs.Laws.{StaysReplayed}
+use Rattle.core_book.specs.declared.reply.Mismatch.{Mismatch}
+use Rattle.core_book.specs.declared.reply.Mismatch.TheVariants.{Digest, Number, Content}
+use Rattle.core_book.specs.declared.reply.Reply.{Reply}
+use Rattle.core_book.specs.declared.reply.Reply.TheVariants.{Closed, Stranger, Double, Accepted}
+use Rattle.core_book.proofs.Filings.{IsBook-filed, accepted-inside, accepted-new, accepted-own}
+use Rattle.core_book.proofs.Filings.{findings_after-accepted}
+use Rattle.core_book.proofs.Filings.{findings_after-other, is_job_of-true, reply_to-closed, reply_to-held}
+use Rattle.core_book.proofs.Filings.{reply_to-new}
+use Rattle.core_book.proofs.Replays.{IsReplayed-closed, IsReplayed-filed}
+
+pub none_held : (o : Option Finding) → is_some o ≡ false → o ≡ None
+none_held None e = refl
+none_held (Some f) e = cc
+
+-- ---- a finding of the book's own passes the tests
+
+pub own-digest : (b : BookView) (n : ℕ) (f : Finding) → IsOwn b n f → pointwise nat_eq (digest_of f) b.digest ≡ true
+own-digest b n f own = (bytes_decides (digest_of f) b.digest).1 own.digest
+
+pub own-number : (b : BookView) (f : Finding) → IsOwn b (number_of f) f → nat_lt (number_of f) (length b.jobs) ≡ true
+own-number b f own =
+    let below : number_of f < length b.jobs = slice_get_within b.jobs (number_of f) (job_of f) own.job in
+    grind (arith, nat_tests)
+
+pub own-job : (b : BookView) (n : ℕ) (f : Finding) → IsOwn b n f → is_job_of b.jobs n (job_of f) ≡ true
+unfolding is_job_of
+own-job b n f own = ap (λ (o : Option JobView). option_eq same_job o (Some (job_of f))) own.job
+    ∙ (jobs_decide (job_of f) (job_of f)).1 refl
+
+pub accepts-its-own : AcceptsItsOwn
+accepts-its-own b f e = (accepted-own b f e, none_held _ (accepted-new b f e))
+
+no_stranger : (b : BookView) (f : Finding) (mismatch : Mismatch) (closed held : Bool) → IsOwn b (number_of f) f →
+    b.closed ≡ closed → is_some (found_in b (number_of f)) ≡ held → reply_to b f ≢ Stranger mismatch
+no_stranger b f mismatch true held own is held_is e =
+    let closed = reply_to-closed b f is in
+    cc
+no_stranger b f mismatch false true own is held_is e =
+    let double = reply_to-held b f is (own-digest b _ f own) (own-number b f own) (own-job b _ f own) held_is in
+    cc
+no_stranger b f mismatch false false own is held_is e =
+    let new = reply_to-new b f is (own-digest b _ f own) (own-number b f own) (own-job b _ f own) held_is in
+    cc
+
+pub knows-its-own : KnowsItsOwn
+knows-its-own b f k mismatch own =
+    no_stranger b f mismatch _ _ (subst (λ (n : ℕ). IsOwn b n f) (sym own.number_is) own) refl refl
+
+-- the outcomes of the tests of a finding that is answered `Double`
+record IsDouble (digest number job held : Bool) (n k : ℕ) : Type 0 where
+  pub digest_is : digest ≡ true
+  pub number_is : number ≡ true
+  pub job_is : job ≡ true
+  pub held_is : held ≡ true
+  pub same : n ≡ k
+
+doubles : (closed digest number job held : Bool) (n k : ℕ) →
+    (if closed then Closed else if not digest then Stranger Digest else if not number then Stranger Number else if not
+    job then Stranger Content else if held then Double n else Accepted) ≡ Double k → IsDouble digest number job held n k
+doubles true digest number job held n k e = cc
+doubles false false number job held n k e = cc
+doubles false true false job held n k e = cc
+doubles false true true false held n k e = cc
+doubles false true true true true n k e =
+    record { digest_is = refl; number_is = refl; job_is = refl; held_is = refl; same = cc }
+doubles false true true true false n k e = cc
+
+double_tells : (b : BookView) (f : Finding) (k : ℕ) → reply_to b f ≡ Double k →
+    IsDouble (pointwise nat_eq (digest_of f) b.digest) (nat_lt (number_of f) (length b.jobs))
+    (is_job_of b.jobs (number_of f) (job_of f)) (is_some (found_in b (number_of f))) (number_of f) k
+unfolding reply_to
+double_tells b f k e = doubles _ _ _ _ _ (number_of f) k e
+
+-- the tests of an open book answer something else than `Closed`
+not_closed : (closed digest number job held : Bool) (n : ℕ) →
+    (if closed then Closed else if not digest then Stranger Digest else if not number then Stranger Number else if not
+    job then Stranger Content else if held then Double n else Accepted) ≡ Closed → closed ≡ true
+not_closed true digest number job held n e = refl
+not_closed false false number job held n e = cc
+not_closed false true false job held n e = cc
+not_closed false true true false held n e = cc
+not_closed false true true true true n e = cc
+not_closed false true true true false n e = cc
+
+closed_tells : (b : BookView) (f : Finding) → reply_to b f ≡ Closed → b.closed ≡ true
+unfolding reply_to
+closed_tells b f e = not_closed _ _ _ _ _ (number_of f) e
+
+pub closed-answers-closed : ClosedAnswersClosed
+closed-answers-closed b f = (closed_tells b f, reply_to-closed b f)
+
+double-own : (b : BookView) (f : Finding) (k : ℕ) → reply_to b f ≡ Double k → IsOwn b k f
+double-own b f k e =
+    let p = double_tells b f k e in
+    let own : IsOwn b (number_of f) f =
+    record {
+      digest = (bytes_decides (digest_of f) b.digest).0 p.digest_is;
+      number_is = refl;
+      job = is_job_of-true b.jobs (number_of f) (job_of f) p.job_is;
+    } in
+    subst (λ (n : ℕ). IsOwn b n f) p.same own
+
+pub doubles-what_is_held : DoublesWhatIsHeld
+doubles-what_is_held b f k e =
+    let p = double_tells b f k e in
+    (double-own b f k e, subst (λ (n : ℕ). IsSome (found_in b n)) p.same p.held_is)
+
+-- ---- what a filing leaves
+
+pub holds-what_is_accepted : HoldsWhatIsAccepted
+holds-what_is_accepted b f is e =
+    ap (λ (xs : List (Option Finding)). get_or xs (number_of f) None) (findings_after-accepted b f e)
+    ∙ get_or-set_same b.findings (number_of f) (Some f) None (accepted-inside b f is e)
+
+-- a number whose finding was accepted held none before
+other_number : (b : BookView) (f g : Finding) (k : ℕ) → reply_to b f ≡ Accepted → found_in b k ≡ Some g →
+    k ≢ number_of f
+other_number b f g k e held same =
+    let new : is_some (found_in b k) ≡ false = ap (λ (n : ℕ). is_some (found_in b n)) same ∙ accepted-new b f e in
+    let old : is_some (found_in b k) ≡ true = ap is_some held in
+    cc
+
+keeps : (b : BookView) (f g : Finding) (k : ℕ) (r : Reply) → reply_to b f ≡ r → found_in b k ≡ Some g →
+    found_in (after_filing b f) k ≡ Some g
+keeps b f g k Accepted e held =
+    ap (λ (xs : List (Option Finding)). get_or xs k None) (findings_after-accepted b f e)
+    ∙ get_or-set_other b.findings (number_of f) k (Some f) None (other_number b f g k e held) ∙ held
+keeps b f g k Closed e held =
+    ap (λ (xs : List (Option Finding)). get_or xs k None) (findings_after-other b.findings f _ (λ s. cc)) ∙ held
+keeps b f g k (Stranger mismatch) e held =
+    ap (λ (xs : List (Option Finding)). get_or xs k None) (findings_after-other b.findings f _ (λ s. cc)) ∙ held
+keeps b f g k (Double n) e held =
+    ap (λ (xs : List (Option Finding)). get_or xs k None) (findings_after-other b.findings f _ (λ s. cc)) ∙ held
+
+pub keeps-what_is_held : KeepsWhatIsHeld
+keeps-what_is_held b f g k held = keeps b f g k (reply_to b f) refl held
+
+pub holds-nothing_else : HoldsNothingElse
+holds-nothing_else b f other = findings_after-other b.findings f (reply_to b f) other
+
+pub stays-book : StaysBook
+stays-book b f is = IsBook-filed b f is
+
+pub stays-replayed : StaysReplayed
+stays-replayed b book is = ((λ f. IsReplayed-filed b f book is), IsReplayed-closed b is)
+
+-- a filing that is accepted changes nothing at another number
+pub held-elsewhere : (b : BookView) (f : Finding) (k : ℕ) → reply_to b f ≡ Accepted → k ≢ number_of f →
+    found_in (after_filing b f) k ≡ found_in b k
+held-elsewhere b f k e other =
+    ap (λ (xs : List (Option Finding)). get_or xs k None) (findings_after-accepted b f e)
+    ∙ get_or-set_other b.findings (number_of f) k (Some f) None other
+
+-- ---- two books
+
+pub books-agree : BooksAgree
+books-agree b c k f g is other jobs held there =
+    let mine = (is.own k f held).job in
+    let theirs = (other.own k g there).job in
+    let same : job_of f ≡ job_of g = same_Some _ _ (sym mine ∙ ap (λ js. slice_get js k) jobs ∙ theirs) in (
+      least_unique (job_of f) (fault_of f) (fault_of g) f.honest
+          (subst (λ (j : JobView). IsLeastFault j (fault_of g)) (sym same) g.honest),
+      least_keep_unique (job_of f) (keep_of f) (keep_of g) f.keeps
+          (subst (λ (j : JobView). IsLeastKeepFault j (keep_of g)) (sym same) g.keeps),
+    )

@@ -1,0 +1,128 @@
+-- The parts of a core that each event keeps
+use Rattle.std.proofs.Common.{◌≡◌, ◌∙◌, ◌+◌, ◌<◌, ◌≤◌, ◌++◌, ◌∷◌, ℕ, suc, zero, List, [], Bool, true, false, length}
+use Rattle.std.proofs.Common.{map, refl, sym, ap, subst, arith, get_or, set, All}
+use Rattle.std.specs.Prelude.{if◌then◌else◌, nat_lt}
+use Rattle.std.proofs.lemmas.Bool.Decides.{nat_tests}
+use Rattle.std.proofs.lemmas.List.{length-set, length-replicate}
+use Rattle.std.proofs.lemmas.List.Elements.{All-head, All-tail}
+use Rattle.module_job.specs.Jobs.{JobView}
+use Rattle.core_book.specs.Draws.{IsDrawn, total}
+use Rattle.core_book.specs.Claims.{claim_draws, claim_next, has_ended}
+use Rattle.core_book.specs.Core.{CoreView, IsCore, IsSeated, after_claim, after_event, after_events, draws_of, ended}
+use Rattle.core_book.specs.Core.{new_core, numbers_in}
+use Rattle.core_book.specs.declared.machine.Event.{Event}
+use Rattle.core_book.specs.declared.machine.Event.TheVariants as Events
+use Rattle.core_book.proofs.Counting.{drawn-none, drawn-push, has_ended-push, total-le, total-set}
+use Rattle.core_book.proofs.Filings.{IsBook-filed}
+use Rattle.core_book.proofs.Replays.{IsBook-new, IsReplayed-filed, IsReplayed-new}
+
+-- ---- a claim
+
+-- the draws of a seat are set to what they were
+set-same : (lists : List (List ℕ)) (seat : ℕ) → set lists seat (get_or lists seat []) ≡ lists
+set-same [] seat = refl
+set-same (xs ∷ lists) zero = refl
+set-same (xs ∷ lists) (suc seat) = ap (λ ls. xs ∷ ls) (set-same lists seat)
+
+claim-drawn : (n next seat : ℕ) (lists : List (List ℕ)) → seat < length lists → (has : Bool) → IsDrawn next lists →
+    IsDrawn (if has then next else next + 1)
+    (set lists seat (if has then get_or lists seat [] else get_or lists seat [] ++ next ∷ []))
+claim-drawn n next seat lists inside true is = subst (IsDrawn next) (sym (set-same lists seat)) is
+claim-drawn n next seat lists inside false is = drawn-push next lists seat inside is
+
+claim-few : (n next seat : ℕ) (lists : List (List ℕ)) → seat < length lists → (has : Bool) →
+    has_ended n (get_or lists seat []) ≡ has → next ≤ n + total (ended n) lists →
+    (if has then next else next + 1)
+    ≤ n + total (ended n) (set lists seat (if has then get_or lists seat [] else get_or lists seat [] ++ next ∷ []))
+claim-few n next seat lists inside true e few = omega (arith, few, ap (total (ended n)) (set-same lists seat))
+claim-few n next seat lists inside false e few =
+    let xs : List ℕ = get_or lists seat [] in
+    let moved = total-set (ended n) lists seat (xs ++ next ∷ []) [] inside in
+    let before : ended n xs ≡ 0 = ap (λ (b : Bool). if b then 1 else 0) e in
+    let now : ended n (xs ++ next ∷ []) ≡ (if nat_lt n (next + 1) then 1 else 0) =
+    ap (λ (b : Bool). if b then 1 else 0) (has_ended-push n xs next) in
+    grind (arith, nat_tests)
+
+pub claim-core : (c : CoreView) (seat : ℕ) → seat < length c.draws → IsCore c → IsCore (after_claim c seat)
+claim-core c seat inside is =
+    let n = numbers_in c in
+    record {
+      drawn = claim-drawn n c.next seat c.draws inside (has_ended n (draws_of c seat)) is.drawn;
+      few = claim-few n c.next seat c.draws inside (has_ended n (draws_of c seat)) refl is.few;
+      book_is = is.book_is;
+      replayed = is.replayed;
+    }
+
+-- ---- an event
+
+pub event-core : (c : CoreView) (e : Event) → IsSeated (length c.draws) e → IsCore c → IsCore (after_event c e)
+event-core c (Events.Claim seat) seated is = claim-core c seat seated is
+event-core c (Events.File f) seated is = record {
+  drawn = is.drawn;
+  few = is.few;
+  book_is = IsBook-filed c.book f is.book_is;
+  replayed = IsReplayed-filed c.book f is.book_is is.replayed;
+}
+event-core c (Events.Lose number) seated is = is
+
+pub length-event : (c : CoreView) (e : Event) → length (after_event c e).draws ≡ length c.draws
+length-event c (Events.Claim seat) = length-set c.draws seat _
+length-event c (Events.File f) = refl
+length-event c (Events.Lose number) = refl
+
+pub events-core : (seats : ℕ) (es : List Event) (c : CoreView) → length c.draws ≡ seats → All (IsSeated seats) es →
+    IsCore c → IsCore (after_events c es)
+events-core seats [] c len seated is = is
+events-core seats (e ∷ es) c len seated is =
+    let first : IsSeated (length c.draws) e =
+    subst (λ (n : ℕ). IsSeated n e) (sym len) (All-head (IsSeated seats) e es seated) in
+    events-core seats es (after_event c e) (length-event c e ∙ len) (All-tail (IsSeated seats) e es seated)
+    (event-core c e first is)
+
+pub length-events : (es : List Event) (c : CoreView) → length (after_events c es).draws ≡ length c.draws
+length-events [] c = refl
+length-events (e ∷ es) c = length-events es (after_event c e) ∙ length-event c e
+
+pub new-core : (digest : List ℕ) (jobs : List JobView) (seats : ℕ) → IsCore (new_core digest jobs seats)
+unfolding new_core
+new-core digest jobs seats = record {
+  drawn = drawn-none seats;
+  few = omega arith;
+  book_is = IsBook-new digest jobs;
+  replayed = IsReplayed-new digest jobs;
+}
+
+pub length-new : (digest : List ℕ) (jobs : List JobView) (seats : ℕ) →
+    length (new_core digest jobs seats).draws ≡ seats
+unfolding new_core
+length-new digest jobs seats = length-replicate seats []
+
+ended-one : (n : ℕ) (xs : List ℕ) → ended n xs ≤ 1
+ended-one n xs = by_case (has_ended n xs)
+  where
+    by_case : (b : Bool) → (if b then 1 else 0) ≤ 1
+    by_case true = omega arith
+    by_case false = omega arith
+
+-- at most one draw of each seat is past the numbers
+pub next-few : (c : CoreView) → IsCore c → c.next ≤ numbers_in c + length c.draws
+next-few c is = omega (arith, is.few, total-le (ended (numbers_in c)) c.draws (ended-one (numbers_in c)))
+
+-- ---- what the code leaves of a claim
+
+-- what a seat drew, where the draws are seen through a function
+pub drawn-at : {V : Type 0} (f : V → List ℕ) (vs : List V) (seat : ℕ) (v : V) → seat < length vs →
+    v ≡ get_or vs seat v → f v ≡ get_or (map f vs) seat []
+drawn-at f [] seat v inside at = absurd (omega (arith, inside))
+drawn-at f (x ∷ vs) zero v inside at = ap f at
+drawn-at f (x ∷ vs) (suc k) v inside at = drawn-at f vs k v (omega (arith, inside)) at
+
+pub left-claim : (c : CoreView) (seat count next : ℕ) (before after : List ℕ) (draws : List (List ℕ)) →
+    count ≡ numbers_in c → before ≡ draws_of c seat →
+    next ≡ claim_next count before c.next → after ≡ claim_draws count before c.next → draws ≡ set c.draws seat after →
+    record c { next = next; draws = draws } ≡ after_claim c seat
+left-claim c seat count next before after draws counts was next_is after_is draws_are =
+    let n : next ≡ (after_claim c seat).next = next_is ∙ (λ i. claim_next (counts i) (was i) c.next) in
+    let d : draws ≡ (after_claim c seat).draws =
+    draws_are ∙ ap (set c.draws seat) (after_is ∙ (λ i. claim_draws (counts i) (was i) c.next)) in
+    (λ i. record c { next = n i; draws = d i })

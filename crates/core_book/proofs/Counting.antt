@@ -1,0 +1,106 @@
+-- Sums over lists, and lists of numbers that were drawn
+use Rattle.std.proofs.Common.{◌≡◌, ◌+◌, ◌-◌, ◌<◌, ◌≤◌, ◌++◌, ◌∷◌, ℕ, suc, zero, List, [], true, length, refl, ap, arith}
+use Rattle.std.proofs.Common.{get_or, set, length-append}
+use Rattle.std.specs.Prelude.{nat_le, nat_lt, replicate, slice_get, Some}
+use Rattle.std.proofs.lemmas.Option.{same_Some}
+use Rattle.std.proofs.lemmas.Bool.Decides.{nat_tests}
+use Rattle.core_book.specs.Draws.{IsDrawn, end_of, once_below, times, total}
+use Rattle.core_book.specs.Claims.{has_ended}
+
+-- ---- sums
+
+pub total-set : {X : Type 0} (f : X → ℕ) (xs : List X) (i : ℕ) (y d : X) → i < length xs →
+    total f (set xs i y) + f (get_or xs i d) ≡ total f xs + f y
+total-set f [] i y d inside = absurd (omega (arith, inside))
+total-set f (x ∷ xs) zero y d inside = omega arith
+total-set f (x ∷ xs) (suc i) y d inside = let rest = total-set f xs i y d (omega (arith, inside)) in omega (arith, rest)
+
+pub total-replicate : {X : Type 0} (f : X → ℕ) (n : ℕ) (x : X) → f x ≡ 0 → total f (replicate n x) ≡ 0
+total-replicate f zero x none = refl
+total-replicate f (suc n) x none = let rest = total-replicate f n x none in omega (arith, rest, none)
+
+pub total-le : {X : Type 0} (f : X → ℕ) (xs : List X) → ((x : X) → f x ≤ 1) → total f xs ≤ length xs
+total-le f [] most = omega arith
+total-le f (x ∷ xs) most = omega (arith, most x, total-le f xs most)
+
+pub at-le-total : {X : Type 0} (f : X → ℕ) (xs : List X) (i : ℕ) (d : X) → i < length xs →
+    f (get_or xs i d) ≤ total f xs
+at-le-total f [] i d inside = absurd (omega (arith, inside))
+at-le-total f (x ∷ xs) zero d inside = omega arith
+at-le-total f (x ∷ xs) (suc i) d inside = omega (arith, at-le-total f xs i d (omega (arith, inside)))
+
+-- ---- one draw more
+
+times-append : (x : ℕ) (xs ys : List ℕ) → times x (xs ++ ys) ≡ times x xs + times x ys
+times-append x [] ys = omega arith
+times-append x (y ∷ xs) ys = let rest = times-append x xs ys in omega (arith, rest)
+
+end_of-push : (xs : List ℕ) (x : ℕ) → end_of (xs ++ x ∷ []) ≡ x + 1
+end_of-push [] x = refl
+end_of-push (y ∷ []) x = refl
+end_of-push (y ∷ z ∷ zs) x = end_of-push (z ∷ zs) x
+
+pub has_ended-push : (n : ℕ) (xs : List ℕ) (x : ℕ) → has_ended n (xs ++ x ∷ []) ≡ nat_lt n (x + 1)
+has_ended-push n xs x = ap (nat_lt n) (end_of-push xs x)
+
+pub drawn-push : (counter : ℕ) (lists : List (List ℕ)) (seat : ℕ) → seat < length lists → IsDrawn counter lists →
+    IsDrawn (counter + 1) (set lists seat (get_or lists seat [] ++ counter ∷ []))
+drawn-push counter lists seat inside is =
+    let xs : List ℕ = get_or lists seat [] in
+    let ys : List ℕ = xs ++ counter ∷ [] in
+    record {
+      whole = omega (arith, total-set length lists seat ys [] inside, length-append xs (counter ∷ []), is.whole);
+      once = λ x.
+          let moved = total-set (times x) lists seat ys [] inside in
+          let more = times-append x xs (counter ∷ []) in
+          let before = is.once x in
+          grind (arith, nat_tests);
+    }
+
+pub drawn-none : (seats : ℕ) → IsDrawn 0 (replicate seats [])
+drawn-none seats = record {
+  whole = total-replicate length seats [] refl;
+  once = λ x. let none = total-replicate (times x) seats [] refl in grind (arith, nat_tests);
+}
+
+-- ---- what a list that has ended tells
+
+-- one less than the end of a list stands in it
+end-stands : (xs : List ℕ) (n : ℕ) → n < end_of xs → (last : ℕ) × (n ≤ last) × (1 ≤ times last xs)
+end-stands [] n below = absurd (omega (arith, below))
+end-stands (y ∷ []) n below = (y, omega (arith, below), grind (arith, nat_tests))
+end-stands (y ∷ z ∷ zs) n below =
+    let more = end-stands (z ∷ zs) n below in
+    (more.0, more.1, omega (arith, more.2))
+
+-- where a seat has ended, all numbers were drawn
+pub ended-all : (n counter : ℕ) (lists : List (List ℕ)) (seat : ℕ) → seat < length lists →
+    has_ended n (get_or lists seat []) ≡ true → IsDrawn counter lists → n < counter
+ended-all n counter lists seat inside has is =
+    let below : n < end_of (get_or lists seat []) = grind (arith, nat_tests) in
+    let there = end-stands (get_or lists seat []) n below in
+    let within = at-le-total (times there.0) lists seat [] inside in
+    let once = is.once there.0 in
+    let drawn : there.0 < counter = drawn-below there.0 counter (omega (arith, within, once, there.2)) in
+    omega (arith, drawn, there.1)
+  where
+    drawn-below : (x n : ℕ) → 1 ≤ once_below x n → x < n
+    drawn-below x n some = grind (arith, nat_tests)
+
+-- ---- the last draw of a seat
+
+last-end : (xs : List ℕ) (k x : ℕ) → length xs ≡ k + 1 → slice_get xs k ≡ Some x → end_of xs ≡ x + 1
+last-end [] k x len e = absurd (omega (arith, len))
+last-end (y ∷ []) zero x len e = let same : y ≡ x = same_Some y x e in ap (λ n. n + 1) same
+last-end (y ∷ []) (suc k) x len e = absurd (omega (arith, len))
+last-end (y ∷ z ∷ zs) zero x len e = absurd (omega (arith, len))
+last-end (y ∷ z ∷ zs) (suc k) x len e = last-end (z ∷ zs) k x (omega (arith, len)) e
+
+some-length : (xs : List ℕ) (x : ℕ) → slice_get xs (length xs - 1) ≡ Some x → length xs ≡ (length xs - 1) + 1
+some-length [] x e = cc
+some-length (y ∷ ys) x e = omega arith
+
+pub has_ended-last : (n : ℕ) (xs : List ℕ) (x : ℕ) → slice_get xs (length xs - 1) ≡ Some x → nat_le n x ≡ has_ended n xs
+has_ended-last n xs x e =
+    let end : end_of xs ≡ x + 1 = last-end xs (length xs - 1) x (some-length xs x e) e in
+    grind (arith, nat_tests)

@@ -1,0 +1,288 @@
+-- The laws of the core
+use Rattle.std.proofs.Common.{◌≡◌, ◌≢◌, ◌∙◌, ◌+◌, ◌<◌, ◌≤◌, ◌∷◌, ◌⊎◌, inl, inr, cond, ℕ, suc, zero, List, [], Bool}
+use Rattle.std.proofs.Common.{true, false, length, Option, None, Some, refl, sym, ap, subst, arith, get_or, All}
+use Rattle.std.specs.Prelude.{if◌then◌else◌, nat_lt, is_some, ◌==◌}
+use Rattle.std.specs.List.{Contains, sum_by}
+use Rattle.std.proofs.lemmas.Bool.Decides.{nat_tests, eqb_tells}
+use Rattle.std.proofs.lemmas.List.Elements.{Contains-append_left, Contains-append_right, Contains-append_cases}
+use Rattle.std.proofs.lemmas.List.Elements.{Contains-push, All-contains}
+use Rattle.std.proofs.lemmas.List.Sums.{sum_by-append}
+use Rattle.std.proofs.lemmas.Option.{same_Some}
+use Rattle.module_job.specs.Jobs.{JobView}
+use Rattle.local_run.specs.Shown.{number_of}
+use Rattle.local_run.specs.declared.finding.Finding.{Finding}
+use Rattle.core_book.specs.Draws.{IsDrawn, times, total}
+use Rattle.core_book.specs.Claims.{claim_of_draw, has_ended}
+use Rattle.core_book.specs.Book.{IsBook, IsReplayed, after_filing, found_in, reply_to}
+use Rattle.core_book.specs.Core.{CoreView, IsCore, IsSeated, after_claim, after_event, after_events, answer_of_claim}
+use Rattle.core_book.specs.Core.{answer_to, draws_of, new_core, numbers_in}
+use Rattle.core_book.specs.CoreLaws.{AcceptsOneForEach, AreAllDrawn, DrawsEachOnce, EmptyWhereAllAreDrawn}
+use Rattle.core_book.specs.CoreLaws.{EventsKeepWhatIsHeld, EventsReplay, HoldsHonestOwn, HoldsWhatWasAccepted}
+use Rattle.core_book.specs.CoreLaws.{OnlyAcceptedChangesWhatIsHeld, accepted_among, accepted_by, accepted_of}
+use Rattle.core_book.specs.CoreLaws.{core_after}
+use Rattle.core_book.specs.declared.machine.Answer.TheVariants as Answered
+use Rattle.core_book.specs.declared.machine.Event.{Event}
+use Rattle.core_book.specs.declared.machine.Event.TheVariants as Events
+use Rattle.core_book.specs.declared.reply.Reply.{Reply}
+use Rattle.core_book.specs.declared.reply.Reply.TheVariants.{Closed, Stranger, Double, Accepted}
+use Rattle.core_book.specs.declared.claim.Claim.TheVariants as Claimed
+use Rattle.core_book.proofs.BookLaws.{held-elsewhere, holds-nothing_else, holds-what_is_accepted, keeps-what_is_held}
+use Rattle.core_book.proofs.CoreSteps.{claim-core, events-core, length-events, length-new, new-core}
+use Rattle.core_book.proofs.Counting.{ended-all}
+use Rattle.core_book.proofs.Filings.{IsBook-filed, accepted-new}
+use Rattle.core_book.proofs.Replays.{IsBook-new, IsReplayed-filed, IsReplayed-new, found_in-new}
+
+-- ---- draws
+
+all-core : (digest : List ℕ) (jobs : List JobView) (seats : ℕ) (es : List Event) → All (IsSeated seats) es →
+    IsCore (core_after digest jobs seats es)
+all-core digest jobs seats es seated =
+    events-core seats es (new_core digest jobs seats) (length-new digest jobs seats) seated (new-core digest jobs seats)
+
+pub draws-each-once : DrawsEachOnce
+draws-each-once digest jobs seats es seated = (all-core digest jobs seats es seated).drawn
+
+-- where a claim answers `Empty`, the next number after it is past the numbers
+empty-past : (n next : ℕ) (lists : List (List ℕ)) (seat : ℕ) → seat < length lists → IsDrawn next lists → (has : Bool) →
+    has_ended n (get_or lists seat []) ≡ has →
+    answer_of_claim (if has then Claimed.Empty else claim_of_draw n next) ≡ Answered.Empty →
+    n ≤ (if has then next else next + 1)
+empty-past n next lists seat inside is true e h = let past = ended-all n next lists seat inside e is in
+    omega (arith, past)
+empty-past n next lists seat inside is false e h = by_case (nat_lt next n) refl h
+  where
+    by_case : (b : Bool) → nat_lt next n ≡ b →
+        answer_of_claim (if b then Claimed.Number next else Claimed.Empty) ≡ Answered.Empty → n ≤ next + 1
+    by_case true e h = cc
+    by_case false e h = grind (arith, nat_tests)
+
+all-below : (next : ℕ) (lists : List (List ℕ)) (n : ℕ) → IsDrawn next lists → n ≤ next → (k : ℕ) → k < n →
+    total (times k) lists ≡ 1
+all-below next lists n is most k below = let once = is.once k in grind (arith, nat_tests)
+
+empty-all : (c : CoreView) (seat : ℕ) → seat < length c.draws → IsCore c →
+    answer_to c (Events.Claim seat) ≡ Answered.Empty → AreAllDrawn (after_claim c seat)
+empty-all c seat inside is h =
+    let n = numbers_in c in
+    let past = empty-past n c.next c.draws seat inside is.drawn (has_ended n (draws_of c seat)) refl h in
+    all-below (after_claim c seat).next (after_claim c seat).draws n (claim-core c seat inside is).drawn past
+
+pub empty-where_all_are_drawn : EmptyWhereAllAreDrawn
+empty-where_all_are_drawn digest jobs seats es seat seated inside h =
+    let c = core_after digest jobs seats es in
+    let len : length c.draws ≡ seats = length-events es (new_core digest jobs seats) ∙ length-new digest jobs seats in
+    empty-all c seat (omega (arith, inside, len)) (all-core digest jobs seats es seated) h
+
+-- ---- what is held
+
+pub events-keep : EventsKeepWhatIsHeld
+events-keep c (Events.Claim seat) k f h = h
+events-keep c (Events.File g) k f h = keeps-what_is_held c.book g f k h
+events-keep c (Events.Lose number) k f h = h
+
+pub only-accepted_changes : OnlyAcceptedChangesWhatIsHeld
+only-accepted_changes c (Events.Claim seat) other = refl
+only-accepted_changes c (Events.File g) other = holds-nothing_else c.book g (λ e. other (ap Answered.Reply e))
+only-accepted_changes c (Events.Lose number) other = refl
+
+event-book : (c : CoreView) (e : Event) → IsBook c.book → IsBook (after_event c e).book
+event-book c (Events.Claim seat) is = is
+event-book c (Events.File g) is = IsBook-filed c.book g is
+event-book c (Events.Lose number) is = is
+
+event-replayed : (c : CoreView) (e : Event) → IsBook c.book → IsReplayed c.book → IsReplayed (after_event c e).book
+event-replayed c (Events.Claim seat) book is = is
+event-replayed c (Events.File g) book is = IsReplayed-filed c.book g book is
+event-replayed c (Events.Lose number) book is = is
+
+events-book : (es : List Event) (c : CoreView) → IsBook c.book → IsBook (after_events c es).book
+events-book [] c is = is
+events-book (e ∷ es) c is = events-book es (after_event c e) (event-book c e is)
+
+events-replayed : (es : List Event) (c : CoreView) → IsBook c.book → IsReplayed c.book →
+    IsReplayed (after_events c es).book
+events-replayed [] c book is = is
+events-replayed (e ∷ es) c book is =
+    events-replayed es (after_event c e) (event-book c e book) (event-replayed c e book is)
+
+new-book : (digest : List ℕ) (jobs : List JobView) (seats : ℕ) → IsBook (new_core digest jobs seats).book
+unfolding new_core
+new-book digest jobs seats = IsBook-new digest jobs
+
+new-replayed : (digest : List ℕ) (jobs : List JobView) (seats : ℕ) → IsReplayed (new_core digest jobs seats).book
+unfolding new_core
+new-replayed digest jobs seats = IsReplayed-new digest jobs
+
+new-nothing : (digest : List ℕ) (jobs : List JobView) (seats : ℕ) (k : ℕ) →
+    found_in (new_core digest jobs seats).book k ≡ None
+unfolding new_core
+new-nothing digest jobs seats k = found_in-new digest jobs k
+
+pub events-replay : EventsReplay
+events-replay digest jobs seats es =
+    events-replayed es (new_core digest jobs seats) (new-book digest jobs seats) (new-replayed digest jobs seats)
+
+pub holds-honest_own : HoldsHonestOwn
+holds-honest_own digest jobs seats es k f h =
+    ((events-book es (new_core digest jobs seats) (new-book digest jobs seats)).own k f h, f.honest, f.keeps)
+
+-- ---- what was accepted
+
+none-in : {X : Type 0} (x : X) → Contains [] x → ⊥
+none-in x h = All-contains (λ _. ⊥) [] x (λ i d below. absurd (omega (arith, below))) h
+
+one-in : {X : Type 0} (x y : X) → Contains (x ∷ []) y → x ≡ y
+one-in {X = X} x y h = All-contains (λ z. x ≡ z) (x ∷ []) y single h
+  where
+    single : (i : ℕ) (d : X) → i < length (x ∷ []) → x ≡ get_or (x ∷ []) i d
+    single zero d below = refl
+    single (suc i) d below = absurd (omega (arith, below))
+
+-- what is held after an event was held before it, or was accepted by it
+held-event : (c : CoreView) (e : Event) (k : ℕ) (f : Finding) → IsBook c.book →
+    found_in (after_event c e).book k ≡ Some f → (found_in c.book k ≡ Some f) ⊎ (Contains (accepted_by c e) f)
+held-event c (Events.Claim seat) k f is h = inl h
+held-event c (Events.Lose number) k f is h = inl h
+held-event c (Events.File g) k f is h = by_reply (reply_to c.book g) refl
+  where
+    kept : reply_to c.book g ≢ Accepted → found_in c.book k ≡ Some f
+    kept other = ap (λ (xs : List (Option Finding)). get_or xs k None) (sym (holds-nothing_else c.book g other)) ∙ h
+
+    by_reply : (r : Reply) → reply_to c.book g ≡ r → (found_in c.book k ≡ Some f) ⊎ (Contains (accepted_of g r) f)
+    by_reply Accepted e =
+        elim (eqb_tells (number_of g) k) [
+          | inl p ↦
+              let there : found_in (after_filing c.book g) k ≡ Some g =
+              ap (λ (n : ℕ). found_in (after_filing c.book g) n) (sym p.1) ∙ holds-what_is_accepted c.book g is e in
+              let same : g ≡ f = same_Some g f (sym there ∙ h) in
+              inr (subst (λ (x : Finding). Contains (g ∷ []) x) same (Contains-push [] g))
+          | inr q ↦ inl (sym (held-elsewhere c.book g k e (λ s. q.1 (sym s))) ∙ h)
+        ]
+    by_reply Closed e = inl (kept (λ s. cc))
+    by_reply (Stranger mismatch) e = inl (kept (λ s. cc))
+    by_reply (Double number) e = inl (kept (λ s. cc))
+
+-- what is accepted by an event is held after it
+accepted-event : (c : CoreView) (e : Event) (f : Finding) → IsBook c.book → Contains (accepted_by c e) f →
+    found_in (after_event c e).book (number_of f) ≡ Some f
+accepted-event c (Events.Claim seat) f is m = absurd (none-in f m)
+accepted-event c (Events.Lose number) f is m = absurd (none-in f m)
+accepted-event c (Events.File g) f is m = by_reply (reply_to c.book g) refl m
+  where
+    by_reply : (r : Reply) → reply_to c.book g ≡ r → Contains (accepted_of g r) f →
+        found_in (after_filing c.book g) (number_of f) ≡ Some f
+    by_reply Accepted e m =
+        let same : g ≡ f = one-in g f m in
+        subst (λ (x : Finding). found_in (after_filing c.book g) (number_of x) ≡ Some x) same
+        (holds-what_is_accepted c.book g is e)
+    by_reply Closed e m = absurd (none-in f m)
+    by_reply (Stranger mismatch) e m = absurd (none-in f m)
+    by_reply (Double number) e m = absurd (none-in f m)
+
+events-keep-all : (es : List Event) (c : CoreView) (k : ℕ) (f : Finding) → found_in c.book k ≡ Some f →
+    found_in (after_events c es).book k ≡ Some f
+events-keep-all [] c k f h = h
+events-keep-all (e ∷ es) c k f h = events-keep-all es (after_event c e) k f (events-keep c e k f h)
+
+held-among : (es : List Event) (c : CoreView) (k : ℕ) (f : Finding) → IsBook c.book →
+    found_in (after_events c es).book k ≡ Some f → (found_in c.book k ≡ Some f) ⊎ (Contains (accepted_among c es) f)
+held-among [] c k f is h = inl h
+held-among (e ∷ es) c k f is h =
+    elim (held-among es (after_event c e) k f (event-book c e is) h) [
+      | inl before ↦
+          elim (held-event c e k f is before) [
+            | inl first ↦ inl first
+            | inr m ↦ inr (Contains-append_left (accepted_by c e) (accepted_among (after_event c e) es) f m)
+          ]
+      | inr m ↦ inr (Contains-append_right (accepted_by c e) (accepted_among (after_event c e) es) f m)
+    ]
+
+among-held : (es : List Event) (c : CoreView) (f : Finding) → IsBook c.book → Contains (accepted_among c es) f →
+    found_in (after_events c es).book (number_of f) ≡ Some f
+among-held [] c f is m = absurd (none-in f m)
+among-held (e ∷ es) c f is m =
+    elim (Contains-append_cases (accepted_by c e) (accepted_among (after_event c e) es) f m) [
+      | inl first ↦ events-keep-all es (after_event c e) (number_of f) f (accepted-event c e f is first)
+      | inr rest ↦ among-held es (after_event c e) f (event-book c e is) rest
+    ]
+
+pub holds-what_was_accepted : HoldsWhatWasAccepted
+holds-what_was_accepted digest jobs seats es k f = (forth, back)
+  where
+    forth : found_in (core_after digest jobs seats es).book k ≡ Some f →
+        Contains (accepted_among (new_core digest jobs seats) es) f × (number_of f ≡ k)
+    forth h = (
+      elim (held-among es (new_core digest jobs seats) k f (new-book digest jobs seats) h) [
+        | inl before ↦ let none = new-nothing digest jobs seats k in absurd cc
+        | inr m ↦ m
+      ],
+      ((events-book es (new_core digest jobs seats) (new-book digest jobs seats)).own k f h).number_is,
+    )
+
+    back : Contains (accepted_among (new_core digest jobs seats) es) f × (number_of f ≡ k) →
+        found_in (core_after digest jobs seats es).book k ≡ Some f
+    back p = subst (λ (n : ℕ). found_in (core_after digest jobs seats es).book n ≡ Some f) p.1
+        (among-held es (new_core digest jobs seats) f (new-book digest jobs seats) p.0)
+
+-- 1 where a finding is held for the number, and else 0
+abbrev held_at : CoreView → ℕ → ℕ
+held_at c k = cond (is_some (found_in c.book k)) 1 0
+
+-- 1 for a finding of the number, and else 0
+abbrev at_number : ℕ → Finding → ℕ
+at_number k f = cond (number_of f == k) 1 0
+
+one-event : (c : CoreView) (e : Event) (k : ℕ) → IsBook c.book →
+    sum_by (at_number k) (accepted_by c e) + held_at c k ≤ held_at (after_event c e) k
+one-event c (Events.Claim seat) k is = omega arith
+one-event c (Events.Lose number) k is = omega arith
+one-event c (Events.File g) k is = by_reply (reply_to c.book g) refl
+  where
+    kept : reply_to c.book g ≢ Accepted → held_at c k ≡ held_at (after_event c (Events.File g)) k
+    kept other = ap (λ (xs : List (Option Finding)). cond (is_some (get_or xs k None)) 1 0)
+        (sym (holds-nothing_else c.book g other))
+
+    by_reply : (r : Reply) → reply_to c.book g ≡ r →
+        sum_by (at_number k) (accepted_of g r) + held_at c k ≤ held_at (after_event c (Events.File g)) k
+    by_reply Accepted e =
+        elim (eqb_tells (number_of g) k) [
+          | inl p ↦
+              let there : found_in (after_filing c.book g) k ≡ Some g =
+              ap (λ (n : ℕ). found_in (after_filing c.book g) n) (sym p.1) ∙ holds-what_is_accepted c.book g is e in
+              let now : held_at (after_event c (Events.File g)) k ≡ 1 =
+              ap (λ (o : Option Finding). cond (is_some o) 1 0) there in
+              let before : held_at c k ≡ 0 =
+              ap (λ (b : Bool). cond b 1 0)
+              (ap (λ (n : ℕ). is_some (found_in c.book n)) (sym p.1) ∙ accepted-new c.book g e) in
+              let one : at_number k g ≡ 1 = ap (λ (b : Bool). cond b 1 0) p.0 in
+              omega (arith, now, before, one)
+          | inr q ↦
+              let same : held_at (after_event c (Events.File g)) k ≡ held_at c k =
+              ap (λ (o : Option Finding). cond (is_some o) 1 0) (held-elsewhere c.book g k e (λ s. q.1 (sym s))) in
+              let none : at_number k g ≡ 0 = ap (λ (b : Bool). cond b 1 0) q.0 in
+              omega (arith, same, none)
+        ]
+    by_reply Closed e = omega (arith, kept (λ s. cc))
+    by_reply (Stranger mismatch) e = omega (arith, kept (λ s. cc))
+    by_reply (Double number) e = omega (arith, kept (λ s. cc))
+
+one-among : (es : List Event) (c : CoreView) (k : ℕ) → IsBook c.book →
+    sum_by (at_number k) (accepted_among c es) + held_at c k ≤ held_at (after_events c es) k
+one-among [] c k is = omega arith
+one-among (e ∷ es) c k is =
+    omega (
+      arith,
+      sum_by-append (at_number k) (accepted_by c e) (accepted_among (after_event c e) es),
+      one-event c e k is,
+      one-among es (after_event c e) k (event-book c e is),
+    )
+
+at_most_one : (b : Bool) → cond b 1 0 ≤ 1
+at_most_one true = omega arith
+at_most_one false = omega arith
+
+pub accepts-one_for_each : AcceptsOneForEach
+accepts-one_for_each digest jobs seats es k =
+    let all = one-among es (new_core digest jobs seats) k (new-book digest jobs seats) in
+    let most = at_most_one (is_some (found_in (core_after digest jobs seats es).book k)) in
+    omega (arith, all, most)

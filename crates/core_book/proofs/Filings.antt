@@ -1,0 +1,315 @@
+-- Replies, and what filing keeps
+use Rattle.std.proofs.Common.{◌≡◌, ◌≢◌, ◌∙◌, ◌+◌, ◌<◌, ◌≤◌, ◌++◌, ◌∷◌, ℕ, suc, zero, Bool, true, false, not, cond, inl}
+use Rattle.std.proofs.Common.{inr, List, [], length, map, Option, None, Some, refl, sym, ap, ap₂, subst, arith, nat_eq}
+use Rattle.std.proofs.Common.{nat_lt, get_or, set}
+use Rattle.std.specs.Prelude.{is_some, if◌then◌else◌, slice_get}
+use Rattle.std.specs.Borrow.{Bor}
+use Rattle.std.specs.Option.{IfSome, option_copied, option_eq, option_map}
+use Rattle.std.specs.Cmp.Lexicographic.{pointwise, same_text}
+use Rattle.std.proofs.lemmas.Bool.Decides.{eqb_tells, nat_tests}
+use Rattle.std.proofs.lemmas.List.{get_or-set_same, get_or-set_other, length-set}
+use Rattle.std.proofs.lemmas.List.Sums.{sum_by-set}
+use Rattle.std.specs.List.{sum_by}
+use Rattle.std.proofs.lemmas.Option.{slice_get-map, slice_get_read}
+use Rattle.module_job.specs.Equality.{same_job}
+use Rattle.module_job.specs.Jobs.{JobView}
+use Rattle.module_job.proofs.EqualJobs.{jobs_decide}
+use Rattle.local_run.specs.Shown.{digest_of, number_of, job_of}
+use Rattle.local_run.specs.declared.finding.Finding.{Finding}
+use Rattle.core_book.specs.Book.{BookView, IsBook, IsOwn, accepted_in, after_closing, after_filing, count_after}
+use Rattle.core_book.specs.Book.{filing_of, found_in, findings_after, is_job_of, reply_to}
+use Rattle.core_book.specs.declared.log_entry.LogEntry.{LogEntry}
+use Rattle.core_book.specs.declared.log_entry.LogEntry.TheVariants.{Filed}
+use Rattle.core_book.specs.declared.log_entry.Filing.{Filing}
+use Rattle.core_book.specs.declared.reply.Mismatch.TheVariants.{Digest, Number, Content}
+use Rattle.core_book.specs.declared.reply.Reply.{Reply}
+use Rattle.core_book.specs.declared.reply.Reply.TheVariants.{Closed, Stranger, Double, Accepted}
+
+-- ---- which reply, by the tests
+
+pub reply_to-closed : (b : BookView) (f : Finding) → b.closed ≡ true → reply_to b f ≡ Closed
+unfolding reply_to
+reply_to-closed b f closed = rw closed
+
+pub reply_to-other_digest : (b : BookView) (f : Finding) → b.closed ≡ false →
+    pointwise nat_eq (digest_of f) b.digest ≡ false → reply_to b f ≡ Stranger Digest
+unfolding reply_to
+reply_to-other_digest b f closed digest = rw (closed, digest)
+
+pub reply_to-other_number : (b : BookView) (f : Finding) → b.closed ≡ false →
+    pointwise nat_eq (digest_of f) b.digest ≡ true → nat_lt (number_of f) (length b.jobs) ≡ false →
+    reply_to b f ≡ Stranger Number
+unfolding reply_to
+reply_to-other_number b f closed digest number = rw (closed, digest, number)
+
+pub reply_to-other_job : (b : BookView) (f : Finding) → b.closed ≡ false →
+    pointwise nat_eq (digest_of f) b.digest ≡ true → nat_lt (number_of f) (length b.jobs) ≡ true →
+    is_job_of b.jobs (number_of f) (job_of f) ≡ false → reply_to b f ≡ Stranger Content
+unfolding reply_to
+reply_to-other_job b f closed digest number job = rw (closed, digest, number, job)
+
+pub reply_to-held : (b : BookView) (f : Finding) → b.closed ≡ false → pointwise nat_eq (digest_of f) b.digest ≡ true →
+    nat_lt (number_of f) (length b.jobs) ≡ true → is_job_of b.jobs (number_of f) (job_of f) ≡ true →
+    is_some (found_in b (number_of f)) ≡ true → reply_to b f ≡ Double (number_of f)
+unfolding reply_to
+reply_to-held b f closed digest number job held = rw (closed, digest, number, job, held)
+
+pub reply_to-new : (b : BookView) (f : Finding) → b.closed ≡ false → pointwise nat_eq (digest_of f) b.digest ≡ true →
+    nat_lt (number_of f) (length b.jobs) ≡ true → is_job_of b.jobs (number_of f) (job_of f) ≡ true →
+    is_some (found_in b (number_of f)) ≡ false → reply_to b f ≡ Accepted
+unfolding reply_to
+reply_to-new b f closed digest number job held = rw (closed, digest, number, job, held)
+
+-- ---- the tests as the code makes them
+
+not_true : (x : Bool) → not x ≡ true → x ≡ false
+not_true true e = cc
+not_true false e = refl
+
+not_false : (x : Bool) → not x ≡ false → x ≡ true
+not_false true e = refl
+not_false false e = cc
+
+pub digest-differs : (b : BookView) (f : Finding) (theirs own : List ℕ) (r : Bool) →
+    r ≡ not (pointwise nat_eq theirs own) → theirs ≡ digest_of f → own ≡ b.digest → r ≡ true →
+    pointwise nat_eq (digest_of f) b.digest ≡ false
+digest-differs b f theirs own r e t o differs =
+    not_true _ (sym (e ∙ ap₂ (λ x y. not (pointwise nat_eq x y)) t o) ∙ differs)
+
+pub digest-agrees : (b : BookView) (f : Finding) (theirs own : List ℕ) (r : Bool) →
+    r ≡ not (pointwise nat_eq theirs own) → theirs ≡ digest_of f → own ≡ b.digest → r ≡ false →
+    pointwise nat_eq (digest_of f) b.digest ≡ true
+digest-agrees b f theirs own r e t o agrees =
+    not_false _ (sym (e ∙ ap₂ (λ x y. not (pointwise nat_eq x y)) t o) ∙ agrees)
+
+pub number-past : (b : BookView) (f : Finding) (n count : ℕ) → n ≡ number_of f → count ≡ length b.jobs → count ≤ n →
+    nat_lt (number_of f) (length b.jobs) ≡ false
+number-past b f n count e c past = grind (arith, nat_tests)
+
+pub number-within : (b : BookView) (f : Finding) (n count : ℕ) → n ≡ number_of f → count ≡ length b.jobs → n < count →
+    nat_lt (number_of f) (length b.jobs) ≡ true
+number-within b f n count e c below = grind (arith, nat_tests)
+
+-- the job at a place, where the jobs are seen through a function
+pub is_job_of-at : {Y : Type 0} (view : Y → JobView) (ys : List Y) (n : ℕ) (y : Y) (job : JobView) → n < length ys →
+    y ≡ get_or ys n y → is_job_of (map view ys) n job ≡ same_job (view y) job
+unfolding is_job_of
+is_job_of-at view ys n y job below at =
+    ap (λ (o : Option JobView). option_eq same_job o (Some job))
+    (slice_get-map view ys n ∙ ap (option_map view) (slice_get_read ys (length ys) n y refl below at))
+
+-- the test of the job, as the code makes it
+pub job-told : {Y : Type 0} (view : Y → JobView) (jobs : List JobView) (ys seen : List Y) (n : ℕ) (y : Y)
+    (own theirs : JobView) (r : Bool) → map view ys ≡ jobs → seen ≡ ys → n < length seen → y ≡ get_or seen n y →
+    own ≡ view y → r ≡ same_job own theirs → r ≡ is_job_of jobs n theirs
+job-told view jobs ys seen n y own theirs r of_book all below at o e =
+    let there : is_job_of (map view seen) n theirs ≡ same_job (view y) theirs =
+    is_job_of-at view seen n y theirs below at in
+    let whole : map view seen ≡ jobs = ap (map view) all ∙ of_book in
+    e ∙ ap (λ x. same_job x theirs) o ∙ sym there ∙ ap (λ js. is_job_of js n theirs) whole
+
+is_job_of-past : {Y : Type 0} (view : Y → JobView) (ys : List Y) (n : ℕ) (job : JobView) → length ys ≤ n →
+    is_job_of (map view ys) n job ≡ false
+unfolding is_job_of
+is_job_of-past view ys n job past =
+    ap (λ (o : Option JobView). option_eq same_job o (Some job))
+    (slice_get-map view ys n ∙ ap (option_map view) (slice_get_past ys n past))
+  where
+    slice_get_past : {X : Type 0} (xs : List X) (k : ℕ) → length xs ≤ k → slice_get xs k ≡ None
+    slice_get_past [] k le = refl
+    slice_get_past (x ∷ xs) zero le = absurd (omega (arith, le))
+    slice_get_past (x ∷ xs) (suc k) le = slice_get_past xs k (omega (arith, le))
+
+pub no_job-told : {Y : Type 0} (view : Y → JobView) (jobs : List JobView) (ys seen : List Y) (n : ℕ)
+    (job : JobView) → map view ys ≡ jobs → seen ≡ ys → length seen ≤ n → false ≡ is_job_of jobs n job
+no_job-told view jobs ys seen n job of_book all past =
+    sym (is_job_of-past view seen n job past) ∙ ap (λ js. is_job_of js n job) (ap (map view) all ∙ of_book)
+
+-- ---- what a reply tells
+
+-- the outcomes of the tests of a finding that is accepted
+record Passes (closed digest number job held : Bool) : Type 0 where
+  pub closed_is : closed ≡ false
+  pub digest_is : digest ≡ true
+  pub number_is : number ≡ true
+  pub job_is : job ≡ true
+  pub held_is : held ≡ false
+
+passes : (closed digest number job held : Bool) (n : ℕ) →
+    (if closed then Closed else if not digest then Stranger Digest else if not number then Stranger Number else if not
+    job then Stranger Content else if held then Double n else Accepted) ≡ Accepted →
+    Passes closed digest number job held
+passes true digest number job held n e = cc
+passes false false number job held n e = cc
+passes false true false job held n e = cc
+passes false true true false held n e = cc
+passes false true true true true n e = cc
+passes false true true true false n e =
+    record { closed_is = refl; digest_is = refl; number_is = refl; job_is = refl; held_is = refl }
+
+accepted-passes : (b : BookView) (f : Finding) → reply_to b f ≡ Accepted →
+    Passes b.closed (pointwise nat_eq (digest_of f) b.digest) (nat_lt (number_of f) (length b.jobs))
+    (is_job_of b.jobs (number_of f) (job_of f)) (is_some (found_in b (number_of f)))
+unfolding reply_to
+accepted-passes b f e = passes _ _ _ _ _ (number_of f) e
+
+-- a job that passes the test is the job of that number
+same_option : (o : Option JobView) (job : JobView) → option_eq same_job o (Some job) ≡ true → o ≡ Some job
+same_option None job e = cc
+same_option (Some own) job e = ap Some ((jobs_decide own job).0 e)
+
+pub is_job_of-true : (jobs : List JobView) (n : ℕ) (job : JobView) → is_job_of jobs n job ≡ true →
+    slice_get jobs n ≡ Some job
+unfolding is_job_of
+is_job_of-true jobs n job e = same_option (slice_get jobs n) job e
+
+pub accepted-own : (b : BookView) (f : Finding) → reply_to b f ≡ Accepted → IsOwn b (number_of f) f
+accepted-own b f e =
+    let p = accepted-passes b f e in
+    record {
+      digest = same_text _ _ (sym p.digest_is);
+      number_is = refl;
+      job = is_job_of-true b.jobs (number_of f) (job_of f) p.job_is;
+    }
+
+pub accepted-number : (b : BookView) (f : Finding) → reply_to b f ≡ Accepted → number_of f < length b.jobs
+accepted-number b f e =
+    let p = accepted-passes b f e in
+    grind (arith, nat_tests, p.number_is)
+
+pub accepted-new : (b : BookView) (f : Finding) → reply_to b f ≡ Accepted → is_some (found_in b (number_of f)) ≡ false
+accepted-new b f e = (accepted-passes b f e).held_is
+
+-- ---- what is held after a filing
+
+pub accepted-inside : (b : BookView) (f : Finding) → IsBook b → reply_to b f ≡ Accepted →
+    number_of f < length b.findings
+accepted-inside b f is e =
+    let below : number_of f < length b.jobs = accepted-number b f e in
+    omega (arith, is.places)
+
+pub findings_after-accepted : (b : BookView) (f : Finding) → reply_to b f ≡ Accepted →
+    findings_after b.findings f (reply_to b f) ≡ set b.findings (number_of f) (Some f)
+unfolding findings_after
+findings_after-accepted b f e = ap (findings_after b.findings f) e
+
+pub findings_after-other : (held : List (Option Finding)) (f : Finding) (r : Reply) → r ≢ Accepted →
+    findings_after held f r ≡ held
+unfolding findings_after
+findings_after-other held f Accepted other = absurd (other refl)
+findings_after-other held f Closed other = refl
+findings_after-other held f (Stranger mismatch) other = refl
+findings_after-other held f (Double number) other = refl
+
+-- whose a finding is depends on the digest and the jobs alone
+own-moved : (b c : BookView) (n : ℕ) (f : Finding) → b.digest ≡ c.digest → b.jobs ≡ c.jobs → IsOwn b n f → IsOwn c n f
+own-moved b c n f digest jobs p =
+    record { digest = p.digest ∙ digest; number_is = p.number_is; job = ap (λ js. slice_get js n) (sym jobs) ∙ p.job }
+
+own-set : (b : BookView) (n : ℕ) (f : Finding) → n < length b.findings → IsOwn b n f → IsBook b →
+    (k : ℕ) (g : Finding) →
+    get_or (set b.findings n (Some f)) k None ≡ Some g → IsOwn b k g
+own-set b n f inside own is k g e =
+    elim (eqb_tells n k) [
+      | inl p ↦
+          let there : get_or (set b.findings n (Some f)) k None ≡ Some f =
+          ap (λ (j : ℕ). get_or (set b.findings n (Some f)) j None) (sym p.1)
+          ∙ get_or-set_same b.findings n (Some f) None inside in
+          let same : f ≡ g = cc in
+          subst (λ (x : Finding). IsOwn b k x) same (subst (λ (j : ℕ). IsOwn b j f) p.1 own)
+      | inr q ↦ is.own k g (sym (get_or-set_other b.findings n k (Some f) None (λ s. q.1 (sym s))) ∙ e)
+    ]
+
+-- a book that holds what another one held after a filing
+book-of : (b c : BookView) (held : List (Option Finding)) → b.digest ≡ c.digest → b.jobs ≡ c.jobs → c.findings ≡ held →
+    length held ≡ length b.jobs → ((k : ℕ) (g : Finding) → get_or held k None ≡ Some g → IsOwn b k g) → IsBook c
+book-of b c held digest jobs same places own = record {
+  places = ap length same ∙ places ∙ ap length jobs;
+  own = λ k g h. own-moved b c k g digest jobs
+      (own k g (ap (λ (xs : List (Option Finding)). get_or xs k None) (sym same) ∙ h));
+}
+
+filed-by : (b : BookView) (f : Finding) (r : Reply) → reply_to b f ≡ r → IsBook b → IsBook (after_filing b f)
+filed-by b f Accepted e is =
+    let inside = accepted-inside b f is e in
+    book-of b (after_filing b f) (set b.findings (number_of f) (Some f)) refl refl (findings_after-accepted b f e)
+    (length-set b.findings (number_of f) (Some f) ∙ is.places)
+    (own-set b (number_of f) f inside (accepted-own b f e) is)
+filed-by b f Closed e is = book-of b (after_filing b f) b.findings refl refl
+    (findings_after-other b.findings f _ (λ s. cc)) is.places is.own
+filed-by b f (Stranger mismatch) e is =
+    book-of b (after_filing b f) b.findings refl refl (findings_after-other b.findings f _ (λ s. cc)) is.places is.own
+filed-by b f (Double number) e is =
+    book-of b (after_filing b f) b.findings refl refl (findings_after-other b.findings f _ (λ s. cc)) is.places is.own
+
+pub IsBook-filed : (b : BookView) (f : Finding) → IsBook b → IsBook (after_filing b f)
+IsBook-filed b f is = filed-by b f (reply_to b f) refl is
+
+pub IsBook-closed : (b : BookView) → IsBook b → IsBook (after_closing b)
+IsBook-closed b is = book-of b (after_closing b) b.findings refl refl refl is.places is.own
+
+abbrev counted : Option Finding → ℕ
+counted o = cond (is_some o) 1 0
+
+pub accepted_in-accepted : (b : BookView) (f : Finding) → IsBook b → reply_to b f ≡ Accepted →
+    accepted_in (after_filing b f) ≡ accepted_in b + 1
+accepted_in-accepted b f is e =
+    let inside : number_of f < length b.findings = accepted-inside b f is e in
+    let sum = sum_by-set counted b.findings (number_of f) (Some f) None inside in
+    let none : counted (get_or b.findings (number_of f) None) ≡ counted None =
+    ap (λ (t : Bool). cond t 1 0) (accepted-new b f e) in
+    let one : accepted_in (after_filing b f) ≡ sum_by counted (set b.findings (number_of f) (Some f)) =
+    ap (sum_by counted) (findings_after-accepted b f e) in
+    omega (arith, sum, none, one)
+
+pub accepted_in-other : (b : BookView) (f : Finding) → reply_to b f ≢ Accepted →
+    accepted_in (after_filing b f) ≡ accepted_in b
+accepted_in-other b f other = ap (sum_by counted) (findings_after-other b.findings f (reply_to b f) other)
+
+by_reply : (b : BookView) (f : Finding) (r : Reply) → reply_to b f ≡ r → IsBook b →
+    accepted_in (after_filing b f) ≡ count_after (accepted_in b) r
+by_reply b f Accepted e is = accepted_in-accepted b f is e
+by_reply b f Closed e is = accepted_in-other b f (λ s. cc)
+by_reply b f (Stranger mismatch) e is = accepted_in-other b f (λ s. cc)
+by_reply b f (Double number) e is = accepted_in-other b f (λ s. cc)
+
+pub accepted_in-filed : (b c after : BookView) (f : Finding) (r : Reply) → IsBook b → b ≡ c → r ≡ reply_to c f →
+    after ≡ after_filing c f → accepted_in after ≡ count_after (accepted_in c) r
+accepted_in-filed b c after f r is same e left =
+    ap accepted_in left ∙ by_reply c f (reply_to c f) refl (subst IsBook same is)
+    ∙ ap (count_after (accepted_in c)) (sym e)
+
+pub count_after-other : (n : ℕ) (r : Reply) → (r ≡ Accepted → ⊥) → count_after n r ≡ n
+count_after-other n Accepted other = absurd (other refl)
+count_after-other n Closed other = refl
+count_after-other n (Stranger mismatch) other = refl
+count_after-other n (Double number) other = refl
+
+-- ---- what a book says of a number
+
+pub found-own : (b : BookView) (n : ℕ) (o : Option (Bor Finding)) → IsBook b → option_copied o ≡ found_in b n →
+    IfSome o (λ f. IsOwn b n f.now)
+found-own b n None is e = tt
+found-own b n (Some f) is e = is.own n f.now (sym e)
+
+-- ---- what the code leaves
+
+pub left-accepted : (b : BookView) (f : Finding) (filing : Filing) (history : List LogEntry) → filing ≡ filing_of b f →
+    history ≡ b.history ++ Filed filing ∷ [] → filing.reply ≡ Accepted
+    → record b { findings = set b.findings filing.number (Some f); history = history } ≡ after_filing b f
+left-accepted b f filing history is entries e =
+    let accepted : reply_to b f ≡ Accepted = sym (ap (λ (x : Filing). x.reply) is) ∙ e in
+    let held : set b.findings filing.number (Some f) ≡ findings_after b.findings f (reply_to b f) =
+    ap (λ (k : ℕ). set b.findings k (Some f)) (ap (λ (x : Filing). x.number) is)
+    ∙ sym (findings_after-accepted b f accepted) in
+    let all : history ≡ (after_filing b f).history = entries ∙ ap (λ (x : Filing). b.history ++ Filed x ∷ []) is in
+    (λ i. record b { findings = held i; history = all i })
+
+pub left-other : (b : BookView) (f : Finding) (filing : Filing) (history : List LogEntry) → filing ≡ filing_of b f →
+    history ≡ b.history ++ Filed filing ∷ [] → (filing.reply ≡ Accepted → ⊥)
+    → record b { history = history } ≡ after_filing b f
+left-other b f filing history is entries other =
+    let held : b.findings ≡ findings_after b.findings f (reply_to b f) =
+    sym (findings_after-other b.findings f (reply_to b f) (λ e. other (ap (λ (x : Filing). x.reply) is ∙ e))) in
+    let all : history ≡ (after_filing b f).history = entries ∙ ap (λ (x : Filing). b.history ++ Filed x ∷ []) is in
+    (λ i. record b { findings = held i; history = all i })

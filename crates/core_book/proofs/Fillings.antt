@@ -1,0 +1,223 @@
+-- Books that are filled up
+use Rattle.std.proofs.Common.{◌≡◌, ◌≢◌, ◌∙◌, ◌+◌, ◌<◌, ◌≤◌, ◌++◌, ◌∷◌, ℕ, suc, Bool, true, false, cond, inl, inr, List}
+use Rattle.std.proofs.Common.{[], length, map, Option, None, Some, refl, sym, ap, ap₂, subst, arith, get_or}
+use Rattle.std.specs.Prelude.{is_some, if◌then◌else◌, slice_get, IsSome}
+use Rattle.std.specs.Bool.{Decides}
+use Rattle.std.specs.List.{AllZip, count_by}
+use Rattle.std.specs.Cmp.Lexicographic.{pointwise}
+use Rattle.std.specs.Cmp.Derive.Mapped.{pointwise-map}
+use Rattle.std.proofs.lemmas.Bool.Decides.{eqb_tells}
+use Rattle.std.proofs.lemmas.List.{append-nil, append_assoc, map-append}
+use Rattle.std.proofs.lemmas.Slice.Eq.{slice_eq-Decides}
+use Rattle.module_job.specs.Equality.{same_job}
+use Rattle.module_job.specs.Jobs.{JobView}
+use Rattle.module_job.proofs.EqualJobs.{jobs_decide}
+use Rattle.local_run.specs.Shown.{digest_of, number_of, job_of}
+use Rattle.local_run.specs.declared.finding.Finding.{Finding}
+use Rattle.core_book.specs.Book.{BookView, IsBook, IsOwn, IsReplayed, accepted_in, after_filing, filing_of, found_in}
+use Rattle.core_book.specs.Book.{is_job_of, new_book, reply_to}
+use Rattle.core_book.specs.Filling.{IsHeldOrFiled, IsFilledTo, IsFull, IsOpenFor, IsPartlyFilled, accepted_entry}
+use Rattle.core_book.specs.Filling.{lacking}
+use Rattle.core_book.specs.Verdicts.{AreHeldBelow}
+use Rattle.core_book.specs.declared.log_entry.LogEntry.{LogEntry}
+use Rattle.core_book.specs.declared.log_entry.LogEntry.TheVariants.{Filed}
+use Rattle.core_book.specs.declared.reply.Reply.TheVariants.{Accepted}
+use Rattle.core_book.proofs.BookLaws.{held-elsewhere, holds-what_is_accepted, keeps-what_is_held, own-digest, own-job}
+use Rattle.core_book.proofs.BookLaws.{own-number}
+use Rattle.core_book.proofs.Filings.{IsBook-filed, accepted-own, reply_to-new}
+use Rattle.core_book.proofs.FullBooks.{count, full_book_holds-all}
+
+-- ---- the same jobs
+
+-- whether two lists, seen through a function, are the same, as `==` tells it
+pub lists-told : {Y : Type 0} (view : Y → JobView) (xs ys : List Y) (r : Bool) →
+    r ≡ pointwise (λ a b. same_job (view a) (view b)) xs ys → Decides r (map view xs ≡ map view ys)
+lists-told view xs ys r e = slice_eq-Decides {E = same_job} jobs_decide (map view xs) (map view ys) r
+    (e ∙ sym (pointwise-map view same_job xs ys))
+
+pub clones-same : {Y : Type 0} (view : Y → JobView) (xs ys : List Y) → AllZip (λ x y. view y ≡ view x) xs ys →
+    map view ys ≡ map view xs
+clones-same view [] [] all = refl
+clones-same view [] (y ∷ ys) all = absurd all
+clones-same view (x ∷ xs) [] all = absurd all
+clones-same view (x ∷ xs) (y ∷ ys) all =
+    ap₂ (λ (j : JobView) (js : List JobView). j ∷ js) all.0 (clones-same view xs ys all.1)
+
+-- a new book of these jobs
+pub new-open : (digest : List ℕ) (jobs : List JobView) (b : BookView) → b ≡ new_book digest jobs →
+    IsOpenFor digest jobs b
+unfolding new_book
+new-open digest jobs b is = record {
+  still_open = ap (λ (v : BookView). v.closed) is;
+  digest_is = ap (λ (v : BookView). v.digest) is;
+  jobs_are = ap (λ (v : BookView). v.jobs) is;
+}
+
+-- ---- one number
+
+-- a finding of the book's own, for a number that lacks one, is accepted
+pub new-accepted : (b : BookView) (f : Finding) (n : ℕ) (job : JobView) → b.closed ≡ false → digest_of f ≡ b.digest →
+    number_of f ≡ n → job_of f ≡ job → slice_get b.jobs n ≡ Some job → is_some (found_in b n) ≡ false →
+    reply_to b f ≡ Accepted
+new-accepted b f n job still_open digest number whole at lacks =
+    let own : IsOwn b n f = record { digest = digest; number_is = number; job = at ∙ ap Some (sym whole) } in
+    let there : IsOwn b (number_of f) f = subst (λ (k : ℕ). IsOwn b k f) (sym number) own in
+    reply_to-new b f still_open (own-digest b _ f there) (own-number b f there) (own-job b _ f there)
+    (ap (λ (k : ℕ). is_some (found_in b k)) number ∙ lacks)
+
+pub filed-for : (b c : BookView) (f : Finding) (n : ℕ) (job : JobView) → b.closed ≡ false → digest_of f ≡ b.digest →
+    number_of f ≡ n → job_of f ≡ job → slice_get b.jobs n ≡ Some job → is_some (found_in b n) ≡ false →
+    c ≡ after_filing b f → IsHeldOrFiled b c n
+filed-for b c f n job still_open digest number whole at lacks after =
+    inr (record {
+      lacked = lacks;
+      finding = f;
+      number_is = number;
+      accepted = new-accepted b f n job still_open digest number whole at lacks;
+      after = after;
+    })
+
+-- ---- number after number
+
+pub filled-start : (b : BookView) → IsFilledTo b b 0
+filled-start b = record {
+  digest_stays = refl;
+  jobs_stay = refl;
+  closed_stays = refl;
+  history_grows = sym (append-nil b.history);
+  kept = λ k f e. e;
+  held = λ k below. absurd (omega (arith, below));
+  rest = λ k le. refl;
+}
+
+-- a number that held a finding before
+lacking-held : (b : BookView) (n : ℕ) → is_some (found_in b n) ≡ true → lacking b (suc n) ≡ lacking b n
+lacking-held b n held = ap (λ (t : Bool). lacking b n ++ (if t then [] else n ∷ [])) held ∙ append-nil (lacking b n)
+
+lacking-new : (b : BookView) (n : ℕ) → is_some (found_in b n) ≡ false → lacking b (suc n) ≡ lacking b n ++ n ∷ []
+lacking-new b n lacks = ap (λ (t : Bool). lacking b n ++ (if t then [] else n ∷ [])) lacks
+
+step-held : (b c : BookView) (n : ℕ) → IsFilledTo b c n → is_some (found_in c n) ≡ true → IsFilledTo b c (suc n)
+step-held b c n is held = record {
+  digest_stays = is.digest_stays;
+  jobs_stay = is.jobs_stay;
+  closed_stays = is.closed_stays;
+  history_grows = is.history_grows
+      ∙ ap (λ (ks : List ℕ). b.history ++ map (accepted_entry b.digest) ks)
+      (sym (lacking-held b n (ap is_some (sym (is.rest n (omega arith))) ∙ held)));
+  kept = is.kept;
+  held = λ k below.
+      elim (eqb_tells n k) [
+        | inl p ↦ subst (λ (j : ℕ). IsSome (found_in c j)) p.1 held
+        | inr q ↦ let other : n ≢ k = q.1 in is.held k (omega (arith, below, other))
+      ];
+  rest = λ k le. is.rest k (omega (arith, le));
+}
+
+-- the entry of a finding that is accepted
+entry-accepted : (b c : BookView) (f : Finding) (n : ℕ) → c.digest ≡ b.digest → number_of f ≡ n →
+    reply_to c f ≡ Accepted → Filed (filing_of c f) ≡ accepted_entry b.digest n
+entry-accepted b c f n digest number accepted =
+    let own : IsOwn c (number_of f) f = accepted-own c f accepted in
+    let d : digest_of f ≡ b.digest = own.digest ∙ digest in
+    let s : is_job_of c.jobs (number_of f) (job_of f) ≡ true = own-job c (number_of f) f own in
+    (λ i. Filed (record { digest = d i; number = number i; same = s i; reply = accepted i }))
+
+history-filed : (b c : BookView) (f : Finding) (n : ℕ) → IsFilledTo b c n → is_some (found_in c n) ≡ false →
+    number_of f ≡ n → reply_to c f ≡ Accepted
+    → (after_filing c f).history ≡ b.history ++ map (accepted_entry b.digest) (lacking b (suc n))
+history-filed b c f n is lacks number accepted =
+    let entry = accepted_entry b.digest in
+    let new : lacking b (suc n) ≡ lacking b n ++ n ∷ [] =
+    lacking-new b n (ap is_some (sym (is.rest n (omega arith))) ∙ lacks) in
+    let own : c.history ++ Filed (filing_of c f) ∷ [] ≡ c.history ++ entry n ∷ [] =
+    ap (λ (e : LogEntry). c.history ++ e ∷ []) (entry-accepted b c f n is.digest_stays number accepted) in
+    let before : c.history ++ entry n ∷ [] ≡ (b.history ++ map entry (lacking b n)) ++ entry n ∷ [] =
+    ap (λ (es : List LogEntry). es ++ entry n ∷ []) is.history_grows in
+    let apart : (b.history ++ map entry (lacking b n)) ++ entry n ∷ []
+    ≡ b.history ++ (map entry (lacking b n) ++ entry n ∷ []) =
+    append_assoc b.history (map entry (lacking b n)) (entry n ∷ []) in
+    let mapped : map entry (lacking b n) ++ entry n ∷ [] ≡ map entry (lacking b n ++ n ∷ []) =
+    sym (map-append entry (lacking b n) (n ∷ [])) in
+    own ∙ before ∙ apart ∙ ap (λ (es : List LogEntry). b.history ++ es) (mapped ∙ ap (map entry) (sym new))
+
+step-filed : (b c : BookView) (f : Finding) (n : ℕ) → IsBook c → IsFilledTo b c n → is_some (found_in c n) ≡ false →
+    number_of f ≡ n → reply_to c f ≡ Accepted → IsFilledTo b (after_filing c f) (suc n)
+step-filed b c f n book is lacks number accepted = record {
+  digest_stays = is.digest_stays;
+  jobs_stay = is.jobs_stay;
+  closed_stays = is.closed_stays;
+  history_grows = history-filed b c f n is lacks number accepted;
+  kept = λ k g e. keeps-what_is_held c f g k (is.kept k g e);
+  held = λ k below.
+      elim (eqb_tells n k) [
+        | inl p ↦
+            let here : found_in (after_filing c f) (number_of f) ≡ Some f = holds-what_is_accepted c f book accepted in
+            subst (λ (j : ℕ). IsSome (found_in (after_filing c f) j)) (number ∙ p.1) (ap is_some here)
+        | inr q ↦
+            let other : n ≢ k = q.1 in
+            let elsewhere : found_in (after_filing c f) k ≡ found_in c k =
+            held-elsewhere c f k accepted (λ e. other (sym number ∙ sym e)) in
+            ap is_some elsewhere ∙ is.held k (omega (arith, below, other))
+      ];
+  rest = λ k le. held-elsewhere c f k accepted (λ e. absurd (omega (arith, le, e, number)))
+      ∙ is.rest k (omega (arith, le));
+}
+
+-- what the loop keeps
+pub record IsFilling (b c : BookView) (n : ℕ) : Type 0 where
+  pub filled : IsFilledTo b c n
+  pub book : IsBook c
+
+pub filling-start : (b : BookView) → IsBook b → IsFilling b b 0
+filling-start b book = record { filled = filled-start b; book = book }
+
+pub filling-step : (b c d : BookView) (n : ℕ) → IsFilling b c n → IsHeldOrFiled c d n → IsFilling b d (n + 1)
+filling-step b c d n is (inl p) =
+    let next : suc n ≡ n + 1 = omega arith in
+    subst (λ (x : BookView). IsFilling b x (n + 1)) (sym p.1)
+    (record { filled = subst (IsFilledTo b c) next (step-held b c n is.filled p.0); book = is.book })
+filling-step b c d n is (inr h) =
+    let next : suc n ≡ n + 1 = omega arith in
+    subst (λ (x : BookView). IsFilling b x (n + 1)) (sym h.after) (record {
+      filled = subst (IsFilledTo b (after_filing c h.finding)) next
+          (step-filed b c h.finding n is.book is.filled h.lacked h.number_is h.accepted);
+      book = IsBook-filed c h.finding is.book;
+    })
+
+-- ---- a full book
+
+pub partly : (b c : BookView) (n : ℕ) → n ≤ length b.jobs → IsFilledTo b c n → IsPartlyFilled b c
+partly b c n most is = record { below = n; at_most = most; filled = is }
+
+pub open-stays : (digest : List ℕ) (jobs : List JobView) (b c : BookView) (n : ℕ) → IsOpenFor digest jobs b →
+    IsFilledTo b c n → IsOpenFor digest jobs c
+open-stays digest jobs b c n own is = record {
+  still_open = is.closed_stays ∙ own.still_open;
+  digest_is = is.digest_stays ∙ own.digest_is;
+  jobs_are = is.jobs_stay ∙ own.jobs_are;
+}
+
+count-all : (os : List (Option Finding)) → ((k : ℕ) → k < length os → is_some (get_or os k None) ≡ true) →
+    count_by is_some os ≡ length os
+count-all [] all = refl
+count-all (o ∷ os) all =
+    let rest : count_by is_some os ≡ length os = count-all os (λ k below. all (suc k) (omega (arith, below))) in
+    let one : ◌≡◌ {A = ℕ} (cond (is_some o) 1 0) 1 = ap (λ (t : Bool). cond t 1 0) (all 0 (omega arith)) in
+    omega (arith, count o os, rest, one)
+
+pub is-full : (digest : List ℕ) (jobs : List JobView) (b : BookView) → IsOpenFor digest jobs b → IsReplayed b →
+    IsBook b → accepted_in b ≡ length b.jobs → IsFull digest jobs b
+is-full digest jobs b own replays book all = record {
+  is_open = own;
+  replays = replays;
+  all_held = subst (λ (js : List JobView). AreHeldBelow b js (length js)) own.jobs_are
+      (full_book_holds-all b book all);
+  all_accepted = all ∙ ap length own.jobs_are;
+}
+
+pub filled-all : (b c : BookView) (n : ℕ) → length b.jobs ≤ n → IsFilling b c n → accepted_in c ≡ length c.jobs
+filled-all b c n past is =
+    let same : length c.jobs ≡ length b.jobs = ap length is.filled.jobs_stay in
+    count-all c.findings (λ k below. is.filled.held k (omega (arith, below, is.book.places, same, past)))
+    ∙ is.book.places

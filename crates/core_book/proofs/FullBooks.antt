@@ -1,0 +1,36 @@
+-- Books that hold a finding for each job
+use Rattle.std.proofs.Common.{◌≡◌, ◌∙◌, ◌+◌, ◌<◌, ℕ, suc, zero, true, cond, List, [], ◌∷◌, length, Option, None, Some}
+use Rattle.std.proofs.Common.{refl, sym, arith, get_or}
+use Rattle.std.specs.Prelude.{is_some, slice_get}
+use Rattle.std.specs.List.{count_by}
+use Rattle.std.proofs.lemmas.List.Sums.{count_by-le-length, sum_by-cons}
+use Rattle.std.proofs.lemmas.Option.{same_Some}
+use Rattle.module_job.specs.Jobs.{JobView}
+use Rattle.local_run.specs.declared.finding.Finding.{Finding}
+use Rattle.core_book.specs.Book.{BookView, IsBook, found_in}
+use Rattle.core_book.specs.Laws.{FullBookHoldsAll}
+use Rattle.core_book.specs.Verdicts.{IsHeld}
+
+pub count : (o : Option Finding) (os : List (Option Finding)) →
+    count_by is_some (o ∷ os) ≡ cond (is_some o) 1 0 + count_by is_some os
+count o os = sum_by-cons (λ (x : Option Finding). cond (is_some x) 1 0) o os
+
+-- where all are counted, each is there
+all_there : (os : List (Option Finding)) (k : ℕ) → count_by is_some os ≡ length os → k < length os →
+    is_some (get_or os k None) ≡ true
+all_there [] k full below = absurd (omega (arith, below))
+all_there (None ∷ os) k full below = absurd (omega (arith, full, count None os, count_by-le-length is_some os))
+all_there (Some f ∷ os) zero full below = refl
+all_there (Some f ∷ os) (suc k) full below =
+    all_there os k (omega (arith, full, count (Some f) os)) (omega (arith, below))
+
+held : (b : BookView) (k : ℕ) (j : JobView) (o : Option Finding) → IsBook b → found_in b k ≡ o → is_some o ≡ true →
+    slice_get b.jobs k ≡ Some j → IsHeld b k j
+held b k j None is e some at = cc
+held b k j (Some f) is e some at = record { finding = f; held = e; whole = same_Some _ _ (sym (is.own k f e).job ∙ at) }
+
+pub full_book_holds-all : FullBookHoldsAll
+full_book_holds-all b is full k j below at =
+    let inside : k < length b.findings = omega (arith, is.places, below) in
+    let there : is_some (found_in b k) ≡ true = all_there b.findings k (full ∙ sym is.places) inside in
+    held b k j (found_in b k) is refl there at

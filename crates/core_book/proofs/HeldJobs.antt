@@ -1,0 +1,89 @@
+-- Jobs for which a finding is held, and their least faults
+use Rattle.std.proofs.Common.{◌≡◌, ◌≢◌, ◌∙◌, ◌+◌, ◌<◌, ℕ, Bool, true, false, inl, inr, List, [], ◌∷◌, ◌++◌, length}
+use Rattle.std.proofs.Common.{Some, refl, sym, ap, subst, arith, length-append, get_or, map}
+use Rattle.std.specs.Prelude.{slice_get}
+use Rattle.std.specs.Option.{option_map}
+use Rattle.std.proofs.lemmas.Bool.Decides.{eqb_tells}
+use Rattle.std.proofs.lemmas.Option.{same_Some, slice_get-map, slice_get_read}
+use Rattle.module_box.proofs.Rising.{pushed}
+use Rattle.module_job.specs.Equality.{same_job}
+use Rattle.module_job.specs.Jobs.{JobView}
+use Rattle.module_job.proofs.EqualJobs.{jobs_decide}
+use Rattle.local_run.specs.Shown.{job_of}
+use Rattle.local_run.specs.declared.finding.Finding.{Finding}
+use Rattle.core_book.specs.Book.{BookView, found_in}
+use Rattle.core_book.specs.Verdicts.{AreHeldBelow, AreLeastFaults, IsFirstMissing, IsHeld, IsToldOf}
+use Rattle.core_book.specs.declared.verdict.Reasons.{Reasons}
+
+-- ---- the finding of a number, beside a job
+
+pub whole-job : (wanted theirs : JobView) (f : Finding) (r : Bool) → r ≡ same_job theirs wanted → theirs ≡ job_of f →
+    r ≡ true → job_of f ≡ wanted
+whole-job wanted theirs f r e t is = sym t ∙ (jobs_decide theirs wanted).0 (sym e ∙ is)
+
+pub other-job : (b : BookView) (n : ℕ) (f : Finding) (wanted theirs : JobView) (r : Bool) → Some f ≡ found_in b n →
+    r ≡ same_job theirs wanted → theirs ≡ job_of f → r ≡ false → ¬ IsHeld b n wanted
+other-job b n f wanted theirs r held e t is = λ h.
+    let same : f ≡ h.finding = same_Some _ _ (held ∙ h.held) in
+    let equal : theirs ≡ wanted = t ∙ ap job_of same ∙ h.whole in
+    let yes : r ≡ true = e ∙ (jobs_decide theirs wanted).1 equal in
+    cc
+
+-- the job of a number, where the jobs are seen through a function
+pub job-at : {Y : Type 0} (view : Y → JobView) (ys : List Y) (n : ℕ) (y : Y) → n < length ys → y ≡ get_or ys n y →
+    slice_get (map view ys) n ≡ Some (view y)
+job-at view ys n y below at =
+    slice_get-map view ys n ∙ ap (option_map view) (slice_get_read ys (length ys) n y refl below at)
+
+-- ---- the jobs below a number
+
+-- a finding is held for each of the jobs below the number, and these are their least faults
+pub record AreFaultsBelow (b : BookView) (jobs : List JobView) (count : ℕ) (fs : List Reasons) : Type 0 where
+  pub held : AreHeldBelow b jobs count
+  pub count_is : length fs ≡ count
+  pub each : (n : ℕ) (j : JobView) (f : Reasons) → slice_get jobs n ≡ Some j → slice_get fs n ≡ Some f → IsToldOf j f
+
+pub none-below : (b : BookView) (jobs : List JobView) → AreFaultsBelow b jobs 0 []
+none-below b jobs =
+    record { held = λ n j below at. absurd (omega arith); count_is = refl; each = λ n j f at none. absurd cc }
+
+-- a job more
+held_more : (b : BookView) (jobs : List JobView) (n : ℕ) (j : JobView) → slice_get jobs n ≡ Some j →
+    AreHeldBelow b jobs n → IsHeld b n j → AreHeldBelow b jobs (n + 1)
+held_more b jobs n j at below now k i less there =
+    elim (eqb_tells k n) [
+      | inl p ↦
+          let same : j ≡ i = same_Some _ _ (sym at ∙ ap (slice_get jobs) (sym p.1) ∙ there) in
+          subst (λ (x : JobView). IsHeld b k x) same (subst (λ (m : ℕ). IsHeld b m j) (sym p.1) now)
+      | inr q ↦ below k i (let other : k ≢ n = q.1 in omega arith) there
+    ]
+
+each_more : (jobs : List JobView) (fs : List Reasons) (n : ℕ) (j : JobView) (g : Reasons) → length fs ≡ n →
+    slice_get jobs n ≡ Some j → IsToldOf j g
+    → ((k : ℕ) (i : JobView) (f : Reasons) → slice_get jobs k ≡ Some i → slice_get fs k ≡ Some f → IsToldOf i f)
+    → (k : ℕ) (i : JobView) (f : Reasons) → slice_get jobs k ≡ Some i → slice_get (fs ++ g ∷ []) k ≡ Some f →
+    IsToldOf i f
+each_more jobs fs n j g count at least each k i f there got =
+    elim (pushed fs g k f got) [
+      | inl old ↦ each k i f there old
+      | inr new ↦
+          let same : j ≡ i = same_Some _ _ (sym at ∙ ap (slice_get jobs) (sym (new.0 ∙ count)) ∙ there) in
+          subst (IsToldOf i) new.1 (subst (λ (x : JobView). IsToldOf x g) same least)
+    ]
+
+pub one-more : (b : BookView) (jobs : List JobView) (n : ℕ) (fs : List Reasons) (j : JobView) (f : Finding)
+    (r : Reasons) → AreFaultsBelow b jobs n fs → slice_get jobs n ≡ Some j → found_in b n ≡ Some f → job_of f ≡ j →
+    IsToldOf (job_of f) r → AreFaultsBelow b jobs (n + 1) (fs ++ r ∷ [])
+one-more b jobs n fs j f r below at held whole told = record {
+  held = held_more b jobs n j at below.held (record { finding = f; held = held; whole = whole });
+  count_is = length-append fs (r ∷ []) ∙ ap (λ (m : ℕ). m + 1) below.count_is;
+  each = each_more jobs fs n j r below.count_is at (subst (λ (x : JobView). IsToldOf x r) whole told) below.each;
+}
+
+pub first-missing : (b : BookView) (jobs : List JobView) (n : ℕ) (fs : List Reasons) (j : JobView) →
+    AreFaultsBelow b jobs n fs → slice_get jobs n ≡ Some j → ¬ IsHeld b n j → IsFirstMissing b jobs n
+first-missing b jobs n fs j below at missing = record { job = j; numbered = at; missing = missing; before = below.held }
+
+pub all-least : (b : BookView) (jobs : List JobView) (n : ℕ) (fs : List Reasons) → n ≡ length jobs →
+    AreFaultsBelow b jobs n fs → AreLeastFaults jobs fs
+all-least b jobs n fs all below = record { count = below.count_is ∙ all; each = below.each }

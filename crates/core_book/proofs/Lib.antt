@@ -1,0 +1,12 @@
+pub mod Filings
+pub mod Replays
+pub mod BookLaws
+pub mod Counting
+pub mod CoreSteps
+pub mod EventLaws
+pub mod OneVerdict
+pub mod HeldJobs
+pub mod ReportLines
+pub mod FullBooks
+pub mod Fillings
+pub mod FillingRuns

@@ -1,0 +1,173 @@
+-- The history of a book replays to it
+use Rattle.std.proofs.Common.{◌≡◌, ◌∙◌, ◌+◌, ◌<◌, ◌++◌, ◌∷◌, ℕ, suc, zero, Bool, inl, inr, List, [], length, Option}
+use Rattle.std.proofs.Common.{None, Some, refl, sym, ap, arith, nat_eq, get_or, set, length-append, true, false}
+use Rattle.std.specs.Prelude.{if◌then◌else◌, is_some, replicate}
+use Rattle.std.proofs.lemmas.Bool.Decides.{eqb_tells}
+use Rattle.std.proofs.lemmas.Grind.{common_steps}
+use Rattle.std.proofs.lemmas.List.{get_or-set_same, get_or-set_other, length-replicate}
+use Rattle.std.proofs.lemmas.List.Folds.{list_any-append}
+use Rattle.std.specs.List.{count_by}
+use Rattle.module_job.specs.Jobs.{JobView}
+use Rattle.local_run.specs.Shown.{digest_of, number_of, job_of}
+use Rattle.local_run.specs.declared.finding.Finding.{Finding}
+use Rattle.core_book.specs.Replay.{Replayed, AreDue, IsDue, accepted_after, after_entry, beginning, has_closing}
+use Rattle.core_book.specs.Replay.{has_number, replay, replay_from, rule}
+use Rattle.core_book.specs.Book.{BookView, IsBook, IsReplayed, accepted_in, after_closing, after_filing, filing_of}
+use Rattle.core_book.specs.Book.{findings_after, is_job_of, new_book, reply_to, found_in}
+use Rattle.core_book.specs.declared.log_entry.LogEntry.{LogEntry}
+use Rattle.core_book.specs.declared.log_entry.LogEntry.TheVariants.{Filed, Closing}
+use Rattle.core_book.specs.declared.log_entry.Filing.{Filing}
+use Rattle.core_book.specs.declared.reply.Reply.{Reply}
+use Rattle.core_book.specs.declared.reply.Reply.TheVariants.{Closed, Stranger, Double, Accepted}
+use Rattle.core_book.proofs.Filings.{accepted-inside, accepted_in-accepted, accepted_in-other, findings_after-accepted}
+use Rattle.core_book.proofs.Filings.{findings_after-other}
+
+-- ---- one entry more
+
+replay_from-push : (p : Replayed) (es : List LogEntry) (e : LogEntry) →
+    replay_from p (es ++ e ∷ []) ≡ after_entry (replay_from p es) e
+replay_from-push p [] e = refl
+replay_from-push p (x ∷ es) e = replay_from-push (after_entry p x) es e
+
+AreDue-push : (own : List ℕ) (count : ℕ) (p : Replayed) (es : List LogEntry) (e : LogEntry) → AreDue own count p es →
+    IsDue own count (replay_from p es) e → AreDue own count p (es ++ e ∷ [])
+AreDue-push own count p [] e h due = (due, tt)
+AreDue-push own count p (x ∷ es) e h due = (h.0, AreDue-push own count (after_entry p x) es e h.1 due)
+
+-- the reply that is stored is the one that the rule gives there
+due-filing : (b : BookView) (f : Finding) → IsReplayed b →
+    IsDue b.digest (length b.jobs) (replay b.history) (Filed (filing_of b f))
+unfolding reply_to
+due-filing b f is = (λ i. rule b.digest (length b.jobs) (sym is.closed_is i) (sym (is.accepted (number_of f)) i)
+    (digest_of f) (number_of f) (is_job_of b.jobs (number_of f) (job_of f)))
+
+-- ---- which numbers
+
+number-more : (ks : List ℕ) (held : List (Option Finding)) (n : ℕ) (f : Finding) → n < length held →
+    ((k : ℕ) → has_number ks k ≡ is_some (get_or held k None)) → (k : ℕ) →
+    has_number (ks ++ n ∷ []) k ≡ is_some (get_or (set held n (Some f)) k None)
+number-more ks held n f inside h k =
+    let e = list_any-append (λ (x : ℕ). nat_eq x k) ks (n ∷ []) in
+    elim (eqb_tells n k) [
+      | inl p ↦
+          let there : get_or (set held n (Some f)) k None ≡ Some f =
+          ap (λ (j : ℕ). get_or (set held n (Some f)) j None) (sym p.1) ∙ get_or-set_same held n (Some f) None inside in
+          e ∙ grind (arith, common_steps, p.0, ap is_some there)
+      | inr q ↦
+          let there : get_or (set held n (Some f)) k None ≡ get_or held k None =
+          get_or-set_other held n k (Some f) None (λ s. q.1 (sym s)) in
+          e ∙ grind (arith, common_steps, q.0, ap is_some there, h k)
+    ]
+
+-- the book after a filing, by the numbers that were accepted then and what is held then
+by-reply : (b : BookView) (f : Finding) (ks : List ℕ) (held : List (Option Finding)) → IsReplayed b →
+    accepted_after (replay b.history).accepted (number_of f) (reply_to b f) ≡ ks →
+    findings_after b.findings f (reply_to b f) ≡ held →
+    length ks ≡ accepted_in (after_filing b f) → ((k : ℕ) → has_number ks k ≡ is_some (get_or held k None)) →
+    IsReplayed (after_filing b f)
+by-reply b f ks held is numbers same count each =
+    let e : LogEntry = Filed (filing_of b f) in
+    let push = replay_from-push beginning b.history e in
+    let now : (replay (b.history ++ e ∷ [])).accepted ≡ ks = ap (λ (p : Replayed). p.accepted) push ∙ numbers in
+    record {
+      due = AreDue-push b.digest (length b.jobs) beginning b.history e is.due (due-filing b f is);
+      accepted = λ k. ap (λ (xs : List ℕ). has_number xs k) now ∙ each k
+          ∙ ap (λ (xs : List (Option Finding)). is_some (get_or xs k None)) (sym same);
+      count = ap length now ∙ count;
+      closed_is = ap (λ (p : Replayed). p.closed) push ∙ is.closed_is;
+    }
+
+filed-by : (b : BookView) (f : Finding) (r : Reply) → reply_to b f ≡ r → IsBook b → IsReplayed b →
+    IsReplayed (after_filing b f)
+filed-by b f Accepted e book is =
+    let ks = (replay b.history).accepted in
+    by-reply b f (ks ++ number_of f ∷ []) (set b.findings (number_of f) (Some f)) is
+    (ap (accepted_after ks (number_of f)) e) (findings_after-accepted b f e)
+    (length-append ks (number_of f ∷ []) ∙ ap (λ (n : ℕ). n + 1) is.count ∙ sym (accepted_in-accepted b f book e))
+    (number-more ks b.findings (number_of f) f (accepted-inside b f book e) is.accepted)
+filed-by b f Closed e book is =
+    by-reply b f _ b.findings is (ap (accepted_after (replay b.history).accepted (number_of f)) e)
+    (findings_after-other b.findings f _ (λ s. cc)) (is.count ∙ sym (accepted_in-other b f (λ s. cc))) is.accepted
+filed-by b f (Stranger mismatch) e book is =
+    by-reply b f _ b.findings is (ap (accepted_after (replay b.history).accepted (number_of f)) e)
+    (findings_after-other b.findings f _ (λ s. cc)) (is.count ∙ sym (accepted_in-other b f (λ s. cc))) is.accepted
+filed-by b f (Double number) e book is =
+    by-reply b f _ b.findings is (ap (accepted_after (replay b.history).accepted (number_of f)) e)
+    (findings_after-other b.findings f _ (λ s. cc)) (is.count ∙ sym (accepted_in-other b f (λ s. cc))) is.accepted
+
+pub IsReplayed-filed : (b : BookView) (f : Finding) → IsBook b → IsReplayed b → IsReplayed (after_filing b f)
+IsReplayed-filed b f book is = filed-by b f (reply_to b f) refl book is
+
+pub IsReplayed-closed : (b : BookView) → IsReplayed b → IsReplayed (after_closing b)
+IsReplayed-closed b is =
+    let push = replay_from-push beginning b.history Closing in
+    let same : (replay (b.history ++ Closing ∷ [])).accepted ≡ (replay b.history).accepted =
+    ap (λ (p : Replayed). p.accepted) push in
+    record {
+      due = AreDue-push b.digest (length b.jobs) beginning b.history Closing is.due tt;
+      accepted = λ k. ap (λ (xs : List ℕ). has_number xs k) same ∙ is.accepted k;
+      count = ap length same ∙ is.count;
+      closed_is = ap (λ (p : Replayed). p.closed) push;
+    }
+
+-- ---- a new book
+
+abbrev nothing : ℕ → List (Option Finding)
+nothing n = replicate n None
+
+none-there : (n k : ℕ) → has_number [] k ≡ is_some (get_or (nothing n) k None)
+none-there zero k = refl
+none-there (suc n) zero = refl
+none-there (suc n) (suc k) = none-there n k
+
+none-counted : (n : ℕ) → 0 ≡ count_by is_some (nothing n)
+none-counted zero = refl
+none-counted (suc n) = none-counted n
+
+pub IsReplayed-new : (digest : List ℕ) (jobs : List JobView) → IsReplayed (new_book digest jobs)
+unfolding new_book
+IsReplayed-new digest jobs =
+    record { due = tt; accepted = none-there (length jobs); count = none-counted (length jobs); closed_is = refl }
+
+none-found : (n k : ℕ) (f : Finding) → get_or (nothing n) k None ≡ Some f → ⊥
+none-found zero k f e = cc
+none-found (suc n) zero f e = cc
+none-found (suc n) (suc k) f e = none-found n k f e
+
+pub IsBook-new : (digest : List ℕ) (jobs : List JobView) → IsBook (new_book digest jobs)
+unfolding new_book
+IsBook-new digest jobs =
+    record { places = length-replicate (length jobs) None; own = λ k f e. absurd (none-found (length jobs) k f e) }
+
+-- ---- closing entries
+
+pub has_closing-push : (es : List LogEntry) (f : Filing) → has_closing (es ++ Filed f ∷ []) ≡ has_closing es
+has_closing-push [] f = refl
+has_closing-push (Filed x ∷ es) f = has_closing-push es f
+has_closing-push (Closing ∷ es) f = refl
+
+closed-from : (p : Replayed) (es : List LogEntry) →
+    (replay_from p es).closed ≡ (if p.closed then true else has_closing es)
+closed-from p [] = by_case p.closed
+  where
+    by_case : (b : Bool) → b ≡ (if b then true else false)
+    by_case true = refl
+    by_case false = refl
+closed-from p (Filed f ∷ es) = closed-from (after_entry p (Filed f)) es
+closed-from p (Closing ∷ es) = closed-from (after_entry p Closing) es ∙ by_case p.closed
+  where
+    by_case : (b : Bool) → true ≡ (if b then true else true)
+    by_case true = refl
+    by_case false = refl
+
+pub closed-by_its_history : (b : BookView) → IsReplayed b → b.closed ≡ has_closing b.history
+closed-by_its_history b is = sym is.closed_is ∙ closed-from beginning b.history
+
+found-nothing : (n k : ℕ) → get_or (nothing n) k None ≡ None
+found-nothing zero k = refl
+found-nothing (suc n) zero = refl
+found-nothing (suc n) (suc k) = found-nothing n k
+
+pub found_in-new : (digest : List ℕ) (jobs : List JobView) (k : ℕ) → found_in (new_book digest jobs) k ≡ None
+unfolding new_book
+found_in-new digest jobs k = found-nothing (length jobs) k

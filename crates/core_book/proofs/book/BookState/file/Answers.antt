@@ -1,0 +1,104 @@
+use Rattle.std.proofs.Common.{◌≡◌, ◌∙◌, ◌+◌, ◌<◌, ◌++◌, ◌∷◌, [], Some, set, ap, sym, subst, length, rules}
+use Rattle.core_book.specs.Book.{BookView, IsBook, IsReplayed, accepted_in, after_filing, filing_of, reply_to}
+use Rattle.core_book.specs.BookView.{book_view}
+use Rattle.core_book.specs.declared.log_entry.LogEntry.TheVariants.{Filed}
+use Rattle.core_book.specs.declared.log_entry.Filing.{Filing}
+use Rattle.core_book.specs.declared.reply.Reply.TheVariants.{Accepted}
+use Rattle.core_book.proofs.Filings.{IsBook-filed, accepted-inside, accepted_in-accepted, accepted_in-filed}
+use Rattle.core_book.proofs.Filings.{accepted_in-other, left-accepted, left-other}
+use Rattle.core_book.proofs.Replays.{IsReplayed-filed}
+use Rattle.core_book.proofs.book.BookState.file.Goals as goal
+use Rattle.core_book.proofs.book.BookState.file.Goals.{After-push_reserved}
+
+-- the book by its fields, before the filing
+abbrev book : After-push_reserved → BookView
+book c = book_view c.self.inside
+
+filing : (c : After-push_reserved) → c.filing_of-filing.result ≡ filing_of (book c) c.args.finding
+filing c = c.filing_of-filing.ensures ∙ ap (λ (b : BookView). filing_of b c.args.finding) (sym c.self.view_is)
+
+history : (c : After-push_reserved) →
+    c.push_reserved.new.self.items ≡ (book c).history ++ Filed c.filing_of-filing.result ∷ []
+history c = c.push_reserved.ensures.items
+    ∙ ap (λ xs. xs ++ Filed c.filing_of-filing.result ∷ []) c.reserve.ensures.items
+
+accepted : (c : After-push_reserved) → c.filing_of-filing.result.reply ≡ Accepted →
+    reply_to (book c) c.args.finding ≡ Accepted
+accepted c e = sym (ap (λ (x : Filing). x.reply) (filing c)) ∙ e
+
+-- what is left where the finding is accepted, and where it is not
+with_found : (c : After-push_reserved) → c.filing_of-filing.result.reply ≡ Accepted → record (book c) {
+  findings = set (book c).findings c.filing_of-filing.result.number (Some c.args.finding);
+  history = c.push_reserved.new.self.items;
+} ≡ after_filing (book c) c.args.finding
+with_found c e = left-accepted (book c) c.args.finding c.filing_of-filing.result c.push_reserved.new.self.items
+    (filing c) (history c) e
+
+without : (c : After-push_reserved) → (c.filing_of-filing.result.reply ≡ Accepted → ⊥) →
+    record (book c) { history = c.push_reserved.new.self.items } ≡ after_filing (book c) c.args.finding
+without c other = left-other (book c) c.args.finding c.filing_of-filing.result c.push_reserved.new.self.items (filing c)
+    (history c) other
+
+refused : (c : After-push_reserved) → (c.filing_of-filing.result.reply ≡ Accepted → ⊥) →
+    reply_to (book c) c.args.finding ≡ Accepted → ⊥
+refused c other e = other (ap (λ (x : Filing). x.reply) (filing c) ∙ e)
+
+pub invariant_of-self-in_default : goal.invariant_of-self-in_default
+invariant_of-self-in_default c =
+    let d = (goal.at.invariant_of-self-in_default c).After-push_reserved in
+    let is = c.self.invariant in
+    let left = sym (without d c.in_default.not-Accepted) in
+    record {
+      book = subst IsBook left (IsBook-filed (book d) c.args.finding is.book);
+      replayed = subst IsReplayed left (IsReplayed-filed (book d) c.args.finding is.book is.replayed);
+      counted = is.counted ∙ sym (accepted_in-other (book d) c.args.finding (refused d c.in_default.not-Accepted))
+          ∙ ap accepted_in left;
+    }
+
+pub returns-in_default-clause-reply : goal.returns-in_default-clause-reply
+returns-in_default-clause-reply c = ap (λ (x : Filing). x.reply) c.filing_of-filing.ensures
+
+pub returns-in_default-clause-after : goal.returns-in_default-clause-after
+returns-in_default-clause-after c =
+    let d = (goal.at.returns-in_default-clause-after c).After-push_reserved in
+    without d c.in_default.not-Accepted ∙ ap (λ (b : BookView). after_filing b c.args.finding) c.self.view_is
+
+pub returns-in_default-clause-counted : goal.returns-in_default-clause-counted
+returns-in_default-clause-counted c =
+    let d = (goal.at.returns-in_default-clause-counted c).After-push_reserved in
+    accepted_in-filed (book d) c.args.self.now _ c.args.finding _ c.self.invariant.book c.self.view_is
+    (ap (λ (x : Filing). x.reply) c.filing_of-filing.ensures)
+    (without d c.in_default.not-Accepted ∙ ap (λ (b : BookView). after_filing b c.args.finding) c.self.view_is)
+
+pub index_mut-requires : goal.index_mut-requires
+index_mut-requires c =
+    let d = (goal.at.index_mut-requires c).After-push_reserved in
+    let inside = accepted-inside (book d) c.args.finding c.self.invariant.book (accepted d c.in-Accepted.is) in
+    let below : c.filing_of-filing.result.number < length (book d).findings =
+    subst (λ n. n < length (book d).findings) (sym (ap (λ (x : Filing). x.number) (filing d))) inside in
+    search rules
+
+pub invariant_of-self-2 : goal.invariant_of-self-2
+invariant_of-self-2 c =
+    let d = (goal.at.invariant_of-self-2 c).After-push_reserved in
+    let is = c.self.invariant in
+    let left = sym (with_found d c.in-Accepted.is) in
+    record {
+      book = subst IsBook left (IsBook-filed (book d) c.args.finding is.book);
+      replayed = subst IsReplayed left (IsReplayed-filed (book d) c.args.finding is.book is.replayed);
+      counted = ap (λ n. n + 1) is.counted
+          ∙ sym (accepted_in-accepted (book d) c.args.finding is.book (accepted d c.in-Accepted.is))
+          ∙ ap accepted_in left;
+    }
+
+pub returns-clause-after : goal.returns-clause-after
+returns-clause-after c =
+    let d = (goal.at.returns-clause-after c).After-push_reserved in
+    with_found d c.in-Accepted.is ∙ ap (λ (b : BookView). after_filing b c.args.finding) c.self.view_is
+
+pub returns-clause-counted : goal.returns-clause-counted
+returns-clause-counted c =
+    let d = (goal.at.returns-clause-counted c).After-push_reserved in
+    accepted_in-filed (book d) c.args.self.now _ c.args.finding _ c.self.invariant.book c.self.view_is
+    (ap (λ (x : Filing). x.reply) c.filing_of-filing.ensures)
+    (with_found d c.in-Accepted.is ∙ ap (λ (b : BookView). after_filing b c.args.finding) c.self.view_is)

@@ -1,0 +1,82 @@
+use Rattle.std.proofs.Common.{◌≡◌, ◌∙◌, ℕ, true, false, length, ap, sym, nat_eq, nat_lt}
+use Rattle.std.specs.Arc.{arc_value}
+use Rattle.std.specs.Prelude.{is_some}
+use Rattle.std.specs.Cmp.Lexicographic.{pointwise}
+use Rattle.std.proofs.lemmas.List.{length-map}
+use Rattle.local_run.specs.Shown.{digest_of, number_of}
+use Rattle.core_book.specs.Book.{BookView, found_in}
+use Rattle.core_book.specs.declared.reply.Reply.TheVariants.{Double}
+use Rattle.core_book.proofs.Filings.{digest-differs, digest-agrees, number-past, number-within, reply_to-closed}
+use Rattle.core_book.proofs.Filings.{reply_to-other_digest, reply_to-other_number, reply_to-other_job, reply_to-held}
+use Rattle.core_book.proofs.Filings.{reply_to-new}
+use Rattle.core_book.proofs.book.BookState.reply_to.Goals as goal
+use Rattle.core_book.proofs.book.BookState.reply_to.Goals.{After-digest, After-len, After-found}
+
+pub returns-then-self : goal.returns-then-self
+returns-then-self c = sym (reply_to-closed c.args.self.now c.args.finding.now
+    (ap (λ (v : BookView). v.closed) (sym c.self.view_is) ∙ c.if-self.true))
+
+is_open : (c : After-digest) → c.args.self.now.closed ≡ false
+is_open c = ap (λ (v : BookView). v.closed) (sym c.self.view_is) ∙ c.if-self.false
+
+pub returns-then-ne : goal.returns-then-ne
+returns-then-ne c =
+    let b = c.args.self.now in
+    let f = c.args.finding.now in
+    let own : c.self.inside.digest ≡ b.digest = ap (λ (v : BookView). v.digest) c.self.view_is in
+    sym (reply_to-other_digest b f (is_open (goal.at.returns-then-ne c).After-digest)
+    (digest-differs b f c.digest.result c.self.inside.digest c.ne.result c.ne.ensures c.digest.ensures own
+    c.if-ne.true))
+
+agrees : (c : After-len) → pointwise nat_eq (digest_of c.args.finding.now) c.args.self.now.digest ≡ true
+agrees c =
+    let own : c.self.inside.digest ≡ c.args.self.now.digest = ap (λ (v : BookView). v.digest) c.self.view_is in
+    digest-agrees c.args.self.now c.args.finding.now c.digest.result c.self.inside.digest c.ne.result c.ne.ensures
+    c.digest.ensures own c.if-ne.false
+
+-- the length of the list of jobs as the code sees it
+count : (c : After-len) → c.len.result ≡ length c.args.self.now.jobs
+count c =
+    c.len.ensures ∙ c.self.inside.jobs.ok.0 ∙ sym (length-map c.self.inside.jobs.items arc_value)
+    ∙ ap (λ (v : BookView). length v.jobs) c.self.view_is
+
+pub returns-then-number-len : goal.returns-then-number-len
+returns-then-number-len c =
+    let d = (goal.at.returns-then-number-len c).After-len in
+    sym (reply_to-other_number c.args.self.now c.args.finding.now
+    (is_open (goal.at.returns-then-number-len c).After-digest) (agrees d)
+    (number-past c.args.self.now c.args.finding.now c.number-number.result c.len.result c.number-number.ensures
+    (count d) c.if-number-len.true))
+
+pub returns-then-not-same : goal.returns-then-not-same
+returns-then-not-same c =
+    let d = (goal.at.returns-then-not-same c).After-len in
+    let within : nat_lt (number_of c.args.finding.now) (length c.args.self.now.jobs) ≡ true =
+    number-within c.args.self.now c.args.finding.now c.number-number.result c.len.result c.number-number.ensures
+    (count d) c.if-number-len.false in
+    sym (reply_to-other_job c.args.self.now c.args.finding.now (is_open (goal.at.returns-then-not-same c).After-digest)
+    (agrees d) within (sym c.requires ∙ c.if-not-same.true))
+
+within : (c : After-found) → (c.len.result ≡ length c.args.self.now.jobs) →
+    nat_lt (number_of c.args.finding.now) (length c.args.self.now.jobs) ≡ true
+within c len = number-within c.args.self.now c.args.finding.now c.number-number.result c.len.result
+    c.number-number.ensures len c.if-number-len.false
+
+pub returns-in-Some : goal.returns-in-Some
+returns-in-Some c =
+    let d = (goal.at.returns-in-Some c).After-len in
+    let held : is_some (found_in c.args.self.now (number_of c.args.finding.now)) ≡ true =
+    ap (λ (n : ℕ). is_some (found_in c.args.self.now n)) (sym c.number-number.ensures)
+    ∙ ap is_some (sym c.in-Some.ensures.held) in
+    ap Double c.number-number.ensures
+    ∙ sym (reply_to-held c.args.self.now c.args.finding.now (is_open (goal.at.returns-in-Some c).After-digest)
+    (agrees d) (within (goal.at.returns-in-Some c).After-found (count d)) (sym c.requires ∙ c.if-not-same.false) held)
+
+pub returns-in-None : goal.returns-in-None
+returns-in-None c =
+    let d = (goal.at.returns-in-None c).After-len in
+    let new : is_some (found_in c.args.self.now (number_of c.args.finding.now)) ≡ false =
+    ap (λ (n : ℕ). is_some (found_in c.args.self.now n)) (sym c.number-number.ensures)
+    ∙ ap is_some (sym c.in-None.ensures.held) in
+    sym (reply_to-new c.args.self.now c.args.finding.now (is_open (goal.at.returns-in-None c).After-digest) (agrees d)
+    (within (goal.at.returns-in-None c).After-found (count d)) (sym c.requires ∙ c.if-not-same.false) new)

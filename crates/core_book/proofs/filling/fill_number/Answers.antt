@@ -1,0 +1,28 @@
+use Rattle.std.proofs.Common.{◌≡◌, sym, subst, inl, refl, true, false, OnOk, rules}
+use Rattle.std.specs.Prelude.{is_some}
+use Rattle.std.specs.Arc.{arc_value}
+use Rattle.core_book.specs.Book.{found_in}
+use Rattle.core_book.specs.Filling.{IsHeldOrFiled}
+use Rattle.core_book.proofs.Fillings.{filed-for}
+use Rattle.core_book.proofs.filling.fill_number.Goals as goal
+use Rattle.core_book.proofs.filling.fill_number.Goals.{in-Ok, in-Err}
+
+pub returns-then-is_some-clause-held : goal.returns-then-is_some-clause-held
+returns-then-is_some-clause-held c =
+    let held : is_some (found_in c.args.state.now c.args.number) ≡ true = search rules in
+    inl (held, refl)
+
+pub returns-clause-held : goal.returns-clause-held
+returns-clause-held c =
+    let b = c.args.state.now in
+    let lacks : is_some (found_in b c.args.number) ≡ false = search rules in
+    elim c.match-file.branch [
+      | in-Ok w ↦
+          let f = c.in_ok-finding.finding in
+          let one : IsHeldOrFiled b c.file.new.self c.args.number =
+          filed-for b c.file.new.self f c.args.number
+          (arc_value c.args.job.now) c.requires.still_open c.in_ok-finding.ensures.digest c.in_ok-finding.ensures.number
+          c.in_ok-finding.ensures.job c.requires.job lacks w.in-Ok.ensures.after in
+          subst (λ r. OnOk r (IsHeldOrFiled b c.file.new.self c.args.number)) (sym w.result-is) one
+      | in-Err w ↦ subst (λ r. OnOk r (IsHeldOrFiled b c.file.new.self c.args.number)) (sym w.result-is) tt
+    ]

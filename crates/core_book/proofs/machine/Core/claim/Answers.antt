@@ -1,0 +1,89 @@
+use Rattle.std.proofs.Common.{◌≡◌, ◌∙◌, ◌<◌, ℕ, List, ap, sym, subst, length, set, arith, Vec, Global}
+use Rattle.std.specs.Arc.{arc_value}
+use Rattle.std.proofs.lemmas.List.{length-map, length-set, map-set}
+use Rattle.std.proofs.Math.Seq.{map-set_same}
+use Rattle.core_book.specs.Claims.{claim_draws, claim_next}
+use Rattle.core_book.specs.Core.{CoreView, IsCore, after_claim, draws_of, numbers_in}
+use Rattle.core_book.specs.CoreView.{core_view, lists_of}
+use Rattle.core_book.proofs.CoreSteps.{claim-core, drawn-at, left-claim, next-few}
+use Rattle.core_book.proofs.machine.Core.claim.Goals as goal
+use Rattle.core_book.proofs.machine.Core.claim.Goals.{After-index_mut, After-claim_from, at-After-claim_from}
+
+pub claim_from-requires : goal.claim_from-requires
+claim_from-requires c =
+    let is = c.self.invariant in
+    let seats : length (lists_of c.self.inside.draws.items) ≡ length c.self.inside.draws.items =
+    length-map c.self.inside.draws.items (λ v. v.items) in
+    omega (arith, next-few _ is.core, is.numbers, is.seats, seats)
+
+-- the seat is one of the seats, by the fields
+seated : (c : After-index_mut) → c.args.seat < length (core_view c.self.inside).draws
+seated c = subst (λ (v : CoreView). c.args.seat < length v.draws) (sym c.self.view_is) c.requires
+
+inside : (c : After-index_mut) → c.args.seat < length c.self.inside.draws.items
+inside c = omega (arith, seated c, length-map c.self.inside.draws.items (λ (v : Vec ℕ Global). v.items))
+
+count : (c : After-index_mut) → length c.jobs-count.result.now ≡ numbers_in (core_view c.self.inside)
+count c = sym (length-map c.jobs-count.result.now arc_value) ∙ ap length c.jobs-count.ensures
+
+was : (c : After-index_mut) → c.index_mut.result.now.items ≡ draws_of (core_view c.self.inside) c.args.seat
+was c = drawn-at (λ (v : Vec ℕ Global). v.items) c.self.inside.draws.items c.args.seat c.index_mut.result.now
+    (inside c) c.index_mut.ensures.value
+
+-- the lists are as before, where no memory was found
+kept : (c : After-claim_from) → c.claim_from.new.drawn.items ≡ c.index_mut.result.now.items →
+    lists_of (set c.self.inside.draws.items c.args.seat c.claim_from.new.drawn) ≡ lists_of c.self.inside.draws.items
+kept c same = map-set_same (λ (v : Vec ℕ Global). v.items) c.self.inside.draws.items c.args.seat c.claim_from.new.drawn
+    c.index_mut.result.now (same ∙ ap (λ (v : Vec ℕ Global). v.items) c.index_mut.ensures.value)
+
+abbrev with_draws : CoreView → List (List ℕ) → CoreView
+with_draws v draws = record v { draws = draws }
+
+pub invariant_of-self : goal.invariant_of-self
+invariant_of-self c =
+    let is = c.self.invariant in
+    let d = (goal.at.invariant_of-self c).After-claim_from in
+    record {
+      core = subst (λ (ds : List (List ℕ)). IsCore (with_draws (core_view c.self.inside) ds))
+          (sym (kept d c.in_default.ensures.unchanged)) is.core;
+      numbers = is.numbers;
+      seats = omega (arith, is.seats, length-set c.self.inside.draws.items c.args.seat c.claim_from.new.drawn);
+    }
+
+pub returns-in_default-clause-unchanged : goal.returns-in_default-clause-unchanged
+returns-in_default-clause-unchanged c =
+    let d = (goal.at.returns-in_default-clause-unchanged c).After-claim_from in
+    ap (with_draws (core_view c.self.inside)) (kept d c.in_default.ensures.unchanged) ∙ c.self.view_is
+
+-- what a claim leaves
+left : (c : After-claim_from) (next : ℕ) →
+    next ≡ claim_next (length c.jobs-count.result.now) c.index_mut.result.now.items c.self.inside.next
+    → c.claim_from.new.drawn.items
+    ≡ claim_draws (length c.jobs-count.result.now) c.index_mut.result.now.items c.self.inside.next
+    → record (core_view c.self.inside)
+    { next = next; draws = lists_of (set c.self.inside.draws.items c.args.seat c.claim_from.new.drawn) }
+    ≡ after_claim (core_view c.self.inside) c.args.seat
+left c next next_is drawn_is =
+    let d = (at-After-claim_from c).After-index_mut in
+    left-claim (core_view c.self.inside) c.args.seat
+    (length c.jobs-count.result.now) next c.index_mut.result.now.items c.claim_from.new.drawn.items _ (count d)
+    (was d) next_is drawn_is
+    (map-set (λ (v : Vec ℕ Global). v.items) c.self.inside.draws.items c.args.seat c.claim_from.new.drawn)
+
+pub invariant_of-self-2 : goal.invariant_of-self-2
+invariant_of-self-2 c =
+    let is = c.self.invariant in
+    let d = (goal.at.invariant_of-self-2 c).After-claim_from in
+    let e = (goal.at.invariant_of-self-2 c).After-index_mut in
+    record {
+      core = subst IsCore (sym (left d c.in-Ok.next c.in-Ok.ensures.next c.in-Ok.ensures.draws))
+          (claim-core (core_view c.self.inside) c.args.seat (seated e) is.core);
+      numbers = is.numbers;
+      seats = omega (arith, is.seats, length-set c.self.inside.draws.items c.args.seat c.claim_from.new.drawn);
+    }
+
+pub returns-clause-after : goal.returns-clause-after
+returns-clause-after c =
+    let d = (goal.at.returns-clause-after c).After-claim_from in
+    left d c.in-Ok.next c.in-Ok.ensures.next c.in-Ok.ensures.draws
+    ∙ ap (λ (v : CoreView). after_claim v c.args.seat) c.self.view_is

@@ -1,0 +1,21 @@
+-- The fields of a book, and its view
+use Rattle.std.specs.Prelude.{◌≡◌, map}
+use Rattle.std.specs.Arc.{arc_value}
+use Rattle.core_book.specs.Book.{BookView, IsBook, IsReplayed, accepted_in}
+use Rattle.core_book.specs.declared.book.BookState.TheInside.{Inside}
+
+-- the view of a book, from its fields
+abbrev pub book_view : Inside → BookView
+book_view a = record {
+  digest = a.digest;
+  jobs = map arc_value a.jobs.items;
+  findings = a.found.items;
+  closed = a.closed;
+  history = a.history.items;
+}
+
+-- the fields of every book: a book to which its history replays, with the count of its findings
+pub record IsStoredBook (a : Inside) : Type 0 where
+  pub book : IsBook (book_view a)
+  pub replayed : IsReplayed (book_view a)
+  pub counted : a.accepted ≡ accepted_in (book_view a)

@@ -1,0 +1,25 @@
+-- A claim: the next number goes to a seat, until the seat has drawn one past the numbers that there are
+use Rattle.std.specs.Prelude.{ℕ, ◌+◌, nat_lt, if◌then◌else◌, Bool, List, [], ◌∷◌, ◌++◌}
+use Rattle.core_book.specs.Draws.{end_of}
+use Rattle.core_book.specs.declared.claim.Claim.{Claim}
+use Rattle.core_book.specs.declared.claim.Claim.TheVariants.{Number, Empty}
+
+-- whether a seat's draws end with a draw of n or more
+abbrev pub has_ended : ℕ → List ℕ → Bool
+has_ended n draws = nat_lt n (end_of draws)
+
+-- a draw below n is one of the numbers
+abbrev pub claim_of_draw : ℕ → ℕ → Claim
+claim_of_draw n draw = if nat_lt draw n then Number draw else Empty
+
+-- what a claim answers, if there are n numbers, the seat drew these, and the next number is `next`
+abbrev pub claim_answer : ℕ → List ℕ → ℕ → Claim
+claim_answer n draws next = if has_ended n draws then Empty else claim_of_draw n next
+
+-- the seat's draws after it
+abbrev pub claim_draws : ℕ → List ℕ → ℕ → List ℕ
+claim_draws n draws next = if has_ended n draws then draws else draws ++ next ∷ []
+
+-- the next number after it
+abbrev pub claim_next : ℕ → List ℕ → ℕ → ℕ
+claim_next n draws next = if has_ended n draws then next else next + 1

@@ -1,0 +1,109 @@
+-- Laws of the core, over every list of events from a new one
+use Rattle.std.specs.Prelude.{◌≡◌, ◌≢◌, ◌↔◌, ℕ, ◌<◌, ◌≤◌, ◌==◌, ⊤, List, [], ◌∷◌, ◌++◌, Some, All, Contains}
+use Rattle.std.specs.List.{count_by}
+use Rattle.certificate_lines.specs.Entries.{Setting, ModuleLines}
+use Rattle.module_job.specs.Jobs.{JobView}
+use Rattle.local_run.specs.Faults.{IsLeastFault, IsLeastKeepFault}
+use Rattle.local_run.specs.Shown.{number_of, job_of, fault_of, keep_of}
+use Rattle.local_run.specs.declared.finding.Finding.{Finding}
+use Rattle.core_book.specs.Draws.{IsDrawn, times, total}
+use Rattle.core_book.specs.Book.{IsOwn, IsReplayed, found_in, reply_to}
+use Rattle.core_book.specs.Core.{CoreView, IsSeated, after_event, after_events, answer_to, new_core, numbers_in}
+use Rattle.core_book.specs.Verdicts.{IsVerdict}
+use Rattle.core_book.specs.declared.machine.Answer.TheVariants as Answered
+use Rattle.core_book.specs.declared.machine.Event.{Event}
+use Rattle.core_book.specs.declared.machine.Event.TheVariants as Events
+use Rattle.core_book.specs.declared.reply.Reply.{Reply}
+use Rattle.core_book.specs.declared.reply.Reply.TheVariants.{Closed, Stranger, Double, Accepted}
+use Rattle.core_book.specs.declared.verdict.Verdict.{Verdict}
+use Rattle.core_book.specs.declared.verdict.Verdict.TheVariants.{Yes, No}
+
+-- the core after these events from a new one
+abbrev pub core_after : List ℕ → List JobView → ℕ → List Event → CoreView
+core_after digest jobs seats events = after_events (new_core digest jobs seats) events
+
+-- ---- draws
+
+-- each number below the next is in one seat's list, once, and no other is in any
+abbrev pub DrawsEachOnce : Type 0
+DrawsEachOnce = (digest : List ℕ) (jobs : List JobView) (seats : ℕ) (events : List Event) →
+    All (IsSeated seats) events →
+    IsDrawn (core_after digest jobs seats events).next (core_after digest jobs seats events).draws
+
+-- each of the numbers is in one seat's list, once
+abbrev pub AreAllDrawn : CoreView → Type 0
+AreAllDrawn c = (number : ℕ) → number < numbers_in c → total (times number) c.draws ≡ 1
+
+-- a claim answers `Empty` only if all numbers were drawn
+abbrev pub EmptyWhereAllAreDrawn : Type 0
+EmptyWhereAllAreDrawn = (digest : List ℕ) (jobs : List JobView) (seats : ℕ) (events : List Event) (seat : ℕ) →
+    All (IsSeated seats) events → seat < seats →
+    answer_to (core_after digest jobs seats events) (Events.Claim seat) ≡ Answered.Empty →
+    AreAllDrawn (after_event (core_after digest jobs seats events) (Events.Claim seat))
+
+-- ---- findings
+
+-- the finding, if the reply to it is `Accepted`
+abbrev pub accepted_of : Finding → Reply → List Finding
+accepted_of f Accepted = f ∷ []
+accepted_of f _ = []
+
+-- the finding that an event has accepted, if it does
+abbrev pub accepted_by : CoreView → Event → List Finding
+accepted_by c (Events.Claim seat) = []
+accepted_by c (Events.File f) = accepted_of f (reply_to c.book f)
+accepted_by c (Events.Lose number) = []
+
+-- the findings that are answered `Accepted`, in their order
+abbrev pub accepted_among : CoreView → List Event → List Finding
+accepted_among c [] = []
+accepted_among c (e ∷ es) = accepted_by c e ++ accepted_among (after_event c e) es
+
+-- the findings held are those that were answered `Accepted`, each for its number
+abbrev pub HoldsWhatWasAccepted : Type 0
+HoldsWhatWasAccepted = (digest : List ℕ) (jobs : List JobView) (seats : ℕ) (events : List Event) (number : ℕ)
+    (f : Finding) →
+    (found_in (core_after digest jobs seats events).book number ≡ Some f)
+    ↔ (Contains (accepted_among (new_core digest jobs seats) events) f × (number_of f ≡ number))
+
+-- at most one for each number
+abbrev pub AcceptsOneForEach : Type 0
+AcceptsOneForEach = (digest : List ℕ) (jobs : List JobView) (seats : ℕ) (events : List Event) (number : ℕ) →
+    count_by (λ f. number_of f == number) (accepted_among (new_core digest jobs seats) events) ≤ 1
+
+-- each is of the book's job of its number, and has the least fault of that job
+abbrev pub HoldsHonestOwn : Type 0
+HoldsHonestOwn = (digest : List ℕ) (jobs : List JobView) (seats : ℕ) (events : List Event) (number : ℕ) (f : Finding) →
+    found_in (core_after digest jobs seats events).book number ≡ Some f →
+    IsOwn (core_after digest jobs seats events).book number f × IsLeastFault (job_of f) (fault_of f)
+    × IsLeastKeepFault (job_of f) (keep_of f)
+
+-- no event changes a finding that is held
+abbrev pub EventsKeepWhatIsHeld : Type 0
+EventsKeepWhatIsHeld = (c : CoreView) (e : Event) (number : ℕ) (f : Finding) → found_in c.book number ≡ Some f →
+    found_in (after_event c e).book number ≡ Some f
+
+-- no event but a filing that is answered `Accepted` changes what is held
+abbrev pub OnlyAcceptedChangesWhatIsHeld : Type 0
+OnlyAcceptedChangesWhatIsHeld =
+    (c : CoreView) (e : Event) → answer_to c e ≢ Answered.Reply Accepted →
+    (after_event c e).book.findings ≡ c.book.findings
+
+-- the history replays to the book
+abbrev pub EventsReplay : Type 0
+EventsReplay = (digest : List ℕ) (jobs : List JobView) (seats : ℕ) (events : List Event) →
+    IsReplayed (core_after digest jobs seats events).book
+
+-- ---- verdicts
+
+-- both are `Yes`, or both are `No` with the same lines
+abbrev pub SaysTheSame : Verdict → Verdict → Type 0
+SaysTheSame Yes Yes = ⊤
+SaysTheSame Yes (No lines) = ⊥
+SaysTheSame (No lines) Yes = ⊥
+SaysTheSame (No lines) (No others) = lines.items ≡ others.items
+
+-- the modules of a certificate have one verdict, whatever book it was concluded from
+abbrev pub VerdictIsOne : Type 0
+VerdictIsOne = (g : Setting) (ms : List ModuleLines) (jobs : List JobView) (v w : Verdict) → IsVerdict g ms jobs v →
+    IsVerdict g ms jobs w → SaysTheSame v w

@@ -1,0 +1,20 @@
+-- The fields of a core, and its view
+use Rattle.std.specs.Prelude.{◌≤◌, ℕ, List, length, map}
+use Rattle.std.specs.declared.vec.Vec.{Vec}
+use Rattle.std.specs.declared.alloc.Global.{Global}
+use Rattle.core_book.specs.Core.{CoreView, IsCore, numbers_in}
+use Rattle.core_book.specs.declared.machine.Core.TheInside.{Inside}
+
+-- the lists in a list of `Vec`
+abbrev pub lists_of : List (Vec ℕ Global) → List (List ℕ)
+lists_of = map (λ v. v.items)
+
+-- the view of a core, from its fields
+abbrev pub core_view : Inside → CoreView
+core_view a = record { next = a.next; draws = lists_of a.draws.items; book = a.book }
+
+-- the fields of every core: a core of at most 1024 numbers and at most 64 seats
+pub record IsStoredCore (a : Inside) : Type 0 where
+  pub core : IsCore (core_view a)
+  pub numbers : numbers_in (core_view a) ≤ 1024
+  pub seats : length a.draws.items ≤ 64

@@ -1,0 +1,12 @@
+pub mod Draws
+pub mod Claims
+pub mod Replay
+pub mod Book
+pub mod BookView
+pub mod Core
+pub mod CoreView
+pub mod Laws
+pub mod Verdicts
+pub mod Filling
+pub mod Concluding
+pub mod CoreLaws

@@ -1,8 +1,0 @@
-use Rattle.std.proofs.Common.{◌≡◌, length}
-use Rattle.std.specs.Io.KnownBytes.{Keeps}
-use Rattle.device.proofs.retrying.RetryingRead.read.Given as goal
-
--- no byte was read yet
-abbrev pub invariant-tries : goal.invariant-tries
-invariant-tries g l = (length l.buf ≡ length l.initial.buf)
-    × Keeps (g.R.Read.remaining l.initial.self.inner) (g.R.Read.remaining l.self.inner)

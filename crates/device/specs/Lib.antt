@@ -1,4 +1,0 @@
-pub mod Awaited
-pub mod Device
-pub mod Over
-pub mod Retrying

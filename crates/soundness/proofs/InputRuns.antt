@@ -1,0 +1,120 @@
+-- The run by the values of the inputs
+use Rattle.std.proofs.Common.{◌≡◌, ℕ, zero, suc, ◌+◌, ◌<◌, ◌&&◌, ◌||◌, Bool, true, false, cond, not, List, [], ◌∷◌}
+use Rattle.std.proofs.Common.{◌++◌, map, take, length, Option, Some, None, refl, sym, ap, ap₂, subst, ◌∙◌, arith, inl}
+use Rattle.std.proofs.Common.{inr}
+use Rattle.std.specs.Prelude.{ℤ, slice_get, option_map}
+use Rattle.std.specs.List.{All}
+use Rattle.std.specs.Str.{bytes_eq}
+use Rattle.std.proofs.lemmas.Bool.{cases_Bool, false≢true}
+use Rattle.std.proofs.lemmas.Option.{slice_get-map, slice_get_within, get_or_from_slice_get}
+use Rattle.std.specs.Option.{option_map_or}
+use Rattle.circuit.specs.Entries.{defined}
+use Rattle.bbm_rule.specs.Plane.{run, is_at}
+use Rattle.bbm_rule.proofs.Steps.{step_same}
+use Rattle.section_text.specs.Codes.{code_where}
+use Rattle.section_text.specs.Ports.{Named}
+use Rattle.section_text.specs.Words.{has}
+use Rattle.circuit.specs.Bridge.{circuit_of, input_names, netlist_of, output_names}
+use Rattle.circuit.specs.Meaning.{Valuation, number, place_of, wire_of}
+use Rattle.pattern.specs.Layout.{Pattern, in_cells, in_ports_on, in_rectangles, start, parts_of}
+use Rattle.pattern.specs.Lines.{name_fault}
+use Rattle.pattern.specs.declared.layout_line.LayoutLine.{LayoutLine}
+use Rattle.pattern.specs.declared.layout_line.LayoutLine.TheVariants.{Mirror, Ball, In, Out, Waste}
+use Rattle.pattern.specs.declared.layout_line.Port.{Port}
+use Rattle.certificate_lines.proofs.BoxPlaces.{skipped}
+use Rattle.certificate_lines.proofs.Lists.{kept}
+use Rattle.soundness.specs.HeadlineLaws.{InputsDecideTheRun, IsInputName, ReadLayoutHasInputNames}
+use Rattle.section_text.specs.declared.code.RefusalCode.TheVariants.{UnknownName}
+
+-- ---- input cells have the names of inputs
+
+-- a name that stands among the first k has its place there
+pub record IsPlaced (name : List ℕ) (names : List (List ℕ)) (k : ℕ) : Type 0 where
+  pub place : ℕ
+  pub is : place_of name names ≡ Some place
+  pub early : place < k
+
+first_place : (name m : List ℕ) (names : List (List ℕ)) → bytes_eq name m ≡ true → place_of name (m ∷ names) ≡ Some 0
+unfolding place_of number
+first_place name m names e = rw e refl
+
+later_place : (b : Bool) (k p : ℕ) → cond b (Some k) None ≡ Some p → cond b (Some (k + 1)) None ≡ Some (p + 1)
+later_place true k p is = ap (option_map (λ i. i + 1)) is
+later_place false k p is = absurd cc
+
+next_place : (name m : List ℕ) (names : List (List ℕ)) (p : ℕ) → bytes_eq name m ≡ false →
+    place_of name names ≡ Some p → place_of name (m ∷ names) ≡ Some (p + 1)
+unfolding place_of number
+next_place name m names p e is = rw e (later_place (has names name) (number names name) p is)
+
+pub placed : (name : List ℕ) (names : List (List ℕ)) (k : ℕ) → has (take k names) name ≡ true → IsPlaced name names k
+placed name names zero h = absurd (false≢true h)
+placed name [] (suc k) h = absurd (false≢true h)
+placed name (m ∷ names) (suc k) h = elim (cases_Bool (bytes_eq name m)) [
+  | inl e ↦ record { place = 0; is = first_place name m names e; early = omega arith }
+  | inr e ↦
+      let later : IsPlaced name names k = placed name names k (sym (ap (λ b. b || has (take k names) name) e) ∙ h) in
+      let early = later.early in
+      record {
+        place = later.place + 1;
+        is = next_place name m names later.place e later.is;
+        early = omega (arith, early);
+      }
+]
+
+no_code : (b : Bool) → code_where (not b) UnknownName ≡ None → b ≡ true
+no_code true e = refl
+no_code false e = absurd cc
+
+pub in_known : (ins outs : List (List ℕ)) (q : Port) →
+    name_fault (Some (record { ins = ins; outs = outs })) (In q) ≡ None → has ins q.name ≡ true
+unfolding name_fault
+in_known ins outs q e = no_code (has ins q.name) e
+
+-- an input cell among the lines of a layout
+pub in_stands : (p : Pattern) (i : ℕ) (q : Port) → slice_get p.ins i ≡ Some q →
+    slice_get (parts_of p) (length (map Mirror p.mirrors) + (length (map Ball p.balls) + i)) ≡ Some (In q)
+in_stands p i q e =
+    skipped (map Mirror p.mirrors) (map Ball p.balls ++ (map In p.ins ++ (map Out p.outs ++ map Waste p.wastes)))
+    (length (map Mirror p.mirrors)) (length (map Ball p.balls) + i) refl
+    ∙ skipped (map Ball p.balls) (map In p.ins ++ (map Out p.outs ++ map Waste p.wastes))
+    (length (map Ball p.balls)) i refl
+    ∙ kept (map In p.ins) (map Out p.outs ++ map Waste p.wastes) i (In q)
+    (slice_get-map In p.ins i ∙ ap (option_map In) e)
+
+pub at_place : {A : Type 0} (P : A → Type 0) (xs : List A) (k : ℕ) (a : A) → All P xs → slice_get xs k ≡ Some a → P a
+at_place P xs k a all e = subst P (get_or_from_slice_get xs k a a e) (all k a (slice_get_within xs k a e))
+
+pub read_layout-names : ReadLayoutHasInputNames
+read_layout-names lines p first named i q e =
+    let names : Named = record { ins = input_names lines; outs = output_names lines } in
+    let known = in_known (input_names lines) (output_names lines) q
+    (at_place (λ (part : LayoutLine). name_fault (Some names) part ≡ None) (parts_of p) _ (In q) named.good
+    (in_stands p i q e)) in
+    let is : IsPlaced q.name (defined lines) (netlist_of lines).given =
+    placed q.name (defined lines) _ (ap (λ (ns : List (List ℕ)). has ns q.name) first ∙ known) in
+    record { wire = is.place; named = is.is; is_given = is.early }
+
+-- ---- the run by the inputs alone
+
+same_value : (o : Option ℕ) (w : ℕ) (u v : Valuation) → o ≡ Some w → v w ≡ u w →
+    option_map_or v o false ≡ option_map_or u o false
+same_value o w u v e h = ap (λ (o : Option ℕ). option_map_or v o false) e ∙ h
+    ∙ sym (ap (λ (o : Option ℕ). option_map_or u o false) e)
+
+same_ports : (f g : List ℕ → Bool) (ports : List Port) (x y : ℤ) →
+    ((i : ℕ) (q : Port) → slice_get ports i ≡ Some q → f q.name ≡ g q.name) →
+    in_ports_on f ports x y ≡ in_ports_on g ports x y
+same_ports f g [] x y same = refl
+same_ports f g (q ∷ ports) x y same =
+    ap₂ (λ a b. (a && is_at q.cell x y) || b) (same 0 q refl) (same_ports f g ports x y (λ i r e. same (suc i) r e))
+
+pub inputs_decide : InputsDecideTheRun
+unfolding run start
+inputs_decide lines p inputs v zero x y named s =
+    ap (λ b. in_rectangles p.mirrors x y || in_cells p.balls x y || b)
+    (same_ports _ _ p.ins x y (λ i q e. let is : IsInputName lines q.name = named i q e in
+    same_value (wire_of (circuit_of lines) q.name) is.wire inputs v is.named (s.given is.wire is.is_given)))
+inputs_decide lines p inputs v (suc t) x y named s =
+    step_same t _ _ x y (inputs_decide lines p inputs v t _ _ named s) (inputs_decide lines p inputs v t _ _ named s)
+    (inputs_decide lines p inputs v t _ _ named s) (inputs_decide lines p inputs v t _ _ named s)

@@ -1,0 +1,198 @@
+-- The jobs of modules: which one has a cell, and what their signals say by the wires of the circuit
+use Rattle.std.proofs.Common.{◌≡◌, ℕ, ◌==◌, ◌++◌, ◌&&◌, Bool, true, false, List, [], ◌∷◌, Option, Some, None, refl, sym}
+use Rattle.std.proofs.Common.{ap, subst, ◌∙◌, arith, inl, inr}
+use Rattle.std.specs.Prelude.{ℤ, slice_get, unwrap_or}
+use Rattle.std.specs.List.{All, flat_map}
+use Rattle.std.proofs.lemmas.Bool.{cases_Bool, cond-false, true≢false}
+use Rattle.std.proofs.lemmas.List.Elements.{All-head, All-tail}
+use Rattle.std.proofs.lemmas.Option.{slice_get_within}
+use Rattle.bbm_rule.specs.Plane.{is_at}
+use Rattle.bbm_rule.specs.declared.block.Cell.{Cell}
+use Rattle.circuit.specs.Bridge.{circuit_of}
+use Rattle.circuit.specs.Meaning.{Circuit, Valuation}
+use Rattle.circuit.specs.declared.circuit_line.CircuitLine.{CircuitLine}
+use Rattle.pattern.specs.Layout.{Pattern}
+use Rattle.module_box.specs.Boxes.{in_box, in_ring, IsEven}
+use Rattle.module_box.specs.Locals.{LocalNet, circuit_wire}
+use Rattle.module_box.specs.LocalValues.{seen_by}
+use Rattle.module_box.specs.Schedules.{all_times_at, event_at, signal_at}
+use Rattle.module_box.specs.declared.boxes.Box2.{Box2}
+use Rattle.module_box.specs.declared.schedules.TimedSignal.{TimedSignal}
+use Rattle.module_box.specs.declared.schedules.AllTimes.{AllTimes}
+use Rattle.module_box.specs.declared.schedules.Signal.{Signal}
+use Rattle.module_box.specs.declared.schedules.Signal.TheVariants.{Zero, One, Wire}
+use Rattle.certificate_lines.specs.Entries.{ModuleLines, edges, halos}
+use Rattle.certificate_lines.specs.Settings.{setting_of}
+use Rattle.module_job.specs.Jobs.{JobView}
+use Rattle.certificate.specs.Jobs.{IsJobOf, event_by, all_times_by, line_signal, line_signals}
+use Rattle.certificate_lines.specs.Modules.{IsModule}
+use Rattle.certificate_lines.specs.Rules.{whole}
+use Rattle.module_job.specs.Signals.{is_live, Meets, renumber_signal, renumber_demand}
+use Rattle.certificate_lines.specs.declared.certificate_line.BorderLine.{BorderLine}
+use Rattle.module_job.specs.declared.job.Demand.{Demand}
+use Rattle.module_job.specs.declared.job.Demand.TheVariants as Demanded
+use Rattle.bbm_rule.proofs.SameCells.{cell_same}
+use Rattle.border_match.specs.BorderFaults.{halo_signal, edge_signal}
+use Rattle.border_match.proofs.Bridge.{halo_same, edge_same}
+use Rattle.border_match.proofs.Modules.{there, value_of}
+use Rattle.soundness.specs.HeadlineLaws.{BelongTogether}
+
+-- ---- signals by the wires of the circuit
+
+live_seen : (l : LocalNet) (v : Valuation) (s : Signal) →
+    is_live (seen_by l v) s ≡ is_live v (renumber_signal (circuit_wire l) s)
+live_seen l v Zero = refl
+live_seen l v One = refl
+live_seen l v (Wire w) = refl
+
+pub meets_for_circuit_wires : (l : LocalNet) (v : Valuation) (d : Demand) (live : Bool) → Meets (seen_by l v) d live →
+    Meets v (renumber_demand (circuit_wire l) d) live
+meets_for_circuit_wires l v Demanded.Dead live h = h
+meets_for_circuit_wires l v Demanded.Live live h = h
+meets_for_circuit_wires l v (Demanded.Wire w) live h = h
+meets_for_circuit_wires l v Demanded.Any live h = h
+
+pub live_renumbered : (l : LocalNet) (v : Valuation) (s r : Signal) → renumber_signal (circuit_wire l) s ≡ r →
+    is_live (seen_by l v) s ≡ is_live v r
+live_renumbered l v s r e = live_seen l v s ∙ ap (is_live v) e
+
+-- ---- the job of a module
+
+-- job i is that of module i
+pub record Known (lines : List CircuitLine) (p : Pattern) (ms : List ModuleLines) (i : ℕ) (j : JobView) : Type 0 where
+  pub of : ModuleLines
+  pub numbered : slice_get ms i ≡ Some of
+  pub is_job : IsJobOf (circuit_of lines) p of j
+  pub good : IsModule (setting_of lines p) of
+
+pub known_job : (lines : List CircuitLine) (p : Pattern) (ms : List ModuleLines) (jobs : List JobView) (i : ℕ)
+    (j : JobView) →
+    BelongTogether lines p ms jobs → slice_get jobs i ≡ Some j → Known lines p ms i j
+known_job lines p ms jobs i j b e =
+    let m = there ms i (let lt = slice_get_within jobs i j e in let n = b.are_jobs.count in omega (arith, lt, n)) in
+    record { of = m.0; numbered = m.1; is_job = b.are_jobs.each i m.0 j m.1 e; good = b.are_modules.each i m.0 m.1 }
+
+pub job_even : (lines : List CircuitLine) (p : Pattern) (ms : List ModuleLines) (i : ℕ) (j : JobView) →
+    Known lines p ms i j → IsEven j.area
+job_even lines p ms i j k = subst IsEven (sym k.is_job.area) k.good.even
+
+-- which job has a cell of the rectangle
+pub record Owner (lines : List CircuitLine) (p : Pattern) (ms : List ModuleLines) (jobs : List JobView)
+    (x y : ℤ) : Type 0 where
+  pub number : ℕ
+  pub job : JobView
+  pub numbered : slice_get jobs number ≡ Some job
+  pub known : Known lines p ms number job
+  pub owned : in_box job.area x y ≡ true
+
+pub owner_of : (lines : List CircuitLine) (p : Pattern) (ms : List ModuleLines) (jobs : List JobView) (x y : ℤ) →
+    BelongTogether lines p ms jobs →
+    in_box (whole p.size) x y ≡ true → Owner lines p ms jobs x y
+owner_of lines p ms jobs x y b h =
+    let c = b.are_modules.tile.covered x y h in
+    let m = value_of (λ (m : ModuleLines). m.area) ms c.0 c.1 c.2 in
+    let j = there jobs c.0 (let lt = slice_get_within ms c.0 m.0 m.1 in let n = b.are_jobs.count in
+    omega (arith, lt, n)) in
+    let k = known_job lines p ms jobs c.0 j.0 b j.1 in
+    record {
+      number = c.0;
+      job = j.0;
+      numbered = j.1;
+      known = k;
+      owned = ap (λ (a : Box2). in_box a x y) ((b.are_jobs.each c.0 m.0 j.0 m.1 j.1).area ∙ m.2) ∙ c.3;
+    }
+
+-- ---- cells that no line names
+
+and-false : (a : Bool) → (a && false) ≡ false
+and-false true = refl
+and-false false = refl
+
+one_all_times : (e : BorderLine) (time : Option ℕ) (s : Signal) (rest : List AllTimes) (x y : ℤ) →
+    is_at e.cell x y ≡ false →
+    all_times_at rest x y ≡ None →
+    all_times_at (all_times_by e time s ++ rest) x y ≡ None
+unfolding all_times_at
+one_all_times e None s rest x y h r = cond-false _ _ _ h ∙ r
+one_all_times e (Some t) s rest x y h r = r
+
+one_event : (e : BorderLine) (time : Option ℕ) (s : Signal) (rest : List TimedSignal) (t : ℕ) (x y : ℤ) →
+    is_at e.cell x y ≡ false → event_at rest t x y ≡ None →
+    event_at (event_by e time s ++ rest) t x y ≡ None
+unfolding event_at
+one_event e None s rest t x y h r = r
+one_event e (Some u) s rest t x y h r = cond-false _ _ _ (ap (λ b. (u == t) && b) h ∙ and-false (u == t)) ∙ r
+
+abbrev NamesNot : ℤ → ℤ → BorderLine → Type 0
+NamesNot x y e = is_at e.cell x y ≡ false
+
+no_all_times : (c : Circuit) (es : List BorderLine) (x y : ℤ) → All (NamesNot x y) es →
+    all_times_at (flat_map (λ e. all_times_by e e.time (line_signal c e.signal)) es) x y ≡ None
+unfolding all_times_at
+no_all_times c [] x y all = refl
+no_all_times c (e ∷ es) x y all =
+    one_all_times e e.time (line_signal c e.signal) _ x y (All-head (NamesNot x y) e es all)
+    (no_all_times c es x y (All-tail (NamesNot x y) e es all))
+
+no_event : (c : Circuit) (es : List BorderLine) (t : ℕ) (x y : ℤ) → All (NamesNot x y) es →
+    event_at (flat_map (λ e. event_by e e.time (line_signal c e.signal)) es) t x y ≡ None
+unfolding event_at
+no_event c [] t x y all = refl
+no_event c (e ∷ es) t x y all =
+    one_event e e.time (line_signal c e.signal) _ t x y (All-head (NamesNot x y) e es all)
+    (no_event c es t x y (All-tail (NamesNot x y) e es all))
+
+pub no_signal : (c : Circuit) (es : List BorderLine) (t : ℕ) (x y : ℤ) → All (NamesNot x y) es →
+    signal_at (line_signals c es) t x y ≡ Zero
+unfolding signal_at
+no_signal c es t x y all =
+    ap (λ (o : Option Signal). unwrap_or o (unwrap_or (event_at (line_signals c es).events t x y) Zero))
+    (no_all_times c es x y all)
+    ∙ ap (λ (o : Option Signal). unwrap_or o Zero) (no_event c es t x y all)
+
+pub other_cell : (c : Cell) (x y : ℤ) → (c ≡ record { x = x; y = y } → ⊥) → is_at c x y ≡ false
+other_cell c x y f = elim (cases_Bool (is_at c x y)) [
+  | inl h ↦ absurd (f (cell_same c (record { x = x; y = y }) h))
+  | inr h ↦ h
+]
+
+-- no edge is on the rim of the rectangle
+pub rim_edge_dead : (lines : List CircuitLine) (p : Pattern) (ms : List ModuleLines) (i : ℕ) (j : JobView)
+    (v : Valuation)
+    (t : ℕ) (x y : ℤ) →
+    Known lines p ms i j → in_ring (whole p.size) x y ≡ true →
+    is_live (seen_by j.locals v) (signal_at j.edges t x y) ≡ false
+rim_edge_dead lines p ms i j v t x y k rim =
+    live_renumbered j.locals v (signal_at j.edges t x y) Zero
+    (edge_same lines p k.of j t x y k.is_job
+    ∙ no_signal (circuit_of lines) (edges k.of) t x y
+    (λ n d lt. other_cell _ x y (λ same.
+    true≢false (sym rim ∙ ap (λ (c : Cell). in_ring (whole p.size) c.x c.y) (sym same)
+    ∙ (k.good.edge_lines n d lt).rim))))
+
+-- no halo line is outside the rectangle
+pub outer_halo_dead : (lines : List CircuitLine) (p : Pattern) (ms : List ModuleLines) (i : ℕ) (j : JobView)
+    (v : Valuation)
+    (t : ℕ) (x y : ℤ) →
+    Known lines p ms i j → in_box (whole p.size) x y ≡ false →
+    is_live (seen_by j.locals v) (signal_at j.halos t x y) ≡ false
+outer_halo_dead lines p ms i j v t x y k out =
+    live_renumbered j.locals v (signal_at j.halos t x y) Zero
+    (halo_same lines p k.of j t x y k.is_job
+    ∙ no_signal (circuit_of lines) (halos k.of) t x y
+    (λ n d lt. other_cell _ x y (λ same.
+    true≢false (sym (k.good.halo_lines n d lt).inside ∙ ap (λ (c : Cell). in_box (whole p.size) c.x c.y) same ∙ out))))
+
+pub edge_by_circuit : (lines : List CircuitLine) (p : Pattern) (ms : List ModuleLines) (i : ℕ) (j : JobView)
+    (v : Valuation)
+    (t : ℕ) (x y : ℤ) → (k : Known lines p ms i j) →
+    is_live (seen_by j.locals v) (signal_at j.edges t x y) ≡ is_live v (edge_signal (circuit_of lines) k.of t x y)
+edge_by_circuit lines p ms i j v t x y k =
+    live_renumbered j.locals v (signal_at j.edges t x y) _ (edge_same lines p k.of j t x y k.is_job)
+
+pub halo_by_circuit : (lines : List CircuitLine) (p : Pattern) (ms : List ModuleLines) (i : ℕ) (j : JobView)
+    (v : Valuation)
+    (t : ℕ) (x y : ℤ) → (k : Known lines p ms i j) →
+    is_live (seen_by j.locals v) (signal_at j.halos t x y) ≡ is_live v (halo_signal (circuit_of lines) k.of t x y)
+halo_by_circuit lines p ms i j v t x y k =
+    live_renumbered j.locals v (signal_at j.halos t x y) _ (halo_same lines p k.of j t x y k.is_job)

@@ -1,0 +1,327 @@
+-- From modules with halo lines to modules without
+use Rattle.std.proofs.Common.{◌≡◌, ℕ, ◌<◌, ◌≤◌, ◌%◌, ◌==◌, ◌∷◌, ℤ, Bool, true, false, not, List, [], map, length}
+use Rattle.std.proofs.Common.{Option, Some, None, refl, sym, ap, subst, ◌∙◌, inl, inr, arith}
+use Rattle.std.specs.Prelude.{slice_get, slice_index, slice_index_or, nat_lt, IsTrue, IfSome}
+use Rattle.std.specs.List.{All, list_any}
+use Rattle.std.proofs.lemmas.Bool.{cases_Bool, true≢false}
+use Rattle.std.proofs.lemmas.Bool.Decides.{nat_tests}
+use Rattle.std.proofs.lemmas.Option.{slice_get-get_or, slice_get_within}
+use Rattle.std.proofs.lemmas.List.{length-map}
+use Rattle.bbm_rule.specs.declared.block.Cell.{Cell}
+use Rattle.circuit.specs.Bridge.{circuit_of}
+use Rattle.circuit.specs.Meaning.{Circuit, wire_of, wires}
+use Rattle.circuit.specs.declared.circuit_line.CircuitLine.{CircuitLine}
+use Rattle.pattern.specs.Layout.{Pattern}
+use Rattle.module_box.specs.Boxes.{in_box, in_halo}
+use Rattle.module_box.specs.Locals.{AreDifferent, circuit_wire, is_among}
+use Rattle.module_box.specs.Schedules.{signal_at}
+use Rattle.module_box.specs.declared.boxes.Box2.{Box2}
+use Rattle.module_box.specs.declared.schedules.Signal.{Signal}
+use Rattle.module_box.specs.declared.schedules.Signal.TheVariants.{Zero, One, Wire}
+use Rattle.certificate_lines.specs.Entries.{Setting, ModuleLines, edges, halos, stops, known, modules_of}
+use Rattle.certificate_lines.specs.Settings.{setting_of}
+use Rattle.module_job.specs.Jobs.{JobView, job_demand, job_start}
+use Rattle.certificate.specs.Jobs.{IsJobOf, AreJobsOf, line_signal, line_signals, line_stops, signal_of}
+use Rattle.certificate_lines.specs.Modules.{AreModules, IsModule}
+use Rattle.certificate_lines.specs.Rules.{is_local, is_local_wire, whole}
+use Rattle.module_job.specs.Signals.{IsBelow, renumber_signal, renumber_signals}
+use Rattle.certificate.specs.Times.{are_all_obeyed, first_seen, last_seen, lines_by}
+use Rattle.certificate_lines.specs.Versions.{edge_lines_beside, is_haloless, is_strange, lacks_wire, with_halos}
+use Rattle.certificate_lines.specs.declared.certificate_line.BorderLine.{BorderLine}
+use Rattle.certificate.proofs.FullModules.{edge_cell, edge_of, edges_rising, full_cuts, full_gates, full_keeps}
+use Rattle.certificate.proofs.FullModules.{full_edges, full_stops, full_known, full_modules, in_beside, mapped_at}
+use Rattle.certificate.proofs.FullModules.{mapped_from, meant_old}
+use Rattle.certificate_lines.proofs.InList.{placed}
+use Rattle.certificate.proofs.HaloSignals.{halo_is_edge_beside}
+use Rattle.certificate_lines.proofs.LineOrder.{In, in_flat}
+use Rattle.certificate.proofs.LineSignals.{SaysAt, line_said}
+use Rattle.certificate.proofs.MeantLines.{kept_of_all, stops_of_all}
+use Rattle.certificate.proofs.StopLemmas.{stops_stand}
+use Rattle.certificate_lines.proofs.Lists.{any_at}
+use Rattle.certificate.proofs.Migrated.{migrated_modules, section_modules, section_without_halos}
+use Rattle.local_run.specs.Faults.{IsFault, IsKeepFault}
+use Rattle.local_run.specs.Laws.{SayTheSame}
+use Rattle.local_run.specs.declared.fault.Fault.{Fault}
+use Rattle.local_run.specs.declared.fault.KeepFault.{KeepFault}
+use Rattle.soundness.proofs.ModuleJobs.{one_job, signal_back}
+use Rattle.local_run.proofs.OwnWires.{halo_below}
+use Rattle.local_run.proofs.SameHalos.{same_halos_agree}
+use Rattle.border_match.specs.BorderFaults.{edge_signal, halo_signal}
+use Rattle.border_match.proofs.Haloless.{haloless_match}
+use Rattle.border_match.proofs.Modules.{there}
+use Rattle.border_match.proofs.Bridge.{halo_same}
+use Rattle.border_match.proofs.SameSignals.{not_different}
+use Rattle.soundness.specs.MigrationLaws.{AcceptedWithoutHalos, IsAcceptedWithout, MigrationIsAccepted}
+use Rattle.core_book.specs.Concluding.{modules, setting}
+use Rattle.core_book.specs.Verdicts.{Accepts}
+use Rattle.soundness.proofs.JobSignals.{no_signal, other_cell}
+
+one_less : (n : ℕ) → nat_lt 1 n ≡ true → 1 < n
+one_less n h = grind (arith, nat_tests)
+
+none_any : {A : Type 0} (test : A → Bool) (xs : List A) → ((x : A) → In x xs → test x ≡ false) →
+    list_any test xs ≡ false
+unfolding In
+none_any test [] h = refl
+none_any test (x ∷ xs) h = rw (h x (inl refl), none_any test xs (λ y i. h y (inr i))) refl
+
+-- a local name is that of a wire
+local_wire_of : (c : Circuit) (local name : List ℕ) → is_local c local name ≡ true → (w : ℕ) × (wire_of c name ≡ Some w)
+local_wire_of c local name h = by (wire_of c name) refl
+  where
+    by : (o : Option ℕ) → wire_of c name ≡ o → (w : ℕ) × (wire_of c name ≡ Some w)
+    by None e = absurd (true≢false (sym h ∙ ap (is_local_wire local) e))
+    by (Some w) e = (w, e)
+
+-- the wire that stands for a wire by other numbers
+wire_behind : (f : ℕ → ℕ) (n : ℕ) (s : Signal) (w : ℕ) → IsBelow n s → renumber_signal f s ≡ Wire w →
+    (i : ℕ) × (i < n) × (f i ≡ w)
+wire_behind f n Zero w b e = absurd cc
+wire_behind f n One w b e = absurd cc
+wire_behind f n (Wire i) w b e = (i, b, ap named e)
+  where
+    named : Signal → ℕ
+    named Zero = 0
+    named One = 0
+    named (Wire v) = v
+
+same_number : (a b : ℕ) → a ≡ b → (a == b) ≡ true
+same_number a b e = grind arith
+
+among_at : (ws : List ℕ) (i w : ℕ) → i < length ws → slice_index ws i ≡ w → is_among ws w ≡ true
+among_at ws i w lt e = any_at (λ v. v == w) ws i (slice_index ws i) (slice_get-get_or ws i 0 lt)
+    (same_number (slice_index ws i) w e)
+
+module _ (lines : List CircuitLine) (p : Pattern) (ms : List ModuleLines) (jobs : List JobView)
+    (good : AreModules (setting_of lines p) ms) (own : AreJobsOf (circuit_of lines) p ms jobs)
+    (ok : Accepts (setting_of lines p) ms jobs) where
+  abbrev g : Setting
+  g = setting_of lines p
+
+  abbrev c : Circuit
+  c = circuit_of lines
+
+  -- what a halo line says is what the edge line of the owner says
+  halo_is_edge : (i k : ℕ) (m owner : ModuleLines) (t : ℕ) (x y : ℤ) → slice_get ms i ≡ Some m →
+      slice_get ms k ≡ Some owner → t % 2 ≡ 1 → t < p.size.steps →
+      in_halo m.area x y ≡ true → in_box owner.area x y ≡ true → halo_signal c m t x y ≡ edge_signal c owner t x y
+  halo_is_edge i k m owner t x y at numbered odd early halo owned =
+      not_different (halo_signal c m t x y) (edge_signal c owner t x y)
+      (λ differ. ok.no_border_fault i (record { time = t; cell = record { x = x; y = y } }) (record {
+        odd = odd;
+        early = early;
+        inside = good.tile.inside x y k owner.area (mapped_at (λ (m : ModuleLines). m.area) ms k owner numbered) owned;
+        lines = m;
+        numbered = at;
+        halo = halo;
+        owner_number = k;
+        owner = owner;
+        owner_numbered = numbered;
+        owned = owned;
+        differ = differ;
+      }))
+
+  -- ---- the wires of the edge lines beside a module are local in it
+
+  the_job : (i : ℕ) (m : ModuleLines) → slice_get ms i ≡ Some m → (j : JobView) × (slice_get jobs i ≡ Some j)
+  the_job i m at = there jobs i (let lt = slice_get_within ms i m at in let n = own.count in omega (arith, lt, n))
+
+  -- a wire that the halo of a job is said to carry is local in the module
+  halo_names : (i : ℕ) (m : ModuleLines) (t : ℕ) (x y : ℤ) (w : ℕ) → slice_get ms i ≡ Some m →
+      halo_signal c m t x y ≡ Wire w → is_among (known c m) w ≡ true
+  halo_names i m t x y w at e =
+      let j = the_job i m at in
+      let is = own.each i m j.0 at j.1 in
+      let named = wire_behind (circuit_wire j.0.locals) (wires j.0.locals.netlist) (signal_at j.0.halos t x y) w
+      (halo_below j.0 t x y is.own) (halo_same lines p m j.0 t x y is ∙ e) in
+      subst (λ ws. is_among ws w ≡ true) is.wires
+      (among_at j.0.locals.circuit_wires named.0 w
+      (let lt = named.1 in let n = is.locals.sized in omega (arith, lt, n)) named.2)
+
+  time_of : (e : BorderLine) → IfSome e.time (λ t. (t % 2 ≡ 1) × (t < p.size.steps)) → 1 < p.size.steps →
+      (t : ℕ) × SaysAt t e.time × (t % 2 ≡ 1) × (t < p.size.steps)
+  time_of e odd long = by e.time odd
+    where
+      by : (time : Option ℕ) → IfSome time (λ t. (t % 2 ≡ 1) × (t < p.size.steps)) →
+          (t : ℕ) × SaysAt t time × (t % 2 ≡ 1) × (t < p.size.steps)
+      by None odd = (1, tt, omega arith, long)
+      by (Some t) odd = (t, refl, odd.0, odd.1)
+
+  named_local : (i : ℕ) (m : ModuleLines) (e : BorderLine) (s : Option (List ℕ)) → slice_get ms i ≡ Some m →
+      In e (edge_lines_beside g ms m.area) → e.signal ≡ s → is_strange c (known c m) s ≡ false
+  named_local i m e None at i_beside is = refl
+  named_local i m e (Some name) at i_beside is =
+      let b = in_beside g ms good m.area e i_beside in
+      let n = in_flat edges e ms b.2 in
+      let k = placed n.0 ms n.1 in
+      let edge = edge_of g ms good n.0 e n.1 n.2 in
+      let wire = local_wire_of c (known c n.0) name
+      (subst (λ s. IfSome s (λ name. IsTrue (is_local c (known c n.0) name))) is edge.border.signal) in
+      let t = time_of e edge.border.time (one_less p.size.steps b.0) in
+      let said : edge_signal c n.0 t.0 e.cell.x e.cell.y ≡ Wire wire.0 =
+      line_said c e t.0 (edges n.0) t.1 (edges_rising n.0.lines (good.each k.0 n.0 k.1).order)
+      (good.each k.0 n.0 k.1).unstarred n.2
+      ∙ ap (line_signal c) is ∙ ap signal_of wire.1 in
+      let halo : halo_signal c m t.0 e.cell.x e.cell.y ≡ Wire wire.0 =
+      halo_is_edge i k.0 m n.0 t.0 e.cell.x e.cell.y at k.1 t.2 t.3 b.1 (edge_cell g ms good n.0 e n.1 n.2) ∙ said in
+      ap not (ap (is_local_wire (known c m)) wire.1 ∙ halo_names i m t.0 e.cell.x e.cell.y wire.0 at halo)
+
+  no_strange : lacks_wire g ms ≡ false
+  unfolding lacks_wire
+  no_strange = none_any (λ m. list_any (λ e. is_strange c (known c m) e.signal) (edge_lines_beside g ms m.area)) ms
+      (λ m i.
+      none_any (λ e. is_strange c (known c m) e.signal) (edge_lines_beside g ms m.area) (λ e j.
+      let k = placed m ms i in
+      named_local k.0 m e e.signal k.1 j refl))
+
+  -- ---- the job of a module, and that of the module with the edge lines beside it
+
+  full_is : AreModules g (map (with_halos g ms) ms)
+  full_is = full_modules g ms good no_strange
+
+  none_outside : (m : ModuleLines) → IsModule g m → (t : ℕ) (x y : ℤ) → in_box (whole p.size) x y ≡ false →
+      halo_signal c m t x y ≡ Zero
+  none_outside m is t x y out =
+      no_signal c (halos m) t x y (λ n d lt.
+      other_cell _ x y (λ same. true≢false
+      (sym (is.halo_lines n d lt).inside ∙ ap (λ (c : Cell). in_box (whole p.size) c.x c.y) same ∙ out)))
+
+  module _ (i : ℕ) (m : ModuleLines) (j k : JobView) (at : slice_get ms i ≡ Some m) (of_j : IsJobOf c p m j)
+      (of_k : IsJobOf c p (with_halos g ms m) k) where
+    abbrev full : ModuleLines
+    full = with_halos g ms m
+
+    same_wires : k.locals.circuit_wires ≡ j.locals.circuit_wires
+    same_wires = of_k.wires ∙ full_known g ms good m ∙ sym of_j.wires
+
+    many : wires j.locals.netlist ≡ wires k.locals.netlist
+    many = sym of_j.locals.sized ∙ ap length (sym same_wires) ∙ of_k.locals.sized
+
+    -- the second job with the halos of the first
+    abbrev between : JobView
+    between = record k { halos = j.halos }
+
+    of_between : IsJobOf c p m between
+    unfolding with_halos job_start job_demand
+    of_between = record {
+      area = of_k.area;
+      steps = of_k.steps;
+      locals = of_k.locals;
+      cut = of_k.cut ∙ ap length (full_cuts g ms good m);
+      wires = of_k.wires ∙ full_known g ms good m;
+      used = of_k.used ∙ full_gates g ms good m;
+      start_count = of_k.start_count;
+      demand_count = of_k.demand_count;
+      start = of_k.start;
+      demand = of_k.demand;
+      edges = of_k.edges ∙ ap (line_signals c) (full_edges g ms good m);
+      halos = ap (λ ws. renumber_signals (slice_index ws) j.halos) same_wires ∙ of_j.halos;
+      own = record {
+        starts = of_k.own.starts;
+        demands = of_k.own.demands;
+        edge_all_times = of_k.own.edge_all_times;
+        edge_events = of_k.own.edge_events;
+        halo_all_times = subst (λ n. All (λ h. IsBelow n h.signal) j.halos.all_times) many of_j.own.halo_all_times;
+        halo_events = subst (λ n. All (λ e. IsBelow n e.signal) j.halos.events) many of_j.own.halo_events;
+        stops = of_k.own.stops;
+      };
+      stops = of_k.stops ∙ ap (line_stops c) (full_stops g ms good m);
+      kept = of_k.kept ∙ full_keeps g ms good m;
+      kept_are_used = of_k.kept_are_used;
+    }
+
+    -- the stops of the second job are at times up to the last one
+    early_stops : All (λ s. s.at.time ≤ k.steps) k.stops
+    early_stops = stops_stand (λ q. q.time ≤ k.steps) c k.locals (stops full) k.stops
+        (record { same = of_k.stops; own = of_k.own.stops })
+        (λ n d lt. subst (λ steps. (slice_index_or (stops full) n d).time ≤ steps) (sym of_k.steps)
+        ((full_is.each i full (mapped_at (with_halos g ms) ms i m at)).stop_lines n d lt).time)
+
+    same_halo : (t : ℕ) (x y : ℤ) → t % 2 ≡ 1 → t < p.size.steps → in_halo m.area x y ≡ true →
+        halo_signal c full t x y ≡ halo_signal c m t x y
+    same_halo t x y odd early halo = elim (cases_Bool (in_box (whole p.size) x y)) [
+      | inl inside ↦
+          let b = good.tile.covered x y inside in
+          let n = mapped_from (λ (m : ModuleLines). m.area) ms b.0 b.1 b.2 in
+          let owned : in_box n.0.area x y ≡ true = ap (λ (a : Box2). in_box a x y) n.2 ∙ b.3 in
+          halo_is_edge_beside g ms good i b.0 m n.0 t x y at n.1 odd early halo owned
+          ∙ sym (halo_is_edge i b.0 m n.0 t x y at n.1 odd early halo owned)
+      | inr outside ↦
+          none_outside full (full_is.each i full (mapped_at (with_halos g ms) ms i m at)) t x y outside
+          ∙ sym (none_outside m (good.each i m at) t x y outside)
+    ]
+
+    say_the_same : SayTheSame k j.halos
+    unfolding with_halos
+    say_the_same t x y odd early halo =
+        let ws = k.locals.circuit_wires in
+        let different : AreDifferent ws =
+        subst AreDifferent (sym (of_k.wires ∙ full_known g ms good m)) (good.each i m at).local.different in
+        let below_k : IsBelow (length ws) (signal_at k.halos t x y) =
+        subst (λ n. IsBelow n (signal_at k.halos t x y)) (sym of_k.locals.sized) (halo_below k t x y of_k.own) in
+        let below_j : IsBelow (length ws) (signal_at j.halos t x y) =
+        subst (λ n. IsBelow n (signal_at j.halos t x y)) (sym of_j.locals.sized ∙ ap length (sym same_wires))
+        (halo_below j t x y of_j.own) in
+        signal_back ws different (signal_at k.halos t x y) (signal_at j.halos t x y) below_k below_j
+        (halo_same lines p full k t x y of_k
+        ∙ same_halo t x y odd (subst (λ n. t < n) of_k.steps early)
+        (ap (λ (a : Box2). in_halo a x y) (sym of_k.area) ∙ halo)
+        ∙ sym (halo_same lines p m j t x y of_j)
+        ∙ ap (λ w. renumber_signal (slice_index w) (signal_at j.halos t x y)) (sym same_wires))
+
+    -- with the halos of the first job the second is the first
+    between_is : between ≡ j
+    between_is = one_job c p m between j (good.each i m at).local.different of_between of_j
+
+    fault_kept : (f : Fault) → IsFault k f → IsFault j f
+    fault_kept f is = subst (λ (l : JobView). IsFault l f) between_is
+        (same_halos_agree k j.halos f early_stops say_the_same is)
+
+    keep_fault_kept : (f : KeepFault) → IsKeepFault k f → IsKeepFault j f
+    keep_fault_kept f is = subst (λ (l : JobView). IsKeepFault l f) between_is
+        (record { in_range = is.in_range; is_kept = is.is_kept; shown = is.shown })
+
+  pub accepted_without : IsAcceptedWithout lines p ms
+  accepted_without = record {
+    complete = no_strange;
+    accepted = λ others are. record {
+      no_fault = λ number k f at is.
+          let m = there ms number (let lt = slice_get_within others number k at in let n = are.count in let l =
+          length-map ms (with_halos g ms) in omega (arith, lt, n, l)) in
+          let j = the_job number m.0 m.1 in
+          ok.no_fault number j.0 f j.1 (fault_kept number m.0 j.0 k m.1 (own.each number m.0 j.0 m.1 j.1)
+          (are.each number (with_halos g ms m.0) k (mapped_at (with_halos g ms) ms number m.0 m.1) at) f is);
+      no_border_fault = λ number f. haloless_match g ms good number f;
+      no_keep_fault = λ number k f at is.
+          let m = there ms number (let lt = slice_get_within others number k at in let n = are.count in let l =
+          length-map ms (with_halos g ms) in omega (arith, lt, n, l)) in
+          let j = the_job number m.0 m.1 in
+          ok.no_keep_fault number j.0 f j.1
+          (keep_fault_kept number m.0 j.0 k m.1 (own.each number m.0 j.0 m.1 j.1)
+          (are.each number (with_halos g ms m.0) k (mapped_at (with_halos g ms) ms number m.0 m.1) at) f is);
+      kept = λ number gate at inverse. kept_of_all g ms ms number ∙ ok.kept number gate at inverse;
+      on_time = subst (λ ss. IsTrue (are_all_obeyed (lines_by (first_seen c ss) (last_seen c ss) c.netlist.gates)))
+          (sym (stops_of_all g ms ms)) ok.on_time;
+    };
+  }
+
+pub without_halos_accepted : AcceptedWithoutHalos
+without_halos_accepted lines p ms jobs good own ok = accepted_without lines p ms jobs good own ok
+
+-- ---- certificates
+
+pub migration_accepted : MigrationIsAccepted
+migration_accepted s jobs one section own ok =
+    let ms = modules_of s.entries in
+    let same : modules s ≡ ms = meant_old s.version (setting s) ms (ap is_haloless one) in
+    let good : AreModules (setting s) ms = section_modules (setting s) 1 s.entries section in
+    let a = without_halos_accepted s.circuit s.layout ms jobs good
+    (subst (λ ns. AreJobsOf (circuit_of s.circuit) s.layout ns jobs) same own)
+    (subst (λ ns. Accepts (setting s) ns jobs) same ok) in
+    record {
+      section = section_without_halos (setting s) s.entries section a.complete;
+      accepted = λ others are. subst (λ ns. Accepts (setting s) ns others)
+          (sym (migrated_modules (setting s) s.entries))
+          (a.accepted others (subst (λ ns. AreJobsOf (circuit_of s.circuit) s.layout ns others)
+          (migrated_modules (setting s) s.entries) are));
+    }

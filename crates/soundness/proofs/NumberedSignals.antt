@@ -1,0 +1,114 @@
+-- The wires that signals name, by their places in a list of wires
+use Rattle.std.proofs.Common.{◌≡◌, ℕ, suc, ◌<◌, ◌==◌, Bool, true, false, if◌then◌else◌, List, [], ◌∷◌, ◌++◌}
+use Rattle.std.proofs.Common.{map, length, Option, Some, None, refl, ap, ap₂, arith}
+use Rattle.std.specs.Prelude.{◌||◌, slice_index, IsTrue, IfSome}
+use Rattle.std.proofs.lemmas.Bool.{false≢true}
+use Rattle.std.proofs.lemmas.Bool.Decides.{nat_tests}
+use Rattle.circuit.specs.Meaning.{Circuit, wire_of}
+use Rattle.module_box.specs.Locals.{is_among}
+use Rattle.module_box.specs.Schedules.{Signals}
+use Rattle.module_box.specs.declared.schedules.TimedSignal.{TimedSignal}
+use Rattle.module_box.specs.declared.schedules.AllTimes.{AllTimes}
+use Rattle.module_box.specs.declared.schedules.Signal.{Signal}
+use Rattle.module_box.specs.declared.schedules.Signal.TheVariants.{Zero, One, Wire}
+use Rattle.certificate.specs.Jobs.{event_by, all_times_by, line_signal, line_signals, signal_of}
+use Rattle.certificate_lines.specs.Rules.{is_local, is_local_wire}
+use Rattle.module_job.specs.Signals.{IsBelow, renumber_event, renumber_all_times, renumber_signal}
+use Rattle.certificate_lines.specs.declared.certificate_line.BorderLine.{BorderLine}
+use Rattle.certificate_lines.proofs.Pairs.{Each}
+
+-- ---- the number of a wire in a list of wires
+
+unfoldable pub place_among : List ℕ → ℕ → ℕ
+place_among [] w = 0
+place_among (v ∷ ws) w = if v == w then 0 else suc (place_among ws w)
+
+pub record IsPlace (ws : List ℕ) (w i : ℕ) : Type 0 where
+  pub below : i < length ws
+  pub there : slice_index ws i ≡ w
+
+same_number : (v w : ℕ) → (v == w) ≡ true → v ≡ w
+same_number v w e = grind (arith, nat_tests)
+
+place_step : (v w : ℕ) (ws : List ℕ) (b : Bool) → (v == w) ≡ b → (b || is_among ws w) ≡ true →
+    (is_among ws w ≡ true → IsPlace ws w (place_among ws w))
+    → IsPlace (v ∷ ws) w (if b then 0 else suc (place_among ws w))
+place_step v w ws true same e more = record { below = omega arith; there = same_number v w same }
+place_step v w ws false other e more = let p = more e in record {
+  below = let b = p.below in omega
+      (arith, b);
+  there = p.there;
+}
+
+pub is_place : (ws : List ℕ) (w : ℕ) → is_among ws w ≡ true → IsPlace ws w (place_among ws w)
+unfolding place_among
+is_place [] w e = absurd (false≢true e)
+is_place (v ∷ ws) w e = place_step v w ws (v == w) refl e (is_place ws w)
+
+-- a signal over those wires
+unfoldable pub numbered : List ℕ → Signal → Signal
+numbered ws Zero = Zero
+numbered ws One = One
+numbered ws (Wire w) = Wire (place_among ws w)
+
+pub record IsNumbered (ws : List ℕ) (s : Signal) : Type 0 where
+  pub back : renumber_signal (slice_index ws) (numbered ws s) ≡ s
+  pub below : IsBelow (length ws) (numbered ws s)
+
+-- ---- the signals of lines that name local wires
+
+module _ (c : Circuit) (ws : List ℕ) where
+  abbrev pub IsNamed : BorderLine → Type 0
+  IsNamed e = IfSome e.signal (λ name. IsTrue (is_local c ws name))
+
+  pub wire_numbered : (o : Option ℕ) → is_local_wire ws o ≡ true → IsNumbered ws (signal_of o)
+  unfolding numbered
+  wire_numbered None h = absurd (false≢true h)
+  wire_numbered (Some w) h = let p = is_place ws w h in record { back = ap (λ v. Wire v) p.there; below = p.below }
+
+  pub signal_numbered : (s : Option (List ℕ)) → IfSome s (λ name. IsTrue (is_local c ws name)) →
+      IsNumbered ws (line_signal c s)
+  unfolding numbered
+  signal_numbered None h = record { back = refl; below = tt }
+  signal_numbered (Some name) h = wire_numbered (wire_of c name) h
+
+  unfoldable pub numbered_all_times : AllTimes → AllTimes
+  numbered_all_times h = record h { signal = numbered ws h.signal }
+
+  unfoldable pub numbered_event : TimedSignal → TimedSignal
+  numbered_event e = record e { signal = numbered ws e.signal }
+
+  -- what lines say, over those wires
+  unfoldable pub numbered_signals : Signals → Signals
+  numbered_signals s = record { all_times = map numbered_all_times s.all_times; events = map numbered_event s.events }
+
+  -- what one line says comes back, and names no other wires
+  pub record IsBack (hs : List AllTimes) (es : List TimedSignal) : Type 0 where
+    pub all_times : map (renumber_all_times (slice_index ws)) (map numbered_all_times hs) ≡ hs
+    pub events : map (renumber_event (slice_index ws)) (map numbered_event es) ≡ es
+    pub all_times_below : Each (λ h. IsBelow (length ws) h.signal) (map numbered_all_times hs)
+    pub events_below : Each (λ e. IsBelow (length ws) e.signal) (map numbered_event es)
+
+  back_from : (e : BorderLine) (time : Option ℕ) (s : Signal) (hs : List AllTimes) (es : List TimedSignal) →
+      IsNumbered ws s →
+      IsBack hs es → IsBack (all_times_by e time s ++ hs) (event_by e time s ++ es)
+  unfolding numbered_all_times numbered_event Each
+  back_from e None s hs es is more = record {
+    all_times = ap₂ (λ a l. record { cell = e.cell; signal = a } ∷ l) is.back more.all_times;
+    events = more.events;
+    all_times_below = (is.below, more.all_times_below);
+    events_below = more.events_below;
+  }
+  back_from e (Some t) s hs es is more = record {
+    all_times = more.all_times;
+    events = ap₂ (λ a l. record { at = record { time = t; cell = e.cell }; signal = a } ∷ l) is.back more.events;
+    all_times_below = more.all_times_below;
+    events_below = (is.below, more.events_below);
+  }
+
+  pub lines_back : (es : List BorderLine) → Each IsNamed es →
+      IsBack (line_signals c es).all_times (line_signals c es).events
+  unfolding Each
+  lines_back [] h = record { all_times = refl; events = refl; all_times_below = tt; events_below = tt }
+  lines_back (e ∷ es) h = back_from e e.time (line_signal c e.signal) _ _ (signal_numbered e.signal h.0)
+      (lines_back es h.1)

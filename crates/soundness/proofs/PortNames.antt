@@ -1,0 +1,151 @@
+-- The ports of a layout that was read have the names that were given, and each of these has a port
+use Rattle.std.proofs.Common.{◌≡◌, ℕ, suc, ◌||◌, Bool, true, false, not, List, [], ◌∷◌, ◌++◌, ◌+◌, length, map, Some}
+use Rattle.std.proofs.Common.{None, refl, sym, ap, ap₂, subst, ◌∙◌, inl, inr}
+use Rattle.std.specs.Prelude.{slice_get, option_map}
+use Rattle.std.specs.List.{list_any, list_all}
+use Rattle.std.specs.Str.{bytes_eq}
+use Rattle.std.proofs.lemmas.Bool.{and_parts, cases_Bool, false≢true}
+use Rattle.std.proofs.lemmas.Slice.Eq.{bytes_eq-Decides}
+use Rattle.std.proofs.lemmas.List.Folds.{list_any-append}
+use Rattle.std.proofs.lemmas.Option.{slice_get-map}
+use Rattle.section_text.specs.Codes.{code_where}
+use Rattle.section_text.specs.Ports.{Named}
+use Rattle.section_text.specs.Words.{has}
+use Rattle.circuit.specs.Bridge.{input_names, output_names}
+use Rattle.pattern.specs.Layout.{Pattern, parts_of}
+use Rattle.pattern.specs.Lines.{is_in, is_out, missing_fault, name_fault}
+use Rattle.pattern.specs.declared.layout_line.LayoutLine.{LayoutLine}
+use Rattle.pattern.specs.declared.layout_line.LayoutLine.TheVariants.{Mirror, Ball, In, Out, Waste}
+use Rattle.pattern.specs.declared.layout_line.Port.{Port}
+use Rattle.certificate_lines.proofs.BoxPlaces.{skipped}
+use Rattle.certificate_lines.proofs.Lists.{kept}
+use Rattle.soundness.specs.HeadlineLaws.{ReadLayoutIsNamed}
+use Rattle.soundness.proofs.InputRuns.{at_place, in_known, in_stands}
+use Rattle.section_text.specs.declared.code.RefusalCode.{RefusalCode}
+use Rattle.section_text.specs.declared.code.RefusalCode.TheVariants.{UnknownName, SomethingMissing}
+
+same_bool : (a b : Bool) → (a ≡ true → b ≡ true) → (b ≡ true → a ≡ true) → a ≡ b
+same_bool true b f g = sym (f refl)
+same_bool false true f g = g refl
+same_bool false false f g = refl
+
+pub no_code : (b : Bool) (code : RefusalCode) → code_where (not b) code ≡ None → b ≡ true
+no_code true code e = refl
+no_code false code e = absurd cc
+
+-- ---- what all names have
+
+all_have : (P : List ℕ → Bool) (names : List (List ℕ)) (n : List ℕ) → list_all P names ≡ true → has names n ≡ true →
+    P n ≡ true
+all_have P [] n all h = absurd (false≢true h)
+all_have P (m ∷ names) n all h =
+    let both = and_parts (P m) (list_all P names) all in
+    elim (cases_Bool (bytes_eq n m)) [
+      | inl e ↦ subst (λ k. P k ≡ true) (sym ((bytes_eq-Decides n m).0 e)) both.0
+      | inr e ↦ all_have P names n both.1 (sym (ap (λ b. b || has names n) e) ∙ h)
+    ]
+
+-- where each port has one of the names, so has what names a port
+ports_known : (names : List (List ℕ)) (ports : List Port) (n : List ℕ) →
+    ((i : ℕ) (q : Port) → slice_get ports i ≡ Some q → has names q.name ≡ true) →
+    has (map (λ q. q.name) ports) n ≡ true → has names n ≡ true
+ports_known names [] n all h = absurd (false≢true h)
+ports_known names (q ∷ ports) n all h = elim (cases_Bool (bytes_eq n q.name)) [
+  | inl e ↦ subst (λ k. has names k ≡ true) (sym ((bytes_eq-Decides n q.name).0 e)) (all 0 q refl)
+  | inr e ↦ ports_known names ports n (λ i r at. all (suc i) r at)
+      (sym (ap (λ b. b || has (map (λ q. q.name) ports) n) e) ∙ h)
+]
+
+-- ---- the lines that have a name
+
+none_in : {X : Type 0} (f : LayoutLine → Bool) (make : X → LayoutLine) → ((x : X) → f (make x) ≡ false) →
+    (xs : List X) →
+    list_any f (map make xs) ≡ false
+none_in f make never [] = refl
+none_in f make never (x ∷ xs) = ap₂ (λ a b. a || b) (never x) (none_in f make never xs)
+
+all_in : (f : LayoutLine → Bool) (make : Port → LayoutLine) (n : List ℕ) →
+    ((q : Port) → f (make q) ≡ bytes_eq n q.name) →
+    (ports : List Port) →
+    list_any f (map make ports) ≡ has (map (λ q. q.name) ports) n
+all_in f make n same [] = refl
+all_in f make n same (q ∷ ports) = ap₂ (λ a b. a || b) (same q) (all_in f make n same ports)
+
+five_parts : (f : LayoutLine → Bool) (a b c d e : List LayoutLine) →
+    list_any f (a ++ (b ++ (c ++ (d ++ e))))
+    ≡ (list_any f a || (list_any f b || (list_any f c || (list_any f d || list_any f e))))
+five_parts f a b c d e =
+    list_any-append f a _ ∙ ap (λ r. list_any f a || r)
+    (list_any-append f b _ ∙ ap (λ r. list_any f b || r)
+    (list_any-append f c _ ∙ ap (λ r. list_any f c || r) (list_any-append f d e)))
+
+or-false : (b : Bool) → (b || false) ≡ b
+or-false true = refl
+or-false false = refl
+
+pub in_lines : (p : Pattern) (n : List ℕ) → list_any (is_in n) (parts_of p) ≡ has (map (λ q. q.name) p.ins) n
+in_lines p n =
+    five_parts (is_in n) (map Mirror p.mirrors) (map Ball p.balls) (map In p.ins) (map Out p.outs) (map Waste p.wastes)
+    ∙ ap₂ (λ a b. a || b) (none_in (is_in n) Mirror (λ r. refl) p.mirrors)
+    (ap₂ (λ a b. a || b) (none_in (is_in n) Ball (λ c. refl) p.balls)
+    (ap₂ (λ a b. a || b) (all_in (is_in n) In n (λ q. refl) p.ins)
+    (ap₂ (λ a b. a || b) (none_in (is_in n) Out (λ q. refl) p.outs) (none_in (is_in n) Waste (λ c. refl) p.wastes))))
+    ∙ or-false (has (map (λ q. q.name) p.ins) n)
+
+pub out_lines : (p : Pattern) (n : List ℕ) → list_any (is_out n) (parts_of p) ≡ has (map (λ q. q.name) p.outs) n
+out_lines p n =
+    five_parts (is_out n) (map Mirror p.mirrors) (map Ball p.balls) (map In p.ins) (map Out p.outs) (map Waste p.wastes)
+    ∙ ap₂ (λ a b. a || b) (none_in (is_out n) Mirror (λ r. refl) p.mirrors)
+    (ap₂ (λ a b. a || b) (none_in (is_out n) Ball (λ c. refl) p.balls)
+    (ap₂ (λ a b. a || b) (none_in (is_out n) In (λ q. refl) p.ins)
+    (ap₂ (λ a b. a || b) (all_in (is_out n) Out n (λ q. refl) p.outs) (none_in (is_out n) Waste (λ c. refl) p.wastes))))
+    ∙ or-false (has (map (λ q. q.name) p.outs) n)
+
+-- ---- output cells
+
+out_known : (names : Named) (q : Port) → name_fault (Some names) (Out q) ≡ None → has names.outs q.name ≡ true
+unfolding name_fault
+out_known names q e = no_code (has names.outs q.name) UnknownName e
+
+-- an output cell among the lines of a layout
+abbrev out_place : Pattern → ℕ → ℕ
+out_place p i = length (map Mirror p.mirrors) + (length (map Ball p.balls) + (length (map In p.ins) + i))
+
+out_stands : (p : Pattern) (i : ℕ) (q : Port) → slice_get p.outs i ≡ Some q →
+    slice_get (parts_of p) (out_place p i) ≡ Some (Out q)
+out_stands p i q e =
+    skipped (map Mirror p.mirrors) (map Ball p.balls ++ (map In p.ins ++ (map Out p.outs ++ map Waste p.wastes)))
+    (length (map Mirror p.mirrors)) (length (map Ball p.balls) + (length (map In p.ins) + i)) refl
+    ∙ skipped (map Ball p.balls) (map In p.ins ++ (map Out p.outs ++ map Waste p.wastes)) (length (map Ball p.balls))
+    (length (map In p.ins) + i) refl
+    ∙ skipped (map In p.ins) (map Out p.outs ++ map Waste p.wastes) (length (map In p.ins)) i refl
+    ∙ kept (map Out p.outs) (map Waste p.wastes) i (Out q) (slice_get-map Out p.outs i ∙ ap (option_map Out) e)
+
+-- ---- the whole
+
+all_stand : (names : Named) (parts : List LayoutLine) → missing_fault (Some names) parts ≡ None →
+    (list_all (λ n. list_any (is_in n) parts) names.ins ≡ true)
+    × (list_all (λ n. list_any (is_out n) parts) names.outs ≡ true)
+unfolding missing_fault
+all_stand names parts e =
+    and_parts (list_all (λ n. list_any (is_in n) parts) names.ins)
+    (list_all (λ n. list_any (is_out n) parts) names.outs) (no_code _ SomethingMissing e)
+
+pub read_layout-is_named : ReadLayoutIsNamed
+read_layout-is_named lines p named =
+    let names : Named = record { ins = input_names lines; outs = output_names lines } in
+    let all = all_stand names (parts_of p) named.whole in
+    record {
+      ins = λ n. same_bool _ _
+          (ports_known names.ins p.ins n
+          (λ i q e. in_known names.ins names.outs q
+          (at_place (λ (part : LayoutLine). name_fault (Some names) part ≡ None) (parts_of p) _ (In q) named.good
+          (in_stands p i q e))))
+          (λ h. sym (in_lines p n) ∙ all_have (λ n. list_any (is_in n) (parts_of p)) names.ins n all.0 h);
+      outs = λ n. same_bool _ _
+          (ports_known names.outs p.outs n
+          (λ i q e. out_known names q (at_place (λ (part : LayoutLine). name_fault (Some names) part ≡ None)
+          (parts_of p)
+          (out_place p i) (Out q) named.good (out_stands p i q e))))
+          (λ h. sym (out_lines p n) ∙ all_have (λ n. list_any (is_out n) (parts_of p)) names.outs n all.1 h);
+    }

@@ -1,0 +1,363 @@
+-- A job has a least fault or none, and so for keep faults and border faults
+use Rattle.std.proofs.Common.{◌≡◌, ◌≢◌, ◌⊎◌, ◌<◌, ◌+◌, ◌%◌, ◌∷◌, ◌∙◌, [], ℕ, Bool, true, false, List, Option}
+use Rattle.std.proofs.Common.{Some, None, refl, sym, ap, subst, map, inl, inr, arith}
+use Rattle.std.specs.Prelude.{ℤ, IsTrue, slice_get}
+use Rattle.std.specs.Cmp.{IsTotalOrder}
+use Rattle.std.specs.List.{flat_map, range_with_len}
+use Rattle.std.proofs.Props.{props}
+use Rattle.std.proofs.Math.Logic.{∥∥₁_elim}
+use Rattle.std.proofs.lemmas.Bool.{and_parts}
+use Rattle.std.proofs.lemmas.Cmp.{nat_cmp_total, on_total, then_total}
+use Rattle.std.proofs.lemmas.Option.{get_or_from_slice_get, slice_get-get_or, slice_get_within}
+use Rattle.bbm_rule.specs.Bits.{bit}
+use Rattle.bbm_rule.specs.declared.block.Cell.{Cell}
+use Rattle.circuit.specs.Meaning.{AreOrdered, Valuation}
+use Rattle.circuit.specs.Bridge.{read}
+use Rattle.circuit.proofs.Undefined.{stopped, undefined_has_none, undefined_is_one}
+use Rattle.module_box.specs.Boxes.{in_box, in_halo, in_ring}
+use Rattle.module_box.specs.LocalValues.{IsLocallyUndefined}
+use Rattle.module_box.specs.Locals.{is_among}
+use Rattle.module_box.specs.Schedules.{signal_at}
+use Rattle.module_box.specs.declared.boxes.Box2.{Box2}
+use Rattle.module_box.specs.declared.schedules.Signal.{Signal}
+use Rattle.module_box.specs.declared.schedules.Signal.TheVariants.{Zero, One, Wire}
+use Rattle.module_box.proofs.Rising.{cell_total}
+use Rattle.certificate_lines.specs.Entries.{ModuleLines, Setting}
+use Rattle.certificate_lines.specs.Rules.{box_cells, whole}
+use Rattle.certificate_lines.proofs.BoxPlaces.{box_place}
+use Rattle.certificate_lines.proofs.LineOrder.{In, flat_in}
+use Rattle.certificate.proofs.FullModules.{stands}
+use Rattle.module_job.specs.Jobs.{IsJob, IsStopOf, JobView, job_demand}
+use Rattle.module_job.specs.Signals.{Meets, is_live}
+use Rattle.module_job.specs.declared.job.Demand.{Demand}
+use Rattle.module_job.specs.declared.job.Demand.TheVariants as Demanded
+use Rattle.module_job.specs.declared.job.Stop as listed
+use Rattle.local_run.specs.Faults.{IsFault, IsFaultUnder, IsKeepFault, IsLeastFault, IsLeastKeepFault, assignments}
+use Rattle.local_run.specs.Order.{fault_cmp, keep_cmp, kind_number}
+use Rattle.local_run.specs.Runs.{local_run}
+use Rattle.local_run.specs.declared.fault.Fault.{Fault}
+use Rattle.local_run.specs.declared.fault.KeepFault.{KeepFault}
+use Rattle.local_run.specs.declared.fault.Kind.{Kind}
+use Rattle.local_run.specs.declared.fault.Kind.TheVariants.{Edge, Stop, End}
+use Rattle.local_run.proofs.Decided.{decided}
+use Rattle.local_run.proofs.Leasts.{undefined_no_fault}
+use Rattle.border_match.specs.BorderFaults.{IsBorderFault, IsLeastBorderFault, border_cmp, edge_signal, halo_signal}
+use Rattle.border_match.specs.declared.fault.BorderFault.{BorderFault}
+use Rattle.border_match.proofs.FaultOrder.{border_total}
+use Rattle.soundness.proofs.SomeLeast.{Decided, HasOne, among_in, below_decided, bools_decided, both_decided}
+use Rattle.soundness.proofs.SomeLeast.{decided_by}
+use Rattle.soundness.proofs.SomeLeast.{IsLeastIn, in_map, in_range, least_in, not_decided, numbers_decided}
+use Rattle.soundness.proofs.SomeLeast.{some_decided, true_decided}
+use Rattle.soundness.proofs.SomeValues.{HasStop, HasValues, values_or_stop}
+use Rattle.std.proofs.lemmas.Bool.Decides.{Decides-int_eq}
+
+fault_total : IsTotalOrder fault_cmp
+unfolding fault_cmp
+fault_total = then_total (on_total (λ (f : Fault). f.time) nat_cmp_total)
+    (then_total (on_total (λ (f : Fault). kind_number f.kind) nat_cmp_total)
+    (then_total (on_total (λ (f : Fault). f.cell) cell_total) (on_total (λ (f : Fault). f.assignment) nat_cmp_total)))
+
+keep_total : IsTotalOrder keep_cmp
+unfolding keep_cmp
+keep_total = then_total (on_total (λ (f : KeepFault). f.gate) nat_cmp_total)
+    (on_total (λ (f : KeepFault). f.assignment) nat_cmp_total)
+
+integers_decided : (a b : ℤ) → Decided (a ≡ b)
+integers_decided a b = decided_by (Decides-int_eq a b).0 (Decides-int_eq a b).1 (true_decided _)
+
+in_cells_of_box : (b : Box2) (d : Cell) → in_box b d.x d.y ≡ true → In d (box_cells b)
+in_cells_of_box b d h = stands (box_cells b) _ d (box_place b d.x d.y h)
+
+-- ---- whether a job has a fault, where its wires have these values
+
+module _ (j : JobView) (u : Valuation) (t : ℕ) (x y : ℤ) where
+  meets_decided : (d : Demand) (live : Bool) → Decided (Meets u d live)
+  meets_decided Demanded.Dead live = bools_decided live false
+  meets_decided Demanded.Live live = bools_decided live true
+  meets_decided (Demanded.Wire w) live = bools_decided live (u w)
+  meets_decided Demanded.Any live = inl tt
+
+  abbrev IsMissed : listed.Stop → Type 0
+  IsMissed s = (s.at.time ≡ t) × ((s.at.cell.x ≡ x) × ((s.at.cell.y ≡ y) × (local_run j u t x y ≢ u s.wire)))
+
+  missed_decided : (s : listed.Stop) → Decided (IsMissed s)
+  missed_decided s =
+      both_decided (numbers_decided s.at.time t) (λ _.
+      both_decided (integers_decided s.at.cell.x x) (λ _.
+      both_decided (integers_decided s.at.cell.y y)
+      (λ _. not_decided (bools_decided (local_run j u t x y) (u s.wire)))))
+
+  under_decided : (kind : Kind) → Decided (IsFaultUnder j u t kind x y)
+  under_decided Edge = decided_by
+      (λ h. record { odd = h.0; early = h.1.0; ring = h.1.1.0; differs = h.1.1.1 })
+      (λ f. (f.odd, (f.early, (f.ring, f.differs))))
+      (both_decided (numbers_decided (t % 2) 1) (λ _.
+      both_decided (below_decided t j.steps) (λ _.
+      both_decided (true_decided (in_ring j.area x y)) (λ _.
+      not_decided (bools_decided (local_run j u t x y) (is_live u (signal_at j.edges t x y)))))))
+  under_decided Stop = decided_by
+      (λ (h : HasOne IsMissed j.stops). record {
+        stop = h.one;
+        is_listed = (
+          h.number,
+          slice_get_within j.stops h.number h.one h.at,
+          get_or_from_slice_get j.stops h.number h.one h.one h.at,
+        );
+        time = h.holds.0;
+        column = h.holds.1.0;
+        row = h.holds.1.1.0;
+        differs = h.holds.1.1.1;
+      })
+      (λ f. record {
+        number = f.is_listed.0;
+        one = f.stop;
+        at = slice_get-get_or j.stops f.is_listed.0 f.stop f.is_listed.1 ∙ ap Some f.is_listed.2;
+        holds = (f.time, (f.column, (f.row, f.differs)));
+      })
+      (some_decided IsMissed missed_decided j.stops)
+  under_decided End = decided_by
+      (λ h. record { last = h.0; inside = h.1.0; differs = h.1.1 })
+      (λ f. (f.last, (f.inside, f.differs)))
+      (both_decided (numbers_decided t j.steps) (λ _.
+      both_decided (true_decided (in_box j.area x y)) (λ _.
+      not_decided (meets_decided (job_demand j x y) (local_run j u t x y)))))
+
+-- ---- where and when faults are
+
+ring_inside : (b : Box2) (x y : ℤ) → in_ring b x y ≡ true → in_box b x y ≡ true
+unfolding in_ring
+ring_inside b x y h = (and_parts (in_box b x y) _ h).0
+
+module _ (j : JobView) (is : IsJob j) (ordered : AreOrdered j.locals.netlist.given j.locals.netlist.gates) where
+  abbrev Bounded : Fault → Type 0
+  Bounded f = (f.time < j.steps + 1) × (in_box j.area f.cell.x f.cell.y ≡ true)
+
+  stop_inside : (f : Fault) (s : listed.Stop) → IsStopOf j s → s.at.time ≡ f.time → s.at.cell.x ≡ f.cell.x →
+      s.at.cell.y ≡ f.cell.y → Bounded f
+  stop_inside f s stop time column row = (
+    (let e = time in let le = stop.time in omega (arith, e, le)),
+    sym (λ i. in_box j.area (column i) (row i)) ∙ stop.inside,
+  )
+
+  bounded : (u : Valuation) (f : Fault) (kind : Kind) → IsFaultUnder j u f.time kind f.cell.x f.cell.y → Bounded f
+  bounded u f Edge h = ((let lt = h.early in omega (arith, lt)), ring_inside j.area f.cell.x f.cell.y h.ring)
+  bounded u f Stop h = stop_inside f h.stop
+      (subst (IsStopOf j) h.is_listed.2 (is.stops h.is_listed.0 h.stop h.is_listed.1)) h.time h.column h.row
+  bounded u f End h = ((let e = h.last in omega (arith, e)), h.inside)
+
+  abbrev kinds : List Kind
+  kinds = Edge ∷ Stop ∷ End ∷ []
+
+  abbrev fault_at : ℕ → Kind → Cell → ℕ → Fault
+  fault_at t k d a = record { time = t; kind = k; cell = d; assignment = a }
+
+  abbrev places_at : ℕ → Kind → List Fault
+  places_at t k = flat_map (λ d. map (fault_at t k d) (range_with_len 0 (assignments j))) (box_cells j.area)
+
+  -- all that may be a fault
+  abbrev places_of : List Fault
+  places_of = flat_map (λ t. flat_map (places_at t) kinds) (range_with_len 0 (j.steps + 1))
+
+  in_kinds : (k : Kind) → In k kinds
+  unfolding In
+  in_kinds Edge = inl refl
+  in_kinds Stop = inr (inl refl)
+  in_kinds End = inr (inr (inl refl))
+
+  in_places : (f : Fault) → Bounded f → f.assignment < assignments j → In f places_of
+  in_places f b small =
+      flat_in (λ t. flat_map (places_at t) kinds) f (range_with_len 0 (j.steps + 1)) f.time
+      (in_range (j.steps + 1) f.time b.0)
+      (flat_in (places_at f.time) f kinds f.kind (in_kinds f.kind)
+      (flat_in (λ d. map (fault_at f.time f.kind d) (range_with_len 0 (assignments j))) f (box_cells j.area) f.cell
+      (in_cells_of_box j.area f.cell b.1)
+      (in_map (fault_at f.time f.kind f.cell) f.assignment (range_with_len 0 (assignments j))
+      (in_range (assignments j) f.assignment small))))
+
+  values_of : (a : ℕ) → HasValues j.locals.netlist (bit a) ordered ⊎ HasStop j.locals.netlist (bit a) ordered
+  values_of a = values_or_stop j.locals.netlist (bit a) ordered
+
+  undefined_at : (a : ℕ) (s : HasStop j.locals.netlist (bit a) ordered) → IsLocallyUndefined j.locals a s.0
+  undefined_at a s = stopped j.locals.netlist (bit a) s.0 s.1 s.2
+
+  fault_decided : (f : Fault) → Decided (IsFault j f)
+  fault_decided f = elim (below_decided f.assignment (assignments j)) [
+    | inr not_so ↦ inr (λ h. not_so h.in_range)
+    | inl small ↦ elim (values_of f.assignment) [
+      | inl v ↦
+          let both = decided j f (read v.0) is ordered small v.1.satisfies in
+          decided_by both.1 both.0 (under_decided j (read v.0) f.time f.cell.x f.cell.y f.kind)
+      | inr s ↦ inr (undefined_no_fault j f s.0 ordered (undefined_at f.assignment s))
+    ]
+  ]
+
+  fault_placed : (f : Fault) → IsFault j f → In f places_of
+  fault_placed f h = elim (values_of f.assignment) [
+    | inl v ↦ in_places f
+        (bounded (read v.0) f f.kind ((decided j f (read v.0) is ordered h.in_range v.1.satisfies).0 h)) h.in_range
+    | inr s ↦ absurd (undefined_no_fault j f s.0 ordered (undefined_at f.assignment s) h)
+  ]
+
+  everywhere : (o : Option Fault) → IsLeastIn fault_cmp fault_total (IsFault j) fault_decided places_of o →
+      IsLeastFault j o
+  everywhere None h = λ f is. h f (fault_placed f is) is
+  everywhere (Some f) h = (h.0, λ g is. h.1 g (fault_placed g is) is)
+
+  pub least_fault : (o : Option Fault) × IsLeastFault j o
+  least_fault =
+      let l = least_in fault_cmp fault_total (IsFault j) fault_decided places_of in
+      (l.least, everywhere l.least l.is)
+
+  -- ---- keep faults
+
+  nothing_prop : IsProp ⊥
+  nothing_prop = Prim.hlevel props
+
+  keep_at : (f : KeepFault) → f.assignment < assignments j → is_among j.kept f.gate ≡ true → Decided (IsKeepFault j f)
+  keep_at f small kept = elim (values_of f.assignment) [
+    | inl v ↦ inr (λ h. ∥∥₁_elim h.shown (λ x y. absurd x)
+        (λ s. undefined_has_none j.locals.netlist (bit f.assignment) (read v.0) f.gate ordered s v.1.satisfies))
+    | inr s ↦ elim (numbers_decided s.0 f.gate) [
+      | inl same ↦ inl (record {
+        in_range = small;
+        is_kept = kept;
+        shown = ∣ subst (λ k. IsLocallyUndefined j.locals f.assignment k) same (undefined_at f.assignment s) ∣₁;
+      })
+      | inr other ↦ inr (λ h. ∥∥₁_elim h.shown (λ x y. absurd x)
+          (λ r. other (undefined_is_one j.locals.netlist (bit f.assignment) s.0 f.gate ordered
+          (undefined_at f.assignment s) r)))
+    ]
+  ]
+
+  keep_decided : (f : KeepFault) → Decided (IsKeepFault j f)
+  keep_decided f = elim (below_decided f.assignment (assignments j)) [
+    | inr not_so ↦ inr (λ h. not_so h.in_range)
+    | inl small ↦ elim (true_decided (is_among j.kept f.gate)) [
+      | inr not_so ↦ inr (λ h. not_so h.is_kept)
+      | inl kept ↦ keep_at f small kept
+    ]
+  ]
+
+  abbrev keep_of : ℕ → ℕ → KeepFault
+  keep_of k a = record { gate = k; assignment = a }
+
+  abbrev keeps_of : List KeepFault
+  keeps_of = flat_map (λ k. map (keep_of k) (range_with_len 0 (assignments j))) j.kept
+
+  keep_placed : (f : KeepFault) → IsKeepFault j f → In f keeps_of
+  keep_placed f h =
+      flat_in (λ k. map (keep_of k) (range_with_len 0 (assignments j))) f j.kept f.gate
+      (among_in j.kept f.gate h.is_kept)
+      (in_map (keep_of f.gate) f.assignment (range_with_len 0 (assignments j))
+      (in_range (assignments j) f.assignment h.in_range))
+
+  keep_everywhere : (o : Option KeepFault) → IsLeastIn keep_cmp keep_total (IsKeepFault j) keep_decided keeps_of o →
+      IsLeastKeepFault j o
+  keep_everywhere None h = λ f is. h f (keep_placed f is) is
+  keep_everywhere (Some f) h = (h.0, λ g is. h.1 g (keep_placed g is) is)
+
+  pub least_keep_fault : (o : Option KeepFault) × IsLeastKeepFault j o
+  least_keep_fault =
+      let l = least_in keep_cmp keep_total (IsKeepFault j) keep_decided keeps_of in
+      (l.least, keep_everywhere l.least l.is)
+
+-- ---- border faults
+
+signals_decided : (a b : Signal) → Decided (a ≡ b)
+signals_decided Zero Zero = inl refl
+signals_decided Zero One = inr (λ e. cc)
+signals_decided Zero (Wire w) = inr (λ e. cc)
+signals_decided One Zero = inr (λ e. cc)
+signals_decided One One = inl refl
+signals_decided One (Wire w) = inr (λ e. cc)
+signals_decided (Wire v) Zero = inr (λ e. cc)
+signals_decided (Wire v) One = inr (λ e. cc)
+signals_decided (Wire v) (Wire w) = decided_by (λ e. ap (λ n. Wire n) e) (λ e. cc) (numbers_decided v w)
+
+module _ (g : Setting) (ms : List ModuleLines) (i : ℕ) where
+  abbrev IsOtherwise : ModuleLines → BorderFault → ModuleLines → Type 0
+  IsOtherwise m f o = IsTrue (in_box o.area f.cell.x f.cell.y)
+      × (halo_signal g.circuit m f.time f.cell.x f.cell.y ≢ edge_signal g.circuit o f.time f.cell.x f.cell.y)
+
+  otherwise_decided : (m : ModuleLines) (f : BorderFault) (o : ModuleLines) → Decided (IsOtherwise m f o)
+  otherwise_decided m f o = both_decided (true_decided (in_box o.area f.cell.x f.cell.y))
+      (λ _. not_decided (signals_decided _ _))
+
+  abbrev IsBorderFaultOf : ModuleLines → BorderFault → Type 0
+  IsBorderFaultOf m f = (f.time % 2 ≡ 1) × ((f.time < g.size.steps) × (IsTrue (in_box (whole g.size) f.cell.x f.cell.y)
+      × (IsTrue (in_halo m.area f.cell.x f.cell.y) × HasOne (IsOtherwise m f) ms)))
+
+  of_module_decided : (m : ModuleLines) (f : BorderFault) → Decided (IsBorderFaultOf m f)
+  of_module_decided m f =
+      both_decided (numbers_decided (f.time % 2) 1) (λ _.
+      both_decided (below_decided f.time g.size.steps) (λ _.
+      both_decided (true_decided (in_box (whole g.size) f.cell.x f.cell.y)) (λ _.
+      both_decided (true_decided (in_halo m.area f.cell.x f.cell.y)) (λ _.
+      some_decided (IsOtherwise m f) (otherwise_decided m f) ms))))
+
+  to_fault : (m : ModuleLines) (f : BorderFault) → slice_get ms i ≡ Some m → IsBorderFaultOf m f →
+      IsBorderFault g ms i f
+  to_fault m f at h = record {
+    odd = h.0;
+    early = h.1.0;
+    inside = h.1.1.0;
+    lines = m;
+    numbered = at;
+    halo = h.1.1.1.0;
+    owner_number = h.1.1.1.1.number;
+    owner = h.1.1.1.1.one;
+    owner_numbered = h.1.1.1.1.at;
+    owned = h.1.1.1.1.holds.0;
+    differ = h.1.1.1.1.holds.1;
+  }
+
+  of_fault : (f : BorderFault) (h : IsBorderFault g ms i f) → IsBorderFaultOf h.lines f
+  of_fault f h = (
+    h.odd,
+    (
+      h.early,
+      (
+        h.inside,
+        (
+          h.halo,
+          record { number = h.owner_number; one = h.owner; at = h.owner_numbered; holds = (h.owned, h.differ) },
+        ),
+      ),
+    ),
+  )
+
+  same_module : (m n : ModuleLines) → slice_get ms i ≡ Some m → slice_get ms i ≡ Some n → n ≡ m
+  same_module m n at there = cc
+
+  border_decided : (o : Option ModuleLines) → slice_get ms i ≡ o → (f : BorderFault) → Decided (IsBorderFault g ms i f)
+  border_decided None e f = inr (λ h. none h.lines h.numbered)
+    where
+      none : (m : ModuleLines) → slice_get ms i ≡ Some m → ⊥
+      none m at = cc
+  border_decided (Some m) e f = decided_by (to_fault m f e)
+      (λ h. subst (λ n. IsBorderFaultOf n f) (same_module m h.lines e h.numbered) (of_fault f h))
+      (of_module_decided m f)
+
+  abbrev border_at : ℕ → Cell → BorderFault
+  border_at t d = record { time = t; cell = d }
+
+  abbrev borders_of : List BorderFault
+  borders_of = flat_map (λ t. map (border_at t) (box_cells (whole g.size))) (range_with_len 0 g.size.steps)
+
+  border_placed : (f : BorderFault) → IsBorderFault g ms i f → In f borders_of
+  border_placed f h =
+      flat_in (λ t. map (border_at t) (box_cells (whole g.size))) f (range_with_len 0 g.size.steps) f.time
+      (in_range g.size.steps f.time h.early)
+      (in_map (border_at f.time) f.cell (box_cells (whole g.size)) (in_cells_of_box (whole g.size) f.cell h.inside))
+
+  border_everywhere : (o : Option BorderFault) →
+      IsLeastIn border_cmp border_total (IsBorderFault g ms i) (border_decided (slice_get ms i) refl) borders_of o →
+      IsLeastBorderFault g ms i o
+  border_everywhere None h = λ f is. h f (border_placed f is) is
+  border_everywhere (Some f) h = (h.0, λ q is. h.1 q (border_placed q is) is)
+
+  pub least_border_fault : (o : Option BorderFault) × IsLeastBorderFault g ms i o
+  least_border_fault =
+      let l = least_in border_cmp border_total (IsBorderFault g ms i)
+      (border_decided (slice_get ms i) refl) borders_of in
+      (l.least, border_everywhere l.least l.is)

@@ -1,0 +1,383 @@
+-- The modules of a certificate have jobs and a verdict
+use Rattle.std.proofs.Common.{◌≡◌, ◌≤◌, ◌<◌, ◌+◌, ◌*◌, ◌^◌, ◌&&◌, ◌||◌, ◌++◌, ◌∷◌, ◌∙◌, [], ℕ, zero, suc, Bool, true}
+use Rattle.std.proofs.Common.{false, not}
+use Rattle.std.proofs.Common.{List, Option, Some, None, Vec, Global, refl, sym, ap, subst, map, length, get_or, cond}
+use Rattle.std.proofs.Common.{inl, inr, arith}
+use Rattle.std.proofs.Common.{append-nil, append_assoc, length-append}
+use Rattle.std.specs.Prelude.{nat_le, nat_lt, slice_get}
+use Rattle.std.specs.Option.{option_map, option_to_list}
+use Rattle.std.proofs.lemmas.Bool.Decides.{nat_tests}
+use Rattle.std.proofs.lemmas.List.{length-map}
+use Rattle.std.proofs.lemmas.Option.{slice_get_within}
+use Rattle.section_text.specs.Codes.{code_where, or_else}
+use Rattle.circuit.specs.Bridge.{AreGood, AreGoodAfter, circuit_of, netlist_of}
+use Rattle.circuit.specs.Entries.{defined}
+use Rattle.circuit.specs.declared.circuit_line.GateKind.{GateKind}
+use Rattle.circuit.specs.declared.circuit_line.GateKind.TheVariants.{Source, Fredkin, Cswap, Interact, Switch, Delay}
+use Rattle.circuit.specs.declared.circuit_line.GateKind.TheVariants.{Unswitch, Uninteract}
+use Rattle.circuit.specs.Gates.{is_inverse}
+use Rattle.circuit.specs.Meaning.{AreOrdered, Gate}
+use Rattle.circuit.specs.Rules.{add_fault, gate_count, is_gate, is_wrong_delay, passes_limit}
+use Rattle.circuit.specs.declared.circuit_line.CircuitLine.{CircuitLine}
+use Rattle.circuit.proofs.Bridging.{count_append, gates_are_ordered}
+use Rattle.circuit.proofs.Naming.{gates_counted}
+use Rattle.pattern.specs.Layout.{Pattern}
+use Rattle.pattern.specs.Lines.{size_fault}
+use Rattle.certificate_lines.specs.Entries.{ModuleLines, Setting, stops}
+use Rattle.certificate_lines.specs.Modules.{AreModules, IsModule}
+use Rattle.certificate_lines.specs.Settings.{setting_of}
+use Rattle.module_box.specs.Boxes.{in_box, IsEven}
+use Rattle.module_box.specs.declared.boxes.Box2.{Box2}
+use Rattle.module_job.specs.Jobs.{IsJob, JobView}
+use Rattle.certificate.specs.Jobs.{AreJobsOf, IsJobOf}
+use Rattle.certificate.specs.Keeps.{is_kept, unkept_from}
+use Rattle.certificate.specs.StopLists.{AreStops}
+use Rattle.certificate.specs.Times.{agreed, all_stops, are_all_obeyed, delay_by, delay_line, first_seen, gap_between}
+use Rattle.certificate.specs.Times.{last_seen, last_times, lines_by, meet_by, meet_line, numbered, of_wire, time_lines}
+use Rattle.certificate.specs.declared.times.StopGap.{StopGap}
+use Rattle.certificate.specs.declared.times.TimeLine.{TimeLine}
+use Rattle.certificate.specs.declared.times.TimeLine.TheVariants.{Meet}
+use Rattle.certificate.proofs.JobLemmas.{within_512}
+use Rattle.certificate.proofs.StopLemmas.{stops_rise, stops_stand}
+use Rattle.border_match.specs.BorderFaults.{AreBorderFaultsOf, IsLeastBorderFault}
+use Rattle.border_match.specs.declared.fault.BorderFault.{BorderFault}
+use Rattle.soundness.specs.ModuleLaws.{ModulesHaveVerdict}
+use Rattle.core_book.specs.Verdicts.{AreLeastFaults, IsToldOf, IsVerdict, border_line, keep_line, lines_from}
+use Rattle.core_book.specs.Verdicts.{local_line}
+use Rattle.core_book.specs.Verdicts.{renumber_keep, timing, unkept_lines}
+use Rattle.core_book.specs.declared.verdict.Reasons.{Reasons}
+use Rattle.core_book.specs.declared.verdict.ReportLine.{ReportLine}
+use Rattle.core_book.specs.declared.verdict.ReportLine.TheVariants.{Unkept}
+use Rattle.core_book.specs.declared.verdict.Verdict.{Verdict}
+use Rattle.core_book.specs.declared.verdict.Verdict.TheVariants.{Yes, No}
+use Rattle.core_book.proofs.OneVerdict.{none-past}
+use Rattle.core_book.proofs.ReportLines.{accepted, accepted-no_lines}
+use Rattle.soundness.proofs.SomeFaults.{least_border_fault, least_fault, least_keep_fault}
+use Rattle.soundness.proofs.SomeJobs.{are_jobs_of, job_of}
+use Rattle.soundness.proofs.SomeLeast.{Decided, both_decided, true_decided}
+use denote.RawPtr.{null_ptr}
+use Rattle.section_text.specs.declared.code.RefusalCode.{RefusalCode}
+
+-- ---- how many lines there are
+
+few_of : {A : Type 0} (o : Option A) → length (option_to_list o) ≤ 1
+few_of None = omega arith
+few_of (Some a) = omega arith
+
+three_each : (n : ℕ) (fs : List Reasons) (bs : List (Option BorderFault)) → length (lines_from n fs bs) ≤ 3 * length fs
+unfolding lines_from
+three_each n [] bs = omega arith
+three_each n (f ∷ fs) [] = omega arith
+three_each n (f ∷ fs) (b ∷ bs) =
+    let more = three_each (n + 1) fs bs in
+    let a = few_of (local_line n f.fault) in
+    let k = few_of (keep_line n f.keep) in
+    let c = few_of (border_line n b) in
+    let sum = length-append
+    (option_to_list (local_line n f.fault) ++ option_to_list (keep_line n f.keep) ++ option_to_list
+    (border_line n b)) (lines_from (n + 1) fs bs) in
+    let two = length-append (option_to_list (local_line n f.fault) ++ option_to_list (keep_line n f.keep))
+    (option_to_list (border_line n b)) in
+    let one = length-append (option_to_list (local_line n f.fault)) (option_to_list (keep_line n f.keep)) in
+    omega (arith, more, a, k, c, sum, two, one)
+
+one_each : (ms : List ModuleLines) (n : ℕ) (gs : List Gate) → length (unkept_from ms n gs) ≤ length gs
+unfolding unkept_from
+one_each ms n [] = omega arith
+one_each ms n (g ∷ gs) =
+    let more = one_each ms (n + 1) gs in
+    let here = is_inverse g.kind && not (is_kept ms n) in
+    let sum = length-append (cond here (n ∷ []) []) (unkept_from ms (n + 1) gs) in
+    let few = at_most n here in
+    omega (arith, more, sum, few)
+  where
+    at_most : (n : ℕ) (b : Bool) → length (cond b (n ∷ []) []) ≤ 1
+    at_most n true = omega arith
+    at_most n false = omega arith
+
+line_each : (f : ℕ → Gate → List TimeLine) → ((k : ℕ) (g : Gate) → length (f k g) ≤ 1) → (k : ℕ) (gs : List Gate) →
+    length (numbered f k gs) ≤ length gs
+unfolding numbered
+line_each f few k [] = omega arith
+line_each f few k (g ∷ gs) =
+    let more = line_each f few (k + 1) gs in
+    let sum = length-append (f k g) (numbered f (k + 1) gs) in
+    let here = few k g in
+    omega (arith, more, sum, here)
+
+few_delays : (k : ℕ) (kind : GateKind) (gap : StopGap) → length (delay_by k kind gap) ≤ 1
+few_delays k (Source b) gap = omega arith
+few_delays k Fredkin gap = omega arith
+few_delays k Cswap gap = omega arith
+few_delays k Interact gap = omega arith
+few_delays k Switch gap = omega arith
+few_delays k (Delay n) gap = omega arith
+few_delays k Unswitch gap = omega arith
+few_delays k Uninteract gap = omega arith
+
+few_meetings : (k : ℕ) (ts : List ℕ) → length (meet_by k ts) ≤ 1
+few_meetings k ts = by (nat_le 2 (length ts)) (agreed ts)
+  where
+    by : (b : Bool) (o : Option ℕ) → length (cond b (Meet k o ∷ []) []) ≤ 1
+    by true o = omega arith
+    by false o = omega arith
+
+two_each : (first last : ℕ → Option ℕ) (gs : List Gate) → length (lines_by first last gs) ≤ 2 * length gs
+two_each first last gs =
+    let a = line_each (delay_line first last)
+    (λ k g. few_delays k g.kind (gap_between (of_wire last g.ins) (of_wire first g.outs))) 0 gs in
+    let b = line_each (meet_line last) (λ k g. few_meetings k (last_times last g.ins)) 0 gs in
+    let sum = length-append (numbered (delay_line first last) 0 gs) (numbered (meet_line last) 0 gs) in
+    omega (arith, a, b, sum)
+
+-- ---- a circuit has at most 1024 gates
+
+pub first_none : (a b : Option RefusalCode) → or_else a b ≡ None → a ≡ None
+first_none None b e = refl
+first_none (Some code) b e = absurd cc
+
+pub no_code : (b : Bool) (code : RefusalCode) → code_where b code ≡ None → b ≡ false
+no_code true code e = absurd cc
+no_code false code e = refl
+
+last_false : (a b c : Bool) → (a || (b || c)) ≡ false → c ≡ false
+last_false a b c e = grind arith
+
+one_gate_more : (b : Bool) (n : ℕ) → (b && nat_le 1024 n) ≡ false → n ≤ 1024 → cond b 1 0 + n ≤ 1024
+one_gate_more true n e le = grind (arith, nat_tests)
+one_gate_more false n e le = omega (arith, le)
+
+gates_below : (before rest : List CircuitLine) → AreGoodAfter before rest → gate_count before ≤ 1024 →
+    gate_count (before ++ rest) ≤ 1024
+unfolding AreGoodAfter add_fault
+gates_below before [] good h = subst (λ l. gate_count l ≤ 1024) (sym (append-nil before)) h
+gates_below before (r ∷ rest) good h =
+    let passes = no_code (passes_limit before r) _ (first_none _ _ good.0.adds) in
+    let last = last_false (is_wrong_delay r.kind) (nat_lt 4096 (length (defined before) + length r.outs))
+    (is_gate r.kind && nat_le 1024 (gate_count before)) passes in
+    let count : gate_count (before ++ r ∷ []) ≡ gate_count before + cond (is_gate r.kind) 1 0 =
+    count_append (λ (r : CircuitLine). is_gate r.kind) before (r ∷ []) ∙ omega arith in
+    let turned : gate_count before + cond (is_gate r.kind) 1 0 ≡ cond
+    (is_gate r.kind) 1 0 + gate_count before = omega arith in
+    let more : gate_count (before ++ r ∷ []) ≤ 1024 =
+    subst (λ n. n ≤ 1024) (sym (count ∙ turned)) (one_gate_more (is_gate r.kind) (gate_count before) last h) in
+    subst (λ l. gate_count l ≤ 1024) (append_assoc before (r ∷ []) rest)
+    (gates_below (before ++ r ∷ []) rest good.1 more)
+
+few_gates : (lines : List CircuitLine) → AreGood lines → length (netlist_of lines).gates ≤ 1024
+few_gates lines good =
+    let all = gates_below [] lines good (omega arith) in
+    subst (λ n. n ≤ 1024) (sym (gates_counted (defined lines) lines)) all
+
+-- ---- a vector of some elements
+
+pub record IsVecOf {A : Type 0} (xs : List A) : Type 0 where
+  pub vec : Vec A Global
+  pub items : vec.items ≡ xs
+
+pub vec_of : {A : Type 0} (xs : List A) → length xs < 2 ^ 63 → IsVecOf xs
+vec_of xs small = record {
+  vec = record {
+    ptr = null_ptr;
+    len = length xs;
+    cap = length xs;
+    alloc = record { memory = record { seal = tt } };
+    items = xs;
+    ok = (refl, omega arith);
+    small = small;
+  };
+  items = refl;
+}
+
+-- ---- lists with an element for each
+
+nothing : {A : Type 0} (k : ℕ) (a : A) → slice_get {X = A} [] k ≡ Some a → ⊥
+nothing k a at = cc
+
+all_reasons : (js : List JobView) →
+    ((k : ℕ) (j : JobView) → slice_get js k ≡ Some j →
+    IsJob j × AreOrdered j.locals.netlist.given j.locals.netlist.gates) →
+    (fs : List Reasons) × AreLeastFaults js fs
+all_reasons [] each = ([], record { count = refl; each = λ k j f at. absurd (nothing k j at) })
+all_reasons (j ∷ js) each =
+    let own = each 0 j refl in
+    let fault = least_fault j own.0 own.1 in
+    let keep = least_keep_fault j own.0 own.1 in
+    let reasons : Reasons = record { fault = fault.0; keep = option_map (renumber_keep j) keep.0 } in
+    let told : IsToldOf j reasons = record { fault = fault.1; keep = keep.0; least_keep = keep.1; same = refl } in
+    let more = all_reasons js (λ k. each (suc k)) in
+    (reasons ∷ more.0, record { count = ap suc more.1.count; each = at_each reasons told more.0 more.1 })
+  where
+    at_each : (r : Reasons) → IsToldOf j r → (fs : List Reasons) → AreLeastFaults js fs →
+        (k : ℕ) (i : JobView) (f : Reasons) → slice_get (j ∷ js) k ≡ Some i → slice_get (r ∷ fs) k ≡ Some f →
+        IsToldOf i f
+    at_each r is fs are zero i f at there =
+        let same : j ≡ i = cc in
+        let alike : r ≡ f = cc in
+        subst (λ i. IsToldOf i f) same (subst (IsToldOf j) alike is)
+    at_each r is fs are (suc k) i f at there = are.each k i f at there
+
+record AreBordersFrom (g : Setting) (ms : List ModuleLines) (n many : ℕ) (fs : List (Option BorderFault)) : Type 0 where
+  pub count : length fs ≡ many
+  pub each : (i : ℕ) (f : Option BorderFault) → slice_get fs i ≡ Some f → IsLeastBorderFault g ms (n + i) f
+
+all_borders : (g : Setting) (ms : List ModuleLines) (count n : ℕ) →
+    (fs : List (Option BorderFault)) × AreBordersFrom g ms n count fs
+all_borders g ms zero n = ([], record { count = refl; each = λ i f at. absurd (nothing i f at) })
+all_borders g ms (suc count) n =
+    let one = least_border_fault g ms n in
+    let more = all_borders g ms count (n + 1) in
+    (one.0 ∷ more.0, record { count = ap suc more.1.count; each = at_each one.0 one.1 more.0 more.1 })
+  where
+    at_each : (o : Option BorderFault) → IsLeastBorderFault g ms n o → (fs : List (Option BorderFault)) →
+        AreBordersFrom g ms (n + 1) count fs →
+        (i : ℕ) (f : Option BorderFault) → slice_get (o ∷ fs) i ≡ Some f → IsLeastBorderFault g ms (n + i) f
+    at_each o is fs are zero f at =
+        let same : o ≡ f = cc in
+        let here : n ≡ n + 0 = omega arith in
+        subst (λ k. IsLeastBorderFault g ms k f) here (subst (IsLeastBorderFault g ms n) same is)
+    at_each o is fs are (suc i) f at =
+        let here : (n + 1) + i ≡ n + suc i = omega arith in
+        subst (λ k. IsLeastBorderFault g ms k f) here (are.each i f at)
+
+-- ---- a job of a module is a good one
+
+job_good : (lines : List CircuitLine) (p : Pattern) (m : ModuleLines) (j : JobView) → size_fault p.size ≡ None →
+    IsModule (setting_of lines p) m →
+    IsJobOf (circuit_of lines) p m j → IsJob j
+job_good lines p m j limits own is =
+    let c = circuit_of lines in
+    let fits = within_512 (setting_of lines p) m p.size refl limits own in
+    let said : AreStops c j.locals (stops m) j.stops = record { same = is.stops; own = is.own.stops } in
+    let area = sym is.area in
+    record {
+      even = subst IsEven area own.even;
+      width = subst (λ (b : Box2). (2 ≤ b.w) × (b.w ≤ 64) × (b.x + b.w ≤ 512)) area (own.wide.0, own.wide.1, fits.0);
+      height = subst (λ (b : Box2). (2 ≤ b.h) × (b.h ≤ 64) × (b.y + b.h ≤ 512)) area (own.high.0, own.high.1, fits.1);
+      steps = subst (λ n. n ≤ 65536) (sym is.steps) fits.2;
+      own = is.own;
+      stops = λ k d lt. record {
+        time = stops_stand (λ q. q.time ≤ j.steps) c j.locals (stops m) j.stops said
+            (λ i r below. subst (λ n. (get_or (stops m) i r).time ≤ n) (sym is.steps)
+            (own.stop_lines i r below).time) k d lt;
+        inside = stops_stand (λ q. in_box j.area q.cell.x q.cell.y ≡ true) c j.locals (stops m) j.stops said
+            (λ i r below. subst (λ (b : Box2). in_box b (get_or (stops m) i r).cell.x
+            (get_or (stops m) i r).cell.y ≡ true) area (own.stop_lines i r below).inside) k d lt;
+      };
+      stops_rise = stops_rise c j.locals m.lines j.stops own.order said;
+    }
+
+pub jobs_good : (lines : List CircuitLine) (p : Pattern) (ms : List ModuleLines) (js : List JobView) →
+    size_fault p.size ≡ None → AreModules (setting_of lines p) ms → AreJobsOf (circuit_of lines) p ms js →
+    (k : ℕ) (j : JobView) → slice_get js k ≡ Some j →
+    IsJob j × AreOrdered j.locals.netlist.given j.locals.netlist.gates
+jobs_good lines p ms js limits are own k j at = by (slice_get ms k) refl
+  where
+    by : (o : Option ModuleLines) → slice_get ms k ≡ o →
+        IsJob j × AreOrdered j.locals.netlist.given j.locals.netlist.gates
+    by None e =
+        let past = none-past ms k e in
+        let below : k < length js = slice_get_within js k j at in
+        let count = own.count in
+        absurd (omega (arith, past, below, count))
+    by (Some m) e =
+        let is = own.each k m j e at in
+        (job_good lines p m j limits (are.each k m e) is, is.locals.ordered)
+
+-- ---- the verdict
+
+empty_decided : {A : Type 0} (xs : List A) → Decided (xs ≡ [])
+empty_decided [] = inl refl
+empty_decided (x ∷ xs) = inr (λ e. cc)
+
+module _ (lines : List CircuitLine) (p : Pattern) (ms : List ModuleLines) (good : AreGood lines)
+    (limits : size_fault p.size ≡ None)
+    (are : AreModules (setting_of lines p) ms) where
+  abbrev g : Setting
+  g = setting_of lines p
+
+  ordered : AreOrdered (netlist_of lines).given (netlist_of lines).gates
+  ordered = gates_are_ordered lines good
+
+  abbrev js : List JobView
+  js = map (job_of (circuit_of lines) p) ms
+
+  own_jobs : AreJobsOf (circuit_of lines) p ms js
+  own_jobs = are_jobs_of lines p ms ordered (λ k m at. (are.each k m at, are.ports k m at))
+
+  good_at : (k : ℕ) (j : JobView) → slice_get js k ≡ Some j →
+      IsJob j × AreOrdered j.locals.netlist.given j.locals.netlist.gates
+  good_at = jobs_good lines p ms js limits are own_jobs
+
+  reasons : (fs : List Reasons) × AreLeastFaults js fs
+  reasons = all_reasons js good_at
+
+  borders : (bs : List (Option BorderFault)) × AreBordersFrom g ms 0 (length ms) bs
+  borders = all_borders g ms (length ms) 0
+
+  abbrev fs : List Reasons
+  fs = reasons.0
+
+  abbrev bs : List (Option BorderFault)
+  bs = borders.0
+
+  are_borders : AreBorderFaultsOf g ms bs
+  are_borders = record {
+    count = borders.1.count;
+    each = λ i f at. subst (λ k. IsLeastBorderFault g ms k f) (from_zero i) (borders.1.each i f at);
+  }
+    where
+      from_zero : (i : ℕ) → 0 + i ≡ i
+      from_zero i = omega arith
+
+  same_count : length fs ≡ length bs
+  same_count = reasons.1.count ∙ own_jobs.count ∙ sym borders.1.count
+
+  abbrev all_lines : List ReportLine
+  all_lines = lines_from 0 fs bs ++ unkept_lines g ms ++ map timing (time_lines g.circuit ms)
+
+  few_lines : length all_lines < 2 ^ 63
+  few_lines =
+      let gates = (netlist_of lines).gates in
+      let faults = three_each 0 fs bs in
+      let unkept = one_each ms 0 gates in
+      let times = two_each (first_seen g.circuit (all_stops ms)) (last_seen g.circuit (all_stops ms)) gates in
+      let few_modules = are.few in
+      let count = reasons.1.count ∙ own_jobs.count in
+      let few = few_gates lines good in
+      let outer = length-append (lines_from 0 fs bs ++ unkept_lines g ms) (map timing (time_lines g.circuit ms)) in
+      let inner = length-append (lines_from 0 fs bs) (unkept_lines g ms) in
+      let said = length-map (time_lines g.circuit ms) timing in
+      let named = length-map (unkept_from ms 0 gates) (λ n. Unkept n) in
+      omega (arith, faults, unkept, times, few_modules, count, few, outer, inner, said, named)
+
+  verdict : (v : Verdict) × IsVerdict g ms js v
+  unfolding IsVerdict
+  verdict = elim (both_decided (empty_decided (lines_from 0 fs bs ++ unkept_lines g ms))
+      (λ _. true_decided (are_all_obeyed (time_lines g.circuit ms)))) [
+        | inl h ↦ (Yes, accepted g ms js fs bs reasons.1 are_borders same_count h.0 h.1)
+        | inr not_so ↦
+            let v = vec_of all_lines few_lines in (
+              No v.vec,
+              (
+                (λ is. not_so (accepted-no_lines g ms js fs bs reasons.1 are_borders is, is.on_time)),
+                record {
+                  faults = fs;
+                  are_least = reasons.1;
+                  borders = bs;
+                  are_border_faults = are_borders;
+                  lines_are = v.items;
+                },
+              ),
+            )
+      ]
+
+pub some_verdict : ModulesHaveVerdict
+some_verdict lines p ms good limits are =
+    let v = verdict lines p ms good limits are in
+    record {
+      jobs = map (job_of (circuit_of lines) p) ms;
+      are_jobs = own_jobs lines p ms good limits are;
+      verdict = v.0;
+      judged = v.1;
+    }

@@ -1,0 +1,270 @@
+-- Modules are accepted if they pass tests, which a proof by computation can run.
+--
+-- Each job is run under each assignment, and the borders are compared at each odd time.
+use Rattle.std.proofs.Common.{◌≡◌, ℕ, zero, suc, ◌+◌, ◌*◌, ◌/◌, ◌<◌, ◌%◌, Bool, true, false, not, ◌||◌, ◌&&◌, refl}
+use Rattle.std.proofs.Common.{sym, ap, subst, ◌∙◌, arith, map, length, List, [], ◌∷◌, Option, Some, None}
+use Rattle.std.specs.Prelude.{ℤ, slice_get, IsTrue}
+use Rattle.std.specs.Bool.{beq}
+use Rattle.std.specs.Cmp.{booleans_Decides}
+use Rattle.std.specs.List.{list_all, range_with_len}
+use Rattle.std.proofs.Math.Logic.{∥∥₁_elim}
+use Rattle.std.proofs.lemmas.Bool.{and_parts, false≢true}
+use Rattle.std.proofs.lemmas.List.{length-map}
+use Rattle.std.proofs.lemmas.List.FromFn.{get_or-map-range_with_len, get_or-range_with_len, length-range_with_len}
+use Rattle.std.proofs.lemmas.Option.{slice_get-get_or, slice_get_within}
+use Rattle.bbm_rule.specs.Bits.{bit}
+use Rattle.bbm_rule.specs.declared.block.Cell.{Cell}
+use Rattle.circuit.specs.Bridge.{circuit_of, read}
+use Rattle.circuit.specs.Evaluate.{evaluate}
+use Rattle.circuit.specs.Gates.{is_inverse}
+use Rattle.circuit.specs.Meaning.{AreOrdered, Gate, Valuation}
+use Rattle.circuit.specs.declared.circuit_line.CircuitLine.{CircuitLine}
+use Rattle.circuit.proofs.Undefined.{undefined_has_none}
+use Rattle.circuit.proofs.Valuations.{evaluated}
+use Rattle.pattern.specs.Layout.{Pattern}
+use Rattle.pattern.specs.Lines.{size_fault}
+use Rattle.module_box.specs.Boxes.{in_box, in_halo, in_ring}
+use Rattle.module_box.specs.Equality.{same_signal}
+use Rattle.module_box.specs.LocalValues.{IsLocalValuation}
+use Rattle.module_box.specs.Places.{place_in}
+use Rattle.module_box.specs.Schedules.{signal_at}
+use Rattle.module_box.specs.declared.boxes.Box2.{Box2}
+use Rattle.certificate_lines.specs.Entries.{ModuleLines, Setting}
+use Rattle.certificate_lines.specs.Modules.{AreModules}
+use Rattle.certificate_lines.specs.Settings.{setting_of}
+use Rattle.module_job.specs.Jobs.{IsJob, JobView, job_demand}
+use Rattle.certificate_lines.specs.Rules.{box_cells, is_inverse_gate, whole}
+use Rattle.module_job.specs.Signals.{is_live, Meets}
+use Rattle.module_job.specs.declared.job.Demand.{Demand}
+use Rattle.module_job.specs.declared.job.Demand.TheVariants as Demanded
+use Rattle.certificate.specs.Jobs.{AreJobsOf}
+use Rattle.certificate.specs.Keeps.{is_kept}
+use Rattle.certificate.specs.Times.{are_all_obeyed, time_lines}
+use Rattle.certificate_lines.proofs.BoxPlaces.{box_place}
+use Rattle.local_run.specs.Faults.{IsFault, IsFaultUnder, IsKeepFault, assignments}
+use Rattle.local_run.specs.Runs.{local_run}
+use Rattle.local_run.specs.declared.fault.Fault.{Fault}
+use Rattle.local_run.specs.declared.fault.KeepFault.{KeepFault}
+use Rattle.local_run.specs.declared.fault.Kind.{Kind}
+use Rattle.local_run.specs.declared.fault.Kind.TheVariants.{Edge, Stop, End}
+use Rattle.module_box.proofs.EqualTests.{signal_decides}
+use Rattle.local_run.proofs.Decided.{decided}
+use Rattle.border_match.specs.BorderFaults.{IsBorderFault, edge_signal, halo_signal}
+use Rattle.border_match.specs.declared.fault.BorderFault.{BorderFault}
+use Rattle.core_book.specs.Verdicts.{Accepts}
+use Rattle.soundness.proofs.SomeVerdict.{jobs_good}
+
+-- ---- what is demanded, as a test
+
+abbrev pub meets : Valuation → Demand → Bool → Bool
+meets v Demanded.Dead live = not live
+meets v Demanded.Live live = live
+meets v (Demanded.Wire w) live = beq live (v w)
+meets v Demanded.Any live = true
+
+pub meets_is : (v : Valuation) (d : Demand) (live : Bool) → meets v d live ≡ true → Meets v d live
+meets_is v Demanded.Dead true e = absurd (false≢true e)
+meets_is v Demanded.Dead false e = refl
+meets_is v Demanded.Live live e = e
+meets_is v (Demanded.Wire w) live e = (booleans_Decides live (v w)).0 e
+meets_is v Demanded.Any live e = tt
+
+-- where the first holds, so does the second
+pub implied : (a b : Bool) → (not a || b) ≡ true → a ≡ true → b ≡ true
+implied true b e h = e
+implied false b e h = absurd (false≢true h)
+
+pub all_at : {A : Type 0} (test : A → Bool) (xs : List A) (i : ℕ) (a : A) → list_all test xs ≡ true →
+    slice_get xs i ≡ Some a → test a ≡ true
+all_at test [] i a all e = absurd cc
+all_at test (x ∷ xs) zero a all e = let own : x ≡ a = cc in
+    subst (λ x. test x ≡ true) own (and_parts (test x) (list_all test xs) all).0
+all_at test (x ∷ xs) (suc i) a all e = all_at test xs i a (and_parts (test x) (list_all test xs) all).1 e
+
+-- the number at a place of a range
+pub range_at : (n a k : ℕ) → k < n → slice_get (range_with_len a n) k ≡ Some (a + k)
+range_at n a k lt = slice_get-get_or (range_with_len a n) k 0 (omega (arith, lt, length-range_with_len a n))
+    ∙ ap Some (get_or-range_with_len a n k 0 lt)
+
+-- a test that all numbers below n pass
+pub all_below : (test : ℕ → Bool) (n k : ℕ) → list_all test (range_with_len 0 n) ≡ true → k < n → test k ≡ true
+all_below test n k all lt =
+    all_at test (range_with_len 0 n) k k all (range_at n 0 k lt ∙ ap Some (omega arith))
+
+-- the odd times before the last one
+abbrev pub at_odd_times : ℕ → (ℕ → Bool) → Bool
+at_odd_times steps test = list_all (λ k. test (2 * k + 1)) (range_with_len 0 (steps / 2))
+
+pub at_odd : (steps : ℕ) (test : ℕ → Bool) → at_odd_times steps test ≡ true → (t : ℕ) → t % 2 ≡ 1 → t < steps →
+    test t ≡ true
+at_odd steps test all t odd early =
+    let is : 2 * (t / 2) + 1 ≡ t = omega (arith, odd) in
+    subst (λ t. test t ≡ true) is
+    (all_below (λ k. test (2 * k + 1)) (steps / 2) (t / 2) all (omega (arith, odd, early)))
+
+-- ---- the cells of a box
+
+abbrev pub every_cell : Box2 → (ℤ → ℤ → Bool) → Bool
+every_cell b test = list_all (λ c. test c.x c.y) (box_cells b)
+
+pub at_every : (b : Box2) (test : ℤ → ℤ → Bool) → every_cell b test ≡ true → (x y : ℤ) → in_box b x y ≡ true →
+    test x y ≡ true
+at_every b test all x y h = all_at (λ (c : Cell). test c.x c.y) (box_cells b) (place_in b x y)
+    (record { x = x; y = y }) all (box_place b x y h)
+
+-- ---- the faults of a job
+
+abbrev pub edge_test : JobView → Valuation → ℕ → Bool
+edge_test j u t = every_cell j.area
+    (λ x y. not (in_ring j.area x y) || beq (local_run j u t x y) (is_live u (signal_at j.edges t x y)))
+
+abbrev pub end_test : JobView → Valuation → Bool
+end_test j u = every_cell j.area (λ x y. meets u (job_demand j x y) (local_run j u j.steps x y))
+
+abbrev pub stop_test : JobView → Valuation → Bool
+stop_test j u = list_all (λ s. beq (local_run j u s.at.time s.at.cell.x s.at.cell.y) (u s.wire)) j.stops
+
+ring_inside : (b : Box2) (x y : ℤ) → in_ring b x y ≡ true → in_box b x y ≡ true
+unfolding in_ring
+ring_inside b x y h = (and_parts (in_box b x y) _ h).0
+
+-- all tests of a job if its wires have these values
+abbrev pub values_test : JobView → Valuation → Bool
+values_test j u = at_odd_times j.steps (edge_test j u) && (stop_test j u && end_test j u)
+
+-- the same for the values that `evaluate` finds; there are none if a gate has no row
+abbrev pub found_test : JobView → Option (List Bool) → Bool
+found_test j None = false
+found_test j (Some vs) = values_test j (read vs)
+
+-- the values of the cuts under an assignment
+abbrev pub given_of : JobView → ℕ → List Bool
+given_of j a = map (bit a) (range_with_len 0 j.locals.netlist.given)
+
+-- all tests of a job, under each assignment
+abbrev pub job_test : JobView → Bool
+job_test j = list_all (λ a. found_test j (evaluate (given_of j a) j.locals.netlist.gates))
+    (range_with_len 0 (assignments j))
+
+-- it passes the tests at all odd times, at its stops, and at the last time
+record Passes (j : JobView) (u : Valuation) : Type 0 where
+  pub edges : (t : ℕ) → t % 2 ≡ 1 → t < j.steps → edge_test j u t ≡ true
+  pub stops : stop_test j u ≡ true
+  pub end : end_test j u ≡ true
+
+record IsTried (j : JobView) (a : ℕ) : Type 0 where
+  pub values : Valuation
+  pub local : IsLocalValuation j.locals a values
+  pub passes : Passes j values
+
+tried : (j : JobView) → AreOrdered j.locals.netlist.given j.locals.netlist.gates → job_test j ≡ true → (a : ℕ) →
+    a < assignments j → IsTried j a
+tried j ordered all a small =
+    by (evaluate (given_of j a) j.locals.netlist.gates) refl
+    (all_below (λ a. found_test j (evaluate (given_of j a) j.locals.netlist.gates)) (assignments j) a all small)
+  where
+    by : (o : Option (List Bool)) → evaluate (given_of j a) j.locals.netlist.gates ≡ o → found_test j o ≡ true →
+        IsTried j a
+    by None e h = absurd (false≢true h)
+    by (Some vs) e h =
+        let both = and_parts (at_odd_times j.steps (edge_test j (read vs))) _ h in
+        let ends = and_parts (stop_test j (read vs)) (end_test j (read vs)) both.1 in
+        let n = j.locals.netlist.given in
+        record {
+          values = read vs;
+          local = (evaluated j.locals.netlist (bit a) (given_of j a) vs ordered
+              (length-map (range_with_len 0 n) (bit a) ∙ length-range_with_len 0 n)
+              (λ i lt. get_or-map-range_with_len (bit a) 0 n i i false lt (omega arith)) e).satisfies;
+          passes = record {
+            edges = at_odd j.steps (edge_test j (read vs)) both.0;
+            stops = ends.0;
+            end = ends.1;
+          };
+        }
+
+no_fault_under : (j : JobView) (u : Valuation) (t : ℕ) (kind : Kind) (x y : ℤ) → IsJob j → Passes j u →
+    IsFaultUnder j u t kind x y → ⊥
+no_fault_under j u t Edge x y is p f =
+    f.differs ((booleans_Decides _ _).0 (implied (in_ring j.area x y) _
+    (at_every j.area _ (p.edges t f.odd f.early) x y (ring_inside j.area x y f.ring)) f.ring))
+no_fault_under j u t Stop x y is p f =
+    let listed = slice_get-get_or j.stops f.is_listed.0 f.stop f.is_listed.1 ∙ ap Some f.is_listed.2 in
+    let own = (booleans_Decides _ _).0 (all_at
+    (λ s. beq (local_run j u s.at.time s.at.cell.x s.at.cell.y) (u s.wire)) j.stops f.is_listed.0 f.stop p.stops
+    listed) in
+    f.differs (sym (λ i. local_run j u (f.time i) (f.column i) (f.row i)) ∙ own)
+no_fault_under j u t End x y is p f =
+    f.differs (subst (λ n. Meets u (job_demand j x y) (local_run j u n x y)) (sym f.last)
+    (meets_is u _ _ (at_every j.area _ p.end x y f.inside)))
+
+no_fault : (j : JobView) → IsJob j → AreOrdered j.locals.netlist.given j.locals.netlist.gates → job_test j ≡ true →
+    (f : Fault) → ¬ IsFault j f
+no_fault j is ordered all f fault =
+    let t = tried j ordered all f.assignment fault.in_range in
+    no_fault_under j t.values f.time f.kind f.cell.x f.cell.y is t.passes
+    ((decided j f t.values is ordered fault.in_range t.local).0 fault)
+
+no_keep_fault : (j : JobView) → AreOrdered j.locals.netlist.given j.locals.netlist.gates → job_test j ≡ true →
+    (f : KeepFault) → ¬ IsKeepFault j f
+no_keep_fault j ordered all f fault =
+    let t = tried j ordered all f.assignment fault.in_range in
+    ∥∥₁_elim fault.shown (λ x y. absurd x)
+    (λ u. undefined_has_none j.locals.netlist (bit f.assignment) t.values f.gate ordered u t.local)
+
+-- ---- border faults
+
+abbrev pub border_test : Setting → List ModuleLines → ℕ → Bool
+border_test g ms t = list_all (λ (m : ModuleLines). every_cell (whole g.size) (λ x y. not (in_halo m.area x y)
+    || list_all (λ (o : ModuleLines).
+    not (in_box o.area x y) || same_signal (halo_signal g.circuit m t x y) (edge_signal g.circuit o t x y)) ms)) ms
+
+no_border_fault : (g : Setting) (ms : List ModuleLines) → at_odd_times g.size.steps (border_test g ms) ≡ true →
+    (i : ℕ) (f : BorderFault) → ¬ IsBorderFault g ms i f
+no_border_fault g ms passes i f is =
+    let own = all_at (λ (m : ModuleLines). every_cell (whole g.size) (λ x y. not (in_halo m.area x y)
+    || list_all (λ (o : ModuleLines).
+    not (in_box o.area x y) || same_signal (halo_signal g.circuit m f.time x y) (edge_signal g.circuit o f.time x y))
+    ms)) ms i is.lines (at_odd g.size.steps (border_test g ms) passes f.time is.odd is.early) is.numbered in
+    let here = implied (in_halo is.lines.area f.cell.x f.cell.y) _
+    (at_every (whole g.size) _ own f.cell.x f.cell.y is.inside) is.halo in
+    let there = all_at (λ (o : ModuleLines).
+    not (in_box o.area f.cell.x f.cell.y)
+    || same_signal (halo_signal g.circuit is.lines f.time f.cell.x f.cell.y)
+    (edge_signal g.circuit o f.time f.cell.x f.cell.y)) ms is.owner_number is.owner here is.owner_numbered in
+    is.differ ((signal_decides _ _).0 (implied (in_box is.owner.area f.cell.x f.cell.y) _ there is.owned))
+
+-- ---- all of it
+
+-- some module keeps each inverse gate
+abbrev pub kept_test : Setting → List ModuleLines → Bool
+kept_test g ms = list_all (λ k. not (is_inverse_gate (slice_get g.circuit.netlist.gates k)) || is_kept ms k)
+    (range_with_len 0 (length g.circuit.netlist.gates))
+
+all_kept : (g : Setting) (ms : List ModuleLines) → kept_test g ms ≡ true → (k : ℕ) (gate : Gate) →
+    slice_get g.circuit.netlist.gates k ≡ Some gate → IsTrue (is_inverse gate.kind) → IsTrue (is_kept ms k)
+all_kept g ms all k gate at inverse =
+    let gates = g.circuit.netlist.gates in
+    implied (is_inverse_gate (slice_get gates k)) (is_kept ms k)
+    (all_below (λ k. not (is_inverse_gate (slice_get gates k)) || is_kept ms k) (length gates) k all
+    (slice_get_within gates k gate at))
+    (ap is_inverse_gate at ∙ inverse)
+
+-- all tests of modules and their jobs
+pub record PassTests (g : Setting) (ms : List ModuleLines) (js : List JobView) : Type 0 where
+  pub jobs : list_all job_test js ≡ true
+  pub kept : kept_test g ms ≡ true
+  pub borders : at_odd_times g.size.steps (border_test g ms) ≡ true
+  pub on_time : are_all_obeyed (time_lines g.circuit ms) ≡ true
+
+pub accepts : (lines : List CircuitLine) (p : Pattern) (ms : List ModuleLines) (js : List JobView) →
+    size_fault p.size ≡ None → AreModules (setting_of lines p) ms → AreJobsOf (circuit_of lines) p ms js →
+    PassTests (setting_of lines p) ms js → Accepts (setting_of lines p) ms js
+accepts lines p ms js limits are own pass = record {
+  no_fault = λ k j f at. let good = jobs_good lines p ms js limits are own k j at in
+      no_fault j good.0 good.1 (all_at job_test js k j pass.jobs at) f;
+  no_border_fault = no_border_fault (setting_of lines p) ms pass.borders;
+  no_keep_fault = λ k j f at. let good = jobs_good lines p ms js limits are own k j at in
+      no_keep_fault j good.1 (all_at job_test js k j pass.jobs at) f;
+  kept = all_kept (setting_of lines p) ms pass.kept;
+  on_time = pass.on_time;
+}

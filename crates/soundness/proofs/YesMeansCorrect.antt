@@ -1,0 +1,61 @@
+-- From a yes to the whole pattern
+use Rattle.std.proofs.Common.{◌≡◌, [], None, Some, List, subst, take}
+use Rattle.circuit.specs.Entries.{defined}
+use Rattle.pattern.specs.Layout.{parts_of}
+use Rattle.circuit.specs.Bridge.{circuit_of, input_names, netlist_of}
+use Rattle.circuit.specs.Meaning.{AreOrdered}
+use Rattle.pattern.specs.Lines.{AreGoodAfter, AreNamed, size_fault}
+use Rattle.pattern.specs.declared.layout_line.LayoutHeader.{LayoutHeader}
+use Rattle.certificate.specs.Grammars.{CertView}
+use Rattle.module_job.specs.Jobs.{JobView}
+use Rattle.certificate_lines.specs.Modules.{AreModules}
+use Rattle.core_book.specs.Concluding.{AreOwnJobs, modules, port_names_of, setting}
+use Rattle.soundness.specs.HeadlineLaws.{BelongTogether, IsAcceptedBundle}
+use Rattle.meaning.specs.Implements.{IsCorrect}
+use Rattle.soundness.specs.OnTime.{IsOnTime}
+use Rattle.core_book.specs.Verdicts.{IsVerdict}
+use Rattle.core_book.specs.declared.verdict.Verdict.TheVariants.{Yes}
+use Rattle.soundness.proofs.InputRuns.{read_layout-names}
+use Rattle.soundness.proofs.PortNames.{read_layout-is_named}
+use Rattle.soundness.proofs.WholeRuns.{correct, on_time}
+
+-- what a certificate says of its circuit, its layout and its modules
+pub record IsRead (s : CertView) (size : LayoutHeader) : Type 0 where
+  pub ordered : AreOrdered (netlist_of s.circuit).given (netlist_of s.circuit).gates
+  pub same : size ≡ s.layout.size
+  pub limits : size_fault size ≡ None
+  pub laid_out : AreGoodAfter size [] (parts_of s.layout)
+  pub are_modules : AreModules (setting s) (modules s)
+  pub inputs : take (netlist_of s.circuit).given (defined s.circuit) ≡ input_names s.circuit
+  pub named : AreNamed (Some (port_names_of s.circuit)) (parts_of s.layout)
+
+-- it belongs together with the jobs of its modules
+pub bundle_read : (s : CertView) (size : LayoutHeader) (jobs : List JobView) → IsRead s size → AreOwnJobs s jobs →
+    BelongTogether s.circuit s.layout (modules s) jobs
+bundle_read s size jobs is own = record {
+  ordered = is.ordered;
+  limits = subst (λ (z : LayoutHeader). size_fault z ≡ None) is.same is.limits;
+  laid_out = subst (λ (z : LayoutHeader). AreGoodAfter z [] (parts_of s.layout)) is.same is.laid_out;
+  are_modules = is.are_modules;
+  are_jobs = own;
+}
+
+accepted_bundle : (s : CertView) (size : LayoutHeader) (jobs : List JobView) → IsRead s size → AreOwnJobs s jobs →
+    IsVerdict (setting s) (modules s) jobs Yes →
+    IsAcceptedBundle s.circuit s.layout (modules s) jobs
+unfolding IsVerdict
+accepted_bundle s size jobs is own accepted = record { bundle = bundle_read s size jobs is own; accepted = accepted }
+
+pub yes_means-correct : (s : CertView) (size : LayoutHeader) (jobs : List JobView) → IsRead s size → AreOwnJobs s jobs →
+    IsVerdict (setting s) (modules s) jobs Yes →
+    IsCorrect s.circuit s.layout
+yes_means-correct s size jobs is own judged =
+    correct s.circuit s.layout (modules s) jobs (read_layout-names s.circuit s.layout is.inputs is.named)
+    (read_layout-is_named s.circuit s.layout is.named) (accepted_bundle s size jobs is own judged)
+
+pub yes_means-on_time : (s : CertView) (size : LayoutHeader) (jobs : List JobView) → IsRead s size → AreOwnJobs s jobs →
+    IsVerdict (setting s) (modules s) jobs Yes →
+    IsOnTime (circuit_of s.circuit) s.layout (modules s)
+yes_means-on_time s size jobs is own judged =
+    on_time s.circuit s.layout (modules s) jobs (read_layout-names s.circuit s.layout is.inputs is.named)
+    (accepted_bundle s size jobs is own judged)

@@ -1,0 +1,18 @@
+use Rattle.soundness.proofs.PlainCertificates.{plain_decides, plain_lines, plain_no, untimed}
+use Rattle.soundness.proofs.WholeRuns.{off_rim}
+use Rattle.soundness.proofs.laws.plain_certificate_decides.Goals as goal
+
+pub returns-clause-off_rim : goal.returns-clause-off_rim
+returns-clause-off_rim c = off_rim
+
+pub returns-clause-decides : goal.returns-clause-decides
+returns-clause-decides c = plain_decides
+
+pub returns-clause-no : goal.returns-clause-no
+returns-clause-no c = plain_no
+
+pub returns-clause-untimed : goal.returns-clause-untimed
+returns-clause-untimed c = untimed
+
+pub returns-clause-lines : goal.returns-clause-lines
+returns-clause-lines c = plain_lines

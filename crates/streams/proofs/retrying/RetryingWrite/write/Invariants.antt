@@ -1,0 +1,6 @@
+use Rattle.std.specs.Io.KnownBytes.{Keeps}
+use Rattle.streams.proofs.retrying.RetryingWrite.write.Given as goal
+
+-- no byte was written yet
+abbrev pub invariant-tries : goal.invariant-tries
+invariant-tries g l = Keeps (g.W.Write.contents l.initial.self.inner) (g.W.Write.contents l.self.inner)
