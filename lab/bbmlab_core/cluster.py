@@ -18,13 +18,21 @@ from .terminal import LabError, read_bytes
 AHEAD, LOOK_SECONDS = 4, 0.2
 # A group of texts that is sent at once: about as many seconds of work, and at most so many texts and bytes.
 GROUP_SECONDS, GROUP_TEXTS, GROUP_BYTES = 0.25, 50, 1 << 20
+# How often a group is sent that no worker answers, since a worker may end with a result that was not fetched.
+TRIES = 3
 # Seconds until the threads of the workers are counted again, since this asks the scheduler.
 COUNT_SECONDS = 1.0
 
-# Files with their texts.
-Group = list[tuple[str, bytes]]
 # Seconds to wait for the scheduler, and for a first worker.
 CONNECT_SECONDS = 10
+
+
+class Group:
+    """Files with their texts, which one worker checks, and how often they were sent."""
+
+    def __init__(self) -> None:
+        self.files: list[tuple[str, bytes]] = []
+        self.sent = 0
 
 
 def connected(address: str, jobs: int, program: str) -> Any:
@@ -44,6 +52,16 @@ def connected(address: str, jobs: int, program: str) -> Any:
     except (OSError, TimeoutError, ValueError) as error:
         raise LabError(f"no Dask cluster with a worker {f'at {address}' if address else 'here'}: {error}") from error
     return client
+
+
+def outcome(future: Any) -> tuple[list[remote.Said], str]:
+    """Returns the answers of a worker, and why there are none. A worker that was killed may take along a result that was ready."""
+    if future.status != "finished":
+        return [], str(future.exception() if future.status == "error" else future.status) or "unknown error"
+    try:
+        return list(future.result()), ""
+    except Exception as error:  # pylint: disable=broad-exception-caught  # It was raised in another process, and may be of any class.
+        return [], str(error) or type(error).__name__
 
 
 class ClusterChecker(Checker):
@@ -66,17 +84,17 @@ class ClusterChecker(Checker):
 
     def results(self, files: Iterable[str]) -> Iterator[Result | None]:
         """Yields the result of each file as soon as it is there, and None about each fifth of a second without one."""
-        group: Group = []
+        group = Group()
         for file in files:
             ready = (self.order.keeper.held(file) if self.order.keeper else None) or self.added(file, group)
             if ready:
                 yield ready
             elif self.is_full(group):
                 self.send(group)
-                group = []
+                group = Group()
                 while self.flying >= AHEAD * self.threads():
                     yield from self.landed()
-        if group:
+        if group.files:
             self.send(group)
         while self.flying:
             yield from self.landed()
@@ -92,7 +110,7 @@ class ClusterChecker(Checker):
     def added(self, file: str, group: Group) -> Result | None:
         """Adds a file to a group. Returns a result only if it can't be read."""
         try:
-            group.append((file, read_bytes(file)))
+            group.files.append((file, read_bytes(file)))
         except LabError as error:
             return Result(file, "missing", str(error).removeprefix(f"{file}: "), 0)
         return None
@@ -100,12 +118,13 @@ class ClusterChecker(Checker):
     def is_full(self, group: Group) -> bool:
         """Whether a group is as large as it may be: by what a text took so far, one text at the start."""
         wanted = GROUP_SECONDS * self.answered / self.worked if self.worked else 1
-        return len(group) >= min(max(wanted, 1), GROUP_TEXTS) or sum(len(text) for _, text in group) >= GROUP_BYTES
+        return len(group.files) >= min(max(wanted, 1), GROUP_TEXTS) or sum(len(text) for _, text in group.files) >= GROUP_BYTES
 
     def send(self, group: Group) -> None:
         """Sends a group to a worker."""
-        future = self.client.submit(remote.answers, self.digest, [text for _, text in group], self.order.timeout, pure=False)
+        future = self.client.submit(remote.answers, self.digest, [text for _, text in group.files], self.order.timeout, pure=False)
         future.add_done_callback(lambda ended: self.done.put((group, ended)))
+        group.sent += 1
         self.flying += 1
 
     def landed(self) -> Iterator[Result | None]:
@@ -116,11 +135,14 @@ class ClusterChecker(Checker):
             yield None
             return
         self.flying -= 1
-        if future.status != "finished":
-            why = future.exception() if future.status == "error" else future.status
-            yield from (Result(file, "error", f"no worker answered: {why}", 0) for file, _ in group)
+        answers, why = outcome(future)
+        if why and group.sent < TRIES:
+            self.send(group)
             return
-        for (file, text), said in zip(group, future.result()):
+        if why:
+            yield from (Result(file, "error", f"no worker answered: {why}", 0) for file, _ in group.files)
+            return
+        for (file, text), said in zip(group.files, answers):
             self.answered += 1
             self.worked += max(said[3], 0.001, self.order.timeout or 0 if said[4] == "timeout" else 0)
             yield self.taken(file, text, said)

@@ -107,7 +107,7 @@ class Cluster(unittest.TestCase):
             time.sleep(0.02)
         os.killpg(workers[0].pid, signal.SIGKILL)
         output, errors = running.communicate(timeout=120)
-        self.assertEqual(running.returncode, 1, errors.decode())
+        self.assertEqual(running.returncode, 1, (output + errors).decode())
         self.assertIn(b"12 files: 6 yes, 3 no, 3 refused", output)
         self.assertEqual(stable(self.room / "second"), plain)
 
