@@ -23,6 +23,7 @@ use clap::error::ErrorKind;
 use command_line::{Asked, Request, read_words};
 use job_pool::Gate;
 use std::alloc::Global;
+use std::random::RandomSource;
 use std::sync::Wait;
 use std::thread::Threads;
 use streams::{Sink, Source};
@@ -71,7 +72,7 @@ pub fn program<'a, T, R, W, E, G>(
     gate: &G,
 ) -> u8
 where
-    T: Threads + Wait + Sync,
+    T: Threads + Wait + RandomSource + Sync,
     R: Source,
     W: Sink,
     E: Sink,
@@ -118,7 +119,7 @@ where
 }
 
 // Each command is a call over the two streams.
-fn serve<T: Threads + Wait + Sync, R: Source, W: Sink, G: Gate + Sync>(
+fn serve<T, R, W, G>(
     rt: &T,
     alloc: Global,
     asked: Asked,
@@ -126,6 +127,11 @@ fn serve<T: Threads + Wait + Sync, R: Source, W: Sink, G: Gate + Sync>(
     writer: &mut W,
     gate: &G,
 ) -> Result<Outcome, CheckFault>
+where
+    T: Threads + Wait + RandomSource + Sync,
+    R: Source,
+    W: Sink,
+    G: Gate + Sync,
     requires workers { (0 < asked.workers) × (asked.workers ≤ 64) }
     requires reader_works { R.has_failed reader.old ≡ false }
     requires writer_works { W.has_failed writer.old ≡ false }
@@ -144,10 +150,10 @@ fn serve<T: Threads + Wait + Sync, R: Source, W: Sink, G: Gate + Sync>(
 {
     match asked.request {
         Request::Check => check_stream(rt, alloc, reader, writer, asked.workers, gate),
-        Request::Run => run_stream(alloc, reader, writer),
-        Request::Value => value_stream(alloc, reader, writer),
-        Request::Modules => modules_stream(alloc, reader, writer),
-        Request::Migrate => migrate_stream(alloc, reader, writer),
+        Request::Run => run_stream(rt, alloc, reader, writer),
+        Request::Value => value_stream(rt, alloc, reader, writer),
+        Request::Modules => modules_stream(rt, alloc, reader, writer),
+        Request::Migrate => migrate_stream(rt, alloc, reader, writer),
     }
 }
 

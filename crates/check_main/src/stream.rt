@@ -1,5 +1,5 @@
 //! From a reader's bytes to a writer's.
-ghost use Rattle.std.specs.Prelude.{◌≡◌, ◌≢◌, ◌<◌, ◌≤◌, true, false, Ok, IfOk, IfErr, IsErrOf, OnOk, length};
+ghost use Rattle.std.specs.Prelude.{◌≡◌, ◌≢◌, ◌<◌, ◌≤◌, [], true, false, None, Ok, IfOk, IfErr, IsErrOf, OnOk, length};
 ghost use Rattle.std.specs.Io.KnownBytes.{Appends};
 ghost use Rattle.answers.specs.CheckText.{IsReportOf};
 ghost use Rattle.meaning.specs.Streams.{ReaderGives};
@@ -18,8 +18,9 @@ use crate::CheckFault;
 use crate::bundle::check_text;
 use answers::{Answered, Outcome, migrate_text, modules_text, run_text, value_text};
 use job_pool::Gate;
-use section_text::{Feed, MAX_TEXT_BYTES, PushFault};
+use section_text::{Feed, MAX_TEXT_BYTES, PushFault, Seed};
 use std::alloc::Global;
+use std::random::RandomSource;
 use std::sync::Wait;
 use std::thread::Threads;
 use streams::{Sink, Source};
@@ -54,7 +55,7 @@ pub fn check_stream<T, R, W, G>(
     gate: &G,
 ) -> Result<Outcome, CheckFault>
 where
-    T: Threads + Wait + Sync,
+    T: Threads + Wait + RandomSource + Sync,
     R: Source,
     W: Sink,
     G: Gate + Sync,
@@ -71,7 +72,7 @@ where
         (W.written_bytes writer.new) }
     ensures small { result ≡ Ok Outcome.Refused → ReaderGives IsNoSmallDesign (R.left reader.old) }
 {
-    let feed = read_text(alloc, reader)?;
+    let feed = read_text(rt, alloc, reader)?;
     let answered = check_text(rt, alloc, feed, workers, gate)?;
     write_answer(writer, &answered)
 }
@@ -80,7 +81,8 @@ where
 ///
 /// It reads the whole text, at most 16 MiB, and writes the answer once it is complete. `No` is a ball that leaves the
 /// rectangle.
-pub fn run_stream<R: Source, W: Sink>(
+pub fn run_stream<T: RandomSource, R: Source, W: Sink>(
+    rt: &T,
     alloc: Global,
     reader: &mut R,
     writer: &mut W,
@@ -90,7 +92,7 @@ pub fn run_stream<R: Source, W: Sink>(
     ensures serves { Serves IsRunOf R.Source W.Sink reader.old reader.new writer.old writer.new
         result }
 {
-    let mut feed = read_text(alloc, reader)?;
+    let mut feed = read_text(rt, alloc, reader)?;
     let answered = run_text(alloc, &mut feed).map_err(|_| CheckFault::Memory)?;
     write_answer(writer, &answered)
 }
@@ -99,7 +101,8 @@ pub fn run_stream<R: Source, W: Sink>(
 ///
 /// It reads the whole text, at most 16 MiB, and writes the answer once it is complete. `No` is a gate that has no row
 /// for its inputs.
-pub fn value_stream<R: Source, W: Sink>(
+pub fn value_stream<T: RandomSource, R: Source, W: Sink>(
+    rt: &T,
     alloc: Global,
     reader: &mut R,
     writer: &mut W,
@@ -109,7 +112,7 @@ pub fn value_stream<R: Source, W: Sink>(
     ensures serves { Serves IsValueOf R.Source W.Sink reader.old reader.new writer.old writer.new
         result }
 {
-    let mut feed = read_text(alloc, reader)?;
+    let mut feed = read_text(rt, alloc, reader)?;
     let answered = value_text(alloc, &mut feed).map_err(|_| CheckFault::Memory)?;
     write_answer(writer, &answered)
 }
@@ -118,7 +121,8 @@ pub fn value_stream<R: Source, W: Sink>(
 ///
 /// It reads the whole text, at most 16 MiB, and writes the answer once it is complete. The outcome is `Yes` or
 /// `Refused`.
-pub fn modules_stream<R: Source, W: Sink>(
+pub fn modules_stream<T: RandomSource, R: Source, W: Sink>(
+    rt: &T,
     alloc: Global,
     reader: &mut R,
     writer: &mut W,
@@ -128,7 +132,7 @@ pub fn modules_stream<R: Source, W: Sink>(
     ensures serves { Serves IsModulesOf R.Source W.Sink reader.old reader.new writer.old writer.new
         result }
 {
-    let mut feed = read_text(alloc, reader)?;
+    let mut feed = read_text(rt, alloc, reader)?;
     let answered = modules_text(alloc, &mut feed).map_err(|_| CheckFault::Memory)?;
     write_answer(writer, &answered)
 }
@@ -138,7 +142,8 @@ pub fn modules_stream<R: Source, W: Sink>(
 /// It reads the whole text, at most 16 MiB, and writes the answer once it is complete. The outcome is `Yes` or
 /// `Refused`. A bundle of version 2 is written as it is. If `check` accepts a bundle, it accepts the migrated one
 /// (`headline/specs/Migration.antt`).
-pub fn migrate_stream<R: Source, W: Sink>(
+pub fn migrate_stream<T: RandomSource, R: Source, W: Sink>(
+    rt: &T,
     alloc: Global,
     reader: &mut R,
     writer: &mut W,
@@ -148,13 +153,17 @@ pub fn migrate_stream<R: Source, W: Sink>(
     ensures serves { Serves IsMigrationOf R.Source W.Sink reader.old reader.new writer.old
         writer.new result }
 {
-    let mut feed = read_text(alloc, reader)?;
+    let mut feed = read_text(rt, alloc, reader)?;
     let answered = migrate_text(alloc, &mut feed).map_err(|_| CheckFault::Memory)?;
     write_answer(writer, &answered)
 }
 
 // Reads up to the end. A read of no byte ends the text.
-fn read_text<R: Source>(alloc: Global, reader: &mut R) -> Result<Feed, CheckFault>
+fn read_text<T: RandomSource, R: Source>(
+    rt: &T,
+    alloc: Global,
+    reader: &mut R,
+) -> Result<Feed, CheckFault>
     requires { R.has_failed reader.old ≡ false }
     ensures read_all { IfOk result (λ feed. ReadsAll (R.left reader.old) (R.left reader.new)
         feed.text) }
@@ -169,11 +178,13 @@ fn read_text<R: Source>(alloc: Global, reader: &mut R) -> Result<Feed, CheckFaul
     let Ok(mut block) = vec![in alloc; 0u8; MAX_READ_BYTES] else {
         return Err(CheckFault::Memory);
     };
-    read_by(alloc, reader, &mut block)
+    let feed = Feed::seeded(alloc, Seed::drawn(rt));
+    read_by(feed, reader, &mut block)
 }
 
 // The same, by reads that ask for as many bytes as the block has.
-fn read_by<R: Source>(alloc: Global, reader: &mut R, block: &mut [u8]) -> Result<Feed, CheckFault>
+fn read_by<R: Source>(empty: Feed, reader: &mut R, block: &mut [u8]) -> Result<Feed, CheckFault>
+    requires empty { empty ≡ record { text = []; taken = 0; closed = false; stop = None } }
     requires works { R.has_failed reader.old ≡ false }
     requires block_has_room { 0 < length block.old }
     ensures read_all { IfOk result (λ feed. ReadsAll (R.left reader.old) (R.left reader.new)
@@ -185,7 +196,7 @@ fn read_by<R: Source>(alloc: Global, reader: &mut R, block: &mut [u8]) -> Result
         GivesTooMuch (R.left reader.old) (R.left reader.new) }
     ensures no_write { IfErr result (λ fault. fault ≢ CheckFault.Write) }
 {
-    let mut feed = Feed::new(alloc);
+    let mut feed = empty;
     // Each read but the last gives a byte, and no text has so many.
     for _ in 0..MAX_TEXT_BYTES + 1 {
         let Ok(count) = reader.read(block) else {

@@ -105,7 +105,7 @@ impl Draft {
     pub fn new(alloc: Global) -> Draft
         ensures { result ≡ [] }
     {
-        Draft::seeded(alloc, Seed::of(&[]))
+        Draft::seeded(alloc, Seed::known())
     }
 
     /// Creates a draft without lines whose table of names hashes by the seed. The seed changes no result.

@@ -112,10 +112,10 @@ pub fn read_assign(alloc: Global, feed: &mut Feed, ins: &[Name]) -> Result<Vec<N
     ensures reads { Reads (assign_grammar ins.now) (λ names. assign_value names.items) feed.old
         feed.new result }
 {
-    let Ok(known) = index_of(alloc, ins) else {
+    let Ok(known) = index_of(alloc, feed.seed(), ins) else {
         return Err(feed.starve());
     };
-    let on = IndexSet::with_hasher(alloc, *known.hasher());
+    let on = IndexSet::with_hasher(alloc, feed.seed());
     let mut reading = Assigning { ins, known, on };
     read_names(alloc, feed, &mut reading)
 }

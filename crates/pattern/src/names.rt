@@ -35,11 +35,15 @@ pub(crate) fn put_name(index: &mut IndexSet<Name, Seed>, name: Name)
     }
 }
 
-/// Returns the set of the names of a list. It hashes by the seed of these names.
-pub(crate) fn index_of(alloc: Global, names: &[Name]) -> Result<IndexSet<Name, Seed>, AllocError>
+/// Returns the set of the names of a list. It hashes by the seed.
+pub(crate) fn index_of(
+    alloc: Global,
+    seed: Seed,
+    names: &[Name],
+) -> Result<IndexSet<Name, Seed>, AllocError>
     ensures { IfOk result (λ index. (n : List ℕ) → has index.keys n ≡ has names.now n) }
 {
-    let mut index = IndexSet::with_hasher(alloc, Seed::of_names(names));
+    let mut index = IndexSet::with_hasher(alloc, seed);
     for name in names {
         add_name(&mut index, *name)?;
     }

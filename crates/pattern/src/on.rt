@@ -25,7 +25,7 @@ fn push_bits(
 pub fn are_on(alloc: Global, names: &[Name], on: &[Name]) -> Result<Vec<bool>, AllocError>
     ensures { IfOk result (λ bits. bits.items ≡ map (λ n. has on.now n) names.now) }
 {
-    let on = index_of(alloc, on)?;
+    let on = index_of(alloc, Seed::of_names(on), on)?;
     let mut bits = Vec::new(alloc);
     push_bits(&mut bits, names, &on)?;
     Ok(bits)

@@ -88,13 +88,13 @@ fn note_port(ins: &mut IndexSet<Name, Seed>, outs: &mut IndexSet<Name, Seed>, pa
 impl<'a> Reading<'a> {
     // No lines. The size is that of the smallest layout, until the first line is read.
     #[tactic(auto, unfolding(crate::specs::Lines::size_fault))]
-    fn new(alloc: Global, ports: &'a PortNames) -> Result<Reading<'a>, AllocError>
+    fn new(alloc: Global, seed: Seed, ports: &'a PortNames) -> Result<Reading<'a>, AllocError>
         ensures ports { IfOk result (λ reading. reading.ports ≡ named_ports ports.now) }
         ensures parts { IfOk result (λ reading. parts_of reading.layout ≡ []) }
     {
-        let (known_ins, known_outs) = known_names(alloc, ports)?;
-        let seen_ins = IndexSet::with_hasher(alloc, *known_ins.hasher());
-        let seen_outs = IndexSet::with_hasher(alloc, *known_outs.hasher());
+        let (known_ins, known_outs) = known_names(alloc, seed, ports)?;
+        let seen_ins = IndexSet::with_hasher(alloc, seed);
+        let seen_outs = IndexSet::with_hasher(alloc, seed);
         let smallest = LayoutHeader {
             w: 2,
             h: 2,
@@ -168,6 +168,7 @@ impl<'a> Reading<'a> {
 // The names that ports may have, where not all are good.
 fn known_names(
     alloc: Global,
+    seed: Seed,
     ports: &PortNames,
 ) -> Result<(IndexSet<Name, Seed>, IndexSet<Name, Seed>), AllocError>
     ensures ins { IfOk result (λ known. (n : List ℕ) →
@@ -178,10 +179,10 @@ fn known_names(
         ≡ (is_any (named_ports ports.now) || has known.1.keys n)) }
 {
     match ports {
-        PortNames::Any => Ok((index_of(alloc, &[])?, index_of(alloc, &[])?)),
+        PortNames::Any => Ok((index_of(alloc, seed, &[])?, index_of(alloc, seed, &[])?)),
         PortNames::Only { ins, outs } => {
-            let ins = index_of(alloc, ins)?;
-            let outs = index_of(alloc, outs)?;
+            let ins = index_of(alloc, seed, ins)?;
+            let outs = index_of(alloc, seed, outs)?;
             Ok((ins, outs))
         }
     }
@@ -268,7 +269,7 @@ pub fn read_layout(alloc: Global, feed: &mut Feed, ports: &PortNames) -> Result<
         result }
     ensures names { IfOk result (λ l. AreNamed (named_ports ports.now) (parts_of l)) }
 {
-    let Ok(mut reading) = Reading::new(alloc, ports) else {
+    let Ok(mut reading) = Reading::new(alloc, feed.seed(), ports) else {
         return Err(feed.starve());
     };
     let read = read_section(feed, &mut reading);

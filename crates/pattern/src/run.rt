@@ -61,7 +61,7 @@ fn push_ports_on(
     ensures { OnOk result (out.new.items
         ≡ out.old.items ++ map (λ q. q.cell) (filter (λ q. has on.now q.name) ports.now)) }
 {
-    let on = index_of(alloc, on)?;
+    let on = index_of(alloc, Seed::of_names(on), on)?;
     push_ports_in(out, ports, &on)
 }
 

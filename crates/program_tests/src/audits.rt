@@ -10,12 +10,13 @@ use core_book::{Filing, LogEntry, Reply};
 use job_pool::{Gate, OpenGate};
 use std::alloc::Global;
 use std::process::Abort;
+use std::random::RandomSource;
 use std::sync::Wait;
 use std::thread::Threads;
 use test_support::{ALONE, GOOD, fed, sections};
 
 /// Returns whether `check` ends like this over a text, and writes this.
-fn is_checked<G: Gate + Sync, T: Threads + Wait + Sync>(
+fn is_checked<G: Gate + Sync, T: Threads + Wait + RandomSource + Sync>(
     rt: &T,
     alloc: Global,
     text: &str,
@@ -48,7 +49,7 @@ fn writes_the_same_for_each_number_of_workers(rt: HostRuntime) {
 }
 
 /// Returns whether `check` has this answer to a text in memory.
-fn is_answered<T: Threads + Wait + Sync>(
+fn is_answered<T: Threads + Wait + RandomSource + Sync>(
     rt: &T,
     alloc: Global,
     text: &str,

@@ -3,6 +3,7 @@ use check_main::{OpenGate, Streams, Watched, program};
 use std::alloc::Global;
 use std::io;
 use std::io::{ErrorKind, Read, Write};
+use std::random::RandomSource;
 use std::sync::Wait;
 use std::thread::Threads;
 
@@ -93,7 +94,7 @@ impl Seen {
 }
 
 /// Returns what the program does over a reader and a writer, if standard error takes a number of bytes and then fails.
-pub(crate) fn call<'a, T: Threads + Wait + Sync, R: Read + Drop>(
+pub(crate) fn call<'a, T: Threads + Wait + RandomSource + Sync, R: Read + Drop>(
     rt: &T,
     alloc: Global,
     words: &'a [&'a str],

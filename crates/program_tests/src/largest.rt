@@ -6,6 +6,7 @@ use crate::gates::Crowd;
 use check_main::{Audited, Streams, Watched, program};
 use job_pool::{Gate, OpenGate};
 use std::alloc::{AllocError, Global};
+use std::random::RandomSource;
 use std::sync::Wait;
 use std::thread::Threads;
 
@@ -96,7 +97,7 @@ fn many_faults(alloc: Global) -> Result<String, AllocError> {
 }
 
 /// Returns the status for words over a text, and the output, if workers report to a gate.
-fn answer<T: Threads + Wait + Sync, G: Gate + Sync>(
+fn answer<T: Threads + Wait + RandomSource + Sync, G: Gate + Sync>(
     rt: &T,
     alloc: Global,
     words: &[&str],

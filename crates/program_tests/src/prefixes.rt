@@ -3,12 +3,13 @@
 
 use crate::devices::{FailingReader, FailingWriter, Seen, call};
 use std::alloc::Global;
+use std::random::RandomSource;
 use std::sync::Wait;
 use std::thread::Threads;
 use test_support::GOOD;
 
 /// Returns what `check` does over the first `length` bytes of the bundle, in pieces of `piece` bytes.
-fn checked_front<T: Threads + Wait + Sync>(
+fn checked_front<T: Threads + Wait + RandomSource + Sync>(
     rt: &T,
     alloc: Global,
     length: usize,

@@ -5,6 +5,7 @@ use crate::devices::{FailingReader, FailingWriter, Letters, Seen, call};
 use crate::gates::{Hold, Holding};
 use check_main::{CheckFault, OpenGate, Streams, Watched, program};
 use std::alloc::Global;
+use std::random::RandomSource;
 use std::sync::Wait;
 use std::thread::Threads;
 use test_support::{ALONE, GOOD};
@@ -79,7 +80,7 @@ const COMMANDS: [Command; 4] = [
 const MUCH: usize = 1_000;
 
 /// Returns what a command does if its text comes in pieces of `piece` bytes, and a read fails after `calls_left` calls.
-fn read_in<T: Threads + Wait + Sync>(
+fn read_in<T: Threads + Wait + RandomSource + Sync>(
     rt: &T,
     alloc: Global,
     command: &Command,
@@ -143,7 +144,7 @@ fn stops_at_the_limit(rt: HostRuntime) {
 }
 
 /// Returns what a command does if `room` bytes can be written.
-fn written_in<T: Threads + Wait + Sync>(
+fn written_in<T: Threads + Wait + RandomSource + Sync>(
     rt: &T,
     alloc: Global,
     command: &Command,

@@ -6,6 +6,7 @@ use job_pool::OpenGate;
 use std::alloc::Global;
 use std::io;
 use std::io::{ErrorKind, Read, Write};
+use std::random::RandomSource;
 use std::sync::Wait;
 use std::thread::Threads;
 use test_support::{ALONE, GOOD};
@@ -61,7 +62,7 @@ impl Write for StumblingWriter {
 
 /// Returns the end of `check` over a text of which a read fails after `before` reads, how much was written, and whether
 /// the fault stays.
-fn read_with<T: Threads + Wait + Sync>(
+fn read_with<T: Threads + Wait + RandomSource + Sync>(
     rt: &T,
     alloc: Global,
     text: &str,
@@ -95,7 +96,7 @@ fn a_read_that_fails_once_ends_it(rt: HostRuntime) {
 /// bytes.
 ///
 /// It also returns what was written, and whether the fault stays.
-fn written_with<T: Threads + Wait + Sync>(
+fn written_with<T: Threads + Wait + RandomSource + Sync>(
     rt: &T,
     alloc: Global,
     before: usize,
@@ -131,7 +132,12 @@ fn a_write_that_fails_once_ends_it(rt: HostRuntime) {
 }
 
 /// Returns what is written of the report on a text, if a write takes `piece` bytes.
-fn report_by<T: Threads + Wait + Sync>(rt: &T, alloc: Global, text: &str, piece: usize) -> Vec<u8> {
+fn report_by<T: Threads + Wait + RandomSource + Sync>(
+    rt: &T,
+    alloc: Global,
+    text: &str,
+    piece: usize,
+) -> Vec<u8> {
     let mut streams = Streams {
         reader: Watched::new(text.as_bytes()),
         writer: Watched::new(StumblingWriter {

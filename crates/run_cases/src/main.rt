@@ -10,6 +10,7 @@ use case_text::read_cases;
 use std::alloc::Global;
 use std::fs;
 use std::process::ExitCode;
+use std::random::RandomSource;
 use std::rt::Runtime;
 use std::sync::Wait;
 use std::thread::Threads;
@@ -38,7 +39,7 @@ fn main(rt: HostRuntime) -> ExitCode {
 }
 
 // How many cases of a file do not hold.
-fn try_file<R: Runtime + Threads + Wait + Sync>(
+fn try_file<R: Runtime + Threads + Wait + RandomSource + Sync>(
     rt: &R,
     alloc: Global,
     name: &str,

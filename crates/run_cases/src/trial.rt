@@ -4,6 +4,7 @@ use case_text::Case;
 use check_main::{OpenGate, Streams, Watched, program};
 use std::alloc::Global;
 use std::fmt;
+use std::random::RandomSource;
 use std::sync::Wait;
 use std::thread::Threads;
 
@@ -32,7 +33,7 @@ impl fmt::Display for Difference {
 }
 
 /// Returns the first difference of a case, if there is one.
-pub fn difference_of<R: Threads + Wait + Sync>(
+pub fn difference_of<R: Threads + Wait + RandomSource + Sync>(
     rt: &R,
     alloc: Global,
     case: &Case<'_>,

@@ -8,7 +8,6 @@ ghost use Rattle.section_text.specs.declared.fault.ReadFault.TheVariants.{Memory
 ghost use Rattle.section_text.specs.Listed.{three_listed, four_listed, listed};
 ghost use Rattle.section_text.specs.Faults.{refusal};
 ghost use Rattle.section_text.specs.Section.{ended_line};
-ghost use Rattle.section_text.specs.Seeding.{first_section, seed_of};
 ghost use Rattle.section_text.specs.Feeds.{FeedView, ahead, IsLine, line_bytes, text_limit, TakesLine, RunsOut};
 
 use crate::code::RefusalCode;
@@ -21,15 +20,12 @@ use crate::words::{
     FiveWords, FourWords, ThreeWords, five_in, four_in, is_one_word, names_beside_arrow_in,
     next_word, second_of_two, three_in, word_in, words_in,
 };
-use memchr::{memchr, memmem};
+use memchr::memchr;
 use std::alloc::Global;
 use std::marker::Model;
 
 /// The limit on the length of a text, in bytes: 16 MiB.
 pub const MAX_TEXT_BYTES: usize = 16_777_216;
-
-// The most bytes of a text that a seed is of: 1 MiB, which is more than the longest circuit section has.
-const MAX_SEEDED_BYTES: usize = 1_048_576;
 
 /// A text that comes in pieces and is then taken line by line.
 ///
@@ -46,6 +42,7 @@ pub struct Feed {
     lines: u32,
     is_closed: bool,
     stop: Option<ReadFault>,
+    seed: Seed,
 }
 
 impl Model for Feed {
@@ -70,27 +67,6 @@ pub struct Line {
     to: usize,
 }
 
-// The bytes, or the first of them where there are more than so many.
-fn first_bytes(bytes: &[u8], most: usize) -> &[u8]
-    ensures { result.now ≡ take most bytes.now }
-{
-    if bytes.len() <= most {
-        bytes
-    } else {
-        &bytes[..most]
-    }
-}
-
-// The text through its first line `end` that is not its first line, or the whole text if it has none.
-fn first_section(text: &[u8]) -> &[u8]
-    ensures { result.now ≡ first_section text.now }
-{
-    match memmem::find(text, b"\nend\n") {
-        Some(at) => &text[..at + 5],
-        None => text,
-    }
-}
-
 // How many bytes stand between a place and the next line feed.
 fn line_length(bytes: &[u8], at: usize) -> Option<usize>
     requires { at ≤ length bytes.now }
@@ -107,7 +83,16 @@ fn first_line_feed(bytes: &[u8]) -> Option<usize>
 
 impl Feed {
     /// Creates the empty text, not closed. It takes no memory until the first piece.
+    ///
+    /// Tables of its names hash by a seed that everybody knows. For a text by somebody else use `seeded`.
     pub fn new(alloc: Global) -> Feed
+        ensures { result ≡ record { text = []; taken = 0; closed = false; stop = None } }
+    {
+        Feed::seeded(alloc, Seed::known())
+    }
+
+    /// Creates the empty text, as `new` does. Tables of its names hash by the seed, which changes no result.
+    pub fn seeded(alloc: Global, seed: Seed) -> Feed
         ensures { result ≡ record { text = []; taken = 0; closed = false; stop = None } }
     {
         Feed {
@@ -116,6 +101,7 @@ impl Feed {
             lines: 0,
             is_closed: false,
             stop: None,
+            seed,
         }
     }
 
@@ -164,14 +150,9 @@ impl Feed {
         self.stop
     }
 
-    /// Returns the seed for tables of a circuit's names, if the text begins with the circuit.
-    ///
-    /// It is the seed of the text's first section, or of its first 1,048,576 bytes. A longer circuit section has a line
-    /// that is refused, by the limits on wires and gates.
-    pub fn seed(&self) -> Seed
-        ensures { result ≡ seed_of (take 1048576 (first_section self.now.text)) }
-    {
-        Seed::of(first_bytes(first_section(&self.bytes), MAX_SEEDED_BYTES))
+    /// Returns the seed for tables of names that the text contains.
+    pub fn seed(&self) -> Seed {
+        self.seed
     }
 
     /// Takes the next line that a line feed ends.

@@ -1,45 +1,54 @@
 //! How tables hash names that the writer of a text chose.
-ghost use Rattle.std.specs.Prelude.{◌≡◌};
-ghost use Rattle.section_text.specs.Seeding.{initial_hasher, seed_behind, seed_of, seed_text};
+ghost use Rattle.std.specs.Prelude.{◌≡◌, replicate};
+ghost use Rattle.section_text.specs.Seeding.{initial_hasher, seed_of, seed_text};
+ghost use Rattle.sha2.specs.Sha512.{sha512};
 
 use crate::name::Name;
 use sha2::{Digest, Sha512};
 use std::hash::{BuildHasher, DefaultHasher, Hasher};
+use std::random::RandomSource;
 
-/// The seed by which a table hashes: SipHash over the SHA-512 digest of all that the table may hold.
+/// The seed by which a table hashes: SipHash over some bytes, and then over the name. A seed changes no result.
 ///
-/// Nobody can choose names that fall together in a table, since other names change all hashes. SHA-512 takes 31
-/// instructions a byte, and SHA-256 takes 49.
+/// Nobody can choose names that fall together in a table if nobody knows the bytes beforehand, or if other names change
+/// them.
 #[derive(Clone, Copy)]
 pub struct Seed {
     initial: DefaultHasher,
 }
 
 impl Seed {
-    /// Returns the seed of a text that contains all the names.
-    pub fn of(text: &[u8]) -> Seed
-        ensures { result ≡ seed_of text.now }
+    /// Returns the seed of 16 zero bytes. Use it for names that nobody chose.
+    pub fn known() -> Seed
+        ensures { result ≡ seed_of (replicate 16 0) }
     {
-        Seed::behind(Sha512::digest(text))
+        Seed::of(&[0; 16])
     }
 
-    /// Returns the seed of a table that holds no other names than these.
+    /// Draws the 16 bytes of a seed. Those that the source does not give are 0.
+    pub fn drawn(source: &impl RandomSource) -> Seed {
+        let mut bytes = [0; 16];
+        let _ = source.fill_bytes(&mut bytes);
+        Seed::of(&bytes)
+    }
+
+    /// Returns the seed of a table that holds no other names than these: that of their SHA-512 digest.
     pub fn of_names(names: &[Name]) -> Seed
-        ensures { result ≡ seed_of (seed_text names.now) }
+        ensures { result ≡ seed_of (sha512 (seed_text names.now)) }
     {
         let mut hasher = Sha512::new();
         for name in names {
             hasher.update(name.bytes());
             hasher.update(b" ");
         }
-        Seed::behind(hasher.finalize())
+        Seed::of(&hasher.finalize())
     }
 
-    fn behind(digest: [u8; 64]) -> Seed
-        ensures { result ≡ seed_behind digest }
+    fn of(bytes: &[u8]) -> Seed
+        ensures { result ≡ seed_of bytes.now }
     {
         let mut initial = DefaultHasher::new();
-        initial.write(&digest);
+        initial.write(bytes);
         Seed { initial }
     }
 }

@@ -99,6 +99,22 @@ def devices_other_errors(_):
                     holds(whole.startswith(ended.stdout) and len(ended.stdout) < len(whole) and (call == "write" or not ended.stdout), what)
 
 
+def devices_random_bytes(_):
+    """The seed of the tables is drawn once. Without random bytes the answer is the same (by strace)."""
+    need_strace()
+    text = TOP / "examples" / "full_adder.txt"
+    whole = subprocess.run([Given.program, "check"], input=text.read_bytes(), capture_output=True)
+    with tempfile.NamedTemporaryFile("r") as log, open(text, "rb") as stdin:
+        subprocess.run(["strace", "-f", "-e", "trace=getrandom", "-o", log.name, Given.program, "check"], stdin=stdin, capture_output=True)
+        drawn = [line for line in log if "GRND_NONBLOCK" not in line and "getrandom(" in line]
+    same(len(drawn), 1, f"calls of getrandom: {drawn}")
+    for error in ("ENOSYS", "EINTR", "EAGAIN"):
+        with open(text, "rb") as stdin:
+            start = ["strace", "-f", "-o", "/dev/null", "-e", f"inject=getrandom:error={error}"]
+            ended = subprocess.run([*start, Given.program, "check"], stdin=stdin, capture_output=True, timeout=60)
+        same((ended.returncode, ended.stdout), (whole.returncode, whole.stdout), f"getrandom with {error}: {ended.stderr}")
+
+
 def need_strace():
     """Skips the test if strace is missing or cannot trace here."""
     need("strace")

@@ -1,5 +1,5 @@
 use Rattle.std.proofs.Common.{rules}
-use Rattle.section_text.proofs.feed.Feed.new.Goals as goal
+use Rattle.section_text.proofs.feed.Feed.seeded.Goals as goal
 
 pub invariant_of-result : goal.invariant_of-result
 invariant_of-result c = search rules
