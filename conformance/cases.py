@@ -49,15 +49,25 @@ def cases_of_file(path):
     return [Case(**case) for case in found]
 
 
+def migrated(text):
+    """Returns a bundle of certificate version 1 as one of version 2: another header, and no halo lines."""
+    design, certificate = text.split(b"\ncertificate 1\n", 1)
+    kept = [line for line in certificate.splitlines(keepends=True) if not line.startswith(b"halo ")]
+    return design + b"\ncertificate 2\n" + b"".join(kept)
+
+
 def large_cases():
-    """Returns the cases of `check` and `migrate` for the large bundles. NAME_v2.txt is the migrated NAME_v1.txt, if there are both."""
+    """Returns the cases of `check` and `migrate` for the large bundles. Where there is a report NAME_v2.report, NAME_v1.txt is migrated."""
     found = []
     for path in sorted(LARGE.glob("*.txt")):
-        text, report = path.read_bytes(), path.with_suffix(".report").read_bytes()
-        found.append(Case(f"bundle_{path.stem}", ["check"], text, 1 if b"\nverdict no\n" in report else 0, report, None))
-        after = path.with_name(path.name.replace("_v1", "_v2"))
-        if after != path and after.exists():
-            found.append(Case(f"migrate_{path.stem}", ["migrate"], text, 0, after.read_bytes(), None))
+        texts = {path.stem: path.read_bytes()}
+        after = path.stem.replace("_v1", "_v2")
+        if after not in texts and (LARGE / f"{after}.report").exists():
+            texts[after] = migrated(texts[path.stem])
+            found.append(Case(f"migrate_{path.stem}", ["migrate"], texts[path.stem], 0, texts[after], None))
+        for name, text in texts.items():
+            report = (LARGE / f"{name}.report").read_bytes()
+            found.append(Case(f"bundle_{name}", ["check"], text, 1 if b"\nverdict no\n" in report else 0, report, None))
     return found
 
 

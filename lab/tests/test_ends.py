@@ -216,7 +216,7 @@ class Hostile(unittest.TestCase):
 
     def test_ways_of_many_inputs_are_sampled(self) -> None:
         """With 360 inputs the ways are drawn from samples, and the picture says so."""
-        file = str(support.TOP / "conformance" / "data" / "trains_36_cut_v2.txt")
+        file = str(support.TOP / "conformance" / "data" / "trains_36_cut_v1.txt")
         picture = support.lab("draw", "--ways", file).stdout
         self.assertIn("in 256 sampled choices of the 360 inputs", picture)
         self.assertGreater(picture.count('class="way'), 300)
