@@ -5,7 +5,7 @@
 #   make install [PREFIX=/usr/local] [DESTDIR=..]    the program and the lab, man pages, completions and pages
 #   make uninstall [PREFIX=..] [DESTDIR=..]          removes them
 #   make check        the worked cases and the commands that the pages show (needs Python 3.11 or later)
-#   make dist         dist/bbmcheck-VERSION-x86_64-linux-gnu.tar.gz, the same bytes each time
+#   make dist         dist/bbmcheck-VERSION-x86_64-linux-gnu.tar.gz, and one for x86_64-v3, the same bytes each time
 #   make deb          dist/bbmcheck_VERSION_amd64.deb and dist/bbmlab_VERSION_all.deb (needs dpkg-deb)
 #   make prove        proves and builds the program here, and compares it with the released one (needs the kit)
 #   make release      renews release/ from the program that `make prove` or the gate built here (needs Python 3)
@@ -51,6 +51,7 @@ prove:
 	'$(top)/tools/package/prove'
 
 release:
+	'$(top)/tools/package/build_v3'
 	'$(top)/tools/package/release'
 
 mostlyclean:

@@ -10,7 +10,8 @@ from .program import HERE, ProgramError
 from .terminal import LabError, read_bytes
 
 # Where a MANIFEST may be: in the repository, and in an installation.
-PLACES = [HERE.parent.parent / "release" / "x86_64-linux-gnu" / "MANIFEST", HERE.parent.parent.parent / "share" / "doc" / "bbmcheck" / "MANIFEST"]
+PLACES = [*(HERE.parent.parent / "release" / target / "MANIFEST" for target in ("x86_64-linux-gnu", "x86_64-v3-linux-gnu")),
+          HERE.parent.parent.parent / "share" / "doc" / "bbmcheck" / "MANIFEST"]
 
 
 @dataclass(frozen=True)

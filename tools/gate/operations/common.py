@@ -7,6 +7,8 @@ from pathlib import Path
 TOP = Path(__file__).resolve().parent.parent.parent.parent
 RELEASED = "release/x86_64-linux-gnu/bbmcheck"
 MANIFEST = "release/x86_64-linux-gnu/MANIFEST"
+# The program for x86-64-v3 processors, and its MANIFEST.
+FAST, FAST_MANIFEST = "release/x86_64-v3-linux-gnu/bbmcheck", "release/x86_64-v3-linux-gnu/MANIFEST"
 
 
 class Given:

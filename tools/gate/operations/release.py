@@ -9,7 +9,7 @@ import tempfile
 import time
 from pathlib import Path
 
-from operations.common import MANIFEST, RELEASED, TOP, Skipped, copy_of_checkout, holds, in_namespace, need, path_without, same
+from operations.common import FAST, MANIFEST, RELEASED, TOP, Skipped, copy_of_checkout, holds, in_namespace, need, path_without, same
 
 sys.path.insert(0, str(TOP / "tools" / "docs"))
 import links  # noqa: E402
@@ -52,6 +52,7 @@ def release_manifest(_):
         out = top / "crates" / "bbmcheck" / "out"
         out.mkdir()
         shutil.copy(program, out / "bbmcheck")
+        shutil.copy(top / FAST, out / "bbmcheck-v3")
         same(subprocess.run([top / "tools" / "package" / "release", "--check"], capture_output=True).returncode, 0, "--check with the same program")
         shutil.copyfile(program, out / "bbmcheck")
         undated = lambda: re.sub("date .*", "", (top / MANIFEST).read_text())
@@ -66,6 +67,9 @@ def release_manifest(_):
         source.write_bytes(was)
         (out / "bbmcheck").write_bytes(bytes_of + b"\n")
         same(subprocess.run([top / "tools" / "package" / "release", "--check"], capture_output=True).returncode, 1, "--check with another program")
+        (out / "bbmcheck").write_bytes(bytes_of)
+        (out / "bbmcheck-v3").write_bytes(bytes_of)
+        same(subprocess.run([top / "tools" / "package" / "release", "--check"], capture_output=True).returncode, 1, "--check with another fast program")
 
 
 def release_older_sources(_):

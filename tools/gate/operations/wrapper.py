@@ -11,7 +11,7 @@ import tempfile
 import time
 from pathlib import Path
 
-from operations.common import MANIFEST, RELEASED, TOP, Given, holds, in_namespace, need, path_without, same
+from operations.common import FAST, FAST_MANIFEST, MANIFEST, RELEASED, TOP, Given, holds, in_namespace, need, path_without, same
 
 ROOM = "crates/bbmcheck/out/wrapper"
 CRATES_TXT = "# Three crates and one of tests.\nlow: sha2\nmid: low\nbbmcheck may_wait=1: mid\ntests_only: low\n"
@@ -52,7 +52,7 @@ class Tree:
     def __init__(self, room, name="tree"):
         self.room, self.top = Path(room), Path(room) / name
         self.kit = self.room / "kit"
-        for path in ("tools/package", "release/x86_64-linux-gnu"):
+        for path in ("tools/package", "release/x86_64-linux-gnu", "release/x86_64-v3-linux-gnu"):
             (self.top / path).mkdir(parents=True)
         for path in ("bbmcheck", "tools/package/source_digest", "tools/package/find_kit", "tools/package/prove", "tools/package/release"):
             shutil.copy(TOP / path, self.top / path)
@@ -87,12 +87,14 @@ class Tree:
     def digest(self):
         return subprocess.run([self.top / "tools" / "package" / "source_digest"], stdout=subprocess.PIPE, text=True, check=True).stdout.strip()
 
-    def make_release(self):
-        text = "#!/bin/sh\ncase $1 in --version) echo bbmcheck 1.0.0; exit ;; esac\n" + f"echo released {self.sum()}\n" + 'echo "words $*"\nexit 3\n'
-        self.file(RELEASED).write_text(text)
-        self.file(RELEASED).chmod(0o755)
+    def make_release(self, released=RELEASED, manifest=MANIFEST, first=""):
+        """Writes a released program with its MANIFEST. Its name is told in its answer. `first` are its first commands."""
+        name = "released" if released == RELEASED else "fast"
+        text = f"#!/bin/sh\n{first}case $1 in --version) echo bbmcheck 1.0.0; exit ;; esac\n" + f"echo {name} {self.sum()}\n" + 'echo "words $*"\nexit 3\n'
+        self.file(released).write_text(text)
+        self.file(released).chmod(0o755)
         program = hashlib.sha256(text.encode()).hexdigest()
-        self.file(MANIFEST).write_text(f"version 1.0.0\ndate 2026-01-01\nprogram_sha256 {program}\nsources_sha256 {self.digest()}\nkit {KIT_LINE}\n")
+        self.file(manifest).write_text(f"version 1.0.0\ndate 2026-01-01\nprogram_sha256 {program}\nsources_sha256 {self.digest()}\nkit {KIT_LINE}\n")
 
     def run(self, *words, shell=None, path=None, cwd=None, **more):
         start = [*shell, str(self.file("bbmcheck"))] if shell else [path or str(self.file("bbmcheck"))]
@@ -102,7 +104,7 @@ class Tree:
     def program(self, **more):
         """Which kind of program the wrapper runs, if it is made of the sources that are there now."""
         ended = self.run("check", **more)
-        found = re.match(r"(released|built) (\w+)\n", ended.stdout)
+        found = re.match(r"(released|fast|built) (\w+)\n", ended.stdout)
         if not found:
             return f"status {ended.returncode}: {ended.stdout}{ended.stderr}"
         same(ended.returncode, 3, "the status of the program")
@@ -202,6 +204,25 @@ def wrapper_release_of_others(tree):
     same(tree.program(), "released")
     tree.file(MANIFEST).write_text(tree.file(MANIFEST).read_text().replace("sources_sha256 ", "sources_sha256 0"))
     same(tree.program(), "built", "another MANIFEST")
+
+
+@in_tree
+def wrapper_fast_release(tree):
+    """The released program for x86-64-v3 is run if it is of these sources and runs here, and else the other one."""
+    tree.make_release(FAST, FAST_MANIFEST)
+    same(tree.program(), "fast")
+    same(tree.run("--wrapper-program").stdout, f"{tree.file(FAST)}\n", "the path")
+    tree.make_release(FAST, FAST_MANIFEST, first="exit 127\n")
+    same(tree.program(), "released", "a fast program that does not run here")
+    same(tree.run("check").stderr, "", "and nothing is said")
+    tree.file(FAST).chmod(0o644)
+    same(tree.program(), "released", "a fast program without permission")
+    tree.make_release(FAST, FAST_MANIFEST)
+    tree.file(FAST_MANIFEST).write_text(tree.file(FAST_MANIFEST).read_text().replace("sources_sha256 ", "sources_sha256 0"))
+    same(tree.program(), "released", "a fast program of other sources")
+    tree.make_release(FAST, FAST_MANIFEST)
+    tree.file(RELEASED).write_text("")
+    same(tree.program(), "fast", "without the other one")
 
 
 @in_tree
