@@ -47,8 +47,7 @@ pub struct MarkedPlanes {
     line_marks: Vec<u64>,
     // where the search for the next time's lines begins
     line_places: LinePlaces,
-    // how many of the next steps turn whole planes
-    whole_plane_steps: u32,
+    whole_plane_steps: WholePlaneSteps,
     ghost odd_room: { planes.stride * planes.rows ≤ 64 * vec_len odd_marks },
     ghost even_room: { planes.stride * planes.rows ≤ 64 * vec_len even_marks },
     ghost live_room: { HasMarks (planes.stride * planes.rows) live_marks },
@@ -60,8 +59,36 @@ pub struct MarkedPlanes {
     ghost all_inner: { AllInner planes.stride planes.rows border_marks.items } by { AllInner-prop planes.stride planes.rows border_marks.items },
 }
 
-// How many steps turn whole planes after one in which many blocks changed.
-const WHOLE_PLANE_STEPS: u32 = 62;
+// How many steps turn whole planes after one in which many blocks changed, at first and at most.
+const FIRST_PHASE: u32 = 62;
+
+const LONGEST_PHASE: u32 = 992;
+
+// The steps that turn whole planes come in phases. A step by marks follows each of them, and begins the next one if
+// many blocks change in it.
+#[derive(Clone, Copy)]
+struct WholePlaneSteps {
+    // how many are left of this phase
+    left: u32,
+    // how many the next one has: twice as many as this one
+    next: u32,
+}
+
+impl WholePlaneSteps {
+    // No phase.
+    const NONE: WholePlaneSteps = WholePlaneSteps {
+        left: 0,
+        next: FIRST_PHASE,
+    };
+
+    // The next phase.
+    fn next_phase(self) -> WholePlaneSteps {
+        WholePlaneSteps {
+            left: self.next,
+            next: self.next.saturating_mul(2).min(LONGEST_PHASE),
+        }
+    }
+}
 
 // What a block that changes costs in a step by marks, in turns of a word, and what it costs more for each word of a
 // cell.
@@ -123,7 +150,7 @@ impl MarkedPlanes {
             border_marks,
             line_marks,
             line_places: LinePlaces::first(),
-            whole_plane_steps: 0,
+            whole_plane_steps: WholePlaneSteps::NONE,
         })
     }
 
@@ -667,8 +694,8 @@ impl MarkedPlanes {
             self.new.planes }
         ensures stays { result ≡ false → self.new.planes ≡ self.old.planes }
     {
-        if self.whole_plane_steps > 0 {
-            self.whole_plane_steps -= 1;
+        if self.whole_plane_steps.left > 0 {
+            self.whole_plane_steps.left -= 1;
             mark_all(&mut self.odd_marks);
             mark_all(&mut self.even_marks);
             self.live_marks.mark_all();
@@ -692,9 +719,10 @@ impl MarkedPlanes {
             self.planes.words(),
             self.planes.columns_and_rows(),
         ) {
-            self.whole_plane_steps = WHOLE_PLANE_STEPS;
+            self.whole_plane_steps = self.whole_plane_steps.next_phase();
             return true;
         }
+        self.whole_plane_steps = WholePlaneSteps::NONE;
         changed > 0
     }
 
@@ -713,8 +741,8 @@ impl MarkedPlanes {
             self.new.planes }
         ensures stays { result ≡ false → SameInside self.old.planes self.new.planes }
     {
-        if self.whole_plane_steps > 0 {
-            self.whole_plane_steps -= 1;
+        if self.whole_plane_steps.left > 0 {
+            self.whole_plane_steps.left -= 1;
             mark_all(&mut self.odd_marks);
             mark_all(&mut self.even_marks);
             self.live_marks.mark_all();
@@ -736,9 +764,10 @@ impl MarkedPlanes {
             self.planes.words(),
             self.planes.columns_and_rows(),
         ) {
-            self.whole_plane_steps = WHOLE_PLANE_STEPS;
+            self.whole_plane_steps = self.whole_plane_steps.next_phase();
             return true;
         }
+        self.whole_plane_steps = WholePlaneSteps::NONE;
         changed > 0
     }
 }
