@@ -387,11 +387,6 @@ module _ (g : Setting) (es : List CertificateLine) (covered : Board) (counts : L
   the_line = does_line g es i inner good
       (last_good g es covered counts last names local e h kept good.module_lines good.last)
 
-  -- the wires that the line makes local are not local before it
-  pub inner_new : are_new local (wires_in g.circuit i) ≡ true
-  inner_new = ap (λ l. are_new l (wires_in g.circuit i)) ((kept.last_module good.module_lines good.last).wires)
-      ∙ the_line.new
-
   pub kept_inner : (after : List Counts) → after ≡ change_last (counted i) counts → (e' h' : List Cell)
       → ((c : Cell) → list_any (same_cell c) e' ≡ (list_any (same_cell c) e || list_any (is_starred c) (edge_in i)))
       → ((c : Cell) → list_any (same_cell c) h' ≡ (list_any (same_cell c) h || list_any (is_starred c) (halo_in i)))

@@ -1,15 +1,12 @@
 -- Wires that are local, and wires that become local.
-use Rattle.std.proofs.Common.{◌≡◌, ℕ, zero, suc, ◌+◌, ◌<◌, ◌==◌, if◌then◌else◌, Bool, true, false, not, ◌&&◌, ◌||◌}
-use Rattle.std.proofs.Common.{List, [], ◌∷◌, ◌++◌, take, drop, get_or, length, Option, Some, None, nat_eq, append-nil}
-use Rattle.std.proofs.Common.{append_assoc, take-append-drop, refl, sym, ap, ap₂, ◌∙◌, arith}
+use Rattle.std.proofs.Common.{◌≡◌, ℕ, zero, suc, ◌+◌, ◌<◌, ◌==◌, Bool, true, false, not, ◌&&◌, ◌||◌}
+use Rattle.std.proofs.Common.{List, [], ◌∷◌, ◌++◌, take, drop, get_or, length, nat_eq, append-nil}
+use Rattle.std.proofs.Common.{append_assoc, refl, sym, ap, ap₂, ◌∙◌, arith}
 use Rattle.std.specs.List.{list_any}
 use Rattle.std.proofs.Math.Seq.{take-suc}
-use Rattle.std.proofs.lemmas.Bool.{and_parts}
 use Rattle.std.proofs.lemmas.List.Folds.{list_any-append}
 use Rattle.module_box.specs.Locals.{is_among}
-use Rattle.std.specs.Option.{option_to_list}
 use Rattle.certificate_lines.specs.Rules.{are_new}
-use Rattle.certificate_lines.proofs.Lists.{some_is}
 
 eq_sym : (v w : ℕ) → (w == v) ≡ (v == w)
 eq_sym v w = grind arith
@@ -24,10 +21,6 @@ one_more i = omega arith
 and_again : (a b c : Bool) → (a && (b && c)) ≡ ((a && b) && c)
 and_again true b c = refl
 and_again false b c = refl
-
-not_true : (a b : Bool) → (not a && b) ≡ true → a ≡ false
-not_true true b h = sym h
-not_true false b h = refl
 
 among_append : (xs ys : List ℕ) (w : ℕ) → is_among (xs ++ ys) w ≡ (is_among xs w || is_among ys w)
 among_append xs ys w = list_any-append (λ v. v == w) xs ys
@@ -73,9 +66,6 @@ module _ (local xs : List ℕ) (i w : ℕ) (within : i < length xs) (is : w ≡ 
       ∙ first_new local (take i xs) [] w so_far
       ∙ ap (λ (b : Bool). not b && true) (among_append local (take i xs) w ∙ h)
 
-  pub not_among : are_new local xs ≡ true → is_among (local ++ take i xs) w ≡ false
-  not_among h = not_true (is_among (local ++ take i xs) w) _ (sym whole ∙ h)
-
 pub pushed_take : (local xs : List ℕ) (i w : ℕ) → i < length xs → w ≡ get_or xs i w →
     (local ++ take i xs) ++ w ∷ [] ≡ local ++ take (i + 1) xs
 pushed_take local xs i w within is =
@@ -84,22 +74,6 @@ pushed_take local xs i w within is =
     (sym (ap (λ (j : ℕ). take j xs) (one_more i) ∙ take-suc xs i w within
     ∙ ap (λ (v : ℕ). take i xs ++ v ∷ []) (sym is)))
 
--- a prefix of new wires is new
-pub new_prefix : (local xs : List ℕ) (i : ℕ) → are_new local xs ≡ true → are_new local (take i xs) ≡ true
-new_prefix local xs i h = (and_parts (are_new local (take i xs)) _
-    (sym (new_append local (take i xs) (drop i xs)) ∙ ap (are_new local) (take-append-drop i xs) ∙ h)).0
-
 pub none_new : (local : List ℕ) → are_new local [] ≡ true
 unfolding are_new
 none_new local = refl
-
-pub learnt : (keys new : List ℕ) (w : ℕ) → is_among keys w ≡ false →
-    new ≡ (if list_any (nat_eq w) keys then keys else keys ++ w ∷ []) → new ≡ keys ++ w ∷ []
-learnt keys new w fresh is = is ∙ rw (among keys w, fresh) refl
-
--- the wire that is cut is new
-pub cut_new : (local : List ℕ) (o : Option ℕ) (w : ℕ) → o ≡ Some w → are_new local (option_to_list o) ≡ true →
-    is_among local w ≡ false
-unfolding are_new
-cut_new local None w is h = absurd cc
-cut_new local (Some v) w is h = ap (is_among local) (sym (some_is v w is)) ∙ not_true (is_among local v) true h

@@ -11,6 +11,7 @@ pub mod InList
 pub mod InnerLines
 pub mod Keeping
 pub mod KnownLemmas
+mod WireListLemmas
 pub mod LackedWires
 pub mod LayoutPorts
 pub mod LineOrder
@@ -32,3 +33,4 @@ pub mod StarLemmas
 pub mod TableLemmas
 pub mod AllLiveCells
 pub mod UsedLemmas
+mod WireBounds

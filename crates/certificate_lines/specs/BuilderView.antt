@@ -140,7 +140,7 @@ last_inner entries = inner_of (last_of entries)
 abbrev pub IsBuilder : Inside → Type 0
 IsBuilder a = IsTrackedWith a.tables a.entries.items a.covered a.modules.items (last_inner a.entries.items)
     a.names.items
-    (map (λ s. s.keys) a.earlier.items) a.known.keys a.edges.keys a.halos.keys a.local_names.slots
+    (map (λ s. s.wires) a.earlier.items) a.known.wires a.edges.keys a.halos.keys a.local_names.slots
 
 -- ---- the counts of a module with one more line
 

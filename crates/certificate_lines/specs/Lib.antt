@@ -12,3 +12,4 @@ pub mod Settings
 pub mod StoredLines
 pub mod Versions
 pub mod LastNames
+pub mod WireListView

@@ -22,6 +22,7 @@ use crate::rules::{
 use crate::stars::{has_star, make_room_for_stars, note_stars};
 use crate::stored_line::StoredLine;
 use crate::tiles::is_full;
+use crate::wire_list::WireList;
 use bbm_rule::{Cell, Grid};
 use indexmap::IndexSet;
 use module_box::Box2;
@@ -45,10 +46,10 @@ pub struct Builder<'a> {
     // the cells of all boxes
     covered: Grid,
     // the wires that are local in each module before the last, behind none
-    pub(crate) earlier: Vec<IndexSet<u16>>,
+    pub(crate) earlier: Vec<WireList>,
     // of the last module: the names of its ports, its local wires, and its cells with a `*`
     names: Vec<Name>,
-    pub(crate) known: IndexSet<u16>,
+    pub(crate) known: WireList,
     edges: IndexSet<Cell>,
     halos: IndexSet<Cell>,
     // names of wires that are local in the last module
@@ -68,9 +69,9 @@ impl<'a> Model for Builder<'a> {
 }
 
 // Whether some of the names is not that of a local wire.
-fn lacks_some(tables: &LineTables, known: &IndexSet<u16>, names: &[Name]) -> bool
+fn lacks_some(tables: &LineTables, known: &WireList, names: &[Name]) -> bool
     ensures { result
-        ≡ list_any (λ n. not (is_local tables.now.circuit known.now.keys n)) names.now }
+        ≡ list_any (λ n. not (is_local tables.now.circuit known.now.wires n)) names.now }
 {
     names.iter().any(|name| !is_local_name(tables, known, name))
 }
@@ -79,11 +80,11 @@ fn lacks_some(tables: &LineTables, known: &IndexSet<u16>, names: &[Name]) -> boo
 #[inline(always)]
 fn own_name<'a>(
     tables: &LineTables<'a>,
-    known: &IndexSet<u16>,
+    known: &WireList,
     names: &LocalNames<'a>,
     line: &CertificateLine,
 ) -> Option<&'a Name>
-    requires { NamesWire tables.now.circuit known.now.keys line.now }
+    requires { NamesWire tables.now.circuit known.now.wires line.now }
     ensures { option_map (λ n. n.now) result ≡ name_in line.now }
 {
     match line {
@@ -99,11 +100,11 @@ fn own_name<'a>(
 #[inline(always)]
 fn own_signal<'a>(
     tables: &LineTables<'a>,
-    known: &IndexSet<u16>,
+    known: &WireList,
     names: &LocalNames<'a>,
     signal: &Option<Name>,
 ) -> Option<&'a Name>
-    requires { IfSome signal.now (λ n. IsTrue (is_local tables.now.circuit known.now.keys n)) }
+    requires { IfSome signal.now (λ n. IsTrue (is_local tables.now.circuit known.now.wires n)) }
     ensures { option_map (λ n. n.now) result ≡ signal.now }
 {
     match signal {
@@ -126,7 +127,7 @@ impl<'a> Builder<'a> {
             covered,
             earlier: Vec::new(alloc),
             names: Vec::new(alloc),
-            known: IndexSet::new(alloc),
+            known: WireList::new(alloc),
             edges: IndexSet::new(alloc),
             halos: IndexSet::new(alloc),
             local_names: LocalNames::new(),

@@ -14,21 +14,20 @@ ghost use Rattle.certificate_lines.specs.Versions.{is_strange, lacks_wire};
 use crate::blocks::odd_partner;
 use crate::builder::Builder;
 use crate::certificate_line::CertificateLine;
-use crate::known::knows;
 use crate::line_tables::LineTables;
 use crate::lines::inner_lines;
 use crate::rules::is_local_name;
 use crate::stored_line::{StoredBorder, StoredLine};
 use crate::tiles::whole_of;
+use crate::wire_list::WireList;
 use bbm_rule::Cell;
-use indexmap::IndexSet;
 use module_box::{Box2, Owners, owner_table};
 use section_text::Name;
 use std::alloc::{AllocError, Global};
 
 // Whether a signal is neither `1` nor one of the local wires.
-fn is_unknown(tables: &LineTables, known: &IndexSet<u16>, border: &StoredBorder) -> bool
-    ensures { result ≡ is_strange tables.now.circuit known.now.keys border.now.signal }
+fn is_unknown(tables: &LineTables, known: &WireList, border: &StoredBorder) -> bool
+    ensures { result ≡ is_strange tables.now.circuit known.now.wires border.now.signal }
 {
     match border.signal() {
         None => false,
@@ -37,14 +36,9 @@ fn is_unknown(tables: &LineTables, known: &IndexSet<u16>, border: &StoredBorder)
 }
 
 // Whether the signal of an edge line is such, and the line is for a cell of the halo.
-fn is_unknown_line(
-    tables: &LineTables,
-    known: &IndexSet<u16>,
-    area: Box2,
-    line: &StoredLine,
-) -> bool
+fn is_unknown_line(tables: &LineTables, known: &WireList, area: Box2, line: &StoredLine) -> bool
     ensures { result
-        ≡ list_any (λ e. is_strange tables.now.circuit known.now.keys e.signal)
+        ≡ list_any (λ e. is_strange tables.now.circuit known.now.wires e.signal)
         (filter (λ e. in_halo area e.cell.x e.cell.y) (edge_in line.now)) }
 {
     match line.edge() {
@@ -54,9 +48,9 @@ fn is_unknown_line(
 }
 
 // Whether one of these lines is an edge line for a cell in the halo of the box, of a wire that is not local.
-fn has_unknown(tables: &LineTables, known: &IndexSet<u16>, area: Box2, lines: &[StoredLine]) -> bool
+fn has_unknown(tables: &LineTables, known: &WireList, area: Box2, lines: &[StoredLine]) -> bool
     ensures { result
-        ≡ list_any (λ e. is_strange tables.now.circuit known.now.keys e.signal)
+        ≡ list_any (λ e. is_strange tables.now.circuit known.now.wires e.signal)
         (filter (λ e. in_halo area e.cell.x e.cell.y) (flat_map edge_in lines.now)) }
 {
     'lines: for line in lines {
@@ -107,10 +101,10 @@ struct KnownWire {
 
 impl<'a> Builder<'a> {
     // The wires that are local in the module of this number.
-    fn wires_of(&self, number: usize) -> &IndexSet<u16>
+    fn wires_of(&self, number: usize) -> &WireList
         requires { number < length (modules_of self.now.entries) }
         ensures { slice_get (map (known self.now.setting.circuit) (modules_of self.now.entries))
-            number ≡ Some result.now.keys }
+            number ≡ Some result.now.wires }
     {
         let last = self.earlier.len();
         if number + 1 < last {
@@ -198,7 +192,7 @@ impl<'a> Builder<'a> {
                 return true;
             }
         }
-        if !knows(self.wires_of(number), wire) {
+        if !self.wires_of(number).contains(wire) {
             return false;
         }
         found[slot] = Some(KnownWire {

@@ -20,6 +20,7 @@ mod rules;
 mod stars;
 mod stored_line;
 mod tiles;
+mod wire_list;
 
 pub use blocks::odd_partner;
 pub use builder::Builder;

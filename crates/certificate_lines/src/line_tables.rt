@@ -1,6 +1,6 @@
 //! The circuit and the layout that a certificate is for, with tables of the layout's ports by their cells.
 ghost use Rattle.std.specs.Prelude.{◌≡◌, ◌+◌, ◌<◌, ◌≤◌, ◌||◌, ◌&&◌, Bool, ℕ, List, false, None, slice_get, OnOk, IfOk, IfSome};
-ghost use Rattle.std.specs.List.{list_any};
+ghost use Rattle.std.specs.List.{All, list_any};
 ghost use Rattle.std.specs.Option.{option_map, option_map_or};
 ghost use Rattle.circuit.specs.Meaning.{wire_of};
 ghost use Rattle.circuit.specs.Wiring.{gate_of};
@@ -121,8 +121,11 @@ impl<'a> LineTables<'a> {
 
     /// Returns the number of the circuit's wire of this name.
     pub(crate) fn wire(&self, name: &Name) -> Option<u16>
-        ensures { result ≡ wire_of self.now.circuit name.now }
+        ensures wire { result ≡ wire_of self.now.circuit name.now }
+        ensures below_4096 { IfSome result (λ w. w < 4096) }
     {
+        // A circuit has at most 4096 wires.
+        let _wire_count = self.circuit.wires();
         let wire = self.circuit.wire(name)?;
         Some(wire.number())
     }
@@ -140,8 +143,12 @@ impl<'a> LineTables<'a> {
 
     /// Returns the circuit's gate of this number.
     pub(crate) fn gate(&self, number: u32) -> Option<GateWires>
-        ensures { option_map gate_of result ≡ slice_get self.now.circuit.netlist.gates number }
+        ensures gate { option_map gate_of result
+            ≡ slice_get self.now.circuit.netlist.gates number }
+        ensures below_4096 { IfSome result (λ g. All (λ w. w < 4096) (gate_of g).outs) }
     {
+        // A circuit has at most 4096 wires.
+        let _wire_count = self.circuit.wires();
         if number as usize >= self.circuit.gates() {
             return None;
         }

@@ -5,9 +5,8 @@ ghost use Rattle.std.specs.Option.{is_some};
 ghost use Rattle.certificate_lines.specs.BuilderView.{AreLocalNames};
 ghost use Rattle.certificate_lines.specs.Rules.{is_local};
 
-use crate::known::knows;
 use crate::line_tables::LineTables;
-use indexmap::IndexSet;
+use crate::wire_list::WireList;
 use section_text::Name;
 
 // The count of slots.
@@ -40,19 +39,19 @@ fn slot_of(name: &Name) -> usize
 #[inline(never)]
 fn look_up<'a>(
     tables: &LineTables<'a>,
-    known: &IndexSet<u16>,
+    known: &WireList,
     slots: &mut [Option<LocalName<'a>>; SLOT_COUNT],
     slot: usize,
     name: &Name,
 ) -> Option<&'a Name>
     requires slot { slot < 64 }
-    requires names { AreLocalNames tables.now.circuit known.now.keys slots.old }
-    ensures local { is_some result ≡ is_local tables.now.circuit known.now.keys name.now }
+    requires names { AreLocalNames tables.now.circuit known.now.wires slots.old }
+    ensures local { is_some result ≡ is_local tables.now.circuit known.now.wires name.now }
     ensures same_name { IfSome result (λ own. own.now ≡ name.now) }
-    ensures names { AreLocalNames tables.now.circuit known.now.keys slots.new }
+    ensures names { AreLocalNames tables.now.circuit known.now.wires slots.new }
 {
     let (wire, own_name) = tables.named_wire(name)?;
-    if !knows(known, wire) {
+    if !known.contains(wire) {
         return None;
     }
     slots[slot] = Some(LocalName { name: own_name });
@@ -63,14 +62,14 @@ fn look_up<'a>(
 #[inline(always)]
 fn find_in<'a>(
     tables: &LineTables<'a>,
-    known: &IndexSet<u16>,
+    known: &WireList,
     slots: &mut [Option<LocalName<'a>>; SLOT_COUNT],
     name: &Name,
 ) -> Option<&'a Name>
-    requires names { AreLocalNames tables.now.circuit known.now.keys slots.old }
-    ensures local { is_some result ≡ is_local tables.now.circuit known.now.keys name.now }
+    requires names { AreLocalNames tables.now.circuit known.now.wires slots.old }
+    ensures local { is_some result ≡ is_local tables.now.circuit known.now.wires name.now }
     ensures same_name { IfSome result (λ own. own.now ≡ name.now) }
-    ensures names { AreLocalNames tables.now.circuit known.now.keys slots.new }
+    ensures names { AreLocalNames tables.now.circuit known.now.wires slots.new }
 {
     let slot = slot_of(name);
     if let Some(local) = slots[slot] {
@@ -101,13 +100,13 @@ impl<'a> LocalNames<'a> {
     pub(crate) fn find(
         &mut self,
         tables: &LineTables<'a>,
-        known: &IndexSet<u16>,
+        known: &WireList,
         name: &Name,
     ) -> Option<&'a Name>
-        requires names { AreLocalNames tables.now.circuit known.now.keys self.old.slots }
-        ensures local { is_some result ≡ is_local tables.now.circuit known.now.keys name.now }
+        requires names { AreLocalNames tables.now.circuit known.now.wires self.old.slots }
+        ensures local { is_some result ≡ is_local tables.now.circuit known.now.wires name.now }
         ensures same_name { IfSome result (λ own. own.now ≡ name.now) }
-        ensures names { AreLocalNames tables.now.circuit known.now.keys self.new.slots }
+        ensures names { AreLocalNames tables.now.circuit known.now.wires self.new.slots }
     {
         find_in(tables, known, &mut self.slots, name)
     }

@@ -6,13 +6,13 @@ ghost use Rattle.certificate_lines.specs.Entries.{ModuleLines, gates, last_modul
 ghost use Rattle.certificate_lines.specs.Rules.{is_wrong_side, is_misplaced, is_odd, is_local, is_local_wire, cut_fault, gate_fault, use_fault, keep_fault, is_time, is_edge_place, is_halo_place, is_stop_place, signal_fault, wire_fault, border_fault};
 
 use crate::certificate_line::{BorderLine, StopLine};
-use crate::known::{are_all_new, knows, knows_all};
+use crate::known::{are_all_new, knows_all};
 use crate::line_tables::LineTables;
 use crate::lines::is_used;
 use crate::local_names::LocalNames;
 use crate::stored_line::StoredLine;
 use crate::tiles::whole_of;
-use indexmap::IndexSet;
+use crate::wire_list::WireList;
 use module_box::Box2;
 use pattern::LayoutHeader;
 use section_text::{Name, RefusalCode};
@@ -50,18 +50,18 @@ pub(crate) fn is_bad_place(size: LayoutHeader, area: Box2) -> bool
 }
 
 // Whether there is a wire, and it is local.
-fn is_local_wire(known: &IndexSet<u16>, wire: Option<u16>) -> bool
-    ensures { result ≡ is_local_wire known.now.keys wire }
+fn is_local_wire(known: &WireList, wire: Option<u16>) -> bool
+    ensures { result ≡ is_local_wire known.now.wires wire }
 {
     match wire {
-        Some(wire) => knows(known, wire),
+        Some(wire) => known.contains(wire),
         None => false,
     }
 }
 
 /// Returns whether the name is that of a wire that is local.
-pub(crate) fn is_local_name(tables: &LineTables, known: &IndexSet<u16>, name: &Name) -> bool
-    ensures { result ≡ is_local tables.now.circuit known.now.keys name.now }
+pub(crate) fn is_local_name(tables: &LineTables, known: &WireList, name: &Name) -> bool
+    ensures { result ≡ is_local tables.now.circuit known.now.wires name.now }
 {
     is_local_wire(known, tables.wire(name))
 }
@@ -71,17 +71,17 @@ pub(crate) fn is_local_name(tables: &LineTables, known: &IndexSet<u16>, name: &N
 pub(crate) fn cut_code(
     tables: &LineTables,
     count: usize,
-    known: &IndexSet<u16>,
+    known: &WireList,
     name: &Name,
 ) -> Option<RefusalCode>
-    ensures { result ≡ cut_fault tables.now.circuit count known.now.keys name.now }
+    ensures { result ≡ cut_fault tables.now.circuit count known.now.wires name.now }
 {
     if count >= MAX_CUTS {
         return Some(RefusalCode::PastLimit);
     }
     match tables.wire(name) {
         None => Some(RefusalCode::UnknownName),
-        Some(wire) if knows(known, wire) => Some(RefusalCode::DefinedTwice),
+        Some(wire) if known.contains(wire) => Some(RefusalCode::DefinedTwice),
         Some(_) => None,
     }
 }
@@ -91,10 +91,10 @@ pub(crate) fn cut_code(
 pub(crate) fn use_code(
     tables: &LineTables,
     count: usize,
-    known: &IndexSet<u16>,
+    known: &WireList,
     number: u32,
 ) -> Option<RefusalCode>
-    ensures { result ≡ use_fault tables.now.circuit count known.now.keys number }
+    ensures { result ≡ use_fault tables.now.circuit count known.now.wires number }
 {
     if count >= MAX_USED_GATES {
         return Some(RefusalCode::PastLimit);
@@ -132,12 +132,12 @@ pub(crate) fn keep_code(
 
 // The code of a wire's name, which is looked up: it must be that of a local wire.
 #[inline(never)]
-fn looked_up_code(tables: &LineTables, known: &IndexSet<u16>, name: &Name) -> Option<RefusalCode>
-    ensures { result ≡ wire_fault known.now.keys (wire_of tables.now.circuit name.now) }
+fn looked_up_code(tables: &LineTables, known: &WireList, name: &Name) -> Option<RefusalCode>
+    ensures { result ≡ wire_fault known.now.wires (wire_of tables.now.circuit name.now) }
 {
     match tables.wire(name) {
         None => Some(RefusalCode::UnknownName),
-        Some(wire) if knows(known, wire) => None,
+        Some(wire) if known.contains(wire) => None,
         Some(_) => Some(RefusalCode::NotLocal),
     }
 }
@@ -146,13 +146,13 @@ fn looked_up_code(tables: &LineTables, known: &IndexSet<u16>, name: &Name) -> Op
 #[inline(always)]
 fn name_code<'a>(
     tables: &LineTables<'a>,
-    known: &IndexSet<u16>,
+    known: &WireList,
     names: &mut LocalNames<'a>,
     name: &Name,
 ) -> Option<RefusalCode>
-    requires { AreLocalNames tables.now.circuit known.now.keys names.old.slots }
-    ensures code { result ≡ wire_fault known.now.keys (wire_of tables.now.circuit name.now) }
-    ensures names { AreLocalNames tables.now.circuit known.now.keys names.new.slots }
+    requires { AreLocalNames tables.now.circuit known.now.wires names.old.slots }
+    ensures code { result ≡ wire_fault known.now.wires (wire_of tables.now.circuit name.now) }
+    ensures names { AreLocalNames tables.now.circuit known.now.wires names.new.slots }
 {
     if names.find(tables, known, name).is_some() {
         return None;
@@ -165,13 +165,13 @@ fn name_code<'a>(
 #[tactic(auto, unfolding(crate::specs::Rules::signal_fault))]
 fn signal_code<'a>(
     tables: &LineTables<'a>,
-    known: &IndexSet<u16>,
+    known: &WireList,
     names: &mut LocalNames<'a>,
     signal: &Option<Name>,
 ) -> Option<RefusalCode>
-    requires { AreLocalNames tables.now.circuit known.now.keys names.old.slots }
-    ensures code { result ≡ signal_fault tables.now.circuit known.now.keys signal.now }
-    ensures names { AreLocalNames tables.now.circuit known.now.keys names.new.slots }
+    requires { AreLocalNames tables.now.circuit known.now.wires names.old.slots }
+    ensures code { result ≡ signal_fault tables.now.circuit known.now.wires signal.now }
+    ensures names { AreLocalNames tables.now.circuit known.now.wires names.new.slots }
 {
     match signal {
         None => None,
@@ -188,15 +188,15 @@ fn signal_code<'a>(
 pub(crate) fn border_code<'a>(
     tables: &LineTables<'a>,
     count: usize,
-    known: &IndexSet<u16>,
+    known: &WireList,
     names: &mut LocalNames<'a>,
     placed: bool,
     signal: &Option<Name>,
 ) -> Option<RefusalCode>
-    requires { AreLocalNames tables.now.circuit known.now.keys names.old.slots }
+    requires { AreLocalNames tables.now.circuit known.now.wires names.old.slots }
     ensures code { result
-        ≡ border_fault tables.now.circuit count known.now.keys placed signal.now }
-    ensures names { AreLocalNames tables.now.circuit known.now.keys names.new.slots }
+        ≡ border_fault tables.now.circuit count known.now.wires placed signal.now }
+    ensures names { AreLocalNames tables.now.circuit known.now.wires names.new.slots }
 {
     if count >= MAX_TIMED_LINES {
         return Some(RefusalCode::PastLimit);
@@ -215,15 +215,15 @@ pub(crate) fn border_code<'a>(
 pub(crate) fn stop_code<'a>(
     tables: &LineTables<'a>,
     count: usize,
-    known: &IndexSet<u16>,
+    known: &WireList,
     names: &mut LocalNames<'a>,
     placed: bool,
     wire: &Name,
 ) -> Option<RefusalCode>
-    requires { AreLocalNames tables.now.circuit known.now.keys names.old.slots }
+    requires { AreLocalNames tables.now.circuit known.now.wires names.old.slots }
     ensures code { result
-        ≡ border_fault tables.now.circuit count known.now.keys placed (Some wire.now) }
-    ensures names { AreLocalNames tables.now.circuit known.now.keys names.new.slots }
+        ≡ border_fault tables.now.circuit count known.now.wires placed (Some wire.now) }
+    ensures names { AreLocalNames tables.now.circuit known.now.wires names.new.slots }
 {
     if count >= MAX_TIMED_LINES {
         return Some(RefusalCode::PastLimit);

@@ -23,17 +23,17 @@ use Rattle.module_box.specs.LocalValues.{lane}
 use Rattle.module_box.proofs.WordRows.{read_lane}
 
 -- ---- what satisfies a netlist does so by its values of the netlist's wires
-wires_grow : (n : ℕ) (gs : List Gate) → n ≤ wires_after n gs
+pub wires_grow : (n : ℕ) (gs : List Gate) → n ≤ wires_after n gs
 unfolding wires_after
 wires_grow n [] = omega arith
 wires_grow n (g ∷ gs) = omega (arith, wires_grow (n + defines g.kind) gs)
 
-range_below : (n k m : ℕ) → n + k ≤ m → All (λ w. w < m) (range_with_len n k)
+pub range_below : (n k m : ℕ) → n + k ≤ m → All (λ w. w < m) (range_with_len n k)
 range_below n k m h = λ i d l.
     let small : i < k = omega (arith, length-range_with_len n k) in
     subst (λ w. w < m) (sym (get_or-range_with_len n k i d small)) (omega arith)
 
-all_below : (n m : ℕ) (ws : List ℕ) → n ≤ m → All (λ w. w < n) ws → All (λ w. w < m) ws
+pub all_below : (n m : ℕ) (ws : List ℕ) → n ≤ m → All (λ w. w < n) ws → All (λ w. w < m) ws
 all_below n m ws h all = λ i d l. let small = all i d l in omega (arith, small)
 
 rows_same : (n : ℕ) (gs : List Gate) (u v : Valuation) → AreOrdered n gs →

@@ -4,4 +4,4 @@ use Rattle.certificate_lines.specs.Rules.{are_new}
 use Rattle.certificate_lines.proofs.known.are_all_new.Given as goal
 
 abbrev pub invariant-loop-at : goal.invariant-loop-at
-invariant-loop-at l = are_new l.fn.known.keys (take l.at l.fn.wires) ≡ true
+invariant-loop-at l = are_new l.fn.known.wires (take l.at l.fn.wires) ≡ true

@@ -10,7 +10,7 @@ returns-clause-earlier c =
     let one = ap length grown ∙ length_push xs c.new.result in
     let counted = c.len-last.ensures in
     let last : c.len-last.result - 1 ≡ length xs = omega (arith, one, counted) in
-    ap (map (λ s. s.keys)) (ap (λ l. slice_set l (c.len-last.result - 1) c.swap.new.y) grown
+    ap (map (λ s. s.wires)) (ap (λ l. slice_set l (c.len-last.result - 1) c.swap.new.y) grown
     ∙ ap (λ n. slice_set (xs ++ c.new.result ∷ []) n c.swap.new.y) last
     ∙ set-append_seam xs c.new.result [] c.swap.new.y ∙ ap (λ s. xs ++ s ∷ []) c.swap.ensures.y_after)
-    ∙ map-append (λ s. s.keys) xs (c.args.known.now ∷ [])
+    ∙ map-append (λ s. s.wires) xs (c.args.known.now ∷ [])

@@ -7,5 +7,5 @@ use Rattle.certificate_lines.specs.Versions.{is_strange}
 use Rattle.certificate_lines.proofs.lacks.has_unknown.Given as goal
 
 abbrev pub invariant-lines : goal.invariant-lines
-invariant-lines l = list_any (λ e. is_strange l.tables.circuit l.known.keys e.signal)
+invariant-lines l = list_any (λ e. is_strange l.tables.circuit l.known.wires e.signal)
     (filter (λ e. in_halo l.area e.cell.x e.cell.y) (flat_map edge_in (take l.line-index l.lines))) ≡ false

@@ -2,20 +2,11 @@ use Rattle.std.proofs.Common.{◌≡◌, ◌∙◌, None, ℕ, List, ◌||◌, s
 use Rattle.std.specs.List.{list_any}
 use Rattle.bbm_rule.specs.declared.block.Cell.{Cell}
 use Rattle.certificate_lines.specs.Entries.{edge_in, halo_in, last_module}
-use Rattle.certificate_lines.specs.Rules.{are_new, inner_fault, is_starred, same_cell}
-use Rattle.certificate_lines.specs.BuilderView.{BuilderView, NamesWire, wires_in}
-use Rattle.certificate_lines.proofs.Keeping.{small, good_line, inner_new, with_inner}
+use Rattle.certificate_lines.specs.Rules.{inner_fault, is_starred, same_cell}
+use Rattle.certificate_lines.specs.BuilderView.{BuilderView, NamesWire}
+use Rattle.certificate_lines.proofs.Keeping.{small, good_line, with_inner}
 use Rattle.certificate_lines.proofs.NamedLines.{named_words}
 use Rattle.certificate_lines.proofs.builder.Builder.add_inner.Goals as goal
-
-pub learn_line-requires-clause-new : goal.learn_line-requires-clause-new
-learn_line-requires-clause-new c =
-    let good = good_line c.self.inside.tables c.self.inside.entries.items c.args.entry
-    (subst (λ (s : BuilderView). inner_fault s.setting (last_module s.entries) c.args.entry ≡ None)
-    (sym (c.self.view_is ∙ c.inner_code.ensures.same_lines)) (sym c.inner_code.ensures.code ∙ c.in_default.is)) in
-    ap (λ (l : List ℕ). are_new l (wires_in c.self.inside.tables.circuit c.args.entry))
-    c.make_room_for_wires.ensures.keys
-    ∙ inner_new _ _ _ _ _ _ _ _ _ c.self.invariant.kept c.args.entry c.requires good
 
 pub own_name-name-requires : goal.own_name-name-requires
 own_name-name-requires c =
@@ -23,7 +14,7 @@ own_name-name-requires c =
     (subst (λ (s : BuilderView). inner_fault s.setting (last_module s.entries) c.args.entry ≡ None)
     (sym (c.self.view_is ∙ c.inner_code.ensures.same_lines)) (sym c.inner_code.ensures.code ∙ c.in_default.is)) in
     subst (λ (l : List ℕ). NamesWire c.self.inside.tables.circuit l c.args.entry)
-    (sym (c.make_room_for_wires.ensures.keys ∙ (c.self.invariant.kept.last_module good.module_lines good.last).wires))
+    (sym (c.make_room_for_wires.ensures.wires ∙ (c.self.invariant.kept.last_module good.module_lines good.last).wires))
     (named_words c.self.inside.tables good.module_lines c.args.entry good.words)
 
 pub count_in_last-requires : goal.count_in_last-requires
@@ -34,7 +25,7 @@ invariant_of-self-2 c =
     let good = good_line c.self.inside.tables c.self.inside.entries.items c.args.entry
     (subst (λ (s : BuilderView). inner_fault s.setting (last_module s.entries) c.args.entry ≡ None)
     (sym (c.self.view_is ∙ c.inner_code.ensures.same_lines)) (sym c.inner_code.ensures.code ∙ c.in_default.is)) in
-    rw (c.in_ok-push_entry.ensures.ok, c.of.ensures, c.learn_line.ensures, c.make_room_for_wires.ensures.keys)
+    rw (c.in_ok-push_entry.ensures.ok, c.of.ensures, c.learn_line.ensures, c.make_room_for_wires.ensures.wires)
     (with_inner _ _ _ _ _ _ _ _ _ _ _ c.self.invariant c.args.entry c.requires good c.count_in_last.new.modules.items
     c.count_in_last.ensures c.note_stars.new.edges.keys c.note_stars.new.halos.keys
     (λ d. c.note_stars.ensures.edges d

@@ -25,7 +25,7 @@ invariant_of-self-2 c =
     )
     (with_module c.self.inside.tables c.self.inside.entries.items c.self.inside.covered c.self.inside.modules.items
     (last_inner c.self.inside.entries.items) c.self.inside.names.items
-    (map (λ s. s.keys) c.self.inside.earlier.items) c.self.inside.known.keys c.self.inside.edges.keys
+    (map (λ s. s.wires) c.self.inside.earlier.items) c.self.inside.known.wires c.self.inside.edges.keys
     c.self.inside.halos.keys c.self.inside.local_names.slots c.self.invariant
     c.fill_rectangle.new.grid c.in-Ok.names.items c.args.area good c.fill_rectangle.ensures.filled
     c.fill_rectangle.ensures.size names _ c.new-self-inside.ensures)

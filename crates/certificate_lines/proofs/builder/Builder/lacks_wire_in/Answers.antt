@@ -35,13 +35,13 @@ returns c m at =
     let own : c.index.result.now.area ≡ m.area =
     area_counted (modules_of c.self.inside.entries.items) c.self.inside.modules.items c.args.number m c.index.result.now
     c.self.invariant.kept.built.counted at' c.index.ensures in
-    let wires : c.wires_of.result.now.keys ≡ known g.circuit m =
-    some_is c.wires_of.result.now.keys (known g.circuit m)
+    let wires : c.wires_of.result.now.wires ≡ known g.circuit m =
+    some_is c.wires_of.result.now.wires (known g.circuit m)
     (sym c.wires_of.ensures ∙ slice_get-map (known g.circuit) (modules_of c.args.self.now.entries) c.args.number
     ∙ ap (option_map (known g.circuit)) at) in
     let same : c.self.inside.tables.circuit ≡ g.circuit = ap (λ (s : BuilderView). s.setting.circuit) c.self.view_is in
     c.has_unknown.ensures
-    ∙ ap (λ k. list_any (λ e. is_strange k c.wires_of.result.now.keys e.signal)
+    ∙ ap (λ k. list_any (λ e. is_strange k c.wires_of.result.now.wires e.signal)
     (filter (λ e. in_halo c.index.result.now.area e.cell.x e.cell.y) es)) same
     ∙ ap₂ (λ k (b : Box2). list_any (λ e. is_strange g.circuit k e.signal)
     (filter (λ e. in_halo b e.cell.x e.cell.y) es)) wires own

@@ -19,7 +19,7 @@ invariant_of-result c =
       c.new-3.ensures.items,
       c.new-4.ensures.items,
       c.new-5.ensures.items,
-      c.new-6.ensures.empty,
+      c.new-6.ensures,
     ) (with_none c.args.tables c.in_ok-covered.covered
     (c.in_ok-covered.ensures.size.0 ∙ ap (λ (s : LayoutHeader). s.w) c.size-size.ensures.size)
     (c.in_ok-covered.ensures.size.1 ∙ ap (λ (s : LayoutHeader). s.h) c.size-size.ensures.size)

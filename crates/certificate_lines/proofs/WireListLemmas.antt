@@ -1,0 +1,22 @@
+-- The marks of a list of wires
+use Rattle.std.proofs.Common.{◌≡◌, ℕ, ◌/◌, ◌%◌, ◌≤◌, false, List, [], length, get_or, ap, ◌∙◌, arith}
+use Rattle.std.specs.Prelude.{replicate}
+use Rattle.std.proofs.lemmas.List.{get_or_past, get_or-replicate, length-replicate}
+use Rattle.bbm_rule.specs.Bits.{bit}
+use Rattle.bbm_rule.specs.Rows.{cell_at}
+use Rattle.bbm_rule.proofs.BitLemmas.{by_lt_or_le, bit-zero}
+use Rattle.module_box.specs.Locals.{is_among}
+
+-- a number whose word is zero has no mark
+unmarked : (marks : List ℕ) (w : ℕ) → get_or marks (w / 64) 0 ≡ 0 → cell_at marks w ≡ false
+unfolding cell_at
+unmarked marks w e = ap (λ (n : ℕ). bit n (w % 64)) e ∙ bit-zero (w % 64)
+
+-- nor has one past the words
+pub past_marks : (marks : List ℕ) (w : ℕ) → length marks ≤ w / 64 → cell_at marks w ≡ false
+past_marks marks w past = unmarked marks w (get_or_past marks (w / 64) 0 past)
+
+-- no wire is marked at first
+pub none_marked : (n w : ℕ) → cell_at (replicate n 0) w ≡ is_among [] w
+none_marked n w = unmarked (replicate n 0) w (by_lt_or_le (w / 64) n (λ l. get_or-replicate n (w / 64) 0 0 l)
+    (λ g. get_or_past (replicate n 0) (w / 64) 0 (omega (arith, length-replicate {A = ℕ} n 0))))
