@@ -3,10 +3,13 @@ ghost use Rattle.std.specs.Prelude.{◌≡◌, true, false};
 ghost use Rattle.section_text.specs.Feeds.{IsLine};
 
 use section_text::{
-    Feed, Line, Name, PushFault, ReadFault, Refusal, print_number, print_word, read_number,
+    Feed, Line, Name, PushFault, ReadFault, Refusal, Seed, print_number, print_word, read_number,
 };
 use std::alloc::Global;
+use std::hash::{BuildHasher, Hasher};
+use std::io;
 use std::process::Abort;
+use std::random::RandomSource;
 
 /// Adds a piece: at the second time, if no memory was found at the first.
 fn add(rt: &impl Abort, feed: &mut Feed, piece: &[u8])
@@ -128,4 +131,43 @@ fn written_words(rt: HostRuntime) {
         assert!(rt; print_number(&mut out, number).is_ok());
     }
     assert!(rt; out.as_slice() == b" cut  0 4294967295".as_slice());
+}
+
+/// Random bytes that are all the same.
+struct Same(u8);
+
+impl RandomSource for Same {
+    fn fill_bytes(&self, buf: &mut [u8]) -> io::Result<()> {
+        for byte in buf {
+            *byte = self.0;
+        }
+        Ok(())
+    }
+}
+
+/// No random bytes.
+struct Nothing;
+
+impl RandomSource for Nothing {
+    fn fill_bytes(&self, _: &mut [u8]) -> io::Result<()> {
+        Err(io::Error::from(io::ErrorKind::Unsupported))
+    }
+}
+
+/// Returns the hash of a byte by the seed.
+fn hash_by(seed: Seed) -> u64 {
+    let mut hasher = seed.build_hasher();
+    hasher.write(b"p");
+    hasher.finish()
+}
+
+#[test]
+fn a_feed_has_the_seed_that_was_drawn(rt: HostRuntime) {
+    let (one, two) = (Seed::drawn(&Same(1)), Seed::drawn(&Same(2)));
+    assert!(rt; hash_by(one) != hash_by(two), "the bytes change nothing");
+    assert!(rt; hash_by(one) != hash_by(Seed::known()));
+    assert!(rt; hash_by(Seed::drawn(&Nothing)) == hash_by(Seed::known()));
+    let feed = Feed::seeded(rt.alloc(), one);
+    assert!(rt; hash_by(feed.seed()) == hash_by(one), "another seed");
+    assert!(rt; hash_by(Feed::new(rt.alloc()).seed()) == hash_by(Seed::known()));
 }
