@@ -29,7 +29,7 @@ pub fn next_marked(marks: &[u64], from: usize, end: usize) -> usize
 }
 
 /// Returns the first number from `from` on that has no mark, or `end` if all below it have one.
-pub(crate) fn next_unmarked(marks: &[u64], from: usize, end: usize) -> usize
+pub fn next_unmarked(marks: &[u64], from: usize, end: usize) -> usize
     requires within { (from ≤ end) × (end ≤ 64 * length marks.now) × (end < 2 ^ 32) }
     ensures range { (from ≤ result) × (result ≤ end) }
     ensures passed { (u : ℕ) → from ≤ u → u < result → cell_at marks.now u ≡ true }
