@@ -108,7 +108,7 @@ def devices_random_bytes(_):
         subprocess.run(["strace", "-f", "-e", "trace=getrandom", "-o", log.name, Given.program, "check"], stdin=stdin, capture_output=True)
         drawn = [line for line in log if "GRND_NONBLOCK" not in line and "getrandom(" in line]
     same(len(drawn), 1, f"calls of getrandom: {drawn}")
-    for error in ("ENOSYS", "EINTR", "EAGAIN"):
+    for error in ("ENOSYS", "EAGAIN", "EINTR:when=1", "EINTR:when=2"):
         with open(text, "rb") as stdin:
             start = ["strace", "-f", "-o", "/dev/null", "-e", f"inject=getrandom:error={error}"]
             ended = subprocess.run([*start, Given.program, "check"], stdin=stdin, capture_output=True, timeout=60)
