@@ -1,19 +1,55 @@
 -- Lists of wires: the place of a wire, and wires that are added
-use Rattle.std.proofs.Common.{◌≡◌, ℕ, zero, suc, ◌+◌, ◌<◌, false, List, [], ◌∷◌, ◌++◌, length, take, drop, get_or}
-use Rattle.std.proofs.Common.{slice_get, position, Some, nat_eq, Contains, sym, ap, subst, ◌∙◌, arith, append_assoc}
-use Rattle.std.proofs.Common.{length-append, take-append-drop}
-use Rattle.std.specs.List.{list_any}
-use Rattle.std.proofs.lemmas.Bool.{eqb-true, false_from_ne_true, cond-false}
-use Rattle.std.proofs.lemmas.List.{take_more, drop_more, get_or_append_left, get_or-append-add}
+use Rattle.std.proofs.Common.{◌≡◌, ◌≢◌, ℕ, zero, suc, ◌+◌, ◌<◌, ◌≤◌, ◌==◌, ◌||◌, true, false, List, [], ◌∷◌, ◌++◌}
+use Rattle.std.proofs.Common.{length, take, drop, get_or, set, slice_get, position, Option, Some, None, nat_eq, min}
+use Rattle.std.proofs.Common.{Contains, refl, sym, ap, ap₂, subst, ◌∙◌, inl, inr, arith, append_assoc, length-append}
+use Rattle.std.proofs.Common.{cond, take-append-drop}
+use Rattle.std.specs.Prelude.{if◌then◌else◌, nat_lt, is_some, IfSome, Bool, not}
+use Rattle.std.specs.List.{list_any, position_or_len}
+use Rattle.std.proofs.Math.Seq.{get_or-append_seam}
+use Rattle.std.proofs.lemmas.Bool.{cases_lt, eqb-true, eqb-false, eq-eqb, ne_eqb, false_from_ne_true, false≢true}
+use Rattle.std.proofs.lemmas.List.{get_or-take, length-take, take_more, drop_more, get_or_append_left}
+use Rattle.std.proofs.lemmas.List.{get_or-append-add, get_or-set_same, get_or-set_other, length-set}
+use Rattle.std.proofs.lemmas.List.Folds.{list_any_at}
 use Rattle.std.proofs.lemmas.List.Quantifiers.{position-Some}
-use Rattle.std.proofs.lemmas.Option.{slice_get-get_or}
-use Rattle.indexmap.specs.IndexSet.{insert_key}
-use Rattle.indexmap.proofs.CallerLemmas.{Contains-list_any}
-use Rattle.module_box.specs.Locals.{AreDifferent}
+use Rattle.std.proofs.lemmas.List.Sums.{fails_before_first, position_or_len_is}
+use Rattle.std.proofs.lemmas.Map.Views.{Contains-from_any}
+use Rattle.std.proofs.lemmas.Option.{none-some, same_Some, slice_get-get_or, slice_get_past, slice_get_within}
+use Rattle.module_box.specs.Locals.{AreDifferent, is_among}
 
 -- the wire that stands at the place that a look-up finds
-pub place_same : (ws : List ℕ) (w i : ℕ) → Some i ≡ position (nat_eq w) ws → get_or ws i 0 ≡ w
-place_same ws w i e = sym (eqb-true w (get_or ws i 0) (position-Some (nat_eq w) ws i 0 (sym e)).1)
+pub place_same : (ws : List ℕ) (w i : ℕ) → Some i ≡ position (λ v. v == w) ws → get_or ws i 0 ≡ w
+place_same ws w i e = eqb-true (get_or ws i 0) w (position-Some (λ v. v == w) ws i 0 (sym e)).1
+
+-- so for each place that it finds
+pub place_holds : (ws : List ℕ) (w : ℕ) (o : Option ℕ) → o ≡ position (λ v. v == w) ws →
+    IfSome o (λ i. get_or ws i 0 ≡ w)
+place_holds ws w None e = tt
+place_holds ws w (Some i) e = place_same ws w i e
+
+-- it finds one if and only if the wire is among them
+pub place_among : (ws : List ℕ) (w : ℕ) → is_some (position (λ v. v == w) ws) ≡ is_among ws w
+place_among [] w = refl
+place_among (v ∷ ws) w = by (v == w) (place_among ws w)
+  where
+    first : ℕ
+    first = position_or_len (λ v. v == w) ws
+
+    some_if : (b : Bool) (i : ℕ) → is_some (if b then Some i else None) ≡ b
+    some_if true i = refl
+    some_if false i = refl
+
+    zero_before : (n : ℕ) → nat_lt 0 (suc n) ≡ true
+    zero_before n = grind arith
+
+    both_more : (i n : ℕ) → nat_lt (1 + i) (suc n) ≡ nat_lt i n
+    both_more i n = grind arith
+
+    by : (b : Bool) → is_some (if nat_lt first (length ws) then Some first else None) ≡ is_among ws w →
+        is_some
+        (if nat_lt (cond (not b) (1 + first) 0) (suc (length ws)) then Some (cond (not b) (1 + first) 0) else None)
+        ≡ (b || is_among ws w)
+    by true rest = some_if _ 0 ∙ zero_before (length ws)
+    by false rest = some_if _ (1 + first) ∙ both_more first (length ws) ∙ sym (some_if _ first) ∙ rest
 
 -- the wires at the front of different ones are different
 pub different_front : (xs ys : List ℕ) → AreDifferent (xs ++ ys) → AreDifferent xs
@@ -24,10 +60,17 @@ different_front xs ys different i j w at there = different i j w (longer xs ys i
     longer (x ∷ xs) ys zero w at = at
     longer (x ∷ xs) ys (suc i) w at = longer xs ys i w at
 
+eq_sym : (v w : ℕ) → (w == v) ≡ (v == w)
+eq_sym v w = grind arith
+
+among : (ws : List ℕ) (w : ℕ) → list_any (nat_eq w) ws ≡ is_among ws w
+among [] w = refl
+among (v ∷ ws) w = ap₂ (λ a b. a || b) (eq_sym v w) (among ws w)
+
 -- a wire that stands after others is not among them
-fresh : (xs ys : List ℕ) (w : ℕ) → AreDifferent (xs ++ w ∷ ys) → list_any (nat_eq w) xs ≡ false
+fresh : (xs ys : List ℕ) (w : ℕ) → AreDifferent (xs ++ w ∷ ys) → is_among xs w ≡ false
 fresh xs ys w different = false_from_ne_true _ (λ e.
-    let found : Contains xs w = Contains-list_any nat_eq (λ x y h. eqb-true x y h) xs w e in
+    let found : Contains xs w = Contains-from_any {eq = nat_eq} (λ x y h. eqb-true x y h) w xs (among xs w ∙ e) in
     let k : ℕ = found.0 in
     let here : slice_get (xs ++ w ∷ ys) k ≡ Some w =
     slice_get-get_or (xs ++ w ∷ ys) k w (omega (arith, length-append xs (w ∷ ys), found.1))
@@ -38,21 +81,132 @@ fresh xs ys w different = false_from_ne_true _ (λ e.
     let same = different k (length xs + 0) w here there in
     omega (arith, found.1, same))
 
--- one more wire is added
-pub wire_added : (old ws keys new : List ℕ) (i w : ℕ) → AreDifferent (old ++ ws) → i < length ws → w ≡ get_or ws i w →
-    keys ≡ old ++ take i ws →
-    new ≡ insert_key nat_eq keys w → new ≡ old ++ take (i + 1) ws
-wire_added old ws keys new i w different within is known inserted =
-    let cut : ws ≡ take i ws ++ w ∷ drop (i + 1) ws =
-    sym (take-append-drop i ws) ∙ ap (λ (l : List ℕ). take i ws ++ l)
-    (drop_more ws i w within ∙ ap (λ x. x ∷ drop (i + 1) ws) (sym is)) in
-    let whole : old ++ ws ≡ (old ++ take i ws) ++ w ∷ drop (i + 1) ws =
-    ap (λ (l : List ℕ). old ++ l) cut ∙ sym (append_assoc old (take i ws) (w ∷ drop (i + 1) ws)) in
-    let new_here : list_any (nat_eq w) keys ≡ false =
-    ap (list_any (nat_eq w)) known
-    ∙ fresh (old ++ take i ws) (drop (i + 1) ws) w (subst AreDifferent whole different) in
-    let more : take (i + 1) ws ≡ take i ws ++ w ∷ [] =
-    take_more ws i w within ∙ ap (λ x. take i ws ++ x ∷ []) (sym is) in
-    inserted ∙ cond-false (list_any (nat_eq w) keys) keys (keys ++ w ∷ []) new_here
-    ∙ ap (λ (l : List ℕ). l ++ w ∷ []) known
-    ∙ append_assoc old (take i ws) (w ∷ []) ∙ ap (λ (l : List ℕ). old ++ l) (sym more)
+-- the next of some different wires
+module _ (old ws : List ℕ) (i w : ℕ) (different : AreDifferent (old ++ ws)) (within : i < length ws)
+    (is : w ≡ get_or ws i w) where
+  -- it is not among those before it
+  pub next_fresh : (known : List ℕ) → known ≡ old ++ take i ws → is_among known w ≡ false
+  next_fresh known so_far =
+      let cut : ws ≡ take i ws ++ w ∷ drop (i + 1) ws =
+      sym (take-append-drop i ws) ∙ ap (λ (l : List ℕ). take i ws ++ l)
+      (drop_more ws i w within ∙ ap (λ x. x ∷ drop (i + 1) ws) (sym is)) in
+      let whole : old ++ ws ≡ (old ++ take i ws) ++ w ∷ drop (i + 1) ws =
+      ap (λ (l : List ℕ). old ++ l) cut ∙ sym (append_assoc old (take i ws) (w ∷ drop (i + 1) ws)) in
+      ap (λ (l : List ℕ). is_among l w) so_far
+      ∙ fresh (old ++ take i ws) (drop (i + 1) ws) w (subst AreDifferent whole different)
+
+  -- it is added to them
+  pub wire_added : (known new : List ℕ) → known ≡ old ++ take i ws → new ≡ known ++ w ∷ [] →
+      new ≡ old ++ take (i + 1) ws
+  wire_added known new so_far added =
+      let more : take (i + 1) ws ≡ take i ws ++ w ∷ [] =
+      take_more ws i w within ∙ ap (λ x. take i ws ++ x ∷ []) (sym is) in
+      added ∙ ap (λ (l : List ℕ). l ++ w ∷ []) so_far
+      ∙ append_assoc old (take i ws) (w ∷ []) ∙ ap (λ (l : List ℕ). old ++ l) (sym more)
+
+-- ---- a table of the places of wires, from a place on
+abbrev AreAt : ℕ → List ℕ → List ℕ → Type 0
+AreAt m ws places = (i : ℕ) → m ≤ i → i < length ws → slice_get places (get_or ws i 0) ≡ Some i
+
+place_at : (m : ℕ) (ws places : List ℕ) (w i : ℕ) → AreAt m ws places → m ≤ i → i < length ws → get_or ws i 0 ≡ w →
+    slice_get places w ≡ Some i
+place_at m ws places w i at g l e = ap (slice_get places) (sym e) ∙ at i g l
+
+eqb_same : (w : ℕ) → (w == w) ≡ true
+eqb_same w = eq-eqb w w refl
+
+-- the place of a wire that stands nowhere before it
+place_first : (ws : List ℕ) (w n : ℕ) → n < length ws → get_or ws n 0 ≡ w → ((k : ℕ) → k < n → get_or ws k 0 ≢ w) →
+    Some n ≡ position (λ v. v == w) ws
+place_first ws w n l e none =
+    let first = position_or_len_is (λ v. v == w) ws n 0 (omega arith) (λ k lt. ne_eqb (get_or ws k 0) w (none k lt))
+    (λ _. ap (λ v. v == w) e ∙ eqb_same w) in
+    rw first (is_first n (length ws) l)
+  where
+    is_first : (n m : ℕ) → n < m → Some n ≡ (if nat_lt n m then Some n else None)
+    is_first n m l = grind arith
+
+-- a wire that stands nowhere has no place
+place_missing : (ws : List ℕ) (w : ℕ) → ((k : ℕ) → k < length ws → get_or ws k 0 ≢ w) → None ≡ position (λ v. v == w) ws
+place_missing ws w nowhere =
+    let none = position_or_len_is (λ v. v == w) ws (length ws) 0 (omega arith)
+    (λ k lt. ne_eqb (get_or ws k 0) w (nowhere k lt)) (λ l. absurd (omega arith)) in
+    rw none (is_none (length ws))
+  where
+    is_none : (m : ℕ) → None ≡ (if nat_lt m m then Some m else None)
+    is_none m = grind arith
+
+-- a wire that has no place stands nowhere
+no_place : (ws : List ℕ) (w : ℕ) → None ≡ position (λ v. v == w) ws → (k : ℕ) → k < length ws → get_or ws k 0 ≢ w
+no_place ws w none k l = eqb-false (get_or ws k 0) w (fails_before_first (λ v. v == w) ws k 0 (omega (arith, past, l)))
+  where
+    from_none : (i n : ℕ) → None ≡ (if nat_lt i n then Some i else None) → n ≤ i
+    from_none i n e = grind arith
+
+    past : length ws ≤ position_or_len (λ v. v == w) ws
+    past = from_none _ _ none
+
+-- what a scan of the first wires finds is the place among all
+pub scan_found : (m : ℕ) (ws : List ℕ) (w i : ℕ) → Some i ≡ position (λ v. v == w) (take m ws) →
+    Some i ≡ position (λ v. v == w) ws
+scan_found m ws w i e =
+    let is = position-Some (λ v. v == w) (take m ws) i 0 (sym e) in
+    let within : (i < m) × (i < length ws) = in_front (length (take m ws)) (length-take m ws) is.0 in
+    place_first ws w i within.1 (sym (get_or-take m ws i 0 within.0) ∙ eqb-true (get_or (take m ws) i 0) w is.1)
+    (λ k lt f. false≢true (sym (is.2 k lt) ∙ ap (λ v. v == w) (get_or-take m ws k 0 (omega (arith, lt, within.0)) ∙ f)
+    ∙ eqb_same w))
+  where
+    in_front : (n : ℕ) → n ≡ min m (length ws) → i < n → (i < m) × (i < length ws)
+    in_front n e l = (omega (arith, e, l), omega (arith, e, l))
+
+module _ (m : ℕ) (ws places : List ℕ) (w : ℕ) (at : AreAt m ws places)
+    (scanned : None ≡ position (λ v. v == w) (take m ws)) where
+  -- it is not among the first
+  past_first : (k : ℕ) → k < length ws → get_or ws k 0 ≡ w → m ≤ k
+  past_first k l e = elim (cases_lt k m) [
+    | inl lt ↦ absurd (no_place (take m ws) w scanned k (omega (arith, lt, l, length-take m ws))
+        (get_or-take m ws k 0 lt ∙ e))
+    | inr ge ↦ ge
+  ]
+
+  -- the table has its place
+  pub place_found : (n : ℕ) → n < length ws → get_or ws n 0 ≡ w → Some n ≡ position (λ v. v == w) ws
+  place_found n l e = place_first ws w n l e (λ k lt f.
+      let within : k < length ws = omega (arith, lt, l) in
+      let same = same_Some k n (sym (place_at m ws places w k at (past_first k within f) within f)
+      ∙ place_at m ws places w n at (past_first n l e) l e) in
+      omega (arith, lt, same))
+
+  -- it has none, where it is past the entries, or its entry is past the wires or of another wire
+  pub no_entry : length places ≤ w → None ≡ position (λ v. v == w) ws
+  no_entry past = place_missing ws w (λ k l e.
+      none-some k (sym (slice_get_past places w past) ∙ place_at m ws places w k at (past_first k l e) l e))
+
+  pub other_entry : (n : ℕ) → w < length places → n ≡ get_or places w 0 → (n < length ws → get_or ws n 0 ≢ w) →
+      None ≡ position (λ v. v == w) ws
+  other_entry n within entry other = place_missing ws w (λ k l e.
+      let same : k ≡ n = same_Some k n (sym (place_at m ws places w k at (past_first k l e) l e)
+      ∙ slice_get-get_or places w 0 within ∙ ap Some (sym entry)) in
+      other (subst (λ m. m < length ws) same l) (ap (λ m. get_or ws m 0) (sym same) ∙ e))
+
+-- the table with the place of one more wire
+pub placed_more : (m : ℕ) (ws places longer : List ℕ) (w : ℕ) → AreAt m ws places → is_among ws w ≡ false →
+    ((v i : ℕ) → slice_get places v ≡ Some i → slice_get longer v ≡ Some i) → w < length longer →
+    AreAt m (ws ++ w ∷ []) (set longer w (length ws))
+placed_more m ws places longer w at new kept entry i g l = elim (cases_lt i (length ws)) [
+  | inl lt ↦
+      let v : ℕ = get_or ws i 0 in
+      let old : slice_get longer v ≡ Some i = kept v i (at i g lt) in
+      let other : v ≢ w = λ e. false≢true (sym new ∙ list_any_at (λ u. u == w) ws i 0 lt
+      (ap (λ u. u == w) e ∙ eqb_same w)) in
+      let within : v < length longer = slice_get_within longer v i old in
+      ap (slice_get (set longer w (length ws))) (get_or_append_left ws (w ∷ []) 0 i lt)
+      ∙ slice_get-get_or (set longer w (length ws)) v 0 (omega (arith, within, length-set longer w (length ws)))
+      ∙ ap Some (get_or-set_other longer w v (length ws) 0 other) ∙ sym (slice_get-get_or longer v 0 within) ∙ old
+  | inr ge ↦
+      let last : i ≡ length ws = omega (arith, l, ge, length-append ws (w ∷ [])) in
+      ap (slice_get (set longer w (length ws)))
+      (ap (λ m. get_or (ws ++ w ∷ []) m 0) last ∙ get_or-append_seam ws w [] 0)
+      ∙ slice_get-get_or (set longer w (length ws)) w 0 (omega (arith, entry, length-set longer w (length ws)))
+      ∙ ap Some (get_or-set_same longer w (length ws) 0 entry ∙ sym last)
+]

@@ -15,3 +15,4 @@ pub mod Moves
 pub mod WiringView
 pub mod Numbers
 pub mod Places
+pub mod NumberedWiresView

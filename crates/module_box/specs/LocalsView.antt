@@ -9,14 +9,14 @@ use Rattle.module_box.specs.Locals.{LocalNet, cut_limit, use_limit}
 abbrev pub local_net : Inside → LocalNet
 local_net l = record {
   netlist = record { given = l.given; gates = map kept_gate l.gates.items };
-  circuit_wires = l.circuit_wires.keys;
+  circuit_wires = l.circuit_wires;
   circuit_gates = l.circuit_gates.items;
 }
 
 -- the gates are ordered over the cuts, and each wire has its number in the circuit
 pub record IsLocalNet (l : Inside) : Type 0 where
   pub ordered : AreOrdered l.given (map kept_gate l.gates.items)
-  pub sized : length l.circuit_wires.keys ≡ wires (local_net l).netlist
+  pub sized : length l.circuit_wires ≡ wires (local_net l).netlist
   pub few_cuts : l.given ≤ cut_limit
   pub few_gates : length l.gates.items ≤ use_limit
-  pub few_wires : length l.circuit_wires.keys ≤ 268
+  pub few_wires : length l.circuit_wires ≤ 268

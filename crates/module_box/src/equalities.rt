@@ -71,7 +71,6 @@ impl PartialEq for Locals {
     fn eq(&self, other: &Locals) -> bool {
         let cuts = self.given == other.given;
         let gates = self.gates == other.gates;
-        // as slices, since two sets are equal in whatever order their elements stand
         let wires = self.circuit_wires.as_slice() == other.circuit_wires.as_slice();
         let numbers = self.circuit_gates == other.circuit_gates;
         cuts & gates & wires & numbers

@@ -17,6 +17,7 @@ mod equalities;
 pub mod laws;
 mod locals;
 mod moving;
+mod numbered_wires;
 mod numbers;
 mod owners;
 mod places;

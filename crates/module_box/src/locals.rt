@@ -1,6 +1,6 @@
 //! The wires that a module knows, and the gates that it uses, numbered anew.
 
-ghost use Rattle.std.specs.Prelude.{◌≡◌, ◌==◌, ◌<◌, ◌≤◌, ◌^◌, ◌++◌, [], map, length, position, is_some, slice_get, slice_index, IsTrue, Some, OnOk, IfOk, IfSome};
+ghost use Rattle.std.specs.Prelude.{◌≡◌, ◌==◌, ◌+◌, ◌<◌, ◌≤◌, ◌^◌, ◌++◌, [], map, length, position, is_some, slice_get, slice_index, IsTrue, Some, OnOk, IfOk, IfSome};
 ghost use Rattle.std.specs.List.{All};
 ghost use Rattle.circuit.specs.Bridge.{netlist_of};
 ghost use Rattle.circuit.specs.Gates.{uses};
@@ -9,9 +9,9 @@ ghost use Rattle.circuit.specs.Wiring.{gate_of};
 ghost use Rattle.module_box.specs.LocalGates.{kept_gate};
 ghost use Rattle.module_box.specs.Locals.{AreDifferent, AreLocalLines, AreLocalsOf, circuit_gate, circuit_wire, is_among, local_wires};
 
+use crate::numbered_wires::NumberedWires;
 use crate::wiring::Wiring;
 use circuit::{Circuit, GateKind, GateNo, GateWires, WireNo};
-use indexmap::IndexSet;
 use std::alloc::{AllocError, Global};
 use std::marker::Model;
 
@@ -31,7 +31,7 @@ pub(crate) struct LocalGate {
 pub struct Locals {
     pub(crate) given: usize,
     pub(crate) gates: Vec<LocalGate>,
-    pub(crate) circuit_wires: IndexSet<u16>,
+    pub(crate) circuit_wires: NumberedWires,
     pub(crate) circuit_gates: Vec<GateNo>,
 }
 
@@ -48,38 +48,38 @@ impl Model for Locals {
 }
 
 // Adds wires that are not known yet.
-fn add_wires(known: &mut IndexSet<u16>, wires: &[WireNo]) -> Result<(), AllocError>
-    requires { AreDifferent (known.old.keys ++ wires.now) }
-    ensures { OnOk result (known.new.keys ≡ known.old.keys ++ wires.now) }
+fn add_wires(known: &mut NumberedWires, wires: &[WireNo]) -> Result<(), AllocError>
+    requires different { AreDifferent (known.old ++ wires.now) }
+    requires at_most_65536 { length known.old + length wires.now ≤ 2 ^ 16 }
+    ensures { OnOk result (known.new ≡ known.old ++ wires.now) }
 {
     for wire in wires {
-        known.insert(wire.number())?;
+        known.push(wire.number())?;
     }
     Ok(())
 }
 
 // The number here of a wire that is known.
-fn local_number(known: &IndexSet<u16>, wire: WireNo) -> u16
-    requires at_most_65536 { length known.now.keys ≤ 2 ^ 16 }
-    requires known { IsTrue (is_among known.now.keys wire) }
-    ensures within { result < length known.now.keys }
-    ensures wire { slice_index known.now.keys result ≡ wire }
+fn local_number(known: &NumberedWires, wire: WireNo) -> u16
+    requires known { IsTrue (is_among known.now wire) }
+    ensures within { result < length known.now }
+    ensures wire { slice_index known.now result ≡ wire }
 {
-    match known.get_index_of(&wire.number()) {
-        Some(index) => index as u16,
+    match known.number(wire.number()) {
+        Some(number) => number,
         None => unreachable!(),
     }
 }
 
 // The gate over the wires that are known. Those that it defines come next.
-fn local_gate(known: &IndexSet<u16>, gate: GateWires) -> LocalGate
-    requires below_65536 { length known.now.keys < 2 ^ 16 }
-    requires known { All (λ w. IsTrue (is_among known.now.keys w)) (gate_of gate).ins }
+fn local_gate(known: &NumberedWires, gate: GateWires) -> LocalGate
+    requires below_65536 { length known.now < 2 ^ 16 }
+    requires known { All (λ w. IsTrue (is_among known.now w)) (gate_of gate).ins }
     requires fits { length (gate_of gate).ins ≡ uses (gate_of gate).kind }
     ensures kind { (kept_gate result).kind ≡ (gate_of gate).kind }
-    ensures within { All (λ w. w < length known.now.keys) (kept_gate result).ins }
-    ensures ins { map (slice_index known.now.keys) (kept_gate result).ins ≡ (gate_of gate).ins }
-    ensures first { result.first ≡ length known.now.keys }
+    ensures within { All (λ w. w < length known.now) (kept_gate result).ins }
+    ensures ins { map (slice_index known.now) (kept_gate result).ins ≡ (gate_of gate).ins }
+    ensures first { result.first ≡ length known.now }
 {
     let mut ins = [0; 4];
     for (place, wire) in gate.ins().iter().enumerate() {
@@ -95,23 +95,23 @@ fn local_gate(known: &IndexSet<u16>, gate: GateWires) -> LocalGate
 // The gates, each over the wires that are known before it. The cuts become known, and what each gate defines.
 fn add_lines(
     alloc: Global,
-    known: &mut IndexSet<u16>,
+    known: &mut NumberedWires,
     circuit: &Circuit,
     cuts: &[WireNo],
     gates: &[GateNo],
 ) -> Result<Vec<LocalGate>, AllocError>
-    requires none { known.old.keys ≡ [] }
+    requires none { known.old ≡ [] }
     requires lines { AreLocalLines (netlist_of circuit.now) cuts.now gates.now }
     ensures locals { IfOk result (λ made. AreLocalsOf (netlist_of circuit.now)
         (record {
           netlist = record { given = length cuts.now; gates = map kept_gate made.items };
-          circuit_wires = known.new.keys;
+          circuit_wires = known.new;
           circuit_gates = gates.now;
         })) }
-    ensures wires { IfOk result (λ made. known.new.keys
+    ensures wires { IfOk result (λ made. known.new
         ≡ local_wires (netlist_of circuit.now) cuts.now gates.now) }
     ensures count { IfOk result (λ made. length made.items ≡ length gates.now) }
-    ensures at_most_268 { IfOk result (λ made. length known.new.keys ≤ 268) }
+    ensures at_most_268 { IfOk result (λ made. length known.new ≤ 268) }
 {
     let gate_count = circuit.gates();
     add_wires(known, cuts)?;
@@ -149,7 +149,7 @@ impl Locals {
         let circuit_gates = gates.to_vec(alloc)?;
         // Room for most modules: a gate mostly defines one to three wires.
         let room = cuts.len().saturating_add(gates.len().saturating_mul(3));
-        let mut circuit_wires = IndexSet::with_capacity(alloc, room)?;
+        let mut circuit_wires = NumberedWires::with_capacity(alloc, room)?;
         let gates = add_lines(alloc, &mut circuit_wires, circuit, cuts, gates)?;
         Ok(Locals {
             given: cuts.len(),
@@ -160,9 +160,9 @@ impl Locals {
     }
 
     /// Returns the gates over the module's own wires, and the numbers of these wires and gates in the circuit.
-    pub fn into_parts(self) -> (Wiring, IndexSet<u16>, Vec<GateNo>)
+    pub fn into_parts(self) -> (Wiring, Vec<u16>, Vec<GateNo>)
         ensures wiring { result.0 ≡ self.netlist }
-        ensures wires { result.1.keys ≡ self.circuit_wires }
+        ensures wires { result.1.items ≡ self.circuit_wires }
         ensures gates { result.2.items ≡ self.circuit_gates }
         ensures sized { length self.circuit_wires ≡ wires self.netlist }
     {
@@ -172,7 +172,7 @@ impl Locals {
             gates: self.gates,
             wires,
         };
-        (wiring, self.circuit_wires, self.circuit_gates)
+        (wiring, self.circuit_wires.into_wires(), self.circuit_gates)
     }
 
     /// Returns how many wires the module knows, at most 268: 12 cuts, and 4 wires of each of 64 gates.
@@ -191,8 +191,7 @@ impl Locals {
         ensures within { IfSome result (λ i. i < length self.now.circuit_wires) }
         ensures same_wire { IfSome result (λ i. circuit_wire self.now i ≡ wire) }
     {
-        let index = self.circuit_wires.get_index_of(&wire.number())?;
-        Some(index as u16)
+        self.circuit_wires.number(wire.number())
     }
 
     /// Returns the number in the circuit of the used gate at this place, for a place below `gates()`, and else 0.
@@ -210,9 +209,6 @@ impl Locals {
         requires { number < length self.now.circuit_wires }
         ensures { result ≡ circuit_wire self.now number }
     {
-        match self.circuit_wires.get_index(number as usize) {
-            Some(wire) => WireNo::of(*wire),
-            None => unreachable!(),
-        }
+        WireNo::of(self.circuit_wires.as_slice()[number as usize])
     }
 }

@@ -14,12 +14,12 @@ own_shape a = arc_value a.shape
 
 -- the view of a job: its shape, placed at its corner and over its wires and gates
 abbrev pub job_view : Inside → JobView
-job_view a = placed a.x a.y a.wires.keys a.gates.items (own_shape a)
+job_view a = placed a.x a.y a.wires.items a.gates.items (own_shape a)
 
 -- it is a job, each of its wires has its number in the circuit, and no line of its shape is about a cell far away
 pub record IsStoredJob (a : Inside) : Type 0 where
   pub job : IsJob (job_view a)
-  pub sized : length a.wires.keys ≡ wires (own_shape a).netlist
+  pub sized : length a.wires.items ≡ wires (own_shape a).netlist
   pub near_edges : All (λ e. IsNear e.at.cell) (own_shape a).edges.events
   pub near_halos : All (λ e. IsNear e.at.cell) (own_shape a).halos.events
   pub near_stops : All (λ s. IsNear s.at.cell) (own_shape a).stops

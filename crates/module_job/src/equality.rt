@@ -38,8 +38,7 @@ impl PartialEq for Job {
     fn eq(&self, other: &Job) -> bool {
         let x = self.x == other.x;
         let y = self.y == other.y;
-        // as slices, since two sets are equal in whatever order their elements stand
-        let wires = self.wires.as_slice() == other.wires.as_slice();
+        let wires = self.wires == other.wires;
         let gates = self.gates == other.gates;
         let shape = *self.shape == *other.shape;
         x & y & wires & gates & shape

@@ -12,7 +12,6 @@ use crate::shape::Shape;
 use crate::stops::moved_stop;
 use bbm_rule::Cell;
 use circuit::{GateNo, WireNo};
-use indexmap::IndexSet;
 use module_box::{Box2, Moment, Signal, TimedSignal, Wiring, moved_cell, moved_event, place_in};
 use std::marker::Model;
 use std::sync::Arc;
@@ -55,7 +54,7 @@ pub struct Job {
     /// Its row.
     pub y: u32,
     /// The circuit's numbers of its wires.
-    pub wires: IndexSet<u16>,
+    pub wires: Vec<u16>,
     /// The circuit's gates that are its own.
     pub gates: Vec<GateNo>,
     /// The job without its place.
@@ -135,10 +134,7 @@ impl Job {
         requires { number < wires self.now.locals.netlist }
         ensures { result ≡ circuit_wire self.now.locals number }
     {
-        match self.wires.get_index(number as usize) {
-            Some(wire) => WireNo::of(*wire),
-            None => unreachable!(),
-        }
+        WireNo::of(self.wires[number as usize])
     }
 
     /// Returns the number in the circuit of the used gate at this place, for a place below the count of those, and else

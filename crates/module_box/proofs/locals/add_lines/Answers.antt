@@ -13,8 +13,8 @@ use Rattle.module_box.proofs.WireLists.{different_front}
 use Rattle.module_box.proofs.LocalNets.{IsOver, IsPart, part_none, part_more, part_all, next_known, known_ins, next_new}
 use Rattle.module_box.proofs.locals.add_lines.Goals as goal
 
-pub add_wires-requires : goal.add_wires-requires
-add_wires-requires c =
+pub add_wires-requires-clause-different : goal.add_wires-requires-clause-different
+add_wires-requires-clause-different c =
     subst (λ (l : List ℕ). AreDifferent (l ++ c.args.cuts.now)) (sym c.requires.none)
     (different_front c.args.cuts.now _ c.requires.lines.different)
 
@@ -22,14 +22,14 @@ pub gates-init : goal.gates-init
 gates-init c =
     let none : map kept_gate c.in_ok-made.made.items ≡ [] = ap (map kept_gate) c.in_ok-made.ensures.items in
     subst (λ (done : List Gate). IsPart
-    (netlist_of c.args.circuit.now) c.args.cuts.now c.args.gates.now 0 c.add_wires.new.known.keys done) (sym none)
-    (part_none (netlist_of c.args.circuit.now) c.args.cuts.now c.args.gates.now c.add_wires.new.known.keys
+    (netlist_of c.args.circuit.now) c.args.cuts.now c.args.gates.now 0 c.add_wires.new.known done) (sym none)
+    (part_none (netlist_of c.args.circuit.now) c.args.cuts.now c.args.gates.now c.add_wires.new.known
     c.requires.lines (c.in_ok-add_wires.ensures ∙ ap (λ (l : List ℕ). l ++ c.args.cuts.now) c.requires.none))
 
 pub prove-unreachable-requires : goal.prove-unreachable-requires
 prove-unreachable-requires c =
     let n : Netlist = netlist_of c.args.circuit.now in
-    let known = next_known n c.args.cuts.now c.args.gates.now c.gates.used-index c.used-item.result c.gates.known.keys _
+    let known = next_known n c.args.cuts.now c.args.gates.now c.gates.used-index c.used-item.result c.gates.known _
     c.requires.lines c.gates.invariant c.gates-test.true c.used-item.is in
     let below = slice_get_within n.gates c.used-item.result known.gate known.numbered in
     omega (arith, below)
@@ -37,22 +37,22 @@ prove-unreachable-requires c =
 pub local_gate-local-requires-clause-known : goal.local_gate-local-requires-clause-known
 local_gate-local-requires-clause-known c =
     let n : Netlist = netlist_of c.args.circuit.now in
-    let known = next_known n c.args.cuts.now c.args.gates.now c.gates.used-index c.used-item.result c.gates.known.keys _
+    let known = next_known n c.args.cuts.now c.args.gates.now c.gates.used-index c.used-item.result c.gates.known _
     c.requires.lines c.gates.invariant c.gates-test.true c.used-item.is in
-    known_ins n c.gates.known.keys c.used-item.result (gate_of c.gate-gate.result) known c.gate-gate.ensures
+    known_ins n c.gates.known c.used-item.result (gate_of c.gate-gate.result) known c.gate-gate.ensures
 
-pub add_wires-requires-in-gates : goal.add_wires-requires-in-gates
-add_wires-requires-in-gates c =
-    subst (λ (l : List ℕ). AreDifferent (c.gates.known.keys ++ l)) (sym c.outs.ensures)
+pub add_wires-requires-in-gates-clause-different : goal.add_wires-requires-in-gates-clause-different
+add_wires-requires-in-gates-clause-different c =
+    subst (λ (l : List ℕ). AreDifferent (c.gates.known ++ l)) (sym c.outs.ensures)
     (next_new (netlist_of c.args.circuit.now) c.args.cuts.now c.args.gates.now c.gates.used-index c.used-item.result
-    c.gates.known.keys _ (gate_of c.gate-gate.result) c.requires.lines c.gates.invariant c.gates-test.true
+    c.gates.known _ (gate_of c.gate-gate.result) c.requires.lines c.gates.invariant c.gates-test.true
     c.used-item.is c.gate-gate.ensures)
 
 pub gates-preserved : goal.gates-preserved
 gates-preserved c =
     let n : Netlist = netlist_of c.args.circuit.now in
     let local : LocalGate = c.local_gate-local.result in
-    let over : IsOver c.gates.known.keys (gate_of c.gate-gate.result) (kept_gate local) = record {
+    let over : IsOver c.gates.known (gate_of c.gate-gate.result) (kept_gate local) = record {
       kind = c.local_gate-local.ensures.kind;
       within = c.local_gate-local.ensures.within;
       ins = c.local_gate-local.ensures.ins;
@@ -61,14 +61,14 @@ gates-preserved c =
     let done : map kept_gate c.push.new.self.items ≡ map kept_gate c.gates.made.items ++ kept_gate local ∷ [] =
     ap (map kept_gate) c.in_ok-push.ensures.items ∙ map_push kept_gate c.gates.made.items local in
     subst (λ (done : List Gate). IsPart n c.args.cuts.now c.args.gates.now
-    (c.gates.used-index + 1) c.add_wires-in-gates.new.known.keys done) (sym done)
-    (part_more n c.args.cuts.now c.args.gates.now c.gates.used-index c.used-item.result c.gates.known.keys
-    c.add_wires-in-gates.new.known.keys _ (gate_of c.gate-gate.result) (kept_gate local)
+    (c.gates.used-index + 1) c.add_wires-in-gates.new.known done) (sym done)
+    (part_more n c.args.cuts.now c.args.gates.now c.gates.used-index c.used-item.result c.gates.known
+    c.add_wires-in-gates.new.known _ (gate_of c.gate-gate.result) (kept_gate local)
     c.gates-gate_count.ensures.ordered c.gates.invariant c.gates-test.true c.used-item.is c.gate-gate.ensures over
-    (c.in_ok-add_wires-2.ensures ∙ ap (λ (l : List ℕ). c.gates.known.keys ++ l) c.outs.ensures))
+    (c.in_ok-add_wires-2.ensures ∙ ap (λ (l : List ℕ). c.gates.known ++ l) c.outs.ensures))
 
 pub returns-clause-locals : goal.returns-clause-locals
 returns-clause-locals c =
-    part_all (netlist_of c.args.circuit.now) c.args.cuts.now c.args.gates.now c.gates.known.keys _ _ c.gates.used-index
+    part_all (netlist_of c.args.circuit.now) c.args.cuts.now c.args.gates.now c.gates.known _ _ c.gates.used-index
     _ c.requires.lines c.gates.invariant (omega (arith, c.gates.auto.used-index-end))
     refl refl

@@ -5,5 +5,5 @@ use Rattle.module_box.proofs.LocalNets.{IsPart}
 use Rattle.module_box.proofs.locals.add_lines.Given as goal
 
 abbrev pub invariant-gates : goal.invariant-gates
-invariant-gates l = IsPart (netlist_of l.circuit) l.cuts l.fn.gates l.used-index l.known.keys
+invariant-gates l = IsPart (netlist_of l.circuit) l.cuts l.fn.gates l.used-index l.known
     (map kept_gate l.made.items)

@@ -1,5 +1,8 @@
-use Rattle.std.proofs.Common.{◌≡◌, ◌++◌, take}
+use Rattle.std.proofs.Common.{◌≡◌, ◌+◌, ◌++◌, length, take}
 use Rattle.module_box.proofs.locals.add_wires.Given as goal
 
 abbrev pub invariant-loop-wire : goal.invariant-loop-wire
-invariant-loop-wire l = l.known.keys ≡ l.fn.known.keys ++ take l.wire-index l.wires
+invariant-loop-wire l = record {
+  known : l.known ≡ l.fn.known ++ take l.wire-index l.wires;
+  count : length l.known ≡ length l.fn.known + l.wire-index;
+}

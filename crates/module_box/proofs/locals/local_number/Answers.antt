@@ -1,7 +1,16 @@
-use Rattle.std.proofs.Common.{sym, ◌∙◌}
-use Rattle.module_box.proofs.WireLists.{place_same}
+use Rattle.std.proofs.Common.{ap, sym, ◌∙◌}
+use Rattle.std.specs.Prelude.{is_some}
+use Rattle.std.proofs.lemmas.Bool.{false≢true}
+use Rattle.module_box.specs.Locals.{is_among}
+use Rattle.module_box.proofs.WireLists.{place_among, place_same}
 use Rattle.module_box.proofs.locals.local_number.Goals as goal
 
+pub unreachable-requires : goal.unreachable-requires
+unreachable-requires c = false≢true
+    (sym (ap is_some c.in-None.is) ∙ ap is_some c.number-2.ensures ∙ place_among c.args.known.now c.number.result
+    ∙ ap (is_among c.args.known.now) c.number.ensures ∙ c.requires.known)
+
 pub returns-clause-wire : goal.returns-clause-wire
-returns-clause-wire c = place_same c.args.known.now.keys c.number.result c.in-Some.index
-    (sym c.in-Some.is ∙ c.get_index_of.ensures.index) ∙ c.number.ensures
+returns-clause-wire c =
+    place_same c.args.known.now c.number.result c.in-Some.number (sym c.in-Some.is ∙ c.number-2.ensures)
+    ∙ c.number.ensures

@@ -11,7 +11,7 @@ returns c =
     ≡ pointwise same_gate (map kept_gate c.self.inside.gates.items) (map kept_gate c.other.inside.gates.items) =
     c.eq-gates.ensures ∙ same_gates c.self.inside.gates.items c.other.inside.gates.items in
     let wires : c.eq-wires.result
-    ≡ pointwise nat_eq c.self.inside.circuit_wires.keys c.other.inside.circuit_wires.keys = search rules in
+    ≡ pointwise nat_eq c.self.inside.circuit_wires c.other.inside.circuit_wires = search rules in
     let numbers : c.eq-numbers.result
     ≡ pointwise nat_eq c.self.inside.circuit_gates.items c.other.inside.circuit_gates.items = search rules in
     (λ i. ((nat_eq c.self.inside.given c.other.inside.given && gates i) && wires i) && numbers i)

@@ -1,10 +1,17 @@
-use Rattle.std.proofs.Common.{sym, ap, ◌∙◌}
-use Rattle.module_box.specs.Locals.{LocalNet, circuit_wire}
-use Rattle.module_box.proofs.WireLists.{place_same}
+use Rattle.std.proofs.Common.{◌≡◌, ℕ, get_or, ap, subst, ◌∙◌}
+use Rattle.std.specs.Prelude.{is_some, IfSome}
+use Rattle.module_box.specs.Locals.{LocalNet, circuit_wire, is_among}
+use Rattle.module_box.proofs.WireLists.{place_among, place_holds}
 use Rattle.module_box.proofs.locals.Locals.local.Goals as goal
+
+pub returns-clause-found : goal.returns-clause-found
+returns-clause-found c =
+    ap is_some c.number-2.ensures ∙ place_among c.self.inside.circuit_wires c.number.result
+    ∙ ap (is_among c.self.inside.circuit_wires) c.number.ensures
+    ∙ ap (λ (l : LocalNet). is_among l.circuit_wires c.args.wire) c.self.view_is
 
 pub returns-clause-same_wire : goal.returns-clause-same_wire
 returns-clause-same_wire c =
-    ap (λ (l : LocalNet). circuit_wire l c.in_ok-index.index) (sym c.self.view_is)
-    ∙ place_same c.self.inside.circuit_wires.keys c.number.result c.in_ok-index.index
-    (sym c.in_ok-index.was ∙ c.get_index_of.ensures.index) ∙ c.number.ensures
+    subst (λ (l : LocalNet). IfSome c.number-2.result (λ i. circuit_wire l i ≡ c.args.wire)) c.self.view_is
+    (subst (λ (w : ℕ). IfSome c.number-2.result (λ i. get_or c.self.inside.circuit_wires i 0 ≡ w)) c.number.ensures
+    (place_holds c.self.inside.circuit_wires c.number.result c.number-2.result c.number-2.ensures))

@@ -7,4 +7,4 @@ use Rattle.module_job.proofs.job.Job.shape.Goals as goal
 pub returns : goal.returns
 returns c =
     let a = c.self.inside in
-    sym (shape_placed a.x a.y a.wires.keys a.gates.items (arc_value a.shape)) ∙ ap shape_of c.self.view_is
+    sym (shape_placed a.x a.y a.wires.items a.gates.items (arc_value a.shape)) ∙ ap shape_of c.self.view_is
