@@ -2,7 +2,7 @@
 #
 #   make              prints the path of the program that would run
 #   make help         prints these lines
-#   make install [PREFIX=/usr/local] [DESTDIR=..]    the program and the lab, man pages, completions and pages
+#   make install [PREFIX=/usr/local] [DESTDIR=..] [PROGRAM=..]    the program and the lab, man pages, completions and pages
 #   make uninstall [PREFIX=..] [DESTDIR=..]          removes them
 #   make check        the worked cases and the commands that the pages show (needs Python 3.11 or later)
 #   make dist         dist/bbmcheck-VERSION-x86_64-linux-gnu.tar.gz, and one for x86_64-v3, the same bytes each time
@@ -13,6 +13,8 @@
 #   make clean        removes that, and all proofs and programs that were made here
 PREFIX ?= /usr/local
 DESTDIR ?=
+# Another program than the one that ./bbmcheck runs.
+PROGRAM ?=
 
 # The folder of this file, also with `make -f`.
 top := $(shell dirname -- '$(strip $(MAKEFILE_LIST))')
@@ -27,7 +29,7 @@ help:
 	@sed -n 's/^#   //p' '$(top)/Makefile'
 
 install:
-	'$(top)/tools/package/install_files' install '$(room)'
+	'$(top)/tools/package/install_files' install '$(room)' $(PROGRAM)
 	'$(top)/tools/package/install_files' install_lab '$(room)'
 
 uninstall:
