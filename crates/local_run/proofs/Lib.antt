@@ -6,6 +6,7 @@ pub mod LocalRuns
 pub mod Decided
 pub mod Least
 pub mod LaneLemmas
+pub mod HeldLemmas
 pub mod MarkFlips
 pub mod MarkSearch
 pub mod Scans
@@ -14,6 +15,8 @@ pub mod CalmLemmas
 pub mod LiveLemmas
 pub mod InsideLemmas
 pub mod FieldLemmas
+pub mod RunLemmas
+pub mod FrozenLemmas
 pub mod QuietLemmas
 pub mod Firsts
 pub mod Stepping

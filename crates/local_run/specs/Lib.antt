@@ -10,6 +10,8 @@ pub mod Borders
 pub mod Calm
 pub mod Live
 pub mod Lanes
+pub mod Held
+pub mod Frozen
 pub mod Places
 pub mod Scans
 pub mod Moves

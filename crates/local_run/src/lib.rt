@@ -24,6 +24,7 @@
 mod border;
 mod fault;
 mod finding;
+mod frozen;
 mod keep;
 pub mod laws;
 mod leaps;

@@ -9,10 +9,12 @@ ghost use Rattle.bbm_rule.specs.Plane.{turned};
 ghost use Rattle.bbm_rule.specs.Rows.{mate};
 ghost use Rattle.local_run.specs.Borders.{AllInner, AllInner-prop, ArePassed};
 ghost use Rattle.local_run.specs.Calm.{OddCalm, OddCalm-prop, EvenCalm, EvenCalm-prop};
+ghost use Rattle.local_run.specs.Frozen.{Freezes};
 ghost use Rattle.local_run.specs.Live.{AllDead, AllDead-prop, HasMarks};
 ghost use Rattle.std.specs.Int.{div_ceil};
 ghost use Rattle.std.specs.Prelude.{ℕ, ◌≡◌, ◌≢◌, ◌+◌, ◌*◌, ◌/◌, ◌%◌, ◌<◌, ◌≤◌, ◌⊎◌, vec_len, IfOk, true, false};
 
+use crate::frozen::FrozenBlocks;
 use crate::lines::{CELL_WORDS, LinePlaces, line_number, mark_lines};
 use crate::live::LiveMarks;
 use crate::marks::{
@@ -47,7 +49,13 @@ pub struct MarkedPlanes {
     line_marks: Vec<u64>,
     // where the search for the next time's lines begins
     line_places: LinePlaces,
+    // how many of the next steps turn whole planes, but for the blocks that no step changes
     whole_plane_steps: WholePlaneSteps,
+    frozen: FrozenBlocks,
+    // how many steps are left in which many blocks change, until those that no step changes are looked for, and how
+    // often they may be looked for
+    until_search: u32,
+    searches: u32,
     ghost odd_room: { planes.stride * planes.rows ≤ 64 * vec_len odd_marks },
     ghost even_room: { planes.stride * planes.rows ≤ 64 * vec_len even_marks },
     ghost live_room: { HasMarks (planes.stride * planes.rows) live_marks },
@@ -56,6 +64,7 @@ pub struct MarkedPlanes {
     ghost odd_calm: { OddCalm odd_marks.items planes } by { OddCalm-prop odd_marks.items planes },
     ghost even_calm: { EvenCalm even_marks.items planes } by { EvenCalm-prop even_marks.items planes },
     ghost all_dead: { AllDead live_marks planes } by { AllDead-prop live_marks planes },
+    ghost freezes: { Freezes frozen planes },
     ghost all_inner: { AllInner planes.stride planes.rows border_marks.items } by { AllInner-prop planes.stride planes.rows border_marks.items },
 }
 
@@ -89,6 +98,12 @@ impl WholePlaneSteps {
         }
     }
 }
+
+// In how many steps many blocks must change before those that no step changes are looked for: a search costs as much as
+// some of these steps. And how often they are looked for again after they were given up.
+const STEPS_TO_SEARCH: u32 = 128;
+
+const SEARCHES: u32 = 4;
 
 // What a block that changes costs in a step by marks, in turns of a word, and what it costs more for each word of a
 // cell.
@@ -151,6 +166,9 @@ impl MarkedPlanes {
             line_marks,
             line_places: LinePlaces::first(),
             whole_plane_steps: WholePlaneSteps::NONE,
+            frozen: FrozenBlocks::unknown(alloc),
+            until_search: STEPS_TO_SEARCH,
+            searches: SEARCHES,
         })
     }
 
@@ -447,6 +465,7 @@ impl MarkedPlanes {
     fn move_even_main(&mut self, u: usize)
         requires place { u + self.old.planes.stride + 1 < self.old.planes.stride
             * self.old.planes.rows }
+        requires inside { (u + 1) % self.old.planes.stride ≢ 0 }
         requires lone { let s = self.old.planes.stride in IsLoneMain self.old.live_marks
             (u + s + 1) (u + s) (u + 1) u }
         ensures part { let w = self.old.planes.words in TurnsPart (w * u) (w * (u + 1))
@@ -468,6 +487,7 @@ impl MarkedPlanes {
     fn move_even_anti(&mut self, u: usize)
         requires place { u + self.old.planes.stride + 1 < self.old.planes.stride
             * self.old.planes.rows }
+        requires inside { (u + 1) % self.old.planes.stride ≢ 0 }
         requires lone { let s = self.old.planes.stride in IsLoneAnti self.old.live_marks
             (u + s + 1) (u + s) (u + 1) u }
         ensures part { let w = self.old.planes.words in TurnsPart (w * u) (w * (u + 1))
@@ -487,7 +507,9 @@ impl MarkedPlanes {
 
     // Turns block u of the even partition, unless it stays, and tells whether it turned it.
     fn turn_even_words(&mut self, u: usize) -> bool
-        requires { u + self.old.planes.stride + 1 < self.old.planes.stride * self.old.planes.rows }
+        requires place { u + self.old.planes.stride + 1 < self.old.planes.stride
+            * self.old.planes.rows }
+        requires inside { (u + 1) % self.old.planes.stride ≢ 0 }
         ensures part { let w = self.old.planes.words in TurnsPart (w * u) (w * (u + 1))
             (w * (u + self.old.planes.stride)) (w * (u + self.old.planes.stride + 1)) w
             self.old.planes.even.items self.old.planes.down.items self.old.planes.right.items
@@ -514,7 +536,9 @@ impl MarkedPlanes {
     // Turns block u of the even partition, unless it stays, and tells whether it turned it. Its words are read only if
     // two of its cells may be live.
     fn turn_even_by_marks(&mut self, u: usize) -> bool
-        requires { u + self.old.planes.stride + 1 < self.old.planes.stride * self.old.planes.rows }
+        requires place { u + self.old.planes.stride + 1 < self.old.planes.stride
+            * self.old.planes.rows }
+        requires inside { (u + 1) % self.old.planes.stride ≢ 0 }
         ensures part { let w = self.old.planes.words in TurnsPart (w * u) (w * (u + 1))
             (w * (u + self.old.planes.stride)) (w * (u + self.old.planes.stride + 1)) w
             self.old.planes.even.items self.old.planes.down.items self.old.planes.right.items
@@ -596,6 +620,61 @@ impl MarkedPlanes {
             return self.turn_even_words(u);
         }
         self.turn_even_by_marks(u)
+    }
+
+    // Looks whether the next steps are to turn whole planes, after a step by marks in which so many blocks changed. Where
+    // few did, they are not, whichever blocks are frozen.
+    #[inline(always)]
+    fn finish_step(&mut self, changed: usize)
+        requires { changed ≤ 4096 }
+        ensures { self.new.planes ≡ self.old.planes }
+    {
+        if are_many(
+            changed,
+            self.planes.cells() / 4,
+            self.planes.words(),
+            self.planes.columns_and_rows(),
+        ) {
+            self.begin_phase(changed);
+        } else {
+            self.whole_plane_steps = WholePlaneSteps::NONE;
+        }
+    }
+
+    // Begins a phase of steps that turn whole planes, if it costs less than to go by marks.
+    fn begin_phase(&mut self, changed: usize)
+        requires { changed ≤ 4096 }
+        ensures { self.new.planes ≡ self.old.planes }
+    {
+        self.count_dense(1);
+        let cells = self.planes.cells();
+        if are_many(
+            changed,
+            self.frozen.active(cells),
+            self.planes.words(),
+            self.planes.columns_and_rows(),
+        ) {
+            self.whole_plane_steps = self.whole_plane_steps.next_phase();
+            self.count_dense(self.whole_plane_steps.left);
+        } else {
+            self.whole_plane_steps = WholePlaneSteps::NONE;
+        }
+    }
+
+    // Counts steps in which many blocks change, and looks for the blocks that no step changes after enough of them.
+    fn count_dense(&mut self, steps: u32)
+        ensures { self.new.planes ≡ self.old.planes }
+    {
+        if self.frozen.is_found() || self.searches == 0 {
+            return;
+        }
+        if self.until_search > steps {
+            self.until_search -= steps;
+            return;
+        }
+        self.until_search = STEPS_TO_SEARCH;
+        self.searches -= 1;
+        self.frozen.find(&self.planes);
     }
 
     // Turns the blocks of the odd partition from `first` on to below `end`, whose marks are in one word, and returns
@@ -700,7 +779,7 @@ impl MarkedPlanes {
             mark_all(&mut self.even_marks);
             self.live_marks.mark_all();
             self.is_exact = false;
-            self.planes.odd_step();
+            self.frozen.odd_step(&mut self.planes);
             return true;
         }
         let cells = self.planes.cells();
@@ -713,16 +792,7 @@ impl MarkedPlanes {
         }
         // Where nothing was known all blocks had marks, and these fill box and halo.
         self.is_exact = true;
-        if are_many(
-            changed,
-            cells,
-            self.planes.words(),
-            self.planes.columns_and_rows(),
-        ) {
-            self.whole_plane_steps = self.whole_plane_steps.next_phase();
-            return true;
-        }
-        self.whole_plane_steps = WholePlaneSteps::NONE;
+        self.finish_step(changed);
         changed > 0
     }
 
@@ -747,7 +817,7 @@ impl MarkedPlanes {
             mark_all(&mut self.even_marks);
             self.live_marks.mark_all();
             self.is_exact = false;
-            self.planes.even_step();
+            self.frozen.even_step(&mut self.planes);
             return true;
         }
         let cells = self.planes.cells() - self.planes.stride() - 1;
@@ -758,16 +828,7 @@ impl MarkedPlanes {
             changed += self.turn_even_word(at, end);
             at = self.next_even_word(end, cells);
         }
-        if are_many(
-            changed,
-            cells,
-            self.planes.words(),
-            self.planes.columns_and_rows(),
-        ) {
-            self.whole_plane_steps = self.whole_plane_steps.next_phase();
-            return true;
-        }
-        self.whole_plane_steps = WholePlaneSteps::NONE;
+        self.finish_step(changed);
         changed > 0
     }
 }
@@ -789,6 +850,7 @@ impl MarkedPlanes {
         let changes = Changes::of_cell(x, y);
         self.live_marks.mark_cells(u, u, u, u, changes);
         mark_around(&mut self.even_marks, u, stride, changes);
+        self.frozen.give_up_at(u);
         values.put(&mut self.planes, x, y, signal);
         self.drop_dead(u, u, u, u);
     }

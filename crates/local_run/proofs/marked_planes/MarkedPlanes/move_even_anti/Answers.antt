@@ -3,6 +3,7 @@ use Rattle.std.proofs.lemmas.List.{with_items_is}
 use Rattle.local_run.specs.Calm.{OddCalm, EvenCalm}
 use Rattle.local_run.proofs.CalmLemmas.{odd_kept_by_even, even_kept_by_even}
 use Rattle.local_run.proofs.LiveLemmas.{lone_anti, anti_cells, anti_dead, swap_back}
+use Rattle.local_run.proofs.FrozenLemmas.{even_part_may, freezes_even}
 use Rattle.local_run.proofs.marked_planes.MarkedPlanes.move_even_anti.Goals as goal
 
 pub returns-clause-part : goal.returns-clause-part
@@ -65,3 +66,23 @@ invariant_of-self-clause-all_dead c =
     let u = c.args.u in
     anti_dead (u + p.stride) (u + 1) f.live_marks c.swap_anti.new.self p q s.size (omega arith)
     (omega arith) s.swap s.odd s.even l.right l.down l.odd l.even f.all_dead
+
+pub invariant_of-self-clause-freezes : goal.invariant_of-self-clause-freezes
+invariant_of-self-clause-freezes c =
+    let f = c.args.self.now in
+    let p = f.planes in
+    let q = c.swap_anti-2.new.self in
+    let s = c.swap_anti-2.ensures in
+    let s = rw c.stride-stride.ensures.stride_is_exact at s in
+    let u = c.args.u in
+    let dead = f.all_dead in
+    let lone = c.requires.lone in
+    let part =
+    lone_anti p.words u (u + 1) (u + p.stride)
+    (u + p.stride + 1) p.even.items p.down.items p.right.items p.odd.items q.even.items q.down.items q.right.items
+    q.odd.items (swap_back _ _ _ _ _ _ _ s.swap) (ap (λ v. v.items) s.even) (ap (λ v. v.items) s.odd)
+    (dead.3 u (omega arith) lone.1) (dead.0 (u + p.stride + 1) (omega arith) lone.0) (elim lone.2 [
+      | inl free ↦ inr (dead.1 (u + p.stride) (omega arith) free)
+      | inr free ↦ inl (dead.2 (u + 1) (omega arith) free)
+    ]) in
+    freezes_even f.frozen f.planes q c.swap_anti-2.ensures.size (even_part_may f.planes q c.args.u c.requires.place c.requires.inside part) f.freezes

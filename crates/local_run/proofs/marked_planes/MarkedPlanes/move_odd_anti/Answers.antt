@@ -3,6 +3,7 @@ use Rattle.std.proofs.lemmas.List.{with_items_is}
 use Rattle.local_run.specs.Calm.{OddCalm, EvenCalm}
 use Rattle.local_run.proofs.CalmLemmas.{odd_kept_by_odd, even_kept_by_odd}
 use Rattle.local_run.proofs.LiveLemmas.{lone_anti, anti_cells, anti_dead}
+use Rattle.local_run.proofs.FrozenLemmas.{freezes_odd, odd_part_may}
 use Rattle.local_run.proofs.marked_planes.MarkedPlanes.move_odd_anti.Goals as goal
 
 pub returns-clause-part : goal.returns-clause-part
@@ -56,3 +57,21 @@ invariant_of-self-clause-all_dead c =
     let u = c.args.u in
     anti_dead u u f.live_marks c.swap_anti.new.self f.planes q s.size c.requires.place c.requires.place s.swap s.odd
     s.even l.right l.down l.odd l.even f.all_dead
+
+pub invariant_of-self-clause-freezes : goal.invariant_of-self-clause-freezes
+invariant_of-self-clause-freezes c =
+    let f = c.args.self.now in
+    let p = f.planes in
+    let q = c.swap_anti-2.new.self in
+    let s = c.swap_anti-2.ensures in
+    let u = c.args.u in
+    let dead = f.all_dead in
+    let lone = c.requires.lone in
+    let part =
+    lone_anti p.words u u u u p.odd.items p.right.items p.down.items p.even.items q.odd.items q.right.items q.down.items
+    q.even.items s.swap (ap (λ v. v.items) s.odd) (ap (λ v. v.items) s.even) (dead.0 u c.requires.place lone.0)
+    (dead.3 u c.requires.place lone.1) (elim lone.2 [
+      | inl free ↦ inl (dead.1 u c.requires.place free)
+      | inr free ↦ inr (dead.2 u c.requires.place free)
+    ]) in
+    freezes_odd f.frozen f.planes q c.swap_anti-2.ensures.size (odd_part_may f.planes q c.args.u part) f.freezes

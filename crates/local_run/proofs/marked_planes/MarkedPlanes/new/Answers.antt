@@ -1,4 +1,5 @@
-use Rattle.std.proofs.Common.{List, ℕ, length, ap, arith, sym, subst}
+use Rattle.std.proofs.Common.{List, ℕ, length, ap, arith, sym, subst, ◌∙◌}
+use Rattle.std.proofs.lemmas.Bool.{false≢true}
 use Rattle.std.proofs.lemmas.List.{with_items_is}
 use Rattle.local_run.specs.Borders.{AllInner}
 use Rattle.local_run.proofs.LiveLemmas.{dead_all, dead_even, dead_odd}
@@ -22,3 +23,6 @@ invariant_of-result-clause-all_inner c =
     let inner = c.mark_border.ensures in
     let inner = rw (c.stride.ensures.stride_is_exact, c.rows.ensures.count_is_exact) at inner in
     subst (λ (m : List ℕ). AllInner p.stride p.rows m) (sym items) inner
+
+pub invariant_of-result-clause-freezes : goal.invariant_of-result-clause-freezes
+invariant_of-result-clause-freezes c = ∣ (λ e. absurd (false≢true (sym c.unknown.ensures ∙ e))) ∣₁

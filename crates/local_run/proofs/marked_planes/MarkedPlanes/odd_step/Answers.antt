@@ -38,18 +38,15 @@ words-preserved c =
           c.min-end.result m.size (omega arith) m.turned t.turned) next.calm;
     }
 
-pub returns-then-are_many-clause-turned : goal.returns-then-are_many-clause-turned
-returns-then-are_many-clause-turned c =
-    let m = c.words.invariant in
-    odd_all c.args.self.now.planes c.words.self.planes c.words.at m.size (omega arith) m.turned
-
 pub returns-clause-turned : goal.returns-clause-turned
 returns-clause-turned c =
     let m = c.words.invariant in
-    odd_all c.args.self.now.planes c.words.self.planes c.words.at m.size (omega arith) m.turned
+    let same : c.finish_step.new.self.planes ≡ c.words.self.planes = c.finish_step.ensures in
+    odd_all c.args.self.now.planes c.finish_step.new.self.planes c.words.at (rw same m.size) (omega arith)
+    (rw same m.turned)
 
 pub returns-clause-stays : goal.returns-clause-stays
-returns-clause-stays c e = c.words.invariant.stays (none_more c.words.changed e)
+returns-clause-stays c e = c.finish_step.ensures ∙ c.words.invariant.stays (none_more c.words.changed e)
   where
     none_more : (n : ℕ) → ltb 0 n ≡ false → n ≡ 0
     none_more n e = grind arith
@@ -57,14 +54,14 @@ returns-clause-stays c e = c.words.invariant.stays (none_more c.words.changed e)
 pub invariant_of-self-clause-all_dead : goal.invariant_of-self-clause-all_dead
 invariant_of-self-clause-all_dead c =
     let f = c.args.self.now in
-    marked_dead (f.planes.stride * f.planes.rows) c.mark_all-then-self-gt0-2.new.self c.odd_step.new.self
+    marked_dead (f.planes.stride * f.planes.rows) c.mark_all-then-self-gt0-2.new.self c.odd_step.new.planes
     (rw (c.odd_step.ensures.size.1, c.odd_step.ensures.size.2) (omega arith))
     (c.mark_all-then-self-gt0-2.ensures.all _ f.live_room)
 
 pub invariant_of-self-clause-odd_calm : goal.invariant_of-self-clause-odd_calm
 invariant_of-self-clause-odd_calm c =
     let f = c.args.self.now in
-    let q = c.odd_step.new.self in
+    let q = c.odd_step.new.planes in
     let v = c.deref_mut.ensures.value in
     let items = with_items_is f.odd_marks c.mark_all.new.marks (omega (arith, ap length v, f.odd_marks.ok.0)) in
     subst (λ (m : List ℕ). OddCalm m q) (sym items)
@@ -75,7 +72,7 @@ invariant_of-self-clause-odd_calm c =
 pub invariant_of-self-clause-even_calm : goal.invariant_of-self-clause-even_calm
 invariant_of-self-clause-even_calm c =
     let f = c.args.self.now in
-    let q = c.odd_step.new.self in
+    let q = c.odd_step.new.planes in
     let v = c.deref_mut-then-self-gt0.ensures.value in
     let items = with_items_is f.even_marks c.mark_all-then-self-gt0.new.marks
     (omega (arith, ap length v, f.even_marks.ok.0)) in

@@ -1,8 +1,12 @@
-use Rattle.std.proofs.Common.{List, ℕ, length, ap, arith, sym, subst}
+use Rattle.std.proofs.Common.{◌≡◌, ◌≤◌, ◌+◌, ◌*◌, ◌/◌, List, ℕ, length, ap, arith, sym, subst}
 use Rattle.std.proofs.lemmas.List.{with_items_is}
+use Rattle.std.proofs.Math.Nat.{mul-le-mul_left}
+use Rattle.bbm_rule.specs.Marks.{IsUnmarked}
 use Rattle.local_run.specs.Calm.{OddCalm, EvenCalm}
+use Rattle.local_run.specs.declared.frozen.FrozenBlocks.{FrozenBlocks}
 use Rattle.local_run.proofs.CalmLemmas.{odd_kept_by_odd, even_kept_by_odd}
 use Rattle.local_run.proofs.LiveLemmas.{cells_dead}
+use Rattle.local_run.proofs.FrozenLemmas.{freezes_put, given_up, room_found}
 use Rattle.local_run.proofs.marked_planes.MarkedPlanes.put.Goals as goal
 
 pub invariant_of-self-clause-odd_calm : goal.invariant_of-self-clause-odd_calm
@@ -44,3 +48,25 @@ invariant_of-self-clause-all_dead c =
     ) at l in
     cells_dead _ _ _ _ _ _ f.live_marks c.mark_cells.new.self f.planes c.put.new.planes e.put.size e.cells l.odd
     l.right l.down l.even f.all_dead
+
+pub invariant_of-self-clause-freezes : goal.invariant_of-self-clause-freezes
+invariant_of-self-clause-freezes c =
+    let f = c.args.self.now in
+    let e = c.put.ensures in
+    let kept = c.give_up_at.ensures in
+    freezes_put _ _ _ c.give_up_at.new.self f.planes c.put.new.planes e.put.size e.cells
+    (λ found. let k = kept found in subst (λ (b : FrozenBlocks). IsUnmarked b.odd.items
+    (f.planes.stride * (c.args.y / 2) + c.args.x / 2)) (sym k.0) (rw c.stride-stride.ensures.stride_is_exact at k.1))
+    (given_up f.frozen c.give_up_at.new.self _ f.planes kept f.freezes)
+
+pub give_up_at-requires : goal.give_up_at-requires
+give_up_at-requires c = record {
+  room = λ found.
+      let f = c.args.self.now in
+      let room = room_found f.frozen f.planes f.freezes found in
+      let p = f.planes in
+      let row : p.stride * (c.args.y / 2 + 1) ≤ p.stride * p.rows = mul-le-mul_left p.stride (omega arith) in
+      let at : c.stride-stride.result * (c.args.y / 2) ≡ p.stride * (c.args.y / 2) =
+      ap (λ (s : ℕ). s * (c.args.y / 2)) c.stride-stride.ensures.stride_is_exact in
+      omega (arith, room.odd, row, at);
+}

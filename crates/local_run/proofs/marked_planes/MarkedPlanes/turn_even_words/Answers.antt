@@ -4,6 +4,7 @@ use Rattle.local_run.specs.Calm.{OddCalm, EvenCalm}
 use Rattle.local_run.proofs.TurnLemmas.{calm_block}
 use Rattle.local_run.proofs.CalmLemmas.{even_cells, even_unmarked, odd_kept_by_even, even_kept_by_even}
 use Rattle.local_run.proofs.LiveLemmas.{cells_dead}
+use Rattle.local_run.proofs.FrozenLemmas.{even_part_may, freezes_even}
 use Rattle.local_run.proofs.marked_planes.MarkedPlanes.turn_even_words.Goals as goal
 
 pub invariant_of-self-clause-even_calm : goal.invariant_of-self-clause-even_calm
@@ -69,3 +70,10 @@ invariant_of-self-2-clause-all_dead c =
     (u + 1) u f.live_marks c.mark_cells.new.self p c.turn_even.new.self e.size
     (even_cells main anti u p c.turn_even.new.self c.even_changes-changes.ensures.main
     c.even_changes-changes.ensures.anti e.part) l.odd l.right l.down l.even f.all_dead
+
+pub invariant_of-self-2-clause-freezes : goal.invariant_of-self-2-clause-freezes
+invariant_of-self-2-clause-freezes c =
+    let f = c.args.self.now in
+    let e = c.turn_even.ensures in
+    freezes_even f.frozen f.planes c.turn_even.new.self e.size
+    (even_part_may f.planes c.turn_even.new.self c.args.u c.requires.place c.requires.inside e.part) f.freezes

@@ -4,6 +4,7 @@ use Rattle.local_run.specs.Calm.{OddCalm, EvenCalm}
 use Rattle.local_run.proofs.TurnLemmas.{calm_block}
 use Rattle.local_run.proofs.CalmLemmas.{odd_cells, odd_kept_by_odd, even_kept_by_odd, odd_unmarked}
 use Rattle.local_run.proofs.LiveLemmas.{cells_dead}
+use Rattle.local_run.proofs.FrozenLemmas.{freezes_odd, odd_part_may}
 use Rattle.local_run.proofs.marked_planes.MarkedPlanes.turn_odd_words.Goals as goal
 
 pub invariant_of-self-clause-odd_calm : goal.invariant_of-self-clause-odd_calm
@@ -65,3 +66,10 @@ invariant_of-self-2-clause-all_dead c =
     cells_dead main anti u u u u f.live_marks c.mark_cells.new.self f.planes c.turn_odd.new.self e.size
     (odd_cells main anti u f.planes c.turn_odd.new.self c.odd_changes-changes.ensures.main
     c.odd_changes-changes.ensures.anti e.part) l.odd l.right l.down l.even f.all_dead
+
+pub invariant_of-self-2-clause-freezes : goal.invariant_of-self-2-clause-freezes
+invariant_of-self-2-clause-freezes c =
+    let f = c.args.self.now in
+    let e = c.turn_odd.ensures in
+    freezes_odd f.frozen f.planes c.turn_odd.new.self e.size (odd_part_may f.planes c.turn_odd.new.self c.args.u e.part)
+    f.freezes

@@ -1,0 +1,199 @@
+-- Blocks that some of their cells hold
+use Rattle.std.proofs.Common.{◌≡◌, ℕ, Bool, true, false, ◌<◌, ◌≤◌, ◌+◌, ◌-◌, ◌*◌, ◌^◌, ◌⊎◌, inl, inr, refl, arith, ◌∙◌, ap}
+use Rattle.std.proofs.Common.{List, get_or, ◌||◌}
+use Rattle.std.proofs.lemmas.Bool.{false≢true}
+use Rattle.std.proofs.Math.Nat.{mul-le-mul_left}
+use Rattle.bbm_rule.specs.Bits.{bit}
+use Rattle.bbm_rule.specs.Plane.{turned}
+use Rattle.bbm_rule.proofs.BitLemmas.{bit_above, bit-zero, by_lt_or_le}
+use Rattle.bbm_rule.proofs.MarkLemmas.{bit_ones}
+use Rattle.local_run.specs.Turns.{IsCalmBlock}
+use Rattle.local_run.specs.Held.{AreAll, HasLiveDiagonals, IsEmptyBlock, IsHeld, bits_of}
+
+-- ---- cells whose words are the same
+pub room_of : (w u n long : ℕ) → u < n → long ≡ w * n → w * u + w ≤ long
+room_of w u n long l e = let m : w * (u + 1) ≤ w * n = mul-le-mul_left w (omega arith) in omega (arith, m, e)
+
+pub run_room : (w first end n long : ℕ) → first ≤ end → end ≤ n → long ≡ w * n → w * first + w * (end - first) ≤ long
+run_room w first end n long l h e =
+    let m : w * end ≤ w * n = mul-le-mul_left w h in
+    let s : first + (end - first) ≡ end = omega arith in
+    let t : w * (first + (end - first)) ≡ w * end = ap (λ (k : ℕ). w * k) s in
+    omega (arith, m, t, e)
+
+pub all_live : (w at : ℕ) (cells : List ℕ) →
+    ((k : ℕ) → k < w → get_or cells (w * at + k) 0 ≡ 18446744073709551615) → AreAll true w (bits_of w cells at)
+all_live w at cells same k j lk lj = ap (λ (n : ℕ). bit n j) (same k lk) ∙ bit_ones j lj
+
+pub all_dead : (w at : ℕ) (cells : List ℕ) → ((k : ℕ) → k < w → get_or cells (w * at + k) 0 ≡ 0) →
+    AreAll false w (bits_of w cells at)
+all_dead w at cells same k j lk lj = ap (λ (n : ℕ). bit n j) (same k lk) ∙ bit-zero j
+
+-- ---- the rule on blocks whose diagonals both have a live cell, or none
+both_live : (a d b c : Bool) → (a || d) ≡ true → (b || c) ≡ true → turned a d b c ≡ a
+unfolding turned
+both_live true true true true e f = refl
+both_live true true true false e f = refl
+both_live true true false true e f = refl
+both_live true true false false e f = absurd (false≢true f)
+both_live true false true true e f = refl
+both_live true false true false e f = refl
+both_live true false false true e f = refl
+both_live true false false false e f = absurd (false≢true f)
+both_live false true true true e f = refl
+both_live false true true false e f = refl
+both_live false true false true e f = refl
+both_live false true false false e f = absurd (false≢true f)
+both_live false false b c e f = absurd (false≢true e)
+
+none_live : turned false false false false ≡ false
+unfolding turned
+none_live = refl
+
+first_live : (a d : Bool) → a ≡ true → (a || d) ≡ true
+first_live true d e = refl
+first_live false d e = absurd (false≢true e)
+
+second_live : (a d : Bool) → d ≡ true → (a || d) ≡ true
+second_live true d e = refl
+second_live false d e = e
+
+swap_live : (a d : Bool) → (a || d) ≡ true → (d || a) ≡ true
+swap_live true d e = second_live d true refl
+swap_live false true e = refl
+swap_live false false e = e
+
+-- what a turn makes of four cells
+pub record TurnsBits (w : ℕ) (a b c d a' b' c' d' : ℕ → ℕ → Bool) : Type 0 where
+  pub upper_left : (k j : ℕ) → k < w → j < 64 → a' k j ≡ turned (a k j) (d k j) (b k j) (c k j)
+  pub upper_right : (k j : ℕ) → k < w → j < 64 → b' k j ≡ turned (b k j) (c k j) (a k j) (d k j)
+  pub lower_left : (k j : ℕ) → k < w → j < 64 → c' k j ≡ turned (c k j) (b k j) (d k j) (a k j)
+  pub lower_right : (k j : ℕ) → k < w → j < 64 → d' k j ≡ turned (d k j) (a k j) (c k j) (b k j)
+
+-- a cell stays
+abbrev pub StaysBits : ℕ → (ℕ → ℕ → Bool) → (ℕ → ℕ → Bool) → Type 0
+StaysBits w a a' = (k j : ℕ) → k < w → j < 64 → a' k j ≡ a k j
+
+-- a block stays
+pub record BlockStays (w : ℕ) (a b c d a' b' c' d' : ℕ → ℕ → Bool) : Type 0 where
+  pub upper_left : StaysBits w a a'
+  pub upper_right : StaysBits w b b'
+  pub lower_left : StaysBits w c c'
+  pub lower_right : StaysBits w d d'
+
+-- a block is turned or stays
+abbrev pub MayTurn : ℕ → (a b c d a' b' c' d' : ℕ → ℕ → Bool) → Type 0
+MayTurn w a b c d a' b' c' d' = TurnsBits w a b c d a' b' c' d' ⊎ BlockStays w a b c d a' b' c' d'
+
+-- at each place a turn leaves the four bits as they are
+record IsCalmAt (a b c d : Bool) : Type 0 where
+  upper_left : turned a d b c ≡ a
+  upper_right : turned b c a d ≡ b
+  lower_left : turned c b d a ≡ c
+  lower_right : turned d a c b ≡ d
+
+calm_live : (a b c d : Bool) → (a || d) ≡ true → (b || c) ≡ true → IsCalmAt a b c d
+calm_live a b c d main anti = record {
+  upper_left = both_live a d b c main anti;
+  upper_right = both_live b c a d anti main;
+  lower_left = both_live c b d a (swap_live b c anti) (swap_live a d main);
+  lower_right = both_live d a c b (swap_live a d main) (swap_live b c anti);
+}
+
+calm_dead : (a b c d : Bool) → a ≡ false → b ≡ false → c ≡ false → d ≡ false → IsCalmAt a b c d
+calm_dead a b c d ea eb ec ed = rw (ea, eb, ec, ed)
+    (record { upper_left = none_live; upper_right = none_live; lower_left = none_live; lower_right = none_live })
+
+one_live : (w : ℕ) (A D : Type 0) (a d : ℕ → ℕ → Bool) → (A × AreAll true w a) ⊎ (D × AreAll true w d) → (k j : ℕ) →
+    k < w → j < 64 → (a k j || d k j) ≡ true
+one_live w A D a d (inl h) k j lk lj = first_live (a k j) (d k j) (h.1 k j lk lj)
+one_live w A D a d (inr h) k j lk lj = second_live (a k j) (d k j) (h.1 k j lk lj)
+
+held_calm : (w : ℕ) (A B C D : Type 0) (a b c d : ℕ → ℕ → Bool) → IsHeld w A B C D a b c d → (k j : ℕ) → k < w →
+    j < 64 → IsCalmAt (a k j) (b k j) (c k j) (d k j)
+held_calm w A B C D a b c d (inl h) k j lk lj =
+    calm_live _ _ _ _ (one_live w A D a d h.main k j lk lj) (one_live w B C b c h.anti k j lk lj)
+held_calm w A B C D a b c d (inr h) k j lk lj =
+    calm_dead _ _ _ _ (h.upper_left k j lk lj) (h.upper_right k j lk lj) (h.lower_left k j lk lj)
+    (h.lower_right k j lk lj)
+
+-- a block of words that is held
+pub held_block : (w a b c d : ℕ) (ul ur ll lr : List ℕ) (A B C D : Type 0) →
+    IsHeld w A B C D (bits_of w ul a) (bits_of w ur b) (bits_of w ll c) (bits_of w lr d) →
+    ((k : ℕ) → get_or ul k 0 < 2 ^ 64) → ((k : ℕ) → get_or ur k 0 < 2 ^ 64) → ((k : ℕ) → get_or ll k 0 < 2 ^ 64) →
+    ((k : ℕ) → get_or lr k 0 < 2 ^ 64) → IsCalmBlock w a b c d ul ur ll lr
+held_block w a b c d ul ur ll lr A B C D held fa fb fc fd = (
+  λ k l j. ((calm k j l).upper_left, (calm k j l).lower_right),
+  λ k l j. ((calm k j l).upper_right, (calm k j l).lower_left),
+)
+  where
+    calm : (k j : ℕ) → k < w →
+        IsCalmAt (bit (get_or ul (w * a + k) 0) j) (bit (get_or ur (w * b + k) 0) j) (bit (get_or ll (w * c + k) 0) j)
+        (bit (get_or lr (w * d + k) 0) j)
+    calm k j l = by_lt_or_le j 64
+        (λ h. held_calm w A B C D (bits_of w ul a) (bits_of w ur b) (bits_of w ll c) (bits_of w lr d) held k j l h)
+        (λ g. calm_dead _ _ _ _ (bit_above _ 64 j (fa (w * a + k)) g) (bit_above _ 64 j (fb (w * b + k)) g)
+        (bit_above _ 64 j (fc (w * c + k)) g) (bit_above _ 64 j (fd (w * d + k)) g))
+
+-- a block that is held stays
+pub held_stays : (w : ℕ) (A B C D : Type 0) (a b c d a' b' c' d' : ℕ → ℕ → Bool) → IsHeld w A B C D a b c d →
+    MayTurn w a b c d a' b' c' d' → BlockStays w a b c d a' b' c' d'
+held_stays w A B C D a b c d a' b' c' d' h (inl t) = record {
+  upper_left = λ k j lk lj. t.upper_left k j lk lj ∙ (held_calm w A B C D a b c d h k j lk lj).upper_left;
+  upper_right = λ k j lk lj. t.upper_right k j lk lj ∙ (held_calm w A B C D a b c d h k j lk lj).upper_right;
+  lower_left = λ k j lk lj. t.lower_left k j lk lj ∙ (held_calm w A B C D a b c d h k j lk lj).lower_left;
+  lower_right = λ k j lk lj. t.lower_right k j lk lj ∙ (held_calm w A B C D a b c d h k j lk lj).lower_right;
+}
+held_stays w A B C D a b c d a' b' c' d' h (inr s) = s
+
+still_all : (w : ℕ) (value : Bool) (a a' : ℕ → ℕ → Bool) → StaysBits w a a' → AreAll value w a → AreAll value w a'
+still_all w value a a' same all k j lk lj = same k j lk lj ∙ all k j lk lj
+
+one_still : (w : ℕ) (A D : Type 0) (a d a' d' : ℕ → ℕ → Bool) → (A → StaysBits w a a') → (D → StaysBits w d d') →
+    (A × AreAll true w a) ⊎ (D × AreAll true w d) → (A × AreAll true w a') ⊎ (D × AreAll true w d')
+one_still w A D a d a' d' sa sd (inl h) = inl (h.0, still_all w true a a' (sa h.0) h.1)
+one_still w A D a d a' d' sa sd (inr h) = inr (h.0, still_all w true d d' (sd h.0) h.1)
+
+-- an empty block is one still, if the cells that meet their conditions stay
+pub still_empty : (w : ℕ) (A B C D : Type 0) (a b c d a' b' c' d' : ℕ → ℕ → Bool) → (A → StaysBits w a a') →
+    (B → StaysBits w b b') → (C → StaysBits w c c') → (D → StaysBits w d d') → IsEmptyBlock w A B C D a b c d →
+    IsEmptyBlock w A B C D a' b' c' d'
+still_empty w A B C D a b c d a' b' c' d' sa sb sc sd h = record {
+  conditions = h.conditions;
+  upper_left = still_all w false a a' (sa h.conditions.0) h.upper_left;
+  upper_right = still_all w false b b' (sb h.conditions.1) h.upper_right;
+  lower_left = still_all w false c c' (sc h.conditions.2) h.lower_left;
+  lower_right = still_all w false d d' (sd h.conditions.3) h.lower_right;
+}
+
+-- and a block that is held is held still
+pub still_held : (w : ℕ) (A B C D : Type 0) (a b c d a' b' c' d' : ℕ → ℕ → Bool) → (A → StaysBits w a a') →
+    (B → StaysBits w b b') → (C → StaysBits w c c') → (D → StaysBits w d d') → IsHeld w A B C D a b c d →
+    IsHeld w A B C D a' b' c' d'
+still_held w A B C D a b c d a' b' c' d' sa sb sc sd (inl h) = inl (record {
+  main = one_still w A D a d a' d' sa sd h.main;
+  anti = one_still w B C b c b' c' sb sc h.anti;
+})
+still_held w A B C D a b c d a' b' c' d' sa sb sc sd (inr h) =
+    inr (still_empty w A B C D a b c d a' b' c' d' sa sb sc sd h)
+
+-- conditions that follow from others
+pub emptied : (w : ℕ) (A B C D A' B' C' D' : Type 0) (a b c d : ℕ → ℕ → Bool) → (A → A') → (B → B') → (C → C') →
+    (D → D') → IsEmptyBlock w A B C D a b c d → IsEmptyBlock w A' B' C' D' a b c d
+emptied w A B C D A' B' C' D' a b c d fa fb fc fd h = record {
+  conditions = (fa h.conditions.0, fb h.conditions.1, fc h.conditions.2, fd h.conditions.3);
+  upper_left = h.upper_left;
+  upper_right = h.upper_right;
+  lower_left = h.lower_left;
+  lower_right = h.lower_right;
+}
+
+one_met : (w : ℕ) (A D A' D' : Type 0) (a d : ℕ → ℕ → Bool) → (A → A') → (D → D') →
+    (A × AreAll true w a) ⊎ (D × AreAll true w d) → (A' × AreAll true w a) ⊎ (D' × AreAll true w d)
+one_met w A D A' D' a d fa fd (inl h) = inl (fa h.0, h.1)
+one_met w A D A' D' a d fa fd (inr h) = inr (fd h.0, h.1)
+
+pub lit : (w : ℕ) (A B C D A' B' C' D' : Type 0) (a b c d : ℕ → ℕ → Bool) → (A → A') → (B → B') → (C → C') →
+    (D → D') → HasLiveDiagonals w A B C D a b c d → HasLiveDiagonals w A' B' C' D' a b c d
+lit w A B C D A' B' C' D' a b c d fa fb fc fd h =
+    record { main = one_met w A D A' D' a d fa fd h.main; anti = one_met w B C B' C' b c fb fc h.anti }

@@ -1,0 +1,7 @@
+use Rattle.std.proofs.lemmas.Bool.{not-true}
+use Rattle.local_run.proofs.HeldLemmas.{all_live}
+use Rattle.local_run.proofs.planes.is_always_live.Goals as goal
+
+pub returns-then-is_met : goal.returns-then-is_met
+returns-then-is_met c = λ h.
+    (c.if-is_met.true, all_live c.args.words c.args.at c.args.cells.now (c.is_some_other.ensures (not-true _ h)))
