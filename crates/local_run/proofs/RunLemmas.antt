@@ -47,9 +47,11 @@ odd_part p q first len end e part = record {
       placed _ _ _ _ _ _ _ _ _ _ _ _ _ _ _ _ m m m m
       (part.turned (p.words * (n - first) + k) (below_end p.words (n - first) len k (omega (arith, is.0, is.1)) l));
   upper_left = λ n k miss l. beside_run p.words first len n k _ _ part.upper_left l (λ g h. miss (g, omega (arith, h)));
-  upper_right = λ n k miss l. beside_run p.words first len n k _ _ part.upper_right l (λ g h. miss (g, omega (arith, h)));
+  upper_right = λ n k miss l. beside_run p.words first len n k _ _ part.upper_right l
+      (λ g h. miss (g, omega (arith, h)));
   lower_left = λ n k miss l. beside_run p.words first len n k _ _ part.lower_left l (λ g h. miss (g, omega (arith, h)));
-  lower_right = λ n k miss l. beside_run p.words first len n k _ _ part.lower_right l (λ g h. miss (g, omega (arith, h)));
+  lower_right = λ n k miss l. beside_run p.words first len n k _ _ part.lower_right l
+      (λ g h. miss (g, omega (arith, h)));
 }
 
 -- the blocks up to a place are turned, and those from it on to another stay

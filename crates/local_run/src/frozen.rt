@@ -53,7 +53,7 @@ fn is_marked_before(marks: &[u64], at: usize, distance: usize) -> bool
 }
 
 impl FrozenBlocks {
-    /// The set that is not found yet.
+    /// Returns marks of no set: it is not found yet.
     pub fn unknown(alloc: Global) -> FrozenBlocks
         ensures { result.is_found ≡ false }
     {
@@ -95,7 +95,7 @@ impl FrozenBlocks {
         }
     }
 
-    /// Looks for the set. Where there is no memory for its marks, it is not found.
+    /// Looks for the set. If there is no memory for its marks, it is not found.
     pub fn find(&mut self, planes: &Planes)
         ensures { Freezes self.new planes.now }
     {

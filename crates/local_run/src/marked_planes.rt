@@ -622,8 +622,8 @@ impl MarkedPlanes {
         self.turn_even_by_marks(u)
     }
 
-    // Looks whether the next steps are to turn whole planes, after a step by marks in which so many blocks changed. Where
-    // few did, they are not, whichever blocks are frozen.
+    // Looks whether the next steps are to turn whole planes, after a step by marks in which so many blocks changed.
+    // Where few did, they are not, whichever blocks are frozen.
     #[inline(always)]
     fn finish_step(&mut self, changed: usize)
         requires { changed ≤ 4096 }

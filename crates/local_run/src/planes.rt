@@ -717,13 +717,13 @@ impl Planes {
 /// For each corner of a block whether its cell meets a condition.
 #[derive(Clone, Copy)]
 pub struct Corners {
-    /// That of the upper left corner.
+    /// Whether the upper left cell meets it.
     pub upper_left: bool,
-    /// That of the upper right corner.
+    /// Whether the upper right cell meets it.
     pub upper_right: bool,
-    /// That of the lower left corner.
+    /// Whether the lower left cell meets it.
     pub lower_left: bool,
-    /// That of the lower right corner.
+    /// Whether the lower right cell meets it.
     pub lower_right: bool,
 }
 

@@ -20,7 +20,8 @@ total p =
 pub returns-then-self-clause-turned : goal.returns-then-self-clause-turned
 returns-then-self-clause-turned c =
     let p = c.args.planes.now in
-    even_all p c.even_step_between.new.self (p.stride * p.rows - p.stride - 1) c.even_step_between.ensures.size (total p)
+    even_all p c.even_step_between.new.self (p.stride * p.rows - p.stride - 1) c.even_step_between.ensures.size
+    (total p)
     (c.even_step_between.ensures.turned (p.stride * p.rows - p.stride - 1) (total p))
 
 pub returns-then-self-clause-frozen : goal.returns-then-self-clause-frozen

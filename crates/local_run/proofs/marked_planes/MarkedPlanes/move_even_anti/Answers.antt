@@ -85,4 +85,5 @@ invariant_of-self-clause-freezes c =
       | inl free ↦ inr (dead.1 (u + p.stride) (omega arith) free)
       | inr free ↦ inl (dead.2 (u + 1) (omega arith) free)
     ]) in
-    freezes_even f.frozen f.planes q c.swap_anti-2.ensures.size (even_part_may f.planes q c.args.u c.requires.place c.requires.inside part) f.freezes
+    freezes_even f.frozen f.planes q c.swap_anti-2.ensures.size
+    (even_part_may f.planes q c.args.u c.requires.place c.requires.inside part) f.freezes
