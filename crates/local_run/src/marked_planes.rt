@@ -631,7 +631,7 @@ impl MarkedPlanes {
     {
         if are_many(
             changed,
-            self.planes.cells() / 4,
+            self.planes.cells(),
             self.planes.words(),
             self.planes.columns_and_rows(),
         ) {
