@@ -29,7 +29,7 @@ help:
 	@sed -n 's/^#   //p' '$(top)/Makefile'
 
 install:
-	'$(top)/tools/package/install_files' install '$(room)' $(PROGRAM)
+	'$(top)/tools/package/install_files' install '$(room)' $(if $(PROGRAM),'$(PROGRAM)')
 	'$(top)/tools/package/install_files' install_lab '$(room)'
 
 uninstall:
