@@ -21,7 +21,8 @@ use Rattle.certificate_lines.specs.Rules.{whole}
 use Rattle.module_job.specs.Signals.{renumber_signals}
 use Rattle.certificate_lines.specs.declared.certificate_line.BorderLine.{BorderLine}
 use Rattle.border_match.specs.BorderFaults.{halo_signal, edge_signal, IsBorderFault, IsLeastBorderFault}
-use Rattle.border_match.specs.Boards.{job_halo, job_edge, IsJobFault, IsQuiet, IsBoard}
+use Rattle.border_match.specs.Boards.{job_signal, IsJobFault, IsQuiet, IsBoard}
+use Rattle.border_match.specs.declared.signals.Border.TheVariants.{Halo, Ring}
 use Rattle.border_match.specs.Candidates.{IsLeast}
 use Rattle.border_match.specs.declared.fault.BorderFault.{BorderFault}
 use Rattle.border_match.proofs.Modules.{there, value_of, area_at}
@@ -29,12 +30,12 @@ use Rattle.border_match.proofs.Renumbered.{signal_renumbered, no_event_back, lin
 
 module _ (cs : List CircuitLine) (p : Pattern) where
   pub halo_same : (m : ModuleLines) (j : JobView) (t : ℕ) (x y : ℤ) → IsJobOf (circuit_of cs) p m j →
-      job_halo j t x y ≡ halo_signal (circuit_of cs) m t x y
+      job_signal Halo j t x y ≡ halo_signal (circuit_of cs) m t x y
   halo_same m j t x y is = signal_renumbered (circuit_wire j.locals) j.halos t x y
       ∙ ap (λ (s : Signals). signal_at s t x y) is.halos
 
   pub edge_same : (m : ModuleLines) (j : JobView) (t : ℕ) (x y : ℤ) → IsJobOf (circuit_of cs) p m j →
-      job_edge j t x y ≡ edge_signal (circuit_of cs) m t x y
+      job_signal Ring j t x y ≡ edge_signal (circuit_of cs) m t x y
   edge_same m j t x y is = signal_renumbered (circuit_wire j.locals) j.edges t x y
       ∙ ap (λ (s : Signals). signal_at s t x y) is.edges
 

@@ -1,9 +1,7 @@
 -- The signal of the cell and time of an event
 use Rattle.std.proofs.Common.{◌≡◌, ℕ, List, [], ap, ap₂, subst, ◌∙◌, arith}
 use Rattle.std.specs.Prelude.{ℤ, pos, ◌+ℤ◌, unwrap_or}
-use Rattle.std.specs.List.{All}
 use Rattle.std.proofs.lemmas.Int.{ints}
-use Rattle.std.proofs.lemmas.Option.{slice_get_within, get_or_from_slice_get}
 use Rattle.module_box.specs.Moments.{moment_cmp}
 use Rattle.module_box.specs.Moves.{moved_signals}
 use Rattle.module_box.specs.Schedules.{IsRising, Signals, all_times_at, moment_of, signal_at}
@@ -12,7 +10,6 @@ use Rattle.module_box.specs.declared.schedules.Signal.TheVariants.{Zero}
 use Rattle.module_box.proofs.MovedBoxes.{events_rising, signals_back}
 use Rattle.module_box.proofs.Rising.{event_some, is_first, moment_total}
 use Rattle.module_job.specs.Shapes.{shift_to_origin}
-use Rattle.module_job.specs.Signals.{IsBelow}
 use Rattle.border_match.specs.Boards.{IsListed}
 
 -- events that rise once they are moved rise before
@@ -40,10 +37,3 @@ own_signal x y s moved es e none same are rising at =
     (events_unmoved (shift_to_origin x) (shift_to_origin y) (pos x) (pos y) s (omega (arith, ints))
     (omega (arith, ints))
     (subst R (same ∙ ap (λ (m : Signals). m.events) are) rising)) at
-
-pub listed_below : (n : ℕ) (es : List TimedSignal) (e : TimedSignal) → All (λ e. IsBelow n e.signal) es →
-    IsListed es e →
-    IsBelow n e.signal
-listed_below n es e all at =
-    let P : TimedSignal → Type 0 = λ e. IsBelow n e.signal in
-    subst P (get_or_from_slice_get es at.0 e e at.1) (all at.0 e (slice_get_within es at.0 e at.1))

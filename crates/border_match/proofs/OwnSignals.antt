@@ -1,8 +1,9 @@
 -- A wire that the signals of a job name is one of its own, at each cell and time
-use Rattle.std.proofs.Common.{ℕ, suc, List, [], ◌∷◌, arith, inl, inr}
+use Rattle.std.proofs.Common.{ℕ, suc, List, [], ◌∷◌, arith, inl, inr, subst}
 use Rattle.std.specs.Prelude.{ℤ, unwrap_or}
 use Rattle.std.specs.List.{All}
 use Rattle.std.proofs.lemmas.Bool.{cases_Bool}
+use Rattle.std.proofs.lemmas.Option.{slice_get_within, get_or_from_slice_get}
 use Rattle.bbm_rule.specs.Plane.{is_at}
 use Rattle.circuit.specs.Meaning.{wires}
 use Rattle.module_box.specs.Schedules.{Signals, is_then, all_times_at, event_at, signal_at}
@@ -12,6 +13,9 @@ use Rattle.module_box.specs.declared.schedules.Signal.{Signal}
 use Rattle.module_box.specs.declared.schedules.Signal.TheVariants.{Zero}
 use Rattle.module_job.specs.Jobs.{JobView, NamesOwnWires}
 use Rattle.module_job.specs.Signals.{IsBelow}
+use Rattle.border_match.specs.Boards.{IsListed, job_signals}
+use Rattle.border_match.specs.declared.signals.Border.{Border}
+use Rattle.border_match.specs.declared.signals.Border.TheVariants.{Halo, Ring}
 
 all_tail : {A : Type 0} (P : A → Type 0) (x : A) (xs : List A) → All P (x ∷ xs) → All P xs
 all_tail P x xs all = λ k d h. all (suc k) d (omega arith)
@@ -51,3 +55,15 @@ edge_below j t x y own = signal_below (wires j.locals.netlist) j.edges t x y own
 pub halo_below : (j : JobView) (t : ℕ) (x y : ℤ) → NamesOwnWires j →
     IsBelow (wires j.locals.netlist) (signal_at j.halos t x y)
 halo_below j t x y own = signal_below (wires j.locals.netlist) j.halos t x y own.halo_all_times own.halo_events
+
+-- and so is one that an event of its ring or halo names
+pub listed_below : (b : Border) (j : JobView) (e : TimedSignal) → NamesOwnWires j → IsListed (job_signals b j).events e →
+    IsBelow (wires j.locals.netlist) e.signal
+listed_below b j e own at =
+    let P : TimedSignal → Type 0 = λ e. IsBelow (wires j.locals.netlist) e.signal in
+    let es = (job_signals b j).events in
+    subst P (get_or_from_slice_get es at.0 e e at.1) (all_below b at.0 e (slice_get_within es at.0 e at.1))
+  where
+    all_below : (b : Border) → All (λ e. IsBelow (wires j.locals.netlist) e.signal) (job_signals b j).events
+    all_below Ring = own.edge_events
+    all_below Halo = own.halo_events

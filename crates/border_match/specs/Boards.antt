@@ -7,7 +7,7 @@ use Rattle.std.specs.Arc.{arc_value}
 use Rattle.bbm_rule.specs.declared.block.Cell.{Cell}
 use Rattle.module_box.specs.Boxes.{in_box, in_halo}
 use Rattle.module_box.specs.Locals.{circuit_wire, is_among}
-use Rattle.module_box.specs.Schedules.{event_at, signal_at}
+use Rattle.module_box.specs.Schedules.{Signals, event_at, signal_at}
 use Rattle.module_box.specs.Tiling.{Owning, rectangle, owner_of}
 use Rattle.module_box.specs.declared.boxes.Box2.{Box2}
 use Rattle.module_box.specs.declared.schedules.AllTimes.{AllTimes}
@@ -18,22 +18,25 @@ use Rattle.module_job.specs.Jobs.{JobView}
 use Rattle.module_job.specs.Signals.{renumber_signal}
 use Rattle.border_match.specs.declared.borders.Borders.{Borders}
 use Rattle.border_match.specs.declared.fault.BorderFault.{BorderFault}
+use Rattle.border_match.specs.declared.signals.Border.{Border}
+use Rattle.border_match.specs.declared.signals.Border.TheVariants.{Halo, Ring}
 
 -- ---- border faults by jobs
 
--- what a job says of a cell of its halo, by the wires of the circuit
-abbrev pub job_halo : JobView → ℕ → ℤ → ℤ → Signal
-job_halo j t x y = renumber_signal (circuit_wire j.locals) (signal_at j.halos t x y)
+-- what a job says of the cells of its ring, or of its halo
+abbrev pub job_signals : Border → JobView → Signals
+job_signals Ring j = j.edges
+job_signals Halo j = j.halos
 
--- and of a cell of its ring
-abbrev pub job_edge : JobView → ℕ → ℤ → ℤ → Signal
-job_edge j t x y = renumber_signal (circuit_wire j.locals) (signal_at j.edges t x y)
+-- and of one of them, by the wires of the circuit
+abbrev pub job_signal : Border → JobView → ℕ → ℤ → ℤ → Signal
+job_signal b j t x y = renumber_signal (circuit_wire j.locals) (signal_at (job_signals b j) t x y)
 
 -- the job says another thing of the cell (x, y) of its halo than the job of the module that has the cell
 pub record AreDifferent (o : Owning) (jobs : List JobView) (j : JobView) (t : ℕ) (x y : ℤ) : Type 0 where
   pub owner : JobView
   pub numbered : slice_get jobs (owner_of o x y) ≡ Some owner
-  pub differ : job_halo j t x y ≢ job_edge owner t x y
+  pub differ : job_signal Halo j t x y ≢ job_signal Ring owner t x y
 
 -- a border fault of the module with the job j
 pub record IsJobFault (w : Box2) (o : Owning) (jobs : List JobView) (j : JobView) (f : BorderFault) : Type 0 where

@@ -1,17 +1,15 @@
 //! The borders of one module.
-ghost use Rattle.std.specs.Prelude.{pos, ◌+◌, ◌≤◌, ◌≡◌, ◌≢◌, ◌<◌, ◌↔◌, ◌&&◌, false, List, [], length, map, slice_get, slice_set, true, IsTrue, Some, IfSome, IfOk, OnOk};
-ghost use Rattle.std.specs.Arc.{arc_value};
-ghost use Rattle.circuit.specs.Meaning.{wires};
+ghost use Rattle.std.specs.Prelude.{pos, ◌+◌, ◌≤◌, ◌≡◌, ◌<◌, ◌↔◌, ◌&&◌, false, length, map, slice_get, slice_set, true, IsTrue, Some, IfSome, IfOk};
 ghost use Rattle.module_box.specs.Boxes.{in_box, in_halo};
-ghost use Rattle.module_box.specs.Locals.{circuit_wire};
 ghost use Rattle.module_box.specs.Moves.{IsNear, moved_all_times};
 ghost use Rattle.module_box.specs.Tiling.{owner_of};
-ghost use Rattle.module_job.specs.Signals.{IsBelow, renumber_signal};
-ghost use Rattle.border_match.specs.Boards.{AddsMark, AreMarked, AreNumbers, AreOwnersNoted, AreRowsNoted, Differ, Faults, IsEdgeNamed, IsEdgeNamedAt, DiffersAlways, DiffersAlwaysAt, IsAreaNoted, IsAtEvent, IsAtEventOf, IsListed, IsNamedOf, IsPlaceOf, IsUnmarked, IsNoted, AreReadyBorders, IsStarred, KeepsNumbers, MayBeFault, job_edge, job_halo, jobs_of, with_number};
+ghost use Rattle.border_match.specs.Boards.{AddsMark, AreMarked, AreNumbers, AreOwnersNoted, Differ, Faults, IsEdgeNamed, IsEdgeNamedAt, DiffersAlways, DiffersAlwaysAt, IsAtEvent, IsAtEventOf, IsListed, IsNamedOf, IsPlaceOf, IsUnmarked, AreReadyBorders, IsStarred, MayBeFault, job_signal, job_signals, jobs_of};
 ghost use Rattle.border_match.specs.Candidates.{IsBetter, IsLeast};
 ghost use Rattle.border_match.specs.declared.fault.BorderFault.{BorderFault};
+ghost use Rattle.border_match.specs.declared.signals.Border.TheVariants.{Halo};
 
 use crate::fault::{BorderFault, is_less, lesser};
+use crate::signals::{Border, event_signal, schedule, signal_at};
 use crate::surroundings::{Leaps, Window, after_far, cell_around, place_from};
 use bbm_rule::Cell;
 use certificate::Job;
@@ -31,84 +29,6 @@ pub(crate) struct Borders<'a> {
     pub(crate) job: &'a Job,
 }
 
-// What a module says, by the wires of the circuit in place of its own.
-fn circuit_signal(job: &Job, signal: Signal) -> Signal
-    requires { IsBelow (wires job.now.locals.netlist) signal }
-    ensures { result ≡ renumber_signal (circuit_wire job.now.locals) signal }
-{
-    match signal {
-        Signal::Zero => Signal::Zero,
-        Signal::One => Signal::One,
-        Signal::Wire(wire) => Signal::Wire(job.wire(wire).number()),
-    }
-}
-
-// What a module says of a cell of its halo at a time.
-fn halo_signal(job: &Job, time: u32, cell: Cell) -> Signal
-    requires { IsNear cell }
-    ensures { result ≡ job_halo job.now time cell.x cell.y }
-{
-    // A job names no wires but its own, as its box tells with it.
-    let _area = job.area();
-    circuit_signal(job, job.halo(time, cell))
-}
-
-// What a module says of a cell of its ring at a time.
-fn edge_signal(job: &Job, time: u32, cell: Cell) -> Signal
-    requires { IsNear cell }
-    ensures { result ≡ job_edge job.now time cell.x cell.y }
-{
-    let _area = job.area();
-    circuit_signal(job, job.edge(time, cell))
-}
-
-// Returns whether a line with a star, which speaks of all times, is for the module's halo.
-fn has_halo_star(job: &Job) -> bool
-    ensures { result ≡ false → job.now.halos.all_times ≡ [] }
-{
-    let own: &Shape = job.shape();
-    !own.halos().all_times().is_empty()
-}
-
-// Returns whether a line with a star is for the module's ring.
-fn has_edge_star(job: &Job) -> bool
-    ensures { result ≡ false → job.now.edges.all_times ≡ [] }
-{
-    let own: &Shape = job.shape();
-    !own.edges().all_times().is_empty()
-}
-
-// Returns what a module says of the cell and the time of an event of its halo. If no line has a star, the event itself
-// says it: no two events are of one cell and time, since they rise.
-fn halo_event_signal(job: &Job, event: TimedSignal) -> Signal
-    requires near { IsNear event.at.cell }
-    requires listed { IsListed job.now.halos.events event }
-    ensures { result ≡ job_halo job.now event.at.time event.at.cell.x event.at.cell.y }
-{
-    if has_halo_star(job) {
-        return halo_signal(job, event.at.time, event.at.cell);
-    }
-    let _area = job.area();
-    let own: &Shape = job.shape();
-    let _events = own.halos().events();
-    circuit_signal(job, event.signal)
-}
-
-// Returns what a module says of the cell and the time of an event of its ring.
-fn edge_event_signal(job: &Job, event: TimedSignal) -> Signal
-    requires near { IsNear event.at.cell }
-    requires listed { IsListed job.now.edges.events event }
-    ensures { result ≡ job_edge job.now event.at.time event.at.cell.x event.at.cell.y }
-{
-    if has_edge_star(job) {
-        return edge_signal(job, event.at.time, event.at.cell);
-    }
-    let _area = job.area();
-    let own: &Shape = job.shape();
-    let _events = own.edges().events();
-    circuit_signal(job, event.signal)
-}
-
 // Sets a mark.
 fn mark(seen: &mut [bool], place: usize)
     requires { place < length seen.old }
@@ -126,17 +46,6 @@ fn fault_at(event: TimedSignal) -> BorderFault
         time: event.at.time,
         cell: event.at.cell,
     }
-}
-
-// Adds a number, unless it is there already.
-fn add_number(near: &mut Vec<usize>, number: usize) -> Result<(), AllocError>
-    ensures { OnOk result (near.new.items ≡ with_number near.old.items number) }
-{
-    if near.contains(&number) {
-        return Ok(());
-    }
-    near.push(number)?;
-    Ok(())
 }
 
 impl<'a> Borders<'a> {
@@ -167,7 +76,7 @@ impl<'a> Borders<'a> {
         let owner = self.owner(cell);
         // The cell lies in the owner's box, and so not far away.
         let _area = owner.area();
-        halo_signal(self.job, time, cell) != edge_signal(owner, time, cell)
+        signal_at(self.job, Border::Halo, time, cell) != signal_at(owner, Border::Ring, time, cell)
     }
 
     // Returns the same for the cell and the time of an event of the module's halo, with one search less.
@@ -179,7 +88,8 @@ impl<'a> Borders<'a> {
     {
         let owner = self.owner(event.at.cell);
         let _area = owner.area();
-        halo_event_signal(self.job, event) != edge_signal(owner, event.at.time, event.at.cell)
+        event_signal(self.job, Border::Halo, event)
+            != signal_at(owner, Border::Ring, event.at.time, event.at.cell)
     }
 
     // Returns the same for the cell and the time of an event of the ring of the module that has the cell, where `own`
@@ -191,11 +101,11 @@ impl<'a> Borders<'a> {
             (owner_of self.now.owners.now event.at.cell.x event.at.cell.y) ≡ Some owner.now }
         requires listed { IsListed owner.now.edges.events event }
         requires own { own
-            ≡ job_halo self.now.job.now event.at.time event.at.cell.x event.at.cell.y }
+            ≡ job_signal Halo self.now.job.now event.at.time event.at.cell.x event.at.cell.y }
         ensures { IsTrue result ↔ Differ self.now event.at.time event.at.cell.x event.at.cell.y }
     {
         let _area = owner.area();
-        own != edge_event_signal(owner, event)
+        own != event_signal(owner, Border::Ring, event)
     }
 
     // Returns whether a border fault can be at this time and cell.
@@ -261,16 +171,16 @@ impl<'a> Borders<'a> {
     fn mark_halo(&self, at: Moment, seen: &mut [bool], from: &mut usize) -> Signal
         requires near { IsNear at.cell }
         requires sized { length seen.old ≡ length self.now.job.now.halos.events }
-        ensures signal { result ≡ job_halo self.now.job.now at.time at.cell.x at.cell.y }
+        ensures signal { result ≡ job_signal Halo self.now.job.now at.time at.cell.x at.cell.y }
         ensures marks { AddsMark self.now.job.now.halos.events at seen.old seen.new }
     {
         match self.halo_place(at, *from) {
             Some(place) => {
                 *from = place.saturating_add(1);
                 mark(seen, place);
-                halo_event_signal(self.job, self.job.halo_event(place))
+                event_signal(self.job, Border::Halo, self.job.halo_event(place))
             }
-            None => halo_signal(self.job, at.time, at.cell),
+            None => signal_at(self.job, Border::Halo, at.time, at.cell),
         }
     }
 
@@ -382,72 +292,6 @@ impl<'a> Borders<'a> {
         self.with_edge_events(best, number, &self.jobs[number], seen)
     }
 
-    // Adds the number of the module that has the cell, unless it is this one. Returns the box of that module, whose
-    // cells all have this owner.
-    fn note_owner(&self, near: &mut Vec<usize>, cell: Cell) -> Result<Box2, AllocError>
-        requires ready { AreReadyBorders self.now }
-        requires inside { IsTrue (in_box self.now.whole cell.x cell.y) }
-        requires below { AreNumbers self.now near.old.items }
-        ensures noted { IfOk result (IsAreaNoted self.now near.new.items) }
-        ensures holds { IfOk result (λ area. IsTrue (in_box area cell.x cell.y)) }
-        ensures within { IfOk result (λ area. (area.x + area.w ≤ 512) × (area.y + area.h ≤ 512)) }
-        ensures kept { OnOk result (KeepsNumbers near.old.items near.new.items) }
-        ensures below { OnOk result (AreNumbers self.now near.new.items) }
-    {
-        let area = self.job.area();
-        if area.holds(cell) {
-            return Ok(area);
-        }
-        let number = self.owners.owner(cell);
-        add_number(near, number)?;
-        Ok(self.jobs[number].area())
-    }
-
-    // Adds the numbers of the modules that have cells of row `y` in the columns of the halo. Returns the first row
-    // below it in which another module may have such a cell.
-    fn note_row(&self, near: &mut Vec<usize>, y: u32) -> Result<u32, AllocError>
-        requires ready { AreReadyBorders self.now }
-        requires below { AreNumbers self.now near.old.items }
-        requires inside { y < self.now.whole.h }
-        requires row { y < self.now.job.now.area.y + self.now.job.now.area.h + 1 }
-        ensures noted { IfOk result (AreRowsNoted self.now near.new.items y) }
-        ensures after { IfOk result (λ next. y < next) }
-        ensures kept { OnOk result (KeepsNumbers near.old.items near.new.items) }
-        ensures below { OnOk result (AreNumbers self.now near.new.items) }
-    {
-        let area = self.job.area();
-        let end = self.whole.w.min(area.x + area.w + 1);
-        let mut x = area.x.saturating_sub(1);
-        let mut next = area.y + area.h + 1;
-        'columns: while x < end {
-            let cell = Cell {
-                x: x as i32,
-                y: y as i32,
-            };
-            let owner = self.note_owner(near, cell)?;
-            x = owner.x + owner.w;
-            next = next.min(owner.y + owner.h);
-        }
-        Ok(next)
-    }
-
-    // The numbers of the modules that have cells of the module's halo. It leaps from box to box and not from cell to
-    // cell, so a module among others of its size takes a dozen looks.
-    fn near_modules(&self, alloc: Global) -> Result<Vec<usize>, AllocError>
-        requires { AreReadyBorders self.now }
-        ensures noted { IfOk result (λ near. AreOwnersNoted self.now near.items) }
-        ensures below { IfOk result (λ near. AreNumbers self.now near.items) }
-    {
-        let area = self.job.area();
-        let end = self.whole.h.min(area.y + area.h + 1);
-        let mut near = Vec::new(alloc);
-        let mut y = area.y.saturating_sub(1);
-        'rows: while y < end {
-            y = self.note_row(&mut near, y)?;
-        }
-        Ok(near)
-    }
-
     // The least of the candidate and the faults that the edges of the modules name, where these are the numbers of the
     // modules that have cells of the module's halo. An event of the halo gets its mark if an edge has its time and
     // cell.
@@ -523,26 +367,19 @@ impl<'a> Borders<'a> {
         least
     }
 
-    // The same for the lines of the module's halo.
-    fn with_halo_stars(&self, best: Option<BorderFault>) -> Option<BorderFault>
+    // The same for the lines of a module's ring or halo.
+    fn with_stars_of(
+        &self,
+        best: Option<BorderFault>,
+        job: &Job,
+        border: Border,
+    ) -> Option<BorderFault>
         requires ready { AreReadyBorders self.now }
         ensures { IsBetter (Faults self.now)
-            (IsStarred self.now self.now.job.now.halos.all_times) best result }
+            (IsStarred self.now (job_signals border job.now).all_times) best result }
     {
-        let corner = self.job.area();
-        let shape: &Shape = self.job.shape();
-        self.with_stars(best, corner, shape.halos().all_times())
-    }
-
-    // The same for the lines of the ring of a module.
-    fn with_edge_stars(&self, best: Option<BorderFault>, other: &Job) -> Option<BorderFault>
-        requires ready { AreReadyBorders self.now }
-        ensures { IsBetter (Faults self.now) (IsStarred self.now other.now.edges.all_times) best
-            result }
-    {
-        let corner = other.area();
-        let shape: &Shape = other.shape();
-        self.with_stars(best, corner, shape.edges().all_times())
+        let corner = job.area();
+        self.with_stars(best, corner, schedule(job, border).all_times())
     }
 
     // The least of the candidate and the faults of those cells of the halo for which such signals differ, where these
@@ -554,9 +391,9 @@ impl<'a> Borders<'a> {
         requires below { AreNumbers self.now near.now }
         ensures { IsBetter (Faults self.now) (DiffersAlways self.now) best result }
     {
-        let mut least = self.with_halo_stars(best);
+        let mut least = self.with_stars_of(best, self.job, Border::Halo);
         'modules: for number in near {
-            least = self.with_edge_stars(least, &self.jobs[*number]);
+            least = self.with_stars_of(least, &self.jobs[*number], Border::Ring);
         }
         least
     }

@@ -13,6 +13,8 @@ mod borders;
 mod fault;
 pub mod laws;
 mod matching;
+mod near_modules;
+mod signals;
 mod surroundings;
 
 pub use fault::BorderFault;

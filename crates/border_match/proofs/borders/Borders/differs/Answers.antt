@@ -1,10 +1,10 @@
 use Rattle.border_match.proofs.Cells.{owned_near}
 use Rattle.border_match.proofs.borders.Borders.differs.Goals as goal
 
-pub halo_signal-requires : goal.halo_signal-requires
-halo_signal-requires c = owned_near c.args.self.now c.args.cell c.owner-owner.result.now c.requires.ready
+pub signal_at-requires : goal.signal_at-requires
+signal_at-requires c = owned_near c.args.self.now c.args.cell c.owner-owner.result.now c.requires.ready
     c.requires.inside c.owner-owner.ensures c.area-area.ensures.good
 
-pub edge_signal-requires : goal.edge_signal-requires
-edge_signal-requires c = owned_near c.args.self.now c.args.cell c.owner-owner.result.now c.requires.ready
+pub signal_at-requires-2 : goal.signal_at-requires-2
+signal_at-requires-2 c = owned_near c.args.self.now c.args.cell c.owner-owner.result.now c.requires.ready
     c.requires.inside c.owner-owner.ensures c.area-area.ensures.good

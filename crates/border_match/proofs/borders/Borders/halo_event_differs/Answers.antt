@@ -1,12 +1,12 @@
 use Rattle.border_match.proofs.Cells.{owned_near}
 use Rattle.border_match.proofs.borders.Borders.halo_event_differs.Goals as goal
 
-pub halo_event_signal-requires-clause-near : goal.halo_event_signal-requires-clause-near
-halo_event_signal-requires-clause-near c =
+pub event_signal-requires-clause-near : goal.event_signal-requires-clause-near
+event_signal-requires-clause-near c =
     owned_near c.args.self.now c.args.event.at.cell c.owner-owner.result.now c.requires.ready c.requires.inside
     c.owner-owner.ensures c.area-area.ensures.good
 
-pub edge_signal-requires : goal.edge_signal-requires
-edge_signal-requires c =
+pub signal_at-requires : goal.signal_at-requires
+signal_at-requires c =
     owned_near c.args.self.now c.args.event.at.cell c.owner-owner.result.now c.requires.ready c.requires.inside
     c.owner-owner.ensures c.area-area.ensures.good

@@ -6,7 +6,7 @@ use Rattle.border_match.proofs.Stars.{modules_step, no_module, star_covered}
 use Rattle.border_match.proofs.borders.Borders.with_halo.Goals as goal
 
 pub modules-init : goal.modules-init
-modules-init c = better_for _ _ _ _ _ c.with_halo_stars-least.ensures
+modules-init c = better_for _ _ _ _ _ c.with_stars_of-least.ensures
     (λ h f r. no_module c.args.self.now c.args.near.now h r)
 
 pub modules-preserved : goal.modules-preserved
@@ -17,7 +17,7 @@ modules-preserved c =
     let owner = c.deref.result.now in
     let got = job_at arc_value b.jobs.now number _ owner
     (c.requires.below c.modules.number-index 0 c.modules-test.true) c.deref.ensures in
-    better_then _ _ _ _ _ _ _ c.modules.invariant c.with_edge_stars-least.ensures
+    better_then _ _ _ _ _ _ _ c.modules.invariant c.with_stars_of-least-in-modules.ensures
     (λ h f r. modules_step b near c.modules.number-index number 0 owner h c.modules-test.true refl got r)
 
 pub returns : goal.returns
