@@ -1,19 +1,20 @@
 //! The borders of one module.
-ghost use Rattle.std.specs.Prelude.{pos, ◌+◌, ◌≤◌, ◌≡◌, ◌<◌, ◌↔◌, ◌&&◌, false, length, map, slice_get, slice_set, true, IsTrue, Some, IfSome, IfOk};
+
+ghost use Rattle.std.specs.Prelude.{◌+◌, ◌≡◌, ◌<◌, ◌↔◌, ◌&&◌, false, length, slice_get, slice_set, true, IsTrue, Some, IfSome, IfOk};
 ghost use Rattle.module_box.specs.Boxes.{in_box, in_halo};
-ghost use Rattle.module_box.specs.Moves.{IsNear, moved_all_times};
+ghost use Rattle.module_box.specs.Moves.{IsNear};
 ghost use Rattle.module_box.specs.Tiling.{owner_of};
-ghost use Rattle.border_match.specs.Boards.{AddsMark, AreMarked, AreNumbers, AreOwnersNoted, Differ, Faults, IsEdgeNamed, IsEdgeNamedAt, DiffersAlways, DiffersAlwaysAt, IsAtEvent, IsAtEventOf, IsListed, IsNamedOf, IsPlaceOf, IsUnmarked, AreReadyBorders, IsStarred, MayBeFault, job_signal, job_signals, jobs_of};
+ghost use Rattle.border_match.specs.Boards.{AddsMark, AreMarked, AreNumbers, AreOwnersNoted, Differ, Faults, IsEdgeNamed, IsEdgeNamedAt, IsAtEvent, IsAtEventOf, IsListed, IsNamedOf, IsPlaceOf, IsUnmarked, AreReadyBorders, MayBeFault, job_signal, jobs_of};
 ghost use Rattle.border_match.specs.Candidates.{IsBetter, IsLeast};
 ghost use Rattle.border_match.specs.declared.fault.BorderFault.{BorderFault};
 ghost use Rattle.border_match.specs.declared.signals.Border.TheVariants.{Halo};
 
 use crate::fault::{BorderFault, is_less, lesser};
-use crate::signals::{Border, event_signal, schedule, signal_at};
-use crate::surroundings::{Leaps, Window, after_far, cell_around, place_from};
+use crate::signals::{Border, event_signal, signal_at};
+use crate::surroundings::{Leaps, Window, after_far, place_from};
 use bbm_rule::Cell;
 use certificate::Job;
-use module_box::{AllTimes, Box2, Moment, Owners, Signal, TimedSignal, moved_cell};
+use module_box::{Box2, Moment, Owners, Signal, TimedSignal, moved_cell};
 use module_job::{Shape, shift_to_origin};
 use std::alloc::{AllocError, Global};
 use std::cmp::Ordering;
@@ -59,16 +60,16 @@ impl<'a> Borders<'a> {
         &self.jobs[self.owners.owner(cell)]
     }
 
-    // Whether the cell is in the module's halo and in the rectangle.
-    fn reaches(&self, cell: Cell) -> bool
+    /// Whether the cell is in the module's halo and in the rectangle.
+    pub(crate) fn reaches(&self, cell: Cell) -> bool
         ensures { result
             ≡ (in_box self.now.whole cell.x cell.y && in_halo self.now.job.now.area cell.x cell.y) }
     {
         self.whole.holds(cell) & self.job.area().in_halo(cell)
     }
 
-    // Whether the module says another thing of a cell of the rectangle than the module that has it.
-    fn differs(&self, time: u32, cell: Cell) -> bool
+    /// Whether the module says another thing of a cell of the rectangle than the module that has it.
+    pub(crate) fn differs(&self, time: u32, cell: Cell) -> bool
         requires ready { AreReadyBorders self.now }
         requires inside { IsTrue (in_box self.now.whole cell.x cell.y) }
         ensures { IsTrue result ↔ Differ self.now time cell.x cell.y }
@@ -121,8 +122,8 @@ impl<'a> Borders<'a> {
         self.reaches(fault.cell)
     }
 
-    // Whether this is a border fault of the module.
-    fn is_fault(&self, fault: BorderFault) -> bool
+    /// Whether this is a border fault of the module.
+    pub(crate) fn is_fault(&self, fault: BorderFault) -> bool
         requires { AreReadyBorders self.now }
         ensures { IsTrue result ↔ Faults self.now fault }
     {
@@ -311,89 +312,6 @@ impl<'a> Borders<'a> {
         let mut least = best;
         'modules: for number in near {
             least = self.with_edges_of(least, *number, seen);
-        }
-        least
-    }
-
-    // The lesser of the candidate and the first fault of a cell.
-    fn with_first_at(&self, best: Option<BorderFault>, cell: Cell) -> Option<BorderFault>
-        requires { AreReadyBorders self.now }
-        ensures { IsBetter (Faults self.now) (λ h. h.cell ≡ cell) best result }
-    {
-        'times: for time in 0..self.job.steps() {
-            let fault = BorderFault { time, cell };
-            if self.is_fault(fault) {
-                return lesser(best, fault);
-            }
-        }
-        best
-    }
-
-    // The lesser of the candidate and the first fault of a cell, if halo and edge signal differ where no line names a
-    // time. No line names time 0, so those signals are found there. The first fault is soon met, since only an even
-    // time, or an odd one that a line names for the cell, is without one.
-    fn with_cell(&self, best: Option<BorderFault>, cell: Cell) -> Option<BorderFault>
-        requires { AreReadyBorders self.now }
-        ensures { IsBetter (Faults self.now) (DiffersAlwaysAt self.now cell) best result }
-    {
-        if !self.reaches(cell) || !self.differs(0, cell) {
-            return best;
-        }
-        self.with_first_at(best, cell)
-    }
-
-    // The least of the candidate and the faults of those cells of these lines for which such signals differ. The lines
-    // have a star, and count cells from a corner.
-    fn with_stars(
-        &self,
-        best: Option<BorderFault>,
-        corner: Box2,
-        stars: &[AllTimes],
-    ) -> Option<BorderFault>
-        requires ready { AreReadyBorders self.now }
-        requires corner { (corner.x ≤ 512) × (corner.y ≤ 512) }
-        ensures { IsBetter (Faults self.now)
-            (IsStarred self.now (map (moved_all_times (pos corner.x) (pos corner.y)) stars.now))
-            best result }
-    {
-        let area = self.job.area();
-        let mut least = best;
-        'stars: for place in 0..stars.len() {
-            let Some(cell) = cell_around(area, corner, stars[place].cell) else {
-                continue;
-            };
-            least = self.with_cell(least, cell);
-        }
-        least
-    }
-
-    // The same for the lines of a module's ring or halo.
-    fn with_stars_of(
-        &self,
-        best: Option<BorderFault>,
-        job: &Job,
-        border: Border,
-    ) -> Option<BorderFault>
-        requires ready { AreReadyBorders self.now }
-        ensures { IsBetter (Faults self.now)
-            (IsStarred self.now (job_signals border job.now).all_times) best result }
-    {
-        let corner = job.area();
-        self.with_stars(best, corner, schedule(job, border).all_times())
-    }
-
-    // The least of the candidate and the faults of those cells of the halo for which such signals differ, where these
-    // are the numbers of the modules that have cells of the halo. A cell of which no line with a star speaks is `Zero`
-    // for both modules.
-    fn with_halo(&self, best: Option<BorderFault>, near: &[usize]) -> Option<BorderFault>
-        requires ready { AreReadyBorders self.now }
-        requires noted { AreOwnersNoted self.now near.now }
-        requires below { AreNumbers self.now near.now }
-        ensures { IsBetter (Faults self.now) (DiffersAlways self.now) best result }
-    {
-        let mut least = self.with_stars_of(best, self.job, Border::Halo);
-        'modules: for number in near {
-            least = self.with_stars_of(least, &self.jobs[*number], Border::Ring);
         }
         least
     }

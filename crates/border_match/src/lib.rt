@@ -15,6 +15,7 @@ pub mod laws;
 mod matching;
 mod near_modules;
 mod signals;
+mod star_faults;
 mod surroundings;
 
 pub use fault::BorderFault;

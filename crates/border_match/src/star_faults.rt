@@ -1,0 +1,101 @@
+//! The faults at cells of which halo and ring say different things where no line names a time.
+
+ghost use Rattle.std.specs.Prelude.{pos, ◌≤◌, ◌≡◌, ◌<◌, map, Some};
+ghost use Rattle.module_box.specs.Moves.{moved_all_times};
+ghost use Rattle.border_match.specs.Boards.{AreNumbers, AreOwnersNoted, Faults, DiffersAlways, DiffersAlwaysAt, AreReadyBorders, IsStarred, job_signals};
+ghost use Rattle.border_match.specs.Candidates.{IsBetter};
+ghost use Rattle.border_match.specs.declared.fault.BorderFault.{BorderFault};
+ghost use Rattle.border_match.specs.declared.signals.Border.TheVariants.{Halo};
+
+use crate::borders::Borders;
+use crate::fault::{BorderFault, lesser};
+use crate::signals::{Border, schedule};
+use crate::surroundings::cell_around;
+use bbm_rule::Cell;
+use certificate::Job;
+use module_box::{AllTimes, Box2};
+
+impl<'a> Borders<'a> {
+    // The lesser of the candidate and the first fault of a cell.
+    fn with_first_at(&self, best: Option<BorderFault>, cell: Cell) -> Option<BorderFault>
+        requires { AreReadyBorders self.now }
+        ensures { IsBetter (Faults self.now) (λ h. h.cell ≡ cell) best result }
+    {
+        'times: for time in 0..self.job.steps() {
+            let fault = BorderFault { time, cell };
+            if self.is_fault(fault) {
+                return lesser(best, fault);
+            }
+        }
+        best
+    }
+
+    // The lesser of the candidate and the first fault of a cell, if halo and edge signal differ where no line names a
+    // time. No line names time 0, so those signals are found there. The first fault is soon met, since only an even
+    // time, or an odd one that a line names for the cell, is without one.
+    fn with_cell(&self, best: Option<BorderFault>, cell: Cell) -> Option<BorderFault>
+        requires { AreReadyBorders self.now }
+        ensures { IsBetter (Faults self.now) (DiffersAlwaysAt self.now cell) best result }
+    {
+        if !self.reaches(cell) || !self.differs(0, cell) {
+            return best;
+        }
+        self.with_first_at(best, cell)
+    }
+
+    // The least of the candidate and the faults of those cells of these lines for which such signals differ. The lines
+    // have a star, and count cells from a corner.
+    fn with_stars(
+        &self,
+        best: Option<BorderFault>,
+        corner: Box2,
+        stars: &[AllTimes],
+    ) -> Option<BorderFault>
+        requires ready { AreReadyBorders self.now }
+        requires corner { (corner.x ≤ 512) × (corner.y ≤ 512) }
+        ensures { IsBetter (Faults self.now)
+            (IsStarred self.now (map (moved_all_times (pos corner.x) (pos corner.y)) stars.now))
+            best result }
+    {
+        let area = self.job.area();
+        let mut least = best;
+        'stars: for place in 0..stars.len() {
+            let Some(cell) = cell_around(area, corner, stars[place].cell) else {
+                continue;
+            };
+            least = self.with_cell(least, cell);
+        }
+        least
+    }
+
+    // The same for the lines of a module's ring or halo.
+    fn with_stars_of(
+        &self,
+        best: Option<BorderFault>,
+        job: &Job,
+        border: Border,
+    ) -> Option<BorderFault>
+        requires ready { AreReadyBorders self.now }
+        ensures { IsBetter (Faults self.now)
+            (IsStarred self.now (job_signals border job.now).all_times) best result }
+    {
+        let corner = job.area();
+        self.with_stars(best, corner, schedule(job, border).all_times())
+    }
+
+    /// The least of the candidate and the faults of those cells of the halo for which such signals differ, where these
+    /// are the numbers of the modules that have cells of the halo. A cell of which no line with a star speaks is `Zero`
+    /// for both modules.
+    pub(crate) fn with_halo(&self, best: Option<BorderFault>, near: &[usize]) -> Option<BorderFault>
+        requires ready { AreReadyBorders self.now }
+        requires noted { AreOwnersNoted self.now near.now }
+        requires below { AreNumbers self.now near.now }
+        ensures { IsBetter (Faults self.now) (DiffersAlways self.now) best result }
+    {
+        let mut least = self.with_stars_of(best, self.job, Border::Halo);
+        'modules: for number in near {
+            least = self.with_stars_of(least, &self.jobs[*number], Border::Ring);
+        }
+        least
+    }
+}
