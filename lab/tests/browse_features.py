@@ -134,8 +134,10 @@ class Picture(Page):
         self.open("adder", "#t=8")
         self.keys("b")
         self.wait(lambda: self.text("time") == "0 of 8" and "reverse" in self.text("reverse"), "it comes to the start")
+        # One step a second, so that a slow machine sees it on its way.
+        self.run_script("const speed = document.getElementById('speed'); speed.value = 0; speed.dispatchEvent(new Event('input'))")
         self.click("#reverse")
-        self.wait(lambda: self.text("time").startswith(("7", "6")), "it begins at the end")
+        self.wait(lambda: self.text("time").startswith(("7", "6", "5")), "it begins at the end")
         self.keys(" ")
         self.wait(lambda: "reverse" in self.text("reverse"), "space stops")
 
