@@ -184,23 +184,6 @@ rows_join p s r first second third whole rows run = record {
     ) (run.lower j m)
 
 -- ---- the steps of the loops
-pub shifted_step : (upper k stride : ℕ) (first second mid third : List ℕ) (va vb a b : ℕ) → k < stride →
-    TurnsRun (64 * upper + 1) (64 * k) (64 * stride) first second → HasWindow second (64 * (upper + k) + 1) va →
-    HasWindow second (64 * (upper + k + stride) + 1) vb → ArePairsTurned va vb a b →
-    SetsWindow (64 * (upper + k) + 1) a second mid → SetsWindow (64 * (upper + k + stride) + 1) b mid third →
-    TurnsRun (64 * upper + 1) (64 * (k + 1)) (64 * stride) first third
-shifted_step upper k stride first second mid third va vb a b l run has_a has_b pairs set_a set_b =
-    let place : 64 * (upper + k) + 1 ≡ 64 * upper + 1 + 64 * k = omega arith in
-    let below : 64 * (upper + k + stride) + 1 ≡ 64 * upper + 1 + 64 * k + 64 * stride = omega arith in
-    let more : 64 * (k + 1) ≡ 64 * k + 64 = omega arith in
-    let has_a = rw place at has_a in
-    let set_a = rw place at set_a in
-    let has_b = rw below at has_b in
-    let set_b = rw below at set_b in
-    rw more (run_join (64 * upper + 1) (64 * k) (64 * stride) first second third (omega arith) (omega arith) run
-    (windows_turned (64 * upper + 1 + 64 * k) (64 * stride) va vb a b second mid third
-    (omega arith) has_a has_b pairs set_a set_b))
-
 pub aligned_step : (upper k stride : ℕ) (first second : List ℕ) (a b : ℕ) → k < stride →
     upper + stride + stride ≤ length second → TurnsRun (64 * upper) (64 * k) (64 * stride) first second →
     ArePairsTurned (get_or second (upper + k) 0) (get_or second (upper + k + stride) 0) a b →

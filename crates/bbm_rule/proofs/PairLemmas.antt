@@ -52,12 +52,12 @@ kept_second : (n j : ℕ) → j < 64 → j % 2 ≡ 1 → bit (bit_and n first_ma
 kept_second n j l odd = rw (bit-and n first_mask j, bit_mask j l, odd) (and-false (bit n j))
 
 -- a word that is joined from first and second cells of pairs
-joined_first : (f s j : ℕ) → j < 63 → bit f (1 + j) ≡ false →
+pub joined_first : (f s j : ℕ) → j < 63 → bit f (1 + j) ≡ false →
     bit (bit_or f (s * 2 % 18446744073709551616)) (1 + j) ≡ bit s j
 joined_first f s j l none = rw (bit-or f (s * 2 % 2 ^ 64) (1 + j), none, bit-mod (s * 2 ^ 1) 64 (1 + j) (omega arith))
     (bit-shl_high s 1 j (omega arith))
 
-joined_zero : (f s : ℕ) → bit (bit_or f (s * 2 % 18446744073709551616)) 0 ≡ bit f 0
+pub joined_zero : (f s : ℕ) → bit (bit_or f (s * 2 % 18446744073709551616)) 0 ≡ bit f 0
 joined_zero f s =
     rw (bit-or f (s * 2 % 2 ^ 64) 0, bit-mod (s * 2 ^ 1) 64 0 (omega arith), bit-shl_low s 1 0 (omega arith))
     (or-false (bit f 0))
@@ -251,104 +251,24 @@ bit_rest : (j : ℕ) → j < 64 → bit 18446744073709551614 j ≡ nat_eq (min j
 bit_rest j l = same_bool-true _ _
     (below_from_test (λ j. same_bool (bit 18446744073709551614 j) (nat_eq (min j 1) 1)) 64 rest_tested j l)
 
--- the word that keeps its first cell, and that which keeps all but the first
-low_joined : (w v j : ℕ) → j < 63 → bit (bit_or (bit_and w 1) (v * 2 % 18446744073709551616)) (1 + j) ≡ bit v j
-low_joined w v j l = joined_first (bit_and w 1) v j l
-    (rw (bit-and w 1 (1 + j), bit_one (1 + j) (omega arith), not_first j) (and-false (bit w (1 + j))))
-  where
-    not_first : (j : ℕ) → nat_eq (1 + j) 0 ≡ false
-    not_first j = grind (arith, nat_tests)
+-- the first bit of a word
+pub kept_bit : (w : ℕ) → bit (bit_and w 1) 0 ≡ bit w 0
+kept_bit w = rw (bit-and w 1 0, bit_one 0 (omega arith)) (and-true (bit w 0))
 
-low_kept : (w v : ℕ) → bit (bit_or (bit_and w 1) (v * 2 % 18446744073709551616)) 0 ≡ bit w 0
-low_kept w v = joined_zero (bit_and w 1) v ∙ (rw (bit-and w 1 0, bit_one 0 (omega arith)) (and-true (bit w 0)))
+-- a word that gets another first bit
+pub rest_zero : (w c : ℕ) → bit (bit_or (bit_and w 18446744073709551614) c) 0 ≡ bit c 0
+rest_zero w c =
+    rw (bit-or (bit_and w 18446744073709551614) c 0, bit-and w 18446744073709551614 0, bit_rest 0 (omega arith), and-false (bit w 0))
+    refl
 
-high_joined : (w v : ℕ) → bit (bit_or (bit_and w 18446744073709551614) (v / 9223372036854775808)) 0 ≡ bit v 63
-high_joined w v = rw (
-  bit-or (bit_and w 18446744073709551614) (v / 9223372036854775808) 0,
-  bit-and w 18446744073709551614 0,
-  bit_rest 0 (omega arith),
-  bit-shr v 63 0,
-  and-false (bit w 0),
-) refl
-
-high_kept : (w v j : ℕ) → v < 2 ^ 64 → 0 < j → j < 64 →
-    bit (bit_or (bit_and w 18446744073709551614) (v / 9223372036854775808)) j ≡ bit w j
-high_kept w v j small positive l =
+pub rest_kept : (w c j : ℕ) → c < 2 → 0 < j → j < 64 → bit (bit_or (bit_and w 18446744073709551614) c) j ≡ bit w j
+rest_kept w c j small positive l =
     let one : min j 1 ≡ 1 = omega arith in
     rw (
-      bit-or (bit_and w 18446744073709551614) (v / 9223372036854775808) j,
+      bit-or (bit_and w 18446744073709551614) c j,
       bit-and w 18446744073709551614 j,
       bit_rest j l,
       one,
-      bit-shr v 63 j,
-      bit_above v 64 (63 + j) small (omega arith),
+      bit_above c 1 j (omega (arith, small)) (omega arith),
       or-false (bit w j && true),
     ) (and-true (bit w j))
-
-abbrev low : List ℕ → ℕ → ℕ → ℕ
-low words i v = bit_or (bit_and (get_or words i 0) 1) (v * 2 % 18446744073709551616)
-
-abbrev high : List ℕ → ℕ → ℕ → ℕ
-high words i v = bit_or (bit_and (get_or (set words i (low words i v)) (i + 1) 0) 18446744073709551614)
-    (v / 9223372036854775808)
-
-abbrev new : List ℕ → ℕ → ℕ → List ℕ
-new words i v = set (set words i (low words i v)) (i + 1) (high words i v)
-
-pub window_set : (words : List ℕ) (i v : ℕ) → i + 1 < length words → v < 2 ^ 64 →
-    SetsWindow (64 * i + 1) v words (new words i v)
-window_set words i v room small = record {
-  cells = λ j l. by_lt_or_le j 63 (λ under. at_low j under) (λ over. at_high j (omega arith));
-  before = by_place (λ q. q < 64 * i + 1 → cell_at (new words i v) q ≡ cell_at words q) before_at;
-  after = by_place (λ q. 64 * i + 1 + 64 ≤ q → cell_at (new words i v) q ≡ cell_at words q) after_at;
-}
-  where
-    get_low : get_or (new words i v) i 0 ≡ (low words i v)
-    get_low = get_or-set_other (set words i (low words i v)) (i + 1) i (high words i v) 0 (λ e. absurd (omega arith))
-        ∙ get_or-set_same words i (low words i v) 0 (omega arith)
-
-    get_high : get_or (new words i v) (i + 1) 0 ≡ (high words i v)
-    get_high = get_or-set_same (set words i (low words i v)) (i + 1) (high words i v) 0
-        (omega (arith, length-set {A = ℕ}))
-
-    get_rest : (k : ℕ) → k ≢ i → k ≢ i + 1 → get_or (new words i v) k 0 ≡ get_or words k 0
-    get_rest k not_low not_high =
-        get_or-set_other (set words i (low words i v)) (i + 1) k (high words i v) 0 not_high
-        ∙ get_or-set_other words i k (low words i v) 0 not_low
-
-    get_next : get_or (set words i (low words i v)) (i + 1) 0 ≡ get_or words (i + 1) 0
-    get_next = get_or-set_other words i (i + 1) (low words i v) 0 (λ e. absurd (omega arith))
-
-    at_low : (j : ℕ) → j < 63 → cell_at (new words i v) (64 * i + 1 + j) ≡ bit v j
-    at_low j l =
-        let e : 64 * i + 1 + j ≡ 64 * i + (1 + j) = omega arith in
-        rw (e, cell_in_word (new words i v) i (1 + j) (omega arith), get_low) (low_joined (get_or words i 0) v j l)
-
-    at_high : (j : ℕ) → j ≡ 63 → cell_at (new words i v) (64 * i + 1 + j) ≡ bit v j
-    at_high j e =
-        let place : 64 * i + 1 + 63 ≡ 64 * (i + 1) + 0 = omega arith in
-        rw (e, place, cell_in_word (new words i v) (i + 1) 0 (omega arith), get_high)
-        (high_joined (get_or (set words i (low words i v)) (i + 1) 0) v)
-
-    elsewhere : (k b : ℕ) → b < 64 → k ≢ i → k ≢ i + 1 →
-        cell_at (new words i v) (64 * k + b) ≡ cell_at words (64 * k + b)
-    elsewhere k b l not_low not_high =
-        rw (cell_in_word (new words i v) k b l, cell_in_word words k b l, get_rest k not_low not_high) refl
-
-    before_at : (k b : ℕ) → b < 64 → 64 * k + b < 64 * i + 1 →
-        cell_at (new words i v) (64 * k + b) ≡ cell_at words (64 * k + b)
-    before_at k b l under =
-        by_eq_or_not k i
-        (λ same.
-        let none : b ≡ 0 = omega arith in
-        rw (same, none, cell_in_word (new words i v) i 0 (omega arith), cell_in_word words i 0 (omega arith), get_low)
-        (low_kept (get_or words i 0) v))
-        (λ other. elsewhere k b l other (λ e. absurd (omega arith)))
-
-    after_at : (k b : ℕ) → b < 64 → 64 * i + 1 + 64 ≤ 64 * k + b →
-        cell_at (new words i v) (64 * k + b) ≡ cell_at words (64 * k + b)
-    after_at k b l over =
-        by_eq_or_not k (i + 1)
-        (λ same. rw (same, cell_in_word (new words i v) (i + 1) b l, cell_in_word words (i + 1) b l, get_high, get_next)
-        (high_kept (get_or words (i + 1) 0) v b small (omega arith) l))
-        (λ other. elsewhere k b l (λ e. absurd (omega arith)) other)

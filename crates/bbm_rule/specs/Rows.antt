@@ -27,6 +27,19 @@ pub record SetsWindow (p v : ℕ) (old new : List ℕ) : Type 0 where
   pub before : (q : ℕ) → q < p → cell_at new q ≡ cell_at old q
   pub after : (q : ℕ) → p + 64 ≤ q → cell_at new q ≡ cell_at old q
 
+-- each of the n cells from place p on gets the cell behind it, and no other cell changes
+pub record MovesDown (p n : ℕ) (old new : List ℕ) : Type 0 where
+  pub cells : (j : ℕ) → j < n → cell_at new (p + j) ≡ cell_at old (p + j + 1)
+  pub before : (q : ℕ) → q < p → cell_at new q ≡ cell_at old q
+  pub after : (q : ℕ) → p + n ≤ q → cell_at new q ≡ cell_at old q
+
+-- each of the n cells behind place p gets the cell before it, that at p becomes the value, and no other cell changes
+pub record MovesUp (p n : ℕ) (value : Bool) (old new : List ℕ) : Type 0 where
+  pub first : cell_at new p ≡ value
+  pub cells : (j : ℕ) → j < n → cell_at new (p + 1 + j) ≡ cell_at old (p + j)
+  pub before : (q : ℕ) → q < p → cell_at new q ≡ cell_at old q
+  pub after : (q : ℕ) → p + n < q → cell_at new q ≡ cell_at old q
+
 -- The blocks of the n cells from place p on and the n cells a row of s cells below are turned, and no other cell
 -- changes.
 pub record TurnsRun (p n s : ℕ) (old new : List ℕ) : Type 0 where
