@@ -23,7 +23,7 @@ use crate::marks::{
 };
 use crate::planes::{Changes, Planes};
 use crate::values::Values;
-use bbm_rule::marks::{mark, mark_all, next_marked, unmark};
+use bbm_rule::marks::{mark, next_marked, unmark};
 use module_box::Signal;
 use module_job::Job;
 use std::alloc::{AllocError, Global};
@@ -623,7 +623,7 @@ impl MarkedPlanes {
     }
 
     // Looks whether the next steps are to turn whole planes, after a step by marks in which so many blocks changed.
-    // Where few did, they are not, whichever blocks are frozen.
+    // Where few did, they are not, even if most blocks are frozen.
     #[inline(always)]
     fn finish_step(&mut self, changed: usize)
         requires { changed ≤ 4096 }
@@ -631,9 +631,9 @@ impl MarkedPlanes {
     {
         if are_many(
             changed,
-            self.planes.cells(),
+            self.planes.cells() / 4,
             self.planes.words(),
-            self.planes.columns_and_rows(),
+            self.planes.columns_and_rows() / 4,
         ) {
             self.begin_phase(changed);
         } else {
@@ -652,7 +652,7 @@ impl MarkedPlanes {
             changed,
             self.frozen.active(cells),
             self.planes.words(),
-            self.planes.columns_and_rows(),
+            self.frozen.active_rows(self.planes.columns_and_rows()),
         ) {
             self.whole_plane_steps = self.whole_plane_steps.next_phase();
             self.count_dense(self.whole_plane_steps.left);
@@ -775,11 +775,11 @@ impl MarkedPlanes {
     {
         if self.whole_plane_steps.left > 0 {
             self.whole_plane_steps.left -= 1;
-            mark_all(&mut self.odd_marks);
-            mark_all(&mut self.even_marks);
-            self.live_marks.mark_all();
             self.is_exact = false;
             self.frozen.odd_step(&mut self.planes);
+            self.frozen
+                .mark_blocks(&self.planes, &mut self.odd_marks, &mut self.even_marks);
+            self.frozen.mark_live(&self.planes, &mut self.live_marks);
             return true;
         }
         let cells = self.planes.cells();
@@ -813,11 +813,11 @@ impl MarkedPlanes {
     {
         if self.whole_plane_steps.left > 0 {
             self.whole_plane_steps.left -= 1;
-            mark_all(&mut self.odd_marks);
-            mark_all(&mut self.even_marks);
-            self.live_marks.mark_all();
             self.is_exact = false;
             self.frozen.even_step(&mut self.planes);
+            self.frozen
+                .mark_blocks(&self.planes, &mut self.odd_marks, &mut self.even_marks);
+            self.frozen.mark_live(&self.planes, &mut self.live_marks);
             return true;
         }
         let cells = self.planes.cells() - self.planes.stride() - 1;

@@ -7,7 +7,7 @@ ghost use Rattle.local_run.specs.Borders.{AllInner};
 ghost use Rattle.local_run.specs.Live.{AreUnmarked, DropsDead, HasMarks, HasCells, IsDeadCell, MarksCell, TakesMark};
 ghost use Rattle.local_run.specs.Turns.{MarksAround, MarksCorners};
 ghost use Rattle.std.specs.Int.{trailing_zeros, w64};
-ghost use Rattle.std.specs.Prelude.{ℕ, ◌≡◌, ◌≢◌, ◌+◌, ◌*◌, ◌/◌, ◌%◌, ◌^◌, ◌<◌, ◌≤◌, ◌⊎◌, length, not, true, false};
+ghost use Rattle.std.specs.Prelude.{ℕ, ◌≡◌, ◌≢◌, ◌+◌, ◌*◌, ◌/◌, ◌%◌, ◌^◌, ◌<◌, ◌≤◌, ◌⊎◌, ◌&&◌, length, not, true, false};
 
 use crate::live::LiveMarks;
 use crate::planes::Changes;
@@ -30,6 +30,19 @@ pub fn mark_if(marks: &mut [u64], at: usize, changes: bool)
 {
     if changes {
         mark(marks, at);
+    }
+}
+
+/// Marks the numbers that have no mark in one of two other lists, as far as both lists reach, and unmarks the others.
+pub fn mark_lacking(marks: &mut [u64], first: &[u64], second: &[u64])
+    ensures { (u : ℕ) → u / 64 < length marks.old → u / 64 < length first.now →
+        u / 64 < length second.now →
+        cell_at marks.new u ≡ not (cell_at first.now u && cell_at second.now u) }
+{
+    let long = marks.len().min(first.len()).min(second.len());
+    'words: for k in 0..long {
+        // `!0 ^ a` stands for `!a`.
+        marks[k] = 0xFFFF_FFFF_FFFF_FFFF ^ (first[k] & second[k]);
     }
 }
 
