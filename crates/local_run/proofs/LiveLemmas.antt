@@ -3,7 +3,6 @@ use Rattle.std.proofs.Common.{◌≡◌, ◌≢◌, ℕ, Bool, true, false, ◌<
 use Rattle.std.proofs.Common.{List, get_or, set, length, inl, inr}
 use Rattle.std.proofs.lemmas.List.{get_or-set_other, get_or-set_same}
 use Rattle.bbm_rule.specs.Bits.{bit}
-use Rattle.bbm_rule.specs.Marks.{IsUnmarked}
 use Rattle.bbm_rule.specs.Plane.{turned}
 use Rattle.bbm_rule.specs.Words.{AreTurned}
 use Rattle.bbm_rule.proofs.BitLemmas.{by_eq_or_not, bit-zero}
@@ -277,16 +276,7 @@ dead_block u l p room dead free =
     (dead.3 u (omega arith) free.3) (dead.2 (u + 1) (omega arith) free.2) (dead.1 (u + p.stride) (omega arith) free.1)
     (dead.0 (u + p.stride + 1) (omega arith) free.0)
 
--- no block is known to stay, where all have marks
-pub marked_odd : (marks : List ℕ) (p : Planes) → p.stride * p.rows ≤ 64 * length marks →
-    ((u : ℕ) → u < 64 * length marks → IsUnmarked marks u → ⊥) → OddCalm marks p
-marked_odd marks p room all u l free = absurd (all u (omega (arith, room, l)) free)
-
-pub marked_even : (marks : List ℕ) (p : Planes) → p.stride * p.rows ≤ 64 * length marks →
-    ((u : ℕ) → u < 64 * length marks → IsUnmarked marks u → ⊥) → EvenCalm marks p
-marked_even marks p room all u l inside free = absurd (all u (omega (arith, room, l)) free)
-
--- each stays, where all cells are dead
+-- each block stays, where all cells are dead
 pub dead_odd : (marks : List ℕ) (p : Planes) → AreDead p → OddCalm marks p
 dead_odd marks p dead u l free = dead_calm p.words u u u u p.odd.items p.right.items p.down.items p.even.items
     (λ k h. (dead u k h).0) (λ k h. (dead u k h).1) (λ k h. (dead u k h).2) (λ k h. (dead u k h).3)
