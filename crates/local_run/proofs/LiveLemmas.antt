@@ -1,11 +1,12 @@
 -- Cells that are known to be dead, and blocks of which one cell at most is live
-use Rattle.std.proofs.Common.{◌≡◌, ◌≢◌, ℕ, Bool, true, false, ◌<◌, ◌≤◌, ◌+◌, ◌*◌, ◌⊎◌, arith, refl, sym, ◌∙◌, ap, subst}
+use Rattle.std.proofs.Common.{◌≡◌, ◌≢◌, ℕ, Bool, true, false, ◌<◌, ◌≤◌, ◌+◌, ◌-◌, ◌*◌, ◌⊎◌, arith, refl, sym, ◌∙◌, ap}
+use Rattle.std.proofs.Common.{subst}
 use Rattle.std.proofs.Common.{List, get_or, set, length, inl, inr}
 use Rattle.std.proofs.lemmas.List.{get_or-set_other, get_or-set_same}
 use Rattle.bbm_rule.specs.Bits.{bit}
 use Rattle.bbm_rule.specs.Plane.{turned}
 use Rattle.bbm_rule.specs.Words.{AreTurned}
-use Rattle.bbm_rule.proofs.BitLemmas.{by_eq_or_not, bit-zero}
+use Rattle.bbm_rule.proofs.BitLemmas.{by_eq_or_not, bit-zero, by_lt_or_le}
 use Rattle.local_run.specs.Calm.{AreDead, ChangesCells, EvenCalm, IsDeadAt, OddCalm}
 use Rattle.local_run.specs.Lanes.{HasSize}
 use Rattle.local_run.specs.Live.{AllDead, AreMarked, AreUnmarked, DeadBut, DropsDead, IsDeadCell, MarksCell, TakesMark}
@@ -22,6 +23,34 @@ swap_none a b xs ys = record {
   second = λ k l. absurd (omega arith);
   first_beside = same_beside a 0 xs;
   second_beside = same_beside b 0 ys;
+}
+
+-- more words after these change places
+beside_more : (a k m : ℕ) (xs xs' xs'' : List ℕ) → SameBeside a k xs xs' → SameBeside (a + k) m xs' xs'' →
+    SameBeside a (k + m) xs xs''
+beside_more a k m xs xs' xs'' s t = record {
+  below = λ n l. t.below n (omega (arith, l)) ∙ s.below n l;
+  above = λ n l. t.above n (omega (arith, l)) ∙ s.above n (omega (arith, l));
+}
+
+swapped_more : (a b k m : ℕ) (ys xs' ys' xs'' : List ℕ) →
+    ((j : ℕ) → j < k → get_or xs' (a + j) 0 ≡ get_or ys (b + j) 0) →
+    SameBeside b k ys ys' → ((j : ℕ) → j < m → get_or xs'' (a + k + j) 0 ≡ get_or ys' (b + k + j) 0) →
+    SameBeside (a + k) m xs' xs'' → (j : ℕ) → j < k + m → get_or xs'' (a + j) 0 ≡ get_or ys (b + j) 0
+swapped_more a b k m ys xs' ys' xs'' first beside second later j l = by_lt_or_le j k
+    (λ h. later.below (a + j) (omega (arith, h)) ∙ first j h)
+    (λ g. let ea : a + k + (j - k) ≡ a + j = omega (arith, g) in
+    let eb : b + k + (j - k) ≡ b + j = omega (arith, g) in
+    ap (λ (n : ℕ). get_or xs'' n 0) (sym ea) ∙ second (j - k) (omega (arith, g, l)) ∙ ap (λ (n : ℕ). get_or ys' n 0) eb
+    ∙ beside.above (b + j) (omega (arith, g)))
+
+pub swaps_more : (a b k m : ℕ) (xs ys xs' ys' xs'' ys'' : List ℕ) → SwapsPart a b k xs ys xs' ys' →
+    SwapsPart (a + k) (b + k) m xs' ys' xs'' ys'' → SwapsPart a b (k + m) xs ys xs'' ys''
+swaps_more a b k m xs ys xs' ys' xs'' ys'' s t = record {
+  first = swapped_more a b k m ys xs' ys' xs'' s.first s.second_beside t.first t.first_beside;
+  second = swapped_more b a k m xs ys' xs' ys'' s.second s.first_beside t.second t.second_beside;
+  first_beside = beside_more a k m xs xs' xs'' s.first_beside t.first_beside;
+  second_beside = beside_more b k m ys ys' ys'' s.second_beside t.second_beside;
 }
 
 set_beside : (a k v : ℕ) (xs xs' : List ℕ) → SameBeside a k xs xs' → SameBeside a (k + 1) xs (set xs' (a + k) v)

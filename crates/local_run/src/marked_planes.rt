@@ -122,8 +122,8 @@ const CROWD: u32 = 64;
 
 // Whether it costs less to turn all blocks, with that many words a cell, and that many cells a row and rows together,
 // than to go by marks where so many change. A block that changes has up to four others looked at, two for each of its
-// diagonals that changes. Where all are turned no cell of ring and halo is known to be dead, and at odd times each is
-// looked up.
+// diagonals that changes. Where all are turned no cell of ring and halo is known to be dead, but for those of frozen
+// and empty blocks, and at odd times the others are looked up.
 fn are_many(changed: usize, cells: usize, words: usize, columns_and_rows: usize) -> bool
     requires { (changed ≤ 4096) × (cells ≤ 4096) × (words ≤ 64) × (columns_and_rows ≤ 128) }
 {
