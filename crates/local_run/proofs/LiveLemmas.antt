@@ -6,7 +6,7 @@ use Rattle.std.proofs.lemmas.List.{get_or-set_other, get_or-set_same}
 use Rattle.bbm_rule.specs.Bits.{bit}
 use Rattle.bbm_rule.specs.Plane.{turned}
 use Rattle.bbm_rule.specs.Words.{AreTurned}
-use Rattle.bbm_rule.proofs.BitLemmas.{by_eq_or_not, bit-zero, by_lt_or_le}
+use Rattle.bbm_rule.proofs.BitLemmas.{bit-zero, by_lt_or_le}
 use Rattle.local_run.specs.Calm.{AreDead, ChangesCells, EvenCalm, IsDeadAt, OddCalm}
 use Rattle.local_run.specs.Lanes.{HasSize}
 use Rattle.local_run.specs.Live.{AllDead, AreMarked, AreUnmarked, DeadBut, DropsDead, IsDeadCell, MarksCell, TakesMark}
@@ -17,15 +17,6 @@ use Rattle.local_run.proofs.CalmLemmas.{other_cell}
 use Rattle.local_run.proofs.TurnLemmas.{same_beside}
 
 -- ---- words that change places, one after another
-pub swap_none : (a b : ℕ) (xs ys : List ℕ) → SwapsPart a b 0 xs ys xs ys
-swap_none a b xs ys = record {
-  first = λ k l. absurd (omega arith);
-  second = λ k l. absurd (omega arith);
-  first_beside = same_beside a 0 xs;
-  second_beside = same_beside b 0 ys;
-}
-
--- more words after these change places
 beside_more : (a k m : ℕ) (xs xs' xs'' : List ℕ) → SameBeside a k xs xs' → SameBeside (a + k) m xs' xs'' →
     SameBeside a (k + m) xs xs''
 beside_more a k m xs xs' xs'' s t = record {
@@ -51,29 +42,6 @@ swaps_more a b k m xs ys xs' ys' xs'' ys'' s t = record {
   second = swapped_more b a k m xs ys' xs' ys'' s.second s.first_beside t.second t.second_beside;
   first_beside = beside_more a k m xs xs' xs'' s.first_beside t.first_beside;
   second_beside = beside_more b k m ys ys' ys'' s.second_beside t.second_beside;
-}
-
-set_beside : (a k v : ℕ) (xs xs' : List ℕ) → SameBeside a k xs xs' → SameBeside a (k + 1) xs (set xs' (a + k) v)
-set_beside a k v xs xs' same = record {
-  below = λ n l. get_or-set_other xs' (a + k) n v 0 (λ e. omega (arith, e, l)) ∙ same.below n l;
-  above = λ n l. get_or-set_other xs' (a + k) n v 0 (λ e. omega (arith, e, l)) ∙ same.above n (omega arith);
-}
-
-pub swap_next : (a b k : ℕ) (xs ys xs' ys' : List ℕ) → a + k < length xs' → b + k < length ys' →
-    SwapsPart a b k xs ys xs' ys' →
-    SwapsPart a b (k + 1) xs ys (set xs' (a + k) (get_or ys' (b + k) 0)) (set ys' (b + k) (get_or xs' (a + k) 0))
-swap_next a b k xs ys xs' ys' la lb s = record {
-  first = λ j l. by_eq_or_not j k
-      (λ e. rw e (get_or-set_same xs' (a + k) (get_or ys' (b + k) 0) 0 la
-      ∙ s.second_beside.above (b + k) (omega arith)))
-      (λ ne. get_or-set_other xs' (a + k) (a + j) (get_or ys' (b + k) 0) 0 (λ e. ne (omega (arith, e)))
-      ∙ s.first j (omega (arith, ne, l)));
-  second = λ j l. by_eq_or_not j k
-      (λ e. rw e (get_or-set_same ys' (b + k) (get_or xs' (a + k) 0) 0 lb ∙ s.first_beside.above (a + k) (omega arith)))
-      (λ ne. get_or-set_other ys' (b + k) (b + j) (get_or xs' (a + k) 0) 0 (λ e. ne (omega (arith, e)))
-      ∙ s.second j (omega (arith, ne, l)));
-  first_beside = set_beside a k _ xs xs' s.first_beside;
-  second_beside = set_beside b k _ ys ys' s.second_beside;
 }
 
 -- ---- blocks of which no cell is live

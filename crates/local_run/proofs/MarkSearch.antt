@@ -1,13 +1,12 @@
 -- Words of marks: numbers that have a mark in one list, and one in another
-use Rattle.std.proofs.Common.{◌≡◌, ℕ, Bool, true, false, ◌&&◌, ◌||◌, ◌⊎◌, inl, inr, ◌<◌, ◌≤◌, ◌+◌, ◌-◌, ◌*◌, ◌/◌}
+use Rattle.std.proofs.Common.{◌≡◌, ℕ, Bool, true, false, ◌&&◌, ◌||◌, ◌⊎◌, inl, inr, ◌/◌}
 use Rattle.std.proofs.Common.{◌%◌}
-use Rattle.std.proofs.Common.{◌^◌, refl, arith, sym, ◌∙◌, ap, List, get_or, bit_and, bit_or}
-use Rattle.std.specs.Int.{bit_at}
+use Rattle.std.proofs.Common.{refl, sym, ◌∙◌, ap, List, get_or, bit_and, bit_or}
 use Rattle.std.proofs.lemmas.Bool.{false≢true}
 use Rattle.bbm_rule.specs.Bits.{bit}
 use Rattle.bbm_rule.specs.Marks.{IsUnmarked}
 use Rattle.bbm_rule.specs.Rows.{cell_at}
-use Rattle.bbm_rule.proofs.BitLemmas.{bit-and, bit-is, bit-or, bit-shr, bit-zero}
+use Rattle.bbm_rule.proofs.BitLemmas.{bit-and, bit-or, bit-zero}
 use Rattle.local_run.specs.Live.{AreUnmarked}
 use Rattle.local_run.specs.declared.live.LiveMarks.{LiveMarks}
 
@@ -48,17 +47,7 @@ word_of l q a b c d ea eb ec ed u e none =
       cell_is l.even.items q u e ∙ ap (λ n. bit n (u % 64)) ed ∙ lower.1,
     )
 
--- ---- the bits of a word
-rest_bit : (w at u : ℕ) → at ≤ u → u < 64 * (at / 64 + 1) → bit (w / 2 ^ (at % 64)) (u - at) ≡ bit w (u % 64)
-rest_bit w at u l h = let e : at % 64 + (u - at) ≡ u % 64 = omega arith in
-    bit-shr w (at % 64) (u - at) ∙ ap (bit w) e
-
-bit_none : (n j : ℕ) → bit_at n j ≡ 0 → bit n j ≡ false
-bit_none n j e = rw (bit-is n j, e) refl
-
-bit_one : (n j : ℕ) → bit_at n j ≡ 1 → bit n j ≡ true
-bit_one n j e = rw (bit-is n j, e) refl
-
+-- a word that is zero
 pub whole_zero : (w u : ℕ) → w ≡ 0 → bit w u ≡ false
 whole_zero w u e = ap (λ n. bit n u) e ∙ bit-zero u
 
