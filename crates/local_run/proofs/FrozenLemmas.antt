@@ -1,5 +1,5 @@
 -- Blocks that no step changes
-use Rattle.std.proofs.Common.{◌≡◌, ◌≢◌, ℕ, Bool, true, ◌<◌, ◌≤◌, ◌+◌, ◌-◌, ◌*◌, ◌%◌, ◌⊎◌, inl, inr, arith}
+use Rattle.std.proofs.Common.{◌≡◌, ◌≢◌, ℕ, Bool, true, false, ◌<◌, ◌≤◌, ◌+◌, ◌-◌, ◌*◌, ◌%◌, ◌^◌, ◌⊎◌, inl, inr, arith}
 use Rattle.std.proofs.Common.{sym, ◌∙◌, List, ap, get_or, subst}
 use Rattle.std.proofs.lemmas.Bool.{false≢true}
 use Rattle.std.proofs.Math.Logic.{∥∥₁_elim, ∥∥₁_map}
@@ -9,18 +9,21 @@ use Rattle.bbm_rule.specs.Marks.{IsUnmarked}
 use Rattle.bbm_rule.specs.Rows.{cell_at}
 use Rattle.bbm_rule.specs.Words.{AreTurned}
 use Rattle.bbm_rule.proofs.BitLemmas.{by_eq_or_not, by_lt_or_le}
-use Rattle.local_run.specs.Calm.{ChangesCells}
+use Rattle.local_run.specs.Calm.{ChangesCells, EvenCalm, OddCalm}
 use Rattle.local_run.specs.Frozen.{AreWords, Freezes, HasBlockMarks, IsEvenCalmAt, IsFrozen, IsMarkedBefore}
 use Rattle.local_run.specs.Frozen.{IsOddCalmAt, KeepsFirst}
-use Rattle.local_run.specs.Held.{bits_of}
+use Rattle.local_run.specs.Held.{AreAll, bits_of}
 use Rattle.local_run.specs.Lanes.{HasSize}
+use Rattle.local_run.specs.Live.{AllDead, AllDead-prop, AreMarkedBut, IsDeadCell}
 use Rattle.local_run.specs.Sweeps.{TurnsEven, TurnsOdd}
 use Rattle.local_run.specs.Turns.{TurnsPart}
 use Rattle.local_run.specs.declared.frozen.FrozenBlocks.{FrozenBlocks}
+use Rattle.local_run.specs.declared.live.LiveMarks.{LiveMarks}
 use Rattle.local_run.specs.declared.planes.Planes.{Planes}
 use Rattle.local_run.proofs.CalmLemmas.{other_cell}
 use Rattle.local_run.proofs.HeldLemmas.{BlockStays, MayTurn, StaysBits, TurnsBits, held_block, held_stays, still_empty}
 use Rattle.local_run.proofs.HeldLemmas.{still_held}
+use Rattle.local_run.proofs.MarkFlips.{zero_word}
 use Rattle.local_run.proofs.RunLemmas.{first_part}
 
 -- ---- blocks that are turned or stay
@@ -342,3 +345,36 @@ pub given_up : (b b' : FrozenBlocks) (u : ℕ) (p : Planes) →
     (b'.is_found ≡ true → (b' ≡ b) × IsUnmarked b.odd.items u) → Freezes b p → Freezes b' p
 given_up b b' u p kept f = ∥∥₁_map f (λ h e. let k = kept e in
     subst (λ (z : FrozenBlocks). IsFrozen z p) (sym k.0) (h (sym (ap (λ (z : FrozenBlocks). z.is_found) k.0) ∙ e)))
+
+-- ---- marks on all blocks but the frozen ones, and on all cells but those of the frozen and empty ones
+pub odd_calm_but : (b : FrozenBlocks) (marks : List ℕ) (p : Planes) → AreWords p → Freezes b p →
+    b.is_found ≡ true → ((u : ℕ) → u < p.stride * p.rows → IsUnmarked marks u → cell_at b.odd.items u ≡ true) →
+    OddCalm marks p
+odd_calm_but b marks p words f e but u l free = odd_calm_found b p words f e u l (but u l free)
+
+pub even_calm_but : (b : FrozenBlocks) (marks : List ℕ) (p : Planes) → AreWords p → Freezes b p →
+    b.is_found ≡ true → ((u : ℕ) → u < p.stride * p.rows → IsUnmarked marks u → cell_at b.even.items u ≡ true) →
+    EvenCalm marks p
+even_calm_but b marks p words f e but u l inside free =
+    (even_calm_found b p words f e).calm u l inside (but u (omega (arith, l)) free)
+
+dead_cell : (w u : ℕ) (cells : List ℕ) → ((k : ℕ) → get_or cells k 0 < 2 ^ 64) →
+    AreAll false w (bits_of w cells u) → IsDeadCell w u cells
+dead_cell w u cells small dead k l = zero_word (get_or cells (w * u + k) 0) (small (w * u + k)) (λ j h. dead k j l h)
+
+dead_but : (b : FrozenBlocks) (l : LiveMarks) (p : Planes) → AreWords p → IsFrozen b p →
+    AreMarkedBut (p.stride * p.rows) b.odd.items b.empty.items l → AllDead l p
+dead_but b l p words f but = (
+  λ u h free. let m = (but u h).0 free in dead_cell p.words u p.odd.items words.odd (f.empty u h m.0 m.1).upper_left,
+  λ u h free. let m = (but u h).1 free in
+      dead_cell p.words u p.right.items words.right (f.empty u h m.0 m.1).upper_right,
+  λ u h free. let m = (but u h).2 free in
+      dead_cell p.words u p.down.items words.down (f.empty u h m.0 m.1).lower_left,
+  λ u h free. let m = (but u h).3 free in
+      dead_cell p.words u p.even.items words.even (f.empty u h m.0 m.1).lower_right,
+)
+
+pub dead_found : (b : FrozenBlocks) (l : LiveMarks) (p : Planes) → AreWords p → Freezes b p → b.is_found ≡ true →
+    (HasBlockMarks b p → AreMarkedBut (p.stride * p.rows) b.odd.items b.empty.items l) → AllDead l p
+dead_found b l p words f e but =
+    ∥∥₁_elim f (AllDead-prop l p) (λ h. dead_but b l p words (h e) (but (h e).room))

@@ -1,12 +1,12 @@
 -- Cells that are known to be dead, and blocks of which one cell at most is live
-use Rattle.std.proofs.Common.{◌≡◌, ◌≢◌, ℕ, Bool, true, false, ◌<◌, ◌≤◌, ◌+◌, ◌*◌, ◌⊎◌, arith, refl, sym, ◌∙◌, ap, subst}
+use Rattle.std.proofs.Common.{◌≡◌, ◌≢◌, ℕ, Bool, true, false, ◌<◌, ◌≤◌, ◌+◌, ◌-◌, ◌*◌, ◌⊎◌, arith, refl, sym, ◌∙◌, ap}
+use Rattle.std.proofs.Common.{subst}
 use Rattle.std.proofs.Common.{List, get_or, set, length, inl, inr}
 use Rattle.std.proofs.lemmas.List.{get_or-set_other, get_or-set_same}
 use Rattle.bbm_rule.specs.Bits.{bit}
-use Rattle.bbm_rule.specs.Marks.{IsUnmarked}
 use Rattle.bbm_rule.specs.Plane.{turned}
 use Rattle.bbm_rule.specs.Words.{AreTurned}
-use Rattle.bbm_rule.proofs.BitLemmas.{by_eq_or_not, bit-zero}
+use Rattle.bbm_rule.proofs.BitLemmas.{bit-zero, by_lt_or_le}
 use Rattle.local_run.specs.Calm.{AreDead, ChangesCells, EvenCalm, IsDeadAt, OddCalm}
 use Rattle.local_run.specs.Lanes.{HasSize}
 use Rattle.local_run.specs.Live.{AllDead, AreMarked, AreUnmarked, DeadBut, DropsDead, IsDeadCell, MarksCell, TakesMark}
@@ -17,35 +17,31 @@ use Rattle.local_run.proofs.CalmLemmas.{other_cell}
 use Rattle.local_run.proofs.TurnLemmas.{same_beside}
 
 -- ---- words that change places, one after another
-pub swap_none : (a b : ℕ) (xs ys : List ℕ) → SwapsPart a b 0 xs ys xs ys
-swap_none a b xs ys = record {
-  first = λ k l. absurd (omega arith);
-  second = λ k l. absurd (omega arith);
-  first_beside = same_beside a 0 xs;
-  second_beside = same_beside b 0 ys;
+beside_more : (a k m : ℕ) (xs xs' xs'' : List ℕ) → SameBeside a k xs xs' → SameBeside (a + k) m xs' xs'' →
+    SameBeside a (k + m) xs xs''
+beside_more a k m xs xs' xs'' s t = record {
+  below = λ n l. t.below n (omega (arith, l)) ∙ s.below n l;
+  above = λ n l. t.above n (omega (arith, l)) ∙ s.above n (omega (arith, l));
 }
 
-set_beside : (a k v : ℕ) (xs xs' : List ℕ) → SameBeside a k xs xs' → SameBeside a (k + 1) xs (set xs' (a + k) v)
-set_beside a k v xs xs' same = record {
-  below = λ n l. get_or-set_other xs' (a + k) n v 0 (λ e. omega (arith, e, l)) ∙ same.below n l;
-  above = λ n l. get_or-set_other xs' (a + k) n v 0 (λ e. omega (arith, e, l)) ∙ same.above n (omega arith);
-}
+swapped_more : (a b k m : ℕ) (ys xs' ys' xs'' : List ℕ) →
+    ((j : ℕ) → j < k → get_or xs' (a + j) 0 ≡ get_or ys (b + j) 0) →
+    SameBeside b k ys ys' → ((j : ℕ) → j < m → get_or xs'' (a + k + j) 0 ≡ get_or ys' (b + k + j) 0) →
+    SameBeside (a + k) m xs' xs'' → (j : ℕ) → j < k + m → get_or xs'' (a + j) 0 ≡ get_or ys (b + j) 0
+swapped_more a b k m ys xs' ys' xs'' first beside second later j l = by_lt_or_le j k
+    (λ h. later.below (a + j) (omega (arith, h)) ∙ first j h)
+    (λ g. let ea : a + k + (j - k) ≡ a + j = omega (arith, g) in
+    let eb : b + k + (j - k) ≡ b + j = omega (arith, g) in
+    ap (λ (n : ℕ). get_or xs'' n 0) (sym ea) ∙ second (j - k) (omega (arith, g, l)) ∙ ap (λ (n : ℕ). get_or ys' n 0) eb
+    ∙ beside.above (b + j) (omega (arith, g)))
 
-pub swap_next : (a b k : ℕ) (xs ys xs' ys' : List ℕ) → a + k < length xs' → b + k < length ys' →
-    SwapsPart a b k xs ys xs' ys' →
-    SwapsPart a b (k + 1) xs ys (set xs' (a + k) (get_or ys' (b + k) 0)) (set ys' (b + k) (get_or xs' (a + k) 0))
-swap_next a b k xs ys xs' ys' la lb s = record {
-  first = λ j l. by_eq_or_not j k
-      (λ e. rw e (get_or-set_same xs' (a + k) (get_or ys' (b + k) 0) 0 la
-      ∙ s.second_beside.above (b + k) (omega arith)))
-      (λ ne. get_or-set_other xs' (a + k) (a + j) (get_or ys' (b + k) 0) 0 (λ e. ne (omega (arith, e)))
-      ∙ s.first j (omega (arith, ne, l)));
-  second = λ j l. by_eq_or_not j k
-      (λ e. rw e (get_or-set_same ys' (b + k) (get_or xs' (a + k) 0) 0 lb ∙ s.first_beside.above (a + k) (omega arith)))
-      (λ ne. get_or-set_other ys' (b + k) (b + j) (get_or xs' (a + k) 0) 0 (λ e. ne (omega (arith, e)))
-      ∙ s.second j (omega (arith, ne, l)));
-  first_beside = set_beside a k _ xs xs' s.first_beside;
-  second_beside = set_beside b k _ ys ys' s.second_beside;
+pub swaps_more : (a b k m : ℕ) (xs ys xs' ys' xs'' ys'' : List ℕ) → SwapsPart a b k xs ys xs' ys' →
+    SwapsPart (a + k) (b + k) m xs' ys' xs'' ys'' → SwapsPart a b (k + m) xs ys xs'' ys''
+swaps_more a b k m xs ys xs' ys' xs'' ys'' s t = record {
+  first = swapped_more a b k m ys xs' ys' xs'' s.first s.second_beside t.first t.first_beside;
+  second = swapped_more b a k m xs ys' xs' ys'' s.second s.first_beside t.second t.second_beside;
+  first_beside = beside_more a k m xs xs' xs'' s.first_beside t.first_beside;
+  second_beside = beside_more b k m ys ys' ys'' s.second_beside t.second_beside;
 }
 
 -- ---- blocks of which no cell is live
@@ -277,16 +273,7 @@ dead_block u l p room dead free =
     (dead.3 u (omega arith) free.3) (dead.2 (u + 1) (omega arith) free.2) (dead.1 (u + p.stride) (omega arith) free.1)
     (dead.0 (u + p.stride + 1) (omega arith) free.0)
 
--- no block is known to stay, where all have marks
-pub marked_odd : (marks : List ℕ) (p : Planes) → p.stride * p.rows ≤ 64 * length marks →
-    ((u : ℕ) → u < 64 * length marks → IsUnmarked marks u → ⊥) → OddCalm marks p
-marked_odd marks p room all u l free = absurd (all u (omega (arith, room, l)) free)
-
-pub marked_even : (marks : List ℕ) (p : Planes) → p.stride * p.rows ≤ 64 * length marks →
-    ((u : ℕ) → u < 64 * length marks → IsUnmarked marks u → ⊥) → EvenCalm marks p
-marked_even marks p room all u l inside free = absurd (all u (omega (arith, room, l)) free)
-
--- each stays, where all cells are dead
+-- each block stays, where all cells are dead
 pub dead_odd : (marks : List ℕ) (p : Planes) → AreDead p → OddCalm marks p
 dead_odd marks p dead u l free = dead_calm p.words u u u u p.odd.items p.right.items p.down.items p.even.items
     (λ k h. (dead u k h).0) (λ k h. (dead u k h).1) (λ k h. (dead u k h).2) (λ k h. (dead u k h).3)

@@ -1,6 +1,6 @@
 -- Marks that are flipped or change places
 use Rattle.std.proofs.Common.{◌≡◌, ◌≢◌, ℕ, Bool, true, false, not, ◌<◌, ◌*◌, ◌/◌, ◌^◌, ◌%◌, refl, arith, sym, ◌∙◌, ap}
-use Rattle.std.proofs.Common.{List, length, get_or, set, bit_or, w64, inl, inr}
+use Rattle.std.proofs.Common.{List, length, get_or, set, bit_and, bit_or, w64, inl, inr, ◌&&◌}
 use Rattle.std.specs.Bool.{beq}
 use Rattle.std.specs.Int.{bit_at, trailing_zeros}
 use Rattle.std.specs.Int.Count.{trailing_of_zero}
@@ -13,8 +13,10 @@ use Rattle.std.proofs.lemmas.Nat.{xor_lt}
 use Rattle.std.proofs.lemmas.Nat.Bits.{bit_at-trailing_zeros, bit_at_set_same, bit_at_set_other}
 use Rattle.bbm_rule.specs.Bits.{bit}
 use Rattle.bbm_rule.specs.Rows.{cell_at}
-use Rattle.bbm_rule.proofs.BitLemmas.{by_eq_or_not, by_lt_or_le, bit-is, bit-xor, bit-zero, xor}
-use Rattle.local_run.specs.Live.{TakesMark}
+use Rattle.bbm_rule.specs.Marks.{IsUnmarked}
+use Rattle.bbm_rule.proofs.BitLemmas.{by_eq_or_not, by_lt_or_le, bit-and, bit-is, bit-xor, bit-zero, xor}
+use Rattle.bbm_rule.proofs.MarkLemmas.{bit_ones}
+use Rattle.local_run.specs.Live.{IsInBoth, TakesMark}
 
 -- the word with one bit
 abbrev one_at : ℕ → ℕ
@@ -145,3 +147,38 @@ becomes_second v w r s ev ew e = ap not (sym ev) ∙ second_flipped r s e ∙ ew
 
 pub becomes_first : (v w r s : Bool) → r ≡ v → s ≡ w → beq r s ≡ false → not w ≡ v
 becomes_first v w r s ev ew e = ap not (sym ew) ∙ first_flipped r s e ∙ ev
+
+-- ---- the numbers that lack a mark in one of two lists
+true_xor : (v : Bool) → xor true v ≡ not v
+true_xor true = refl
+true_xor false = refl
+
+abbrev pub lacking : List ℕ → List ℕ → ℕ → ℕ
+lacking first second k = bit_xor 18446744073709551615 (bit_and (get_or first k 0) (get_or second k 0))
+
+pub lacking_bit : (first second marks : List ℕ) (u : ℕ) → get_or marks (u / 64) 0 ≡ lacking first second (u / 64) →
+    cell_at marks u ≡ not (cell_at first u && cell_at second u)
+unfolding cell_at
+lacking_bit first second marks u e =
+    let a = get_or first (u / 64) 0 in
+    let b = get_or second (u / 64) 0 in
+    ap (λ (n : ℕ). bit n (u % 64)) e
+    ∙ bit-xor 18446744073709551615 (bit_and a b) (u % 64)
+    ∙ ap (λ (v : Bool). xor v (bit (bit_and a b) (u % 64))) (bit_ones (u % 64) (omega arith))
+    ∙ true_xor (bit (bit_and a b) (u % 64))
+    ∙ ap not (bit-and a b (u % 64))
+
+-- a number that lacks no mark
+pub in_both : (first second marks : List ℕ) (u : ℕ) →
+    cell_at marks u ≡ not (cell_at first u && cell_at second u) → IsUnmarked marks u → IsInBoth first second u
+in_both first second marks u e free = both (cell_at first u) (cell_at second u) (sym e ∙ free)
+  where
+    both : (v w : Bool) → not (v && w) ≡ false → (v ≡ true) × (w ≡ true)
+    both true true e = (refl, refl)
+    both true false e = absurd (false≢true (sym e))
+    both false w e = absurd (false≢true (sym e))
+
+-- a word without bits
+pub zero_word : (n : ℕ) → n < 2 ^ 64 → ((j : ℕ) → j < 64 → bit n j ≡ false) → n ≡ 0
+zero_word n small none = by_eq_or_not n 0 (λ e. e)
+    (λ ne. let f = clears_first n ne small in absurd (false≢true (sym (none _ f.within) ∙ f.first)))

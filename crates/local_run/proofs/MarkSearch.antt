@@ -1,16 +1,12 @@
 -- Words of marks: numbers that have a mark in one list, and one in another
-use Rattle.std.proofs.Common.{◌≡◌, ◌≢◌, ℕ, Bool, true, false, ◌&&◌, ◌||◌, ◌⊎◌, inl, inr, ◌<◌, ◌≤◌, ◌+◌, ◌-◌, ◌*◌, ◌/◌}
+use Rattle.std.proofs.Common.{◌≡◌, ℕ, Bool, true, false, ◌&&◌, ◌||◌, ◌⊎◌, inl, inr, ◌/◌}
 use Rattle.std.proofs.Common.{◌%◌}
-use Rattle.std.proofs.Common.{◌^◌, refl, arith, sym, ◌∙◌, ap, List, get_or, bit_and, bit_or, w64}
-use Rattle.std.specs.Int.{bit_at, trailing_zeros}
-use Rattle.std.proofs.Math.Nat.{div-le_self}
-use Rattle.std.proofs.lemmas.Nat.Bits.{bit_at-trailing_zeros}
+use Rattle.std.proofs.Common.{refl, sym, ◌∙◌, ap, List, get_or, bit_and, bit_or}
 use Rattle.std.proofs.lemmas.Bool.{false≢true}
-use Rattle.std.proofs.lemmas.Nat.{and_le_l}
 use Rattle.bbm_rule.specs.Bits.{bit}
 use Rattle.bbm_rule.specs.Marks.{IsUnmarked}
 use Rattle.bbm_rule.specs.Rows.{cell_at}
-use Rattle.bbm_rule.proofs.BitLemmas.{by_lt_or_le, bit-and, bit-is, bit-or, bit-shr, bit-zero, bit_above}
+use Rattle.bbm_rule.proofs.BitLemmas.{bit-and, bit-or, bit-zero}
 use Rattle.local_run.specs.Live.{AreUnmarked}
 use Rattle.local_run.specs.declared.live.LiveMarks.{LiveMarks}
 
@@ -51,53 +47,7 @@ word_of l q a b c d ea eb ec ed u e none =
       cell_is l.even.items q u e ∙ ap (λ n. bit n (u % 64)) ed ∙ lower.1,
     )
 
--- ---- the bits of a word
-rest_bit : (w at u : ℕ) → at ≤ u → u < 64 * (at / 64 + 1) → bit (w / 2 ^ (at % 64)) (u - at) ≡ bit w (u % 64)
-rest_bit w at u l h = let e : at % 64 + (u - at) ≡ u % 64 = omega arith in
-    bit-shr w (at % 64) (u - at) ∙ ap (bit w) e
-
-bit_none : (n j : ℕ) → bit_at n j ≡ 0 → bit n j ≡ false
-bit_none n j e = rw (bit-is n j, e) refl
-
-bit_one : (n j : ℕ) → bit_at n j ≡ 1 → bit n j ≡ true
-bit_one n j e = rw (bit-is n j, e) refl
-
--- none is set in the rest of a word, if that is zero
-pub rest_zero : (w at u : ℕ) → w / 2 ^ (at % 64) ≡ 0 → at ≤ u → u < 64 * (at / 64 + 1) → bit w (u % 64) ≡ false
-rest_zero w at u e l h = sym (rest_bit w at u l h) ∙ ap (λ n. bit n (u - at)) e ∙ bit-zero (u - at)
-
--- nor before the first one that is set
-pub rest_before : (w at u : ℕ) → w / 2 ^ (at % 64) ≢ 0 → w < 2 ^ 64 → at ≤ u →
-    u < at + trailing_zeros w64 (w / 2 ^ (at % 64)) → (u / 64 ≡ at / 64) × (bit w (u % 64) ≡ false)
-rest_before w at u some small l h = (
-  omega (arith, within),
-  sym (rest_bit w at u l (omega (arith, within))) ∙ bit_none _ (u - at) (found.2 (u - at) (omega arith)),
-)
-  where
-    le_lt : {a b c : ℕ} → a ≤ b → b < c → a < c
-    le_lt p q = omega arith
-
-    found : (trailing_zeros w64 (w / 2 ^ (at % 64)) < 64)
-        × (bit_at (w / 2 ^ (at % 64)) (trailing_zeros w64 (w / 2 ^ (at % 64))) ≡ 1)
-        × ((j : ℕ) → j < trailing_zeros w64 (w / 2 ^ (at % 64)) → bit_at (w / 2 ^ (at % 64)) j ≡ 0)
-    found = bit_at-trailing_zeros w64 (w / 2 ^ (at % 64)) (omega arith) (le_lt (div-le_self w (2 ^ (at % 64))) small)
-
-    within : at % 64 + trailing_zeros w64 (w / 2 ^ (at % 64)) < 64
-    within = by_lt_or_le (at % 64 + trailing_zeros w64 (w / 2 ^ (at % 64))) 64 (λ y. y)
-        (λ past. absurd (false≢true (sym (bit_above w 64 _ small past)
-        ∙ (sym (bit-shr w (at % 64) (trailing_zeros w64 (w / 2 ^ (at % 64))))
-        ∙ bit_one (w / 2 ^ (at % 64)) _ found.1))))
-
--- nor in a whole word before that
-pub whole_before : (w k u : ℕ) → w ≢ 0 → w < 2 ^ 64 → 64 * k ≤ u → u < 64 * k + trailing_zeros w64 w →
-    (u / 64 ≡ k) × (bit w (u % 64) ≡ false)
-whole_before w k u some small l h =
-    let found = bit_at-trailing_zeros w64 w (omega arith) small in
-    let under : trailing_zeros w64 w < 64 = found.0 in (
-      omega arith,
-      bit_none w (u % 64) (found.2 (u % 64) (omega arith)),
-    )
-
+-- a word that is zero
 pub whole_zero : (w u : ℕ) → w ≡ 0 → bit w u ≡ false
 whole_zero w u e = ap (λ n. bit n u) e ∙ bit-zero u
 
@@ -127,9 +77,3 @@ lacks_live a l w q u says e word =
 
 pub lacks_own : (a : List ℕ) (q u : ℕ) → u / 64 ≡ q → bit (get_or a q 0) (u % 64) ≡ false → IsUnmarked a u
 lacks_own a q u e word = cell_is a q u e ∙ word
-
-pub and_small : (a : List ℕ) (w q : ℕ) → get_or a q 0 < 2 ^ 64 → bit_and (get_or a q 0) w < 2 ^ 64
-and_small a w q small = omega (arith, and_le_l (get_or a q 0) w)
-
-pub joined_small : (a : List ℕ) (w : ℕ) (c : List ℕ) (q : ℕ) → get_or a q 0 < 2 ^ 64 → joined a w c q < 2 ^ 64
-joined_small a w c q small = omega (arith, and_le_l (get_or a q 0) (bit_or w (get_or c q 0)))

@@ -2,6 +2,7 @@
 use Rattle.std.specs.Prelude.{◌≡◌, ◌≢◌, Bool, true, ℕ, ◌+◌, ◌*◌, ◌<◌, ◌≤◌, ◌⊎◌, List, slice_index, vec_len}
 use Rattle.std.proofs.Props.{props}
 use Rattle.bbm_rule.specs.Marks.{IsUnmarked}
+use Rattle.bbm_rule.specs.Rows.{cell_at}
 use Rattle.local_run.specs.declared.live.LiveMarks.{LiveMarks}
 use Rattle.local_run.specs.declared.planes.Planes.{Planes}
 
@@ -20,6 +21,16 @@ abbrev pub AreMarked : ℕ → LiveMarks → Type 0
 AreMarked n l = (u : ℕ) → u < n →
     (IsUnmarked l.odd.items u → ⊥) × (IsUnmarked l.right.items u → ⊥) × (IsUnmarked l.down.items u → ⊥)
     × (IsUnmarked l.even.items u → ⊥)
+
+-- a number has a mark in both lists
+abbrev pub IsInBoth : List ℕ → List ℕ → ℕ → Type 0
+IsInBoth first second u = (cell_at first u ≡ true) × (cell_at second u ≡ true)
+
+-- the first n cells of each plane have marks, but for those whose number has a mark in both lists
+abbrev pub AreMarkedBut : ℕ → List ℕ → List ℕ → LiveMarks → Type 0
+AreMarkedBut n first second l = (u : ℕ) → u < n →
+    (IsUnmarked l.odd.items u → IsInBoth first second u) × (IsUnmarked l.right.items u → IsInBoth first second u)
+    × (IsUnmarked l.down.items u → IsInBoth first second u) × (IsUnmarked l.even.items u → IsInBoth first second u)
 
 -- the words of a cell are zero
 abbrev pub IsDeadCell : ℕ → ℕ → List ℕ → Type 0

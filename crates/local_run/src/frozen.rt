@@ -8,13 +8,16 @@ ghost use Rattle.bbm_rule.specs.Bits.{bit};
 ghost use Rattle.bbm_rule.specs.Marks.{IsUnmarked};
 ghost use Rattle.bbm_rule.specs.Plane.{turned};
 ghost use Rattle.bbm_rule.specs.Rows.{cell_at, mate};
+ghost use Rattle.local_run.specs.Calm.{EvenCalm, OddCalm};
 ghost use Rattle.local_run.specs.Frozen.{Freezes, HasBlockMarks, IsEvenHeld, IsFrozen, IsMarkedBefore, IsOddEmpty, IsOddHeld};
 ghost use Rattle.local_run.specs.Lanes.{HasSize, lane};
+ghost use Rattle.local_run.specs.Live.{AllDead, HasMarks, HasSameRoom};
 ghost use Rattle.std.specs.Prelude.{ℕ, ◌≡◌, ◌≢◌, ◌+◌, ◌*◌, ◌/◌, ◌%◌, ◌<◌, ◌≤◌, length, vec_len, true, false};
 
-use crate::marks::is_marked;
+use crate::live::LiveMarks;
+use crate::marks::{is_marked, mark_lacking};
 use crate::planes::{Corners, Planes};
-use bbm_rule::marks::{mark, unmark};
+use bbm_rule::marks::{mark, mark_all, unmark};
 use std::alloc::Global;
 
 /// Marks on the blocks of a set that no step changes, if it was looked for and found.
@@ -81,6 +84,19 @@ impl FrozenBlocks {
             self.active.min(cells)
         } else {
             cells
+        }
+    }
+
+    /// Returns about how many of that many columns and rows have cells of ring and halo that may be live.
+    ///
+    /// Frozen blocks are mostly those of walls, and of what lies beyond them.
+    pub fn active_rows(&self, columns_and_rows: usize) -> usize
+        ensures { result ≤ columns_and_rows }
+    {
+        if self.is_found {
+            columns_and_rows / 4
+        } else {
+            columns_and_rows
         }
     }
 
@@ -322,6 +338,39 @@ impl FrozenBlocks {
 }
 
 impl FrozenBlocks {
+    /// Marks the blocks of both partitions, but for the frozen ones.
+    pub fn mark_blocks(&self, planes: &Planes, odd_marks: &mut [u64], even_marks: &mut [u64])
+        requires frozen { Freezes self.now planes.now }
+        requires odd_room { planes.now.stride * planes.now.rows ≤ 64 * length odd_marks.old }
+        requires even_room { planes.now.stride * planes.now.rows ≤ 64 * length even_marks.old }
+        ensures odd { OddCalm odd_marks.new planes.now }
+        ensures even { EvenCalm even_marks.new planes.now }
+    {
+        if self.is_found {
+            planes.show_words();
+            mark_lacking(odd_marks, &self.odd, &self.odd);
+            mark_lacking(even_marks, &self.even, &self.even);
+        } else {
+            mark_all(odd_marks);
+            mark_all(even_marks);
+        }
+    }
+
+    /// Marks the cells that may be live, which those of the frozen and empty blocks are not.
+    pub fn mark_live(&self, planes: &Planes, live: &mut LiveMarks)
+        requires frozen { Freezes self.now planes.now }
+        requires room { HasMarks (planes.now.stride * planes.now.rows) live.old }
+        ensures dead { AllDead live.new planes.now }
+        ensures same_room { HasSameRoom live.old live.new }
+    {
+        if self.is_found {
+            planes.show_words();
+            live.mark_lacking(&self.odd, &self.empty);
+        } else {
+            live.mark_all();
+        }
+    }
+
     /// Turns the blocks of the odd partition, and passes over the frozen ones.
     pub fn odd_step(&self, planes: &mut Planes)
         requires frozen { Freezes self.now planes.old }

@@ -6,10 +6,10 @@
 
 ghost use Rattle.bbm_rule.specs.Bits.{bit};
 ghost use Rattle.bbm_rule.specs.Marks.{IsUnmarked};
-ghost use Rattle.local_run.specs.Live.{AreMarked, AreUnmarked, HasCells, HasMarks, HasSameRoom, IsLoneAnti, IsLoneMain, MarksCell, TakesMark};
+ghost use Rattle.local_run.specs.Live.{AreMarked, AreMarkedBut, AreUnmarked, HasCells, HasMarks, HasSameRoom, IsLoneAnti, IsLoneMain, MarksCell, TakesMark};
 ghost use Rattle.std.specs.Prelude.{ℕ, ◌≡◌, ◌/◌, ◌<◌, ◌≤◌, ◌%◌, ◌+◌, ◌*◌, ◌^◌, ◌⊎◌, length, vec_len, IfOk, true, false};
 
-use crate::marks::{is_marked, mark_if, next_in_either, swap_marks};
+use crate::marks::{is_marked, mark_if, mark_lacking, next_in_either, swap_marks};
 use crate::planes::Changes;
 use bbm_rule::marks::mark_all;
 use std::alloc::{AllocError, Global};
@@ -51,6 +51,18 @@ impl LiveMarks {
         mark_all(&mut self.right);
         mark_all(&mut self.down);
         mark_all(&mut self.even);
+    }
+
+    /// Marks all cells but those whose number has a mark in both lists.
+    pub fn mark_lacking(&mut self, first: &[u64], second: &[u64])
+        ensures same_room { HasSameRoom self.old self.new }
+        ensures marked { (n : ℕ) → HasMarks n self.old → n ≤ 64 * length first.now →
+            n ≤ 64 * length second.now → AreMarkedBut n first.now second.now self.new }
+    {
+        mark_lacking(&mut self.odd, first, second);
+        mark_lacking(&mut self.right, first, second);
+        mark_lacking(&mut self.down, first, second);
+        mark_lacking(&mut self.even, first, second);
     }
 
     /// Returns a word of marks on the numbers of which a cell has a mark.

@@ -18,12 +18,12 @@ use crate::frozen::FrozenBlocks;
 use crate::lines::{CELL_WORDS, LinePlaces, line_number, mark_lines};
 use crate::live::LiveMarks;
 use crate::marks::{
-    is_marked, mark_around, mark_border, mark_corners, next_live_marked, next_marked_in,
-    start_of_word, take_first, word_marked_in,
+    is_marked, mark_around, mark_border, mark_corners, next_live_word, next_word, next_word_in,
+    take_first, word_marked_in,
 };
 use crate::planes::{Changes, Planes};
 use crate::values::Values;
-use bbm_rule::marks::{mark, mark_all, next_marked, unmark};
+use bbm_rule::marks::{mark, unmark};
 use module_box::Signal;
 use module_job::Job;
 use std::alloc::{AllocError, Global};
@@ -122,8 +122,8 @@ const CROWD: u32 = 64;
 
 // Whether it costs less to turn all blocks, with that many words a cell, and that many cells a row and rows together,
 // than to go by marks where so many change. A block that changes has up to four others looked at, two for each of its
-// diagonals that changes. Where all are turned no cell of ring and halo is known to be dead, and at odd times each is
-// looked up.
+// diagonals that changes. Where all are turned no cell of ring and halo is known to be dead, but for those of frozen
+// and empty blocks, and at odd times the others are looked up.
 fn are_many(changed: usize, cells: usize, words: usize, columns_and_rows: usize) -> bool
     requires { (changed ≤ 4096) × (cells ≤ 4096) × (words ≤ 64) × (columns_and_rows ≤ 128) }
 {
@@ -225,14 +225,13 @@ impl MarkedPlanes {
         ensures passed { ArePassed from result self.now.line_marks.items self.now.planes }
     {
         let cells = self.planes.cells();
-        let at = next_marked_in(
+        next_word_in(
             &self.border_marks,
             &self.live_marks,
             &self.line_marks,
             from,
             cells,
-        );
-        start_of_word(at, cells)
+        )
     }
 
     /// Returns a word of marks on the numbers whose cells of ring and halo must be looked at.
@@ -331,8 +330,8 @@ impl MarkedPlanes {
         }
     }
 
-    // Counts a block of the odd partition with one live cell, and the dead one that this cell left in the step before.
-    // Odd steps pass over dead blocks.
+    // Counts a block with one live cell, and the dead one that this cell left in the step before. Steps pass over dead
+    // blocks.
     fn count_lone(&mut self)
         ensures planes { self.new.planes ≡ self.old.planes }
         ensures odd { self.new.odd_marks ≡ self.old.odd_marks }
@@ -388,6 +387,57 @@ impl MarkedPlanes {
         self.planes.swap_anti(u, u);
     }
 
+    // Takes the mark off block n of the even partition, if its cells are known to be dead.
+    #[inline(always)]
+    fn unmark_dead_even(&mut self, n: usize)
+        requires { n + self.old.planes.stride + 1 < self.old.planes.stride * self.old.planes.rows }
+        ensures planes { self.new.planes ≡ self.old.planes }
+        ensures odd { self.new.odd_marks ≡ self.old.odd_marks }
+        ensures live { self.new.live_marks ≡ self.old.live_marks }
+    {
+        if self.is_dead_even(n) {
+            unmark(&mut self.even_marks, n);
+        }
+    }
+
+    // Takes the mark off the block of the even partition that a cell of the main diagonal of block u of the odd
+    // partition has left, if nothing else is in it. So the next step does not come to it.
+    #[inline(always)]
+    fn leave_main(&mut self, u: usize)
+        requires { u < self.old.planes.stride * self.old.planes.rows }
+        ensures planes { self.new.planes ≡ self.old.planes }
+        ensures odd { self.new.odd_marks ≡ self.old.odd_marks }
+        ensures live { self.new.live_marks ≡ self.old.live_marks }
+    {
+        let stride = self.planes.stride();
+        if is_marked(&self.live_marks.odd, u) {
+            if u + stride + 1 < self.planes.cells() {
+                self.unmark_dead_even(u);
+            }
+        } else if u > stride {
+            self.unmark_dead_even(u - stride - 1);
+        }
+    }
+
+    // The same for a cell of the other diagonal.
+    #[inline(always)]
+    fn leave_anti(&mut self, u: usize)
+        requires { u < self.old.planes.stride * self.old.planes.rows }
+        ensures planes { self.new.planes ≡ self.old.planes }
+        ensures odd { self.new.odd_marks ≡ self.old.odd_marks }
+        ensures live { self.new.live_marks ≡ self.old.live_marks }
+    {
+        let stride = self.planes.stride();
+        let cells = self.planes.cells();
+        if is_marked(&self.live_marks.right, u) {
+            if u > 0 && u + stride < cells {
+                self.unmark_dead_even(u - 1);
+            }
+        } else if u >= stride && u + 1 < cells {
+            self.unmark_dead_even(u - stride);
+        }
+    }
+
     // Turns block u of the odd partition, unless it stays, and tells whether it turned it.
     fn turn_odd_words(&mut self, u: usize) -> bool
         requires { u < self.old.planes.stride * self.old.planes.rows }
@@ -426,11 +476,13 @@ impl MarkedPlanes {
     {
         if self.is_exact && self.live_marks.is_lone_main(u, u, u, u) {
             self.move_odd_main(u);
+            self.leave_main(u);
             self.count_lone();
             return true;
         }
         if self.is_exact && self.live_marks.is_lone_anti(u, u, u, u) {
             self.move_odd_anti(u);
+            self.leave_anti(u);
             self.count_lone();
             return true;
         }
@@ -551,13 +603,17 @@ impl MarkedPlanes {
         let stride = self.planes.stride();
         let (odd, right, down) = (u + stride + 1, u + stride, u + 1);
         if self.is_exact && self.live_marks.is_lone_main(odd, right, down, u) {
+            if self.is_dead_even(u) {
+                unmark(&mut self.even_marks, u);
+                return false;
+            }
             self.move_even_main(u);
-            self.count_block(false);
+            self.count_lone();
             return true;
         }
         if self.is_exact && self.live_marks.is_lone_anti(odd, right, down, u) {
             self.move_even_anti(u);
-            self.count_block(false);
+            self.count_lone();
             return true;
         }
         let is_turned = self.turn_even_words(u);
@@ -577,7 +633,7 @@ impl MarkedPlanes {
         is_marked(&self.border_marks, u) && (u + 1) % self.planes.stride() == 0
     }
 
-    // Whether each cell of block u of the even partition is known to be dead, where blocks go by their marks.
+    // Whether each cell of block u of the even partition is known to be dead.
     #[inline(always)]
     fn is_dead_even(&self, u: usize) -> bool
         requires { u + self.now.planes.stride + 1 < self.now.planes.stride * self.now.planes.rows }
@@ -585,15 +641,13 @@ impl MarkedPlanes {
             AreUnmarked self.now.live_marks (u + s + 1) (u + s) (u + 1) u }
     {
         let stride = self.planes.stride();
-        self.busy == 0
-            && self
-                .live_marks
-                .are_dead(u + stride + 1, u + stride, u + 1, u)
+        self.live_marks
+            .are_dead(u + stride + 1, u + stride, u + 1, u)
     }
 
     // Turns block u of the even partition, unless it stays, and tells whether it turned it. The last block of a row is
     // not in the box and stays: its cells stand in the halo, at the right end of two rows and at the left end of the
-    // next two. About half of the blocks are dead: a cell has just left them.
+    // next two.
     fn turn_even(&mut self, u: usize) -> bool
         requires { u + self.old.planes.stride + 1 < self.old.planes.stride * self.old.planes.rows }
         ensures part { (u + 1) % self.old.planes.stride ≢ 0 →
@@ -607,11 +661,6 @@ impl MarkedPlanes {
         ensures last { (u + 1) % self.old.planes.stride ≡ 0 → self.new.planes ≡ self.old.planes }
         ensures stays { result ≡ false → self.new.planes ≡ self.old.planes }
     {
-        if self.is_dead_even(u) {
-            unmark(&mut self.even_marks, u);
-            self.count_block(false);
-            return false;
-        }
         if self.is_last(u) {
             unmark(&mut self.even_marks, u);
             return false;
@@ -623,7 +672,7 @@ impl MarkedPlanes {
     }
 
     // Looks whether the next steps are to turn whole planes, after a step by marks in which so many blocks changed.
-    // Where few did, they are not, whichever blocks are frozen.
+    // Where few did, they are not, even if most blocks are frozen.
     #[inline(always)]
     fn finish_step(&mut self, changed: usize)
         requires { changed ≤ 4096 }
@@ -631,9 +680,9 @@ impl MarkedPlanes {
     {
         if are_many(
             changed,
-            self.planes.cells(),
+            self.planes.cells() / 4,
             self.planes.words(),
-            self.planes.columns_and_rows(),
+            self.planes.columns_and_rows() / 4,
         ) {
             self.begin_phase(changed);
         } else {
@@ -652,7 +701,7 @@ impl MarkedPlanes {
             changed,
             self.frozen.active(cells),
             self.planes.words(),
-            self.planes.columns_and_rows(),
+            self.frozen.active_rows(self.planes.columns_and_rows()),
         ) {
             self.whole_plane_steps = self.whole_plane_steps.next_phase();
             self.count_dense(self.whole_plane_steps.left);
@@ -715,10 +764,7 @@ impl MarkedPlanes {
         ensures word { result < end → result % 64 ≡ 0 }
         ensures calm { TurnsOdd from result self.now.planes self.now.planes }
     {
-        start_of_word(
-            next_live_marked(&self.odd_marks, &self.live_marks, from, end),
-            end,
-        )
+        next_live_word(&self.odd_marks, &self.live_marks, from, end)
     }
 
     // The same of the even partition.
@@ -730,7 +776,7 @@ impl MarkedPlanes {
         ensures word { result < end → result % 64 ≡ 0 }
         ensures calm { TurnsEven from result self.now.planes self.now.planes }
     {
-        start_of_word(next_marked(&self.even_marks, from, end), end)
+        next_word(&self.even_marks, from, end)
     }
 
     // Turns the blocks of the even partition from `first` on to below `end`, whose marks are in one word, and returns
@@ -775,11 +821,11 @@ impl MarkedPlanes {
     {
         if self.whole_plane_steps.left > 0 {
             self.whole_plane_steps.left -= 1;
-            mark_all(&mut self.odd_marks);
-            mark_all(&mut self.even_marks);
-            self.live_marks.mark_all();
             self.is_exact = false;
             self.frozen.odd_step(&mut self.planes);
+            self.frozen
+                .mark_blocks(&self.planes, &mut self.odd_marks, &mut self.even_marks);
+            self.frozen.mark_live(&self.planes, &mut self.live_marks);
             return true;
         }
         let cells = self.planes.cells();
@@ -813,11 +859,11 @@ impl MarkedPlanes {
     {
         if self.whole_plane_steps.left > 0 {
             self.whole_plane_steps.left -= 1;
-            mark_all(&mut self.odd_marks);
-            mark_all(&mut self.even_marks);
-            self.live_marks.mark_all();
             self.is_exact = false;
             self.frozen.even_step(&mut self.planes);
+            self.frozen
+                .mark_blocks(&self.planes, &mut self.odd_marks, &mut self.even_marks);
+            self.frozen.mark_live(&self.planes, &mut self.live_marks);
             return true;
         }
         let cells = self.planes.cells() - self.planes.stride() - 1;

@@ -7,7 +7,7 @@ ghost use Rattle.local_run.specs.Borders.{AllInner};
 ghost use Rattle.local_run.specs.Live.{AreUnmarked, DropsDead, HasMarks, HasCells, IsDeadCell, MarksCell, TakesMark};
 ghost use Rattle.local_run.specs.Turns.{MarksAround, MarksCorners};
 ghost use Rattle.std.specs.Int.{trailing_zeros, w64};
-ghost use Rattle.std.specs.Prelude.{ℕ, ◌≡◌, ◌≢◌, ◌+◌, ◌*◌, ◌/◌, ◌%◌, ◌^◌, ◌<◌, ◌≤◌, ◌⊎◌, length, not, true, false};
+ghost use Rattle.std.specs.Prelude.{ℕ, ◌≡◌, ◌≢◌, ◌+◌, ◌*◌, ◌/◌, ◌%◌, ◌^◌, ◌<◌, ◌≤◌, ◌⊎◌, ◌&&◌, length, not, true, false};
 
 use crate::live::LiveMarks;
 use crate::planes::Changes;
@@ -30,6 +30,19 @@ pub fn mark_if(marks: &mut [u64], at: usize, changes: bool)
 {
     if changes {
         mark(marks, at);
+    }
+}
+
+/// Marks the numbers that have no mark in one of two other lists, as far as both lists reach, and unmarks the others.
+pub fn mark_lacking(marks: &mut [u64], first: &[u64], second: &[u64])
+    ensures { (u : ℕ) → u / 64 < length marks.old → u / 64 < length first.now →
+        u / 64 < length second.now →
+        cell_at marks.new u ≡ not (cell_at first.now u && cell_at second.now u) }
+{
+    let long = marks.len().min(first.len()).min(second.len());
+    'words: for k in 0..long {
+        // `!0 ^ a` stands for `!a`.
+        marks[k] = 0xFFFF_FFFF_FFFF_FFFF ^ (first[k] & second[k]);
     }
 }
 
@@ -132,11 +145,57 @@ pub fn mark_border(marks: &mut [u64], stride: usize, rows: usize)
     }
 }
 
-/// Returns the next number from `from` on that may have a mark in the first list, and one among the others or among
-/// those of live cells.
+/// Returns the first number, from `from` on, of a word with a mark in the list.
 ///
-/// If there is none below `end`, it returns `end`.
-pub fn next_marked_in(
+/// `from` is the first number of its word. If there is no such word below `end`, it returns `end`.
+pub fn next_word(marks: &[u64], from: usize, end: usize) -> usize
+    requires within { (from ≤ end) × (end < 2 ^ 32) }
+    requires word { from < end → from % 64 ≡ 0 }
+    requires marks_reach_end { end ≤ 64 * length marks.now }
+    ensures range { (from ≤ result) × (result ≤ end) }
+    ensures word { result < end → result % 64 ≡ 0 }
+    ensures passed { (u : ℕ) → from ≤ u → u < result → IsUnmarked marks.now u }
+{
+    if from == end {
+        return end;
+    }
+    'words: for k in from / 64..end.div_ceil(64) {
+        if marks[k] != 0 {
+            return 64 * k;
+        }
+    }
+    end
+}
+
+/// Returns the first number, from `from` on, of a word with a mark in the list that is also one on a live cell.
+///
+/// `from` is the first number of its word. If there is no such word below `end`, it returns `end`.
+pub fn next_live_word(marks: &[u64], live: &LiveMarks, from: usize, end: usize) -> usize
+    requires within { (from ≤ end) × (end < 2 ^ 32) }
+    requires word { from < end → from % 64 ≡ 0 }
+    requires marks_reach_end { (end ≤ 64 * length marks.now) × HasMarks end live.now }
+    ensures range { (from ≤ result) × (result ≤ end) }
+    ensures word { result < end → result % 64 ≡ 0 }
+    ensures passed { (u : ℕ) → from ≤ u → u < result →
+        IsUnmarked marks.now u ⊎ AreUnmarked live.now u u u u }
+{
+    if from == end {
+        return end;
+    }
+    'words: for k in from / 64..end.div_ceil(64) {
+        let word = marks[k] & live.word(k);
+        if word != 0 {
+            return 64 * k;
+        }
+    }
+    end
+}
+
+/// Returns the first number, from `from` on, of a word with a mark in the first list that is also one among the others
+/// or on a live cell.
+///
+/// `from` is the first number of its word. If there is no such word below `end`, it returns `end`.
+pub fn next_word_in(
     first: &[u64],
     live: &LiveMarks,
     others: &[u64],
@@ -144,52 +203,21 @@ pub fn next_marked_in(
     end: usize,
 ) -> usize
     requires within { (from ≤ end) × (end < 2 ^ 32) }
+    requires word { from < end → from % 64 ≡ 0 }
     requires marks_reach_end { (end ≤ 64 * length first.now) × HasMarks end live.now
         × (end ≤ 64 * length others.now) }
     ensures range { (from ≤ result) × (result ≤ end) }
+    ensures word { result < end → result % 64 ≡ 0 }
     ensures passed { (u : ℕ) → from ≤ u → u < result →
         IsUnmarked first.now u ⊎ (AreUnmarked live.now u u u u × IsUnmarked others.now u) }
 {
     if from == end {
         return end;
     }
-    let word = first[from / 64] & (live.word(from / 64) | others[from / 64]);
-    let rest = word >> (from % 64);
-    if rest != 0 {
-        return (from + rest.trailing_zeros() as usize).min(end);
-    }
-    // A whole word is read without a shift.
-    'words: for k in from / 64 + 1..end.div_ceil(64) {
-        let whole = first[k] & (live.word(k) | others[k]);
-        if whole != 0 {
-            return (64 * k + whole.trailing_zeros() as usize).min(end);
-        }
-    }
-    end
-}
-
-/// Returns the next number from `from` on that may have a mark in the list, and one among those of live cells.
-///
-/// If there is none below `end`, it returns `end`.
-pub fn next_live_marked(marks: &[u64], live: &LiveMarks, from: usize, end: usize) -> usize
-    requires within { (from ≤ end) × (end < 2 ^ 32) }
-    requires marks_reach_end { (end ≤ 64 * length marks.now) × HasMarks end live.now }
-    ensures range { (from ≤ result) × (result ≤ end) }
-    ensures passed { (u : ℕ) → from ≤ u → u < result →
-        IsUnmarked marks.now u ⊎ AreUnmarked live.now u u u u }
-{
-    if from == end {
-        return end;
-    }
-    let word = marks[from / 64] & live.word(from / 64);
-    let rest = word >> (from % 64);
-    if rest != 0 {
-        return (from + rest.trailing_zeros() as usize).min(end);
-    }
-    'words: for k in from / 64 + 1..end.div_ceil(64) {
-        let whole = marks[k] & live.word(k);
-        if whole != 0 {
-            return (64 * k + whole.trailing_zeros() as usize).min(end);
+    'words: for k in from / 64..end.div_ceil(64) {
+        let word = first[k] & (live.word(k) | others[k]);
+        if word != 0 {
+            return 64 * k;
         }
     }
     end
@@ -205,16 +233,6 @@ pub fn word_marked_in(first: &[u64], live: &LiveMarks, others: &[u64], k: usize)
         IsUnmarked first.now u ⊎ (AreUnmarked live.now u u u u × IsUnmarked others.now u) }
 {
     first[k] & (live.word(k) | others[k])
-}
-
-/// Returns the first number whose mark is in the same word as that of a number, or `end` for `end`.
-pub fn start_of_word(at: usize, end: usize) -> usize
-    requires { at ≤ end }
-    ensures within { result ≤ at }
-    ensures start { at < end → result ≡ 64 * (at / 64) }
-    ensures end { at ≡ end → result ≡ end }
-{
-    if at == end { end } else { 64 * (at / 64) }
 }
 
 /// Returns the place of the first mark in a word of marks, and the word without it.

@@ -159,16 +159,48 @@ fn turn_part(
     );
 }
 
+// Exchanges four words from a place on in one slice, and four from a place on in another. All are read before the first
+// is written, so that some are exchanged at once.
+#[inline(always)]
+fn swap_four(first: &mut [u64], second: &mut [u64], a: usize, b: usize)
+    requires { (a + 4 ≤ length first.old) × (b + 4 ≤ length second.old) }
+    ensures { SwapsPart a b 4 first.old second.old first.new second.new }
+{
+    let (a0, a1, a2, a3) = (first[a], first[a + 1], first[a + 2], first[a + 3]);
+    let (b0, b1, b2, b3) = (second[b], second[b + 1], second[b + 2], second[b + 3]);
+    first[a] = b0;
+    first[a + 1] = b1;
+    first[a + 2] = b2;
+    first[a + 3] = b3;
+    second[b] = a0;
+    second[b + 1] = a1;
+    second[b + 2] = a2;
+    second[b + 3] = a3;
+}
+
 // Exchanges the words from a place on in one slice, and as many from a place on in another.
 #[inline(always)]
 fn swap_part(first: &mut [u64], second: &mut [u64], a: usize, b: usize, long: usize)
     requires { (a + long ≤ length first.old) × (b + long ≤ length second.old) }
     ensures { SwapsPart a b long first.old second.old first.new second.new }
 {
-    for k in 0..long {
+    // The loops over words cost more than one word.
+    if long == 1 {
+        let word = first[a];
+        first[a] = second[b];
+        second[b] = word;
+        return;
+    }
+    let mut k = 0;
+    'fours: while k + 4 <= long {
+        swap_four(first, second, a + k, b + k);
+        k += 4;
+    }
+    'words: while k < long {
         let word = first[a + k];
         first[a + k] = second[b + k];
         second[b + k] = word;
+        k += 1;
     }
 }
 

@@ -1,9 +1,8 @@
-use Rattle.std.proofs.Common.{◌≡◌, ◌+◌, ◌*◌, List, ℕ, length, ap, subst, false, ltb, refl, arith, sym, ◌∙◌}
+use Rattle.std.proofs.Common.{◌≡◌, ◌+◌, List, ℕ, length, ap, subst, false, ltb, refl, arith, sym, ◌∙◌}
 use Rattle.local_run.proofs.FieldLemmas.{odd_all, odd_join}
 use Rattle.std.proofs.lemmas.List.{with_items_is}
 use Rattle.local_run.specs.Calm.{EvenCalm, OddCalm}
 use Rattle.local_run.specs.Lanes.{HasSize}
-use Rattle.local_run.proofs.LiveLemmas.{marked_dead, marked_even, marked_odd}
 use Rattle.local_run.proofs.marked_planes.MarkedPlanes.odd_step.Goals as goal
 
 pub words-init : goal.words-init
@@ -51,32 +50,17 @@ returns-clause-stays c e = c.finish_step.ensures ∙ c.words.invariant.stays (no
     none_more : (n : ℕ) → ltb 0 n ≡ false → n ≡ 0
     none_more n e = grind arith
 
-pub invariant_of-self-clause-all_dead : goal.invariant_of-self-clause-all_dead
-invariant_of-self-clause-all_dead c =
-    let f = c.args.self.now in
-    marked_dead (f.planes.stride * f.planes.rows) c.mark_all-then-self-gt0-2.new.self c.odd_step.new.planes
-    (rw (c.odd_step.ensures.size.1, c.odd_step.ensures.size.2) (omega arith))
-    (c.mark_all-then-self-gt0-2.ensures.all _ f.live_room)
-
 pub invariant_of-self-clause-odd_calm : goal.invariant_of-self-clause-odd_calm
 invariant_of-self-clause-odd_calm c =
     let f = c.args.self.now in
-    let q = c.odd_step.new.planes in
     let v = c.deref_mut.ensures.value in
-    let items = with_items_is f.odd_marks c.mark_all.new.marks (omega (arith, ap length v, f.odd_marks.ok.0)) in
-    subst (λ (m : List ℕ). OddCalm m q) (sym items)
-    (marked_odd c.mark_all.new.marks q
-    (rw (c.odd_step.ensures.size.1, c.odd_step.ensures.size.2) (omega (arith, ap length v, f.odd_marks.ok.0)))
-    c.mark_all.ensures)
+    let items = with_items_is f.odd_marks c.mark_blocks.new.odd_marks (omega (arith, ap length v, f.odd_marks.ok.0)) in
+    subst (λ (m : List ℕ). OddCalm m c.odd_step.new.planes) (sym items) c.mark_blocks.ensures.odd
 
 pub invariant_of-self-clause-even_calm : goal.invariant_of-self-clause-even_calm
 invariant_of-self-clause-even_calm c =
     let f = c.args.self.now in
-    let q = c.odd_step.new.planes in
     let v = c.deref_mut-then-self-gt0.ensures.value in
-    let items = with_items_is f.even_marks c.mark_all-then-self-gt0.new.marks
+    let items = with_items_is f.even_marks c.mark_blocks.new.even_marks
     (omega (arith, ap length v, f.even_marks.ok.0)) in
-    subst (λ (m : List ℕ). EvenCalm m q) (sym items)
-    (marked_even c.mark_all-then-self-gt0.new.marks q
-    (rw (c.odd_step.ensures.size.1, c.odd_step.ensures.size.2) (omega (arith, ap length v, f.even_marks.ok.0)))
-    c.mark_all-then-self-gt0.ensures)
+    subst (λ (m : List ℕ). EvenCalm m c.odd_step.new.planes) (sym items) c.mark_blocks.ensures.even

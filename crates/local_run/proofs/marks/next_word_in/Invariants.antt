@@ -1,7 +1,7 @@
 use Rattle.std.proofs.Common.{ℕ, ◌*◌, ◌<◌, ◌≤◌, ◌⊎◌}
 use Rattle.bbm_rule.specs.Marks.{IsUnmarked}
 use Rattle.local_run.specs.Live.{AreUnmarked}
-use Rattle.local_run.proofs.marks.next_marked_in.Given as goal
+use Rattle.local_run.proofs.marks.next_word_in.Given as goal
 
 -- none was passed that is sought
 abbrev pub invariant-words : goal.invariant-words

@@ -1,0 +1,18 @@
+use Rattle.std.proofs.Common.{arith, ◌*◌}
+use Rattle.local_run.proofs.FrozenLemmas.{dead_found}
+use Rattle.local_run.proofs.LiveLemmas.{marked_dead}
+use Rattle.local_run.proofs.frozen.FrozenBlocks.mark_live.Goals as goal
+
+pub returns-then-self-clause-dead : goal.returns-then-self-clause-dead
+returns-then-self-clause-dead c =
+    let b = c.args.self.now in
+    let p = c.args.planes.now in
+    let but = rw (c.deref.ensures.value, c.deref-then-self.ensures.value) at c.mark_lacking.ensures.marked in
+    dead_found b c.mark_lacking.new.self p c.show_words.ensures c.requires.frozen c.if-self.true
+    (λ room. but (p.stride * p.rows) c.requires.room (omega (arith, room.odd, b.odd.ok.0))
+    (omega (arith, room.empty, b.empty.ok.0)))
+
+pub returns-else-self-clause-dead : goal.returns-else-self-clause-dead
+returns-else-self-clause-dead c =
+    let p = c.args.planes.now in
+    marked_dead (p.stride * p.rows) c.mark_all.new.self p (omega arith) (c.mark_all.ensures.all _ c.requires.room)

@@ -1,0 +1,14 @@
+use Rattle.std.proofs.Common.{arith}
+use Rattle.local_run.proofs.LiveLemmas.{swaps_more}
+use Rattle.local_run.proofs.planes.swap_part.Goals as goal
+
+pub fours-preserved : goal.fours-preserved
+fours-preserved c =
+    let m = c.fours.invariant in
+    record {
+      within = omega (arith, c.fours-test.true);
+      first_long = omega (arith, m.first_long);
+      second_long = omega (arith, m.second_long);
+      swap = swaps_more c.args.a c.args.b c.fours.k 4 c.args.first.now c.args.second.now c.fours.first c.fours.second
+          c.swap_four.new.first c.swap_four.new.second m.swap c.swap_four.ensures;
+    }
