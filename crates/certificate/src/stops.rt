@@ -42,13 +42,14 @@ fn local_stop<'a>(
     Stop { at, wire }
 }
 
-// Adds a line, if it is a stop.
+// Adds a line, if it is a stop. Before the first stop it makes room for `room` stops, since most modules have none.
 fn push_stop<'a>(
     stops: &mut Vec<Stop>,
     circuit: &Circuit,
     locals: &Locals,
     slots: &mut [Option<NamedWire<'a>>; SLOT_COUNT],
     line: &StoredLine<'a>,
+    room: usize,
 ) -> Result<(), AllocError>
     requires local { All
         (λ s. IsTrue (is_local (circuit_of circuit.now) locals.now.circuit_wires s.wire))
@@ -60,6 +61,9 @@ fn push_stop<'a>(
     ensures slots { AreNamedWires (circuit_of circuit.now) locals.now slots.new }
 {
     if let Some(stop) = line.stop() {
+        if stops.is_empty() {
+            stops.reserve(room)?;
+        }
         stops.push(local_stop(circuit, locals, slots, &stop))?;
     }
     Ok(())
@@ -77,10 +81,10 @@ pub(crate) fn stops_of(
     ensures { IfOk result (λ stops. AreStops (circuit_of circuit.now) locals.now
         (flat_map stop_in lines.now) stops.items) }
 {
-    let mut stops = Vec::with_capacity(alloc, lines.len())?;
+    let mut stops = Vec::new(alloc);
     let mut slots = empty_slots();
     'lines: for line in lines {
-        push_stop(&mut stops, circuit, locals, &mut slots, line)?;
+        push_stop(&mut stops, circuit, locals, &mut slots, line, lines.len())?;
     }
     Ok(stops)
 }

@@ -11,6 +11,7 @@ use Rattle.bbm_rule.specs.declared.block.Cell.{Cell}
 use Rattle.section_text.specs.Codes.{code_where, or_else}
 use Rattle.bbm_rule.specs.Spans.{in_area}
 use Rattle.circuit.specs.Meaning.{Circuit}
+use Rattle.certificate_lines.specs.declared.local_names.CutWire.{CutWire}
 use Rattle.certificate_lines.specs.declared.local_names.LocalName.{LocalName}
 use Rattle.module_box.specs.Boxes.{in_box}
 use Rattle.module_box.specs.Locals.{is_among}
@@ -23,7 +24,8 @@ use Rattle.certificate_lines.specs.Orders.{AreInOrder, may_follow}
 use Rattle.certificate_lines.specs.Rules.{same_cell, is_starred, are_new, is_incomplete, is_local}
 use Rattle.certificate_lines.specs.Rules.{lacks_port, words_fault, line_fault, inner_fault, module_fault}
 use Rattle.certificate_lines.specs.Modules.{IsModule}
-use Rattle.certificate_lines.specs.BuilderView.{AreBuilt, AreWires, IsBorderLine, IsInner, IsLastModule, IsTracked}
+use Rattle.certificate_lines.specs.BuilderView.{AreBuilt, AreLocalNames, AreWires, IsBorderLine, IsCutWire, IsInner}
+use Rattle.certificate_lines.specs.BuilderView.{IsLastModule, IsTracked}
 use Rattle.certificate_lines.specs.BuilderView.{IsTrackedWith}
 use Rattle.certificate_lines.specs.BuilderView.{IsWritten}
 use Rattle.certificate_lines.specs.BuilderView.{counted, AreSmallCounts, last_inner, outs_at, wires_in}
@@ -452,6 +454,16 @@ border_is_inner (Edge e) border = border
 border_is_inner (Halo e) border = border
 border_is_inner (Stop s) border = border
 
+-- such a line cuts no wire
+pub border_is_uncut : (c : Circuit) (i : CertificateLine) (cut : Option CutWire) → IsBorderLine i → IsCutWire c i cut
+border_is_uncut c (Module b) cut border = absurd border
+border_is_uncut c (Cut n) cut border = absurd border
+border_is_uncut c (Use k) cut border = absurd border
+border_is_uncut c (Keep k) cut border = absurd border
+border_is_uncut c (Edge e) cut border = tt
+border_is_uncut c (Halo e) cut border = tt
+border_is_uncut c (Stop s) cut border = tt
+
 border_wires : (c : Circuit) (i : CertificateLine) → IsBorderLine i → wires_in c i ≡ []
 border_wires c (Module b) border = absurd border
 border_wires c (Cut n) border = absurd border
@@ -529,3 +541,12 @@ module _ (g : Setting) (es : List CertificateLine) (covered : Board) (counts : L
             (wires_begun g.circuit (modules_of es) (record { area = b; lines = [] }) earlier local refl was.wires);
         local_names = no_names g.circuit [] slots' none;
       })
+
+-- the same with other names in slots
+pub with_names : (g : Setting) (es : List CertificateLine) (covered : Board) (counts : List Counts)
+    (last : Option CertificateLine) (names : List (List ℕ)) (earlier : List (List ℕ)) (local : List ℕ) (e h : List Cell)
+    (slots slots' : List (Option LocalName)) →
+    IsTrackedWith g es covered counts last names earlier local e h slots → AreLocalNames g.circuit local slots' →
+    IsTrackedWith g es covered counts last names earlier local e h slots'
+with_names g es covered counts last names earlier local e h slots slots' was named =
+    record { kept = was.kept; wires = was.wires; local_names = named }

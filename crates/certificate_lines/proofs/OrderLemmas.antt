@@ -4,11 +4,12 @@ use Rattle.std.proofs.Common.{Greater, get_or}
 use Rattle.std.proofs.Common.{Ordering, refl, sym, ap, ◌∙◌, inl, inr}
 use Rattle.std.specs.List.{list_all}
 use Rattle.std.specs.Cmp.{IsTotalOrder}
-use Rattle.std.specs.Ordering.{is_lt}
+use Rattle.std.specs.Ordering.{is_lt, nat_cmp, ordering_then}
 use Rattle.std.proofs.lemmas.Bool.{and_parts}
 use Rattle.std.proofs.lemmas.Cmp.{then_total, on_total, nat_cmp_total}
 use Rattle.std.proofs.Math.Bool.{and-true}
 use Rattle.module_box.proofs.Rising.{cell_total}
+use Rattle.module_box.specs.Moments.{cell_cmp}
 use Rattle.certificate_lines.specs.declared.certificate_line.CertificateLine.{CertificateLine}
 use Rattle.certificate_lines.specs.declared.certificate_line.CertificateLine.TheVariants.{Module, Cut, Use, Keep, Edge}
 use Rattle.certificate_lines.specs.declared.certificate_line.CertificateLine.TheVariants.{Halo, Stop}
@@ -75,6 +76,17 @@ edges_precede d e = sym (or_none _)
 pub halos_precede : (d e : BorderLine) → is_lt (line_order d e) ≡ may_precede (Halo d) (Halo e)
 unfolding may_precede line_cmp line_order rank_of number_of cell_of is_cut
 halos_precede d e = sym (or_none _)
+
+-- two equal keys leave the order to the other
+then_equal : (o : Ordering) → is_lt (ordering_then o Equal) ≡ is_lt o
+then_equal Less = refl
+then_equal Equal = refl
+then_equal Greater = refl
+
+-- two lines that use gates are in order by the gates' numbers
+pub uses_precede : (j k : ℕ) → is_lt (nat_cmp j k) ≡ may_precede (Use j) (Use k)
+unfolding may_precede line_cmp rank_of number_of cell_of is_cut cell_cmp
+uses_precede j k = sym (then_equal (nat_cmp j k)) ∙ sym (or_none _)
 
 -- and two stops
 pub stops_precede : (s t : StopLine) → is_lt (line_cmp (Stop s) (Stop t)) ≡ may_precede (Stop s) (Stop t)

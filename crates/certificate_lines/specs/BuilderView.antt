@@ -2,12 +2,13 @@
 use Rattle.std.specs.Prelude.{◌≡◌, ℕ, ◌+◌, ◌<◌, ◌≤◌, ℤ, ◌&&◌, Bool, not, false, List, [], ◌∷◌, ◌++◌, map, length}
 use Rattle.std.specs.Prelude.{IfSome, Option, true}
 use Rattle.std.specs.Prelude.{Some, None, slice_get, IsTrue}
-use Rattle.std.specs.Option.{is_some, option_to_list}
+use Rattle.std.specs.Option.{is_some, option_map, option_to_list}
 use Rattle.circuit.specs.Meaning.{Circuit, Gate, wire_of}
 use Rattle.std.specs.List.{All, filter, list_any}
 use Rattle.bbm_rule.specs.Board.{Board, live}
 use Rattle.bbm_rule.specs.declared.block.Cell.{Cell}
 use Rattle.module_box.specs.Boxes.{in_box, in_halo, IsEven}
+use Rattle.certificate_lines.specs.declared.local_names.CutWire.{CutWire}
 use Rattle.certificate_lines.specs.declared.local_names.LocalName.{LocalName}
 use Rattle.module_box.specs.Tiling.{AreOwners, Owning}
 use Rattle.module_box.specs.declared.boxes.Box2.{Box2}
@@ -171,6 +172,12 @@ NamesWire c local (Edge e) = IfSome e.signal (λ n. IsTrue (is_local c local n))
 NamesWire c local (Halo e) = IfSome e.signal (λ n. IsTrue (is_local c local n))
 NamesWire c local (Stop s) = IsTrue (is_local c local s.wire)
 NamesWire c local _ = Unit {0}
+
+-- what was looked up is the wire that a cut line names, if the line is one
+abbrev pub IsCutWire : Circuit → CertificateLine → Option CutWire → Type 0
+IsCutWire c (Cut n) cut = (option_map (λ w. w.wire) cut ≡ wire_of c n)
+    × IfSome cut (λ w. (w.name.now ≡ n) × (w.wire < 4096))
+IsCutWire c _ cut = Unit {0}
 
 -- the line is no `module` line
 abbrev pub IsInner : CertificateLine → Type 0

@@ -6,14 +6,14 @@ ghost use Rattle.std.specs.List.{list_any};
 ghost use Rattle.certificate_lines.specs.Entries.{ModuleLines, counts_of, known, modules_of, last_module, name_in};
 ghost use Rattle.certificate_lines.specs.Rules.{border_fault, entry_fault, end_fault, box_fault, module_fault, inner_fault, words_fault, is_incomplete, is_local};
 ghost use Rattle.module_box.specs.Boxes.{in_box};
-ghost use Rattle.certificate_lines.specs.BuilderView.{BuilderView, IsBorderLine, IsInner, AreSmallCounts, NamesWire};
+ghost use Rattle.certificate_lines.specs.BuilderView.{BuilderView, IsBorderLine, IsCutWire, IsInner, AreSmallCounts, NamesWire};
 ghost use Rattle.certificate_lines.specs.declared.certificate_line.CertificateLine.TheVariants.{Module};
 
 use crate::certificate_line::{CertificateLine, Counts};
 use crate::counts::{count_in_last, last_counts, pop_module, push_entry, push_module};
 use crate::known::{learn_line, make_room_for_wires, put_away};
 use crate::line_tables::LineTables;
-use crate::local_names::LocalNames;
+use crate::local_names::{CutWire, LocalNames, cut_wire};
 use crate::order::may_follow;
 use crate::rules::{
     border_code, cut_code, is_bad_place, is_bad_side, is_local_name, keep_code, may_be_edge,
@@ -83,12 +83,17 @@ fn own_name<'a>(
     known: &WireList,
     names: &LocalNames<'a>,
     line: &CertificateLine,
+    cut: Option<CutWire<'a>>,
 ) -> Option<&'a Name>
-    requires { NamesWire tables.now.circuit known.now.wires line.now }
+    requires wire { NamesWire tables.now.circuit known.now.wires line.now }
+    requires cut { IsCutWire tables.now.circuit line.now cut }
     ensures { option_map (λ n. n.now) result ≡ name_in line.now }
 {
     match line {
-        CertificateLine::Cut(name) => Some(names.own_name(tables, name)),
+        CertificateLine::Cut(_) => match cut {
+            Some(cut) => Some(cut.name),
+            None => unreachable!(),
+        },
         CertificateLine::Edge(border) => own_signal(tables, known, names, &border.signal),
         CertificateLine::Halo(border) => own_signal(tables, known, names, &border.signal),
         CertificateLine::Stop(stop) => Some(names.own_name(tables, &stop.wire)),
@@ -172,8 +177,14 @@ impl<'a> Builder<'a> {
 
     // The code of the tests that come after that of the order, where these are the counts of the last module.
     #[inline(always)]
-    fn words_code(&mut self, counts: Counts, entry: &CertificateLine) -> Option<RefusalCode>
-        requires { AreSmallCounts counts }
+    fn words_code(
+        &mut self,
+        counts: Counts,
+        entry: &CertificateLine,
+        cut: Option<CutWire<'a>>,
+    ) -> Option<RefusalCode>
+        requires counts { AreSmallCounts counts }
+        requires cut { IsCutWire self.old.setting.circuit entry.now cut }
         ensures code { (m : ModuleLines) → last_module self.old.entries ≡ Some m →
             counts ≡ counts_of m → result ≡ words_fault self.old.setting m entry.now }
         ensures same_lines { self.new ≡ self.old }
@@ -182,7 +193,9 @@ impl<'a> Builder<'a> {
         let borders = counts.edges + counts.halos + counts.stops;
         match entry {
             CertificateLine::Module(_) => None,
-            CertificateLine::Cut(name) => cut_code(&self.tables, counts.cuts, &self.known, name),
+            CertificateLine::Cut(_) => {
+                cut_code(counts.cuts, &self.known, cut.map(|cut| cut.wire))
+            }
             CertificateLine::Use(number) => use_code(
                 &self.tables,
                 counts.gates,
@@ -211,10 +224,15 @@ impl<'a> Builder<'a> {
         }
     }
 
-    // The code of a line of a module.
+    // The code of a line of a module. `cut` is the wire that the line cuts, if it cuts one.
     #[inline(always)]
-    fn inner_code(&mut self, entry: &CertificateLine) -> Option<RefusalCode>
-        requires { IsInner entry.now }
+    fn inner_code(
+        &mut self,
+        entry: &CertificateLine,
+        cut: Option<CutWire<'a>>,
+    ) -> Option<RefusalCode>
+        requires inner { IsInner entry.now }
+        requires cut { IsCutWire self.old.setting.circuit entry.now cut }
         ensures code { result
             ≡ inner_fault self.old.setting (last_module self.old.entries) entry.now }
         ensures same_lines { self.new ≡ self.old }
@@ -225,7 +243,7 @@ impl<'a> Builder<'a> {
         if !may_follow(self.entries.as_slice(), entry) {
             return Some(RefusalCode::OutOfOrder);
         }
-        self.words_code(counts, entry)
+        self.words_code(counts, entry, cut)
     }
 }
 
@@ -241,13 +259,13 @@ impl<'a> Builder<'a> {
         ensures fault { IfErr result (λ e. FaultIs e
             (inner_fault self.old.setting (last_module self.old.entries) entry)) }
     {
-        if let Some(code) = self.inner_code(&entry) {
+        if let Some(code) = self.inner_code(&entry, None) {
             return Err(LineFault::Code(code));
         }
         if make_room_for_stars(&mut self.edges, &mut self.halos, &entry).is_err() {
             return Err(LineFault::Memory);
         }
-        let name = own_name(&self.tables, &self.known, &self.local_names, &entry);
+        let name = own_name(&self.tables, &self.known, &self.local_names, &entry, None);
         push_entry(&mut self.entries, StoredLine::of(&entry, name))?;
         note_stars(&mut self.edges, &mut self.halos, &entry);
         count_in_last(&mut self.modules, &entry);
@@ -263,7 +281,8 @@ impl<'a> Builder<'a> {
         ensures fault { IfErr result (λ e. FaultIs e
             (inner_fault self.old.setting (last_module self.old.entries) entry)) }
     {
-        if let Some(code) = self.inner_code(&entry) {
+        let cut = cut_wire(&self.tables, &entry);
+        if let Some(code) = self.inner_code(&entry, cut) {
             return Err(LineFault::Code(code));
         }
         if make_room_for_wires(&mut self.known, &self.tables, &entry).is_err() {
@@ -272,9 +291,11 @@ impl<'a> Builder<'a> {
         if make_room_for_stars(&mut self.edges, &mut self.halos, &entry).is_err() {
             return Err(LineFault::Memory);
         }
-        let name = own_name(&self.tables, &self.known, &self.local_names, &entry);
+        let name = own_name(&self.tables, &self.known, &self.local_names, &entry, cut);
         push_entry(&mut self.entries, StoredLine::of(&entry, name))?;
-        learn_line(&mut self.known, &self.tables, &entry);
+        learn_line(&mut self.known, &self.tables, &entry, cut);
+        self.local_names
+            .note_cut(&self.tables, &self.known, &entry, cut);
         note_stars(&mut self.edges, &mut self.halos, &entry);
         count_in_last(&mut self.modules, &entry);
         Ok(())

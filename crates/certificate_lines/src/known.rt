@@ -2,11 +2,12 @@
 ghost use Rattle.std.specs.Prelude.{◌≡◌, ◌≤◌, ◌<◌, ◌++◌, ◌∷◌, [], length, map, OnErr, OnOk};
 ghost use Rattle.std.specs.List.{All, list_all};
 ghost use Rattle.module_box.specs.Locals.{is_among};
-ghost use Rattle.certificate_lines.specs.BuilderView.{wires_in};
+ghost use Rattle.certificate_lines.specs.BuilderView.{IsCutWire, wires_in};
 ghost use Rattle.certificate_lines.specs.Rules.{are_new};
 
 use crate::certificate_line::CertificateLine;
 use crate::line_tables::LineTables;
+use crate::local_names::CutWire;
 use crate::wire_list::WireList;
 use circuit::WireNo;
 use std::alloc::{AllocError, Global};
@@ -77,14 +78,22 @@ pub(crate) fn make_room_for_wires(
 }
 
 /// Makes the wires local that a line of a module makes local, where there is room for them.
-pub(crate) fn learn_line(known: &mut WireList, tables: &LineTables, entry: &CertificateLine)
+///
+/// `cut` is the wire that the line cuts, if it cuts one.
+pub(crate) fn learn_line(
+    known: &mut WireList,
+    tables: &LineTables,
+    entry: &CertificateLine,
+    cut: Option<CutWire>,
+)
+    requires cut { IsCutWire tables.now.circuit entry.now cut }
     requires room_for_wires { length (wires_in tables.now.circuit entry.now) ≤ known.old.spare }
     ensures { known.new.wires ≡ known.old.wires ++ wires_in tables.now.circuit entry.now }
 {
     match entry {
-        CertificateLine::Cut(name) => {
-            if let Some(wire) = tables.wire(name) {
-                known.push(wire);
+        CertificateLine::Cut(_) => {
+            if let Some(cut) = cut {
+                known.push(cut.wire);
             }
         }
         CertificateLine::Use(number) => {

@@ -226,7 +226,9 @@ impl<'a> Builder<'a> {
         }
     }
 
-    // The same of the module that has the cell `beside`, if one has it.
+    // The same of the module that has the cell `beside`, if one has it. Inlined, since it runs three times for each
+    // edge line.
+    #[inline(always)]
     fn is_unknown_at(
         &self,
         owners: &Owners,

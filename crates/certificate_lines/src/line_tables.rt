@@ -66,6 +66,9 @@ fn push_row_names(
         ≡ (list_any f names.old.items || list_any
         (λ c. option_map_or f (port_at ports.now c.x c.y) false) (row_cells x width y))) }
 {
+    if ports.is_row_empty(y) {
+        return Ok(());
+    }
     if ports.is_row_free(x, y, width) {
         return Ok(());
     }
@@ -134,7 +137,10 @@ impl<'a> LineTables<'a> {
     pub(crate) fn named_wire(&self, name: &Name) -> Option<(u16, &'a Name)>
         ensures wire { option_map (λ p. p.0) result ≡ wire_of self.now.circuit name.now }
         ensures same_name { IfSome result (λ p. p.1.now ≡ name.now) }
+        ensures below_4096 { IfSome result (λ p. p.0 < 4096) }
     {
+        // A circuit has at most 4096 wires.
+        let _wire_count = self.circuit.wires();
         match self.circuit.named_wire(name) {
             None => None,
             Some((wire, own_name)) => Some((wire.number(), own_name)),

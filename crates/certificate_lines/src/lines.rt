@@ -69,8 +69,8 @@ fn push_cut(wires: &mut Vec<WireNo>, circuit: &Circuit, line: &StoredLine) -> Re
         ≡ wires.old.items ++ flat_map (λ n. option_to_list (wire_of (circuit_of circuit.now) n))
         (cut_in line.now)) }
 {
-    if let CertificateLine::Cut(name) = line.line() {
-        if let Some(wire) = circuit.wire(&name) {
+    if let Some(name) = line.cut() {
+        if let Some(wire) = circuit.wire(name) {
             wires.push(wire)?;
         }
     }

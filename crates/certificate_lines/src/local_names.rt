@@ -1,10 +1,11 @@
 //! Names of wires that are local in the last module, with references to the circuit's names.
-ghost use Rattle.std.specs.Prelude.{◌≡◌, ◌<◌, None, replicate, IfSome, IsTrue};
+ghost use Rattle.std.specs.Prelude.{◌≡◌, ◌<◌, None, Some, replicate, IfSome, IsTrue};
 ghost use Rattle.circuit.specs.Meaning.{wire_of};
 ghost use Rattle.std.specs.Option.{is_some};
-ghost use Rattle.certificate_lines.specs.BuilderView.{AreLocalNames};
+ghost use Rattle.certificate_lines.specs.BuilderView.{AreLocalNames, IsCutWire};
 ghost use Rattle.certificate_lines.specs.Rules.{is_local};
 
+use crate::certificate_line::CertificateLine;
 use crate::line_tables::LineTables;
 use crate::wire_list::WireList;
 use section_text::Name;
@@ -16,6 +17,26 @@ const SLOT_COUNT: usize = 64;
 #[derive(Clone, Copy)]
 pub(crate) struct LocalName<'a> {
     name: &'a Name,
+}
+
+/// A wire of the circuit: its number, and its name as the circuit has it.
+#[derive(Clone, Copy)]
+pub(crate) struct CutWire<'a> {
+    pub(crate) wire: u16,
+    pub(crate) name: &'a Name,
+}
+
+/// Returns the wire that a cut line names. For a line of another kind it looks nothing up.
+pub(crate) fn cut_wire<'a>(tables: &LineTables<'a>, line: &CertificateLine) -> Option<CutWire<'a>>
+    ensures { IsCutWire tables.now.circuit line.now result }
+{
+    let CertificateLine::Cut(name) = line else {
+        return None;
+    };
+    match tables.named_wire(name) {
+        Some((wire, name)) => Some(CutWire { wire, name }),
+        None => None,
+    }
 }
 
 /// Names of wires that are local in a module, in slots by their last bytes.
@@ -82,7 +103,43 @@ fn find_in<'a>(
     look_up(tables, known, slots, slot, &name)
 }
 
+// Puts the name of a wire that was cut into its slot, if the wire is local.
+fn put_cut<'a>(
+    tables: &LineTables<'a>,
+    known: &WireList,
+    slots: &mut [Option<LocalName<'a>>; SLOT_COUNT],
+    cut: CutWire<'a>,
+)
+    requires wire { wire_of tables.now.circuit cut.name.now ≡ Some cut.wire }
+    requires names { AreLocalNames tables.now.circuit known.now.wires slots.old }
+    ensures names { AreLocalNames tables.now.circuit known.now.wires slots.new }
+{
+    if known.contains(cut.wire) {
+        slots[slot_of(cut.name)] = Some(LocalName { name: cut.name });
+    }
+}
+
 impl<'a> LocalNames<'a> {
+    /// Notes the name of the wire that a line cut, if it cut one. Lines of the module that name it look nothing up
+    /// then.
+    pub(crate) fn note_cut(
+        &mut self,
+        tables: &LineTables<'a>,
+        known: &WireList,
+        line: &CertificateLine,
+        cut: Option<CutWire<'a>>,
+    )
+        requires cut { IsCutWire tables.now.circuit line.now cut }
+        requires names { AreLocalNames tables.now.circuit known.now.wires self.old.slots }
+        ensures names { AreLocalNames tables.now.circuit known.now.wires self.new.slots }
+    {
+        if let CertificateLine::Cut(_) = line {
+            if let Some(cut) = cut {
+                put_cut(tables, known, &mut self.slots, cut);
+            }
+        }
+    }
+
     /// Creates slots that hold no names.
     pub(crate) fn new() -> LocalNames<'a>
         ensures { result.slots ≡ replicate 64 None }

@@ -1,12 +1,12 @@
 //! The order of the lines of a module.
-ghost use Rattle.std.specs.Prelude.{◌≡◌, List};
+ghost use Rattle.std.specs.Prelude.{◌≡◌, ℕ, List};
 ghost use Rattle.std.specs.Ordering.{is_lt};
 ghost use Rattle.certificate_lines.specs.Entries.{last_of};
 ghost use Rattle.certificate_lines.specs.Orders.{AreInOrder, rank_of, time_rank, number_of, cell_of, line_cmp, is_cut, may_precede, may_follow};
 ghost use Rattle.certificate_lines.specs.Versions.{line_order};
 ghost use Rattle.certificate_lines.specs.BuilderView.{IsInner, last_inner};
 ghost use Rattle.certificate_lines.specs.declared.certificate_line.CertificateLine.{CertificateLine};
-ghost use Rattle.certificate_lines.specs.declared.certificate_line.CertificateLine.TheVariants.{Stop};
+ghost use Rattle.certificate_lines.specs.declared.certificate_line.CertificateLine.TheVariants.{Cut, Use, Stop};
 
 use crate::certificate_line::{BorderLine, CertificateLine, StopLine};
 use crate::stored_line::{StoredBorder, StoredLine, StoredStop};
@@ -128,6 +128,33 @@ fn does_stop_precede(first: &StoredStop, second: &StopLine) -> bool
     }
 }
 
+// Whether a line may stand before a cut: cuts come first, in any order.
+#[inline(always)]
+#[tactic(auto, unfolding(crate::specs::Orders::may_precede, crate::specs::Orders::line_cmp, crate::specs::Orders::rank_of, crate::specs::Orders::is_cut))]
+fn does_precede_cut(first: &StoredLine) -> bool
+    ensures { (name : List ℕ) → result ≡ may_precede first.now (Cut name) }
+{
+    match first.line() {
+        CertificateLine::Module(_) => true,
+        CertificateLine::Cut(_) => true,
+        _ => false,
+    }
+}
+
+// Whether a line may stand before one that uses this gate.
+#[inline(always)]
+#[tactic(auto, unfolding(crate::specs::Orders::may_precede, crate::specs::Orders::line_cmp, crate::specs::Orders::rank_of, crate::specs::Orders::is_cut))]
+fn does_precede_use(first: &StoredLine, gate: u32) -> bool
+    ensures { result ≡ may_precede first.now (Use gate) }
+{
+    match first.line() {
+        CertificateLine::Module(_) => true,
+        CertificateLine::Cut(_) => true,
+        CertificateLine::Use(before) => before.cmp(&gate).is_lt(),
+        _ => false,
+    }
+}
+
 // Whether the first line may stand before the second. It makes a copy of the first line with its name.
 #[inline(never)]
 fn does_any_precede_line(first: &StoredLine, second: &CertificateLine) -> bool
@@ -136,12 +163,14 @@ fn does_any_precede_line(first: &StoredLine, second: &CertificateLine) -> bool
     does_any_precede(&first.line(), second)
 }
 
-// The same. Most lines follow a line of their kind.
+// The same. Most lines follow a line of their kind, or begin with cuts and gates.
 #[inline(always)]
 fn does_precede(first: &StoredLine, second: &CertificateLine) -> bool
     ensures { result ≡ may_precede first.now second.now }
 {
     match second {
+        CertificateLine::Cut(_) => return does_precede_cut(first),
+        CertificateLine::Use(gate) => return does_precede_use(first, *gate),
         CertificateLine::Edge(second) => {
             if let Some(first) = first.edge() {
                 return does_border_precede(&first, second);

@@ -1,5 +1,5 @@
 //! The ports of a layout by their cells.
-ghost use Rattle.std.specs.Prelude.{◌≡◌, ◌+◌, ◌<◌, ◌≤◌, ℕ, length, nat_eq, pos, true, None, OnOk, IfOk};
+ghost use Rattle.std.specs.Prelude.{◌≡◌, ◌+◌, ◌<◌, ◌≤◌, ℕ, ℤ, length, nat_eq, pos, true, None, OnOk, IfOk};
 ghost use Rattle.std.specs.List.{list_all};
 ghost use Rattle.pattern.specs.Layout.{HaveOwnCells};
 ghost use Rattle.pattern.specs.Lines.{size_fault};
@@ -125,6 +125,20 @@ fn are_all_zero(numbers: &[u32]) -> bool
 }
 
 impl<'a> PortTable<'a> {
+    // Whether no port is in row `y`, by the row's number alone. Most rows of a layout have no port.
+    #[inline(always)]
+    pub(crate) fn is_row_empty(&self, y: u32) -> bool
+        ensures { result ≡ true → (x : ℤ) → port_at self.now x (pos y) ≡ None }
+    {
+        let Some(row) = y.checked_sub(self.area.y) else {
+            return false;
+        };
+        match self.rows.get(row as usize) {
+            Some(number) => *number == 0,
+            None => false,
+        }
+    }
+
     // Whether no port is at `width` cells of row `y`, from column `x` on. It looks at the row once.
     pub(crate) fn is_row_free(&self, x: u32, y: u32, width: u32) -> bool
         requires { (x + width ≤ 512) × (y < 512) }

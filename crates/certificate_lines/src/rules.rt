@@ -1,6 +1,6 @@
 //! The tests of a line of a module, after its order.
-ghost use Rattle.std.specs.Prelude.{◌≡◌, ◌+◌, Some};
-ghost use Rattle.circuit.specs.Meaning.{wire_of};
+ghost use Rattle.std.specs.Prelude.{◌≡◌, ◌+◌, ℕ, List, Some};
+ghost use Rattle.circuit.specs.Meaning.{Circuit, wire_of};
 ghost use Rattle.certificate_lines.specs.BuilderView.{AreLocalNames};
 ghost use Rattle.certificate_lines.specs.Entries.{ModuleLines, gates, last_module};
 ghost use Rattle.certificate_lines.specs.Rules.{is_wrong_side, is_misplaced, is_odd, is_local, is_local_wire, cut_fault, gate_fault, use_fault, keep_fault, is_time, is_edge_place, is_halo_place, is_stop_place, signal_fault, wire_fault, border_fault};
@@ -66,20 +66,17 @@ pub(crate) fn is_local_name(tables: &LineTables, known: &WireList, name: &Name) 
     is_local_wire(known, tables.wire(name))
 }
 
-/// Returns the code of a cut, if `count` wires are cut already.
+/// Returns the code of a cut of this wire, if `count` wires are cut already. The circuit has no such wire if it is
+/// `None`.
 #[tactic(auto, unfolding(crate::specs::Rules::cut_fault))]
-pub(crate) fn cut_code(
-    tables: &LineTables,
-    count: usize,
-    known: &WireList,
-    name: &Name,
-) -> Option<RefusalCode>
-    ensures { result ≡ cut_fault tables.now.circuit count known.now.wires name.now }
+pub(crate) fn cut_code(count: usize, known: &WireList, wire: Option<u16>) -> Option<RefusalCode>
+    ensures { (c : Circuit) (name : List ℕ) → wire ≡ wire_of c name →
+        result ≡ cut_fault c count known.now.wires name }
 {
     if count >= MAX_CUTS {
         return Some(RefusalCode::PastLimit);
     }
-    match tables.wire(name) {
+    match wire {
         None => Some(RefusalCode::UnknownName),
         Some(wire) if known.contains(wire) => Some(RefusalCode::DefinedTwice),
         Some(_) => None,

@@ -1,7 +1,7 @@
 //! A line of a certificate as a certificate keeps it: with a reference to the name of its wire.
 ghost use Rattle.std.specs.Prelude.{◌≡◌};
 ghost use Rattle.std.specs.Option.{option_map, option_to_list};
-ghost use Rattle.certificate_lines.specs.Entries.{edge_in, halo_in, name_in, stop_in};
+ghost use Rattle.certificate_lines.specs.Entries.{cut_in, edge_in, halo_in, name_in, stop_in};
 ghost use Rattle.certificate_lines.specs.Versions.{is_halo};
 ghost use Rattle.certificate_lines.specs.declared.certificate_line.CertificateLine.TheVariants.{Module, Halo};
 
@@ -157,6 +157,17 @@ impl<'a> StoredLine<'a> {
                 wire: *wire,
                 cell,
             }),
+        }
+    }
+
+    /// Returns the name of the wire that the line cuts, if it is a cut.
+    #[inline(always)]
+    pub(crate) fn cut(&self) -> Option<&'a Name>
+        ensures { option_to_list (option_map (λ n. n.now) result) ≡ cut_in self.now }
+    {
+        match self.content {
+            Content::Cut(name) => Some(name),
+            _ => None,
         }
     }
 

@@ -10,7 +10,7 @@ use std::marker::Model;
 const WORD_COUNT: usize = 64;
 
 // For how many wires the first allocation has room: most modules know fewer.
-const FIRST_ROOM: usize = 16;
+const FIRST_ROOM: usize = 64;
 
 /// Wires of a circuit, in the order in which they were added.
 ///

@@ -38,6 +38,9 @@ fn place_in(wires: &[u16], wire: u16) -> Option<usize>
     wires.iter().position(|w| *w == wire)
 }
 
+// How many entries the table gets at once: wires that are added later mostly have near numbers.
+const ENTRY_COUNT: usize = 512;
+
 // Makes the table long enough for an entry of this wire.
 fn make_entry(numbers: &mut Vec<u16>, wire: u16) -> Result<(), AllocError>
     ensures entry { OnOk result (wire < length numbers.new.items) }
@@ -45,11 +48,10 @@ fn make_entry(numbers: &mut Vec<u16>, wire: u16) -> Result<(), AllocError>
         slice_get numbers.new.items v ≡ Some i) }
     ensures unchanged_on_error { OnErr result (numbers.new.items ≡ numbers.old.items) }
 {
-    let entry_count = wire as usize + 1;
-    if numbers.len() >= entry_count {
+    if numbers.len() > wire as usize {
         return Ok(());
     }
-    numbers.resize(entry_count, 0)
+    numbers.resize((wire as usize / ENTRY_COUNT + 1) * ENTRY_COUNT, 0)
 }
 
 impl NumberedWires {

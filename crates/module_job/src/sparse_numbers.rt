@@ -33,6 +33,21 @@ impl Model for SparseNumbers {
     ghost invariant = { AreSparse };
 }
 
+// For how many words the first allocation of entries has room. Most lists are short, and are not moved then.
+const FIRST_ROOM: usize = 32;
+
+// Adds an entry: a place plus one, and its number.
+fn push_entry(entries: &mut Vec<u64>, place: u64, number: u64) -> Result<(), AllocError>
+    ensures added { OnOk result (entries.new.items
+        ≡ entries.old.items ++ place ∷ number ∷ []) }
+    ensures unchanged_on_error { OnErr result (entries.new.items ≡ entries.old.items) }
+{
+    if entries.is_empty() {
+        entries.reserve(FIRST_ROOM)?;
+    }
+    entries.extend_from_slice(&[place, number])
+}
+
 // Whether a place has a mark.
 fn is_marked(marks: &[u64], at: usize) -> bool
     requires { at / 64 < length marks.now }
@@ -108,7 +123,7 @@ impl SparseNumbers {
         if place == usize::MAX {
             return Err(AllocError);
         }
-        self.entries.extend_from_slice(&[place as u64 + 1, number])?;
+        push_entry(&mut self.entries, place as u64 + 1, number)?;
         mark_within(&mut self.marks, place);
         self.count = place + 1;
         Ok(())

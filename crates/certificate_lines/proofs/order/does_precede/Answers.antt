@@ -20,3 +20,9 @@ returns-in-Some-stop c =
     let first_is = stop_is c.args.first.now c.in-Some-stop.first
     (ap option_to_list (sym c.in-Some-stop.is) ∙ c.stop.ensures) in
     rw (first_is, c.in-Stop.is) (c.does_stop_precede.ensures ∙ stops_precede c.in-Some-stop.first c.in-Stop.second)
+
+pub returns-in-Cut : goal.returns-in-Cut
+returns-in-Cut c = rw c.in-Cut.is (c.does_precede_cut.ensures _)
+
+pub returns-in-Use : goal.returns-in-Use
+returns-in-Use c = rw c.in-Use.is c.does_precede_use.ensures

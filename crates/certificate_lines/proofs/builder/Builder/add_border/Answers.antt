@@ -4,15 +4,21 @@ use Rattle.bbm_rule.specs.declared.block.Cell.{Cell}
 use Rattle.certificate_lines.specs.Entries.{edge_in, halo_in, last_module}
 use Rattle.certificate_lines.specs.Rules.{inner_fault, is_starred, same_cell}
 use Rattle.certificate_lines.specs.BuilderView.{BuilderView, NamesWire}
-use Rattle.certificate_lines.proofs.Keeping.{border_is_inner, good_line, small, with_border}
+use Rattle.certificate_lines.proofs.Keeping.{border_is_inner, border_is_uncut, good_line, small, with_border}
 use Rattle.certificate_lines.proofs.NamedLines.{named_words}
 use Rattle.certificate_lines.proofs.builder.Builder.add_border.Goals as goal
 
-pub inner_code-requires : goal.inner_code-requires
-inner_code-requires c = border_is_inner c.args.entry c.requires
+pub inner_code-requires-clause-inner : goal.inner_code-requires-clause-inner
+inner_code-requires-clause-inner c = border_is_inner c.args.entry c.requires
 
-pub own_name-name-requires : goal.own_name-name-requires
-own_name-name-requires c =
+pub inner_code-requires-clause-cut : goal.inner_code-requires-clause-cut
+inner_code-requires-clause-cut c = border_is_uncut c.args.self.now.setting.circuit c.args.entry None c.requires
+
+pub own_name-name-requires-clause-cut : goal.own_name-name-requires-clause-cut
+own_name-name-requires-clause-cut c = border_is_uncut c.self.inside.tables.circuit c.args.entry None c.requires
+
+pub own_name-name-requires-clause-wire : goal.own_name-name-requires-clause-wire
+own_name-name-requires-clause-wire c =
     let good = good_line c.self.inside.tables c.self.inside.entries.items c.args.entry
     (subst (λ (s : BuilderView). inner_fault s.setting (last_module s.entries) c.args.entry ≡ None)
     (sym (c.self.view_is ∙ c.inner_code.ensures.same_lines)) (sym c.inner_code.ensures.code ∙ c.in_default.is)) in

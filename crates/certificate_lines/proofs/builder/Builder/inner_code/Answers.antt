@@ -23,8 +23,8 @@ returns-then-not-may_follow-clause-code c =
     (λ lines order last. c.may_follow.ensures lines order (last ∙ ap last_inner (sym c.as_slice.ensures.value)))
     c.if-not-may_follow.true)
 
-pub words_code-requires : goal.words_code-requires
-words_code-requires c = small _ _ _ _ _ _ _ _ _ c.self.invariant.kept c.in-Some.counts
+pub words_code-requires-clause-counts : goal.words_code-requires-clause-counts
+words_code-requires-clause-counts c = small _ _ _ _ _ _ _ _ _ c.self.invariant.kept c.in-Some.counts
     (ap last_of (sym c.deref.ensures.value) ∙ sym c.last_counts.ensures ∙ c.in-Some.is)
 
 pub returns-clause-code : goal.returns-clause-code

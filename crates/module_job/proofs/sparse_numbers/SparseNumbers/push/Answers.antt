@@ -12,7 +12,7 @@ invariant_of-self-2 c =
     let es = a.entries.items in
     let n = c.args.number in
     let more : 0 < n = grind arith in
-    let items = c.in_ok-extend_from_slice.ensures.items in
+    let items = c.in_ok-push_entry.ensures.added in
     let was = c.self.invariant in
     let marks = c.deref_mut.ensures.value in
     let room = ap length marks in
@@ -35,7 +35,7 @@ returns c =
     let a = c.self.inside in
     let more : 0 < c.args.number = grind arith in
     record {
-      added = ap (λ (l : List ℕ). numbers_from (a.count + 1) 0 l) c.in_ok-extend_from_slice.ensures.items
+      added = ap (λ (l : List ℕ). numbers_from (a.count + 1) 0 l) c.in_ok-push_entry.ensures.added
           ∙ (number_grows a.count c.args.number a.entries.items more c.self.invariant.entries).0
           ∙ ap (λ ns. ns ++ c.args.number ∷ []) c.self.view_is;
       unchanged = tt;
