@@ -2,4 +2,5 @@ mod ByStatus
 pub mod Closings
 mod Ends
 mod RightStreams
+mod SectionBytes
 mod Words

@@ -4,3 +4,4 @@ pub mod Laws
 pub mod Commands
 pub mod Program
 pub mod Audits
+pub mod Preparing

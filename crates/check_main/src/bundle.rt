@@ -10,8 +10,10 @@ ghost use Rattle.headline.specs.RightInFull.{IsRightInFull};
 ghost use Rattle.headline.specs.SmallDesigns.{IsNoSmallDesign};
 
 use crate::check::report_on;
+use crate::preparing::prepare;
 use answers::{Answered, Outcome, refused};
-use certificate::read_certificate_with_digest;
+use certificate::laws::one_text;
+use certificate::read_certificate;
 use circuit::{port_names, read_circuit};
 use job_pool::Gate;
 use pattern::read_layout;
@@ -105,14 +107,16 @@ fn report_of_text<G: Gate + Sync, R: Threads + Wait + Sync>(
         Err(fault) => return refused(alloc, fault),
         Ok(layout) => layout,
     };
-    let cert = match read_certificate_with_digest(alloc, &mut feed, &circuit, &layout) {
+    let from = feed.taken_text().len();
+    let cert = match read_certificate(alloc, &mut feed, &circuit, &layout) {
         Err(fault) => return refused(alloc, fault),
         Ok(cert) => cert,
     };
     if let Err(fault) = feed.finish() {
         return refused(alloc, fault);
     }
-    // The text is not needed any more, and the modules can use its memory.
-    drop(feed);
-    report_on(rt, alloc, &cert, workers, gate)
+    // A certificate prints as the bytes that it was read from.
+    one_text();
+    let prepared = prepare(rt, alloc, &cert, feed, from, workers)?;
+    report_on(rt, alloc, &cert, prepared, workers, gate)
 }

@@ -4,12 +4,16 @@ ghost use Rattle.sha2.specs.Sha256.{sha256};
 ghost use Rattle.certificate.specs.Text.{certificate_text};
 ghost use Rattle.answers.specs.BundleReading.{bundle_by};
 ghost use Rattle.answers.specs.CheckText.{IsVerdictOn, SaysReport, verdict_outcome};
+ghost use Rattle.border_match.specs.BorderFaults.{AreBorderFaultsOf};
+ghost use Rattle.core_book.specs.Concluding.{modules, setting};
 ghost use Rattle.check_main.specs.Audits.{IsAuditOf};
+ghost use Rattle.check_main.specs.Preparing.{IsPreparedFor};
 
-use crate::auditing::audit;
+use crate::auditing::audit_opening;
+use crate::preparing::Prepared;
 use answers::{Answered, Outcome};
 use audit_core::conclude;
-use border_match::match_borders;
+use border_match::BorderFault;
 use certificate::Cert;
 use core_book::{BookState, Unfinished, Verdict};
 use job_pool::Gate;
@@ -23,14 +27,16 @@ pub(crate) fn report_on<G: Gate + Sync, R: Threads + Wait + Sync>(
     rt: &R,
     alloc: Global,
     cert: &Cert<'_>,
+    prepared: Prepared,
     workers: usize,
     gate: &G,
 ) -> Result<Answered, AllocError>
     requires workers { (0 < workers) × (workers ≤ 64) }
+    requires prepared { IsPreparedFor cert.now prepared }
     ensures says { IfOk result (λ answered. SaysReport (bundle_by cert.now) answered.output.items
         answered.outcome) }
 {
-    let Concluded { digest, verdict } = conclude_on(rt, alloc, cert, workers, gate)?;
+    let Concluded { digest, verdict } = conclude_on(rt, alloc, cert, prepared, workers, gate)?;
     let output = report_under(alloc, cert, digest, &verdict)?;
     Ok(Answered {
         outcome: outcome_of(&verdict),
@@ -50,32 +56,40 @@ fn conclude_on<G: Gate + Sync, R: Threads + Wait + Sync>(
     rt: &R,
     alloc: Global,
     cert: &Cert<'_>,
+    prepared: Prepared,
     workers: usize,
     gate: &G,
 ) -> Result<Concluded, AllocError>
     requires workers { (0 < workers) × (workers ≤ 64) }
+    requires prepared { IsPreparedFor cert.now prepared }
     ensures digest { IfOk result (λ concluded. concluded.digest
         ≡ sha256 (certificate_text cert.now)) }
     ensures verdict { IfOk result (λ concluded. IsVerdictOn cert.now concluded.verdict) }
 {
-    let audited = audit(rt, alloc, cert, workers, gate)?;
-    let verdict = verdict_from(alloc, cert, &audited.state)?;
+    let Prepared { opening, borders } = prepared;
+    let audited = audit_opening(rt, alloc, cert, opening, workers, gate)?;
+    let verdict = verdict_from(alloc, cert, &borders, &audited.state)?;
     Ok(Concluded {
         digest: audited.state.digest(),
         verdict,
     })
 }
 
-// The verdict on a certificate, from the book of its audit, which lacks no finding.
-fn verdict_from(alloc: Global, cert: &Cert<'_>, state: &BookState) -> Result<Verdict, AllocError>
-    requires { IsAuditOf cert.now state.now }
+// The verdict on a certificate, from the faults of its borders and the book of its audit, which lacks no finding.
+fn verdict_from(
+    alloc: Global,
+    cert: &Cert<'_>,
+    borders: &[Option<BorderFault>],
+    state: &BookState,
+) -> Result<Verdict, AllocError>
+    requires borders { AreBorderFaultsOf (setting cert.now) (modules cert.now) borders.now }
+    requires audit { IsAuditOf cert.now state.now }
     ensures { IfOk result (IsVerdictOn cert.now) }
 {
     // What is known of the modules.
     let _count = cert.modules();
     let jobs = state.jobs();
-    let borders = match_borders(alloc, cert, jobs)?;
-    match conclude(alloc, cert, jobs, &borders, state) {
+    match conclude(alloc, cert, jobs, borders, state) {
         Ok(verdict) => Ok(verdict),
         Err(Unfinished::Memory) => Err(AllocError),
         Err(Unfinished::Missing(_)) => unreachable!(),

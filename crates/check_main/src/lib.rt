@@ -7,6 +7,7 @@ mod check;
 mod fault;
 mod front;
 pub mod laws;
+mod preparing;
 mod stream;
 
 pub use answers::{Answered, Outcome};

@@ -1,10 +1,16 @@
 -- The circuit, the layout, the certificate, and the end of the text.
+use Rattle.std.proofs.Common.{◌∙◌, List, ℕ, ◌++◌, ap, length, subst, sym}
 use Rattle.std.proofs.lemmas.Result.{IfOk-weaker}
+use Rattle.section_text.specs.Feeds.{FeedView}
 use Rattle.section_text.specs.Ports.{named_ports}
+use Rattle.certificate.specs.Text.{certificate_text}
+use Rattle.certificate_lines.specs.Settings.{setting_of}
 use Rattle.answers.specs.CheckText.{SaysReport}
 use Rattle.answers.specs.BundleText.{bundle_of}
 use Rattle.answers.proofs.Bundles.{bundle_answers, bundle_goes_on, bundle_read, certificate_failed, circuit_failed}
 use Rattle.answers.proofs.Bundles.{going_3, layout_failed, refusal_answers}
+use Rattle.check_main.specs.Preparing.{IsSectionOf}
+use Rattle.check_main.proofs.SectionBytes.{section_bytes, text_taken}
 use Rattle.check_main.proofs.bundle.report_of_text.Goals as goal
 
 pub returns-in-Err : goal.returns-in-Err
@@ -30,30 +36,30 @@ returns-in-Err-read_layout g c =
           c.refused-in-Err-read_layout.ensures.told;
     }
 
-pub returns-in-Err-read_certificate_with_digest : goal.returns-in-Err-read_certificate_with_digest
-returns-in-Err-read_certificate_with_digest g c =
+pub returns-in-Err-read_certificate : goal.returns-in-Err-read_certificate
+returns-in-Err-read_certificate g c =
     let fails = certificate_failed c.args.feed c.read_circuit.new.feed c.requires.unread c.requires.going
     c.in-Ok.circuit c.in-Ok.ensures (named_ports c.in_ok-ports.ports) c.read_layout.new.feed c.in_ok-ports.ensures.ports
-    c.in-Ok-read_layout.layout c.in-Ok-read_layout.ensures.reads c.read_certificate_with_digest.new.feed
-    c.in-Err-read_certificate_with_digest.fault c.in-Err-read_certificate_with_digest.ensures.reads in
+    c.in-Ok-read_layout.layout c.in-Ok-read_layout.ensures.reads c.read_certificate.new.feed
+    c.in-Err-read_certificate.fault c.in-Err-read_certificate.ensures.reads in
     record {
-      answered = IfOk-weaker c.refused-in-Err-read_certificate_with_digest.result _ _
+      answered = IfOk-weaker c.refused-in-Err-read_certificate.result _ _
           (λ answered told. refusal_answers SaysReport
-          (bundle_of c.args.feed.text) c.in-Err-read_certificate_with_digest.fault answered.output.items
+          (bundle_of c.args.feed.text) c.in-Err-read_certificate.fault answered.output.items
           answered.outcome fails
-          told) c.refused-in-Err-read_certificate_with_digest.ensures.told;
+          told) c.refused-in-Err-read_certificate.ensures.told;
     }
 
 pub returns-in-Err-finish : goal.returns-in-Err-finish
 returns-in-Err-finish g c =
     let going = going_3 c.args.feed c.read_circuit.new.feed c.requires.unread c.requires.going c.in-Ok.circuit
     c.in-Ok.ensures (named_ports c.in_ok-ports.ports) c.read_layout.new.feed c.in_ok-ports.ensures.ports
-    c.in-Ok-read_layout.layout c.in-Ok-read_layout.ensures.reads c.read_certificate_with_digest.new.feed
-    c.in-Ok-read_certificate_with_digest.cert c.in-Ok-read_certificate_with_digest.ensures.reads in
+    c.in-Ok-read_layout.layout c.in-Ok-read_layout.ensures.reads c.read_certificate.new.feed
+    c.in-Ok-read_certificate.cert c.in-Ok-read_certificate.ensures.reads in
     let fails = bundle_goes_on c.args.feed c.read_circuit.new.feed c.requires.unread c.requires.going c.in-Ok.circuit
     c.in-Ok.ensures (named_ports c.in_ok-ports.ports) c.read_layout.new.feed c.in_ok-ports.ensures.ports
-    c.in-Ok-read_layout.layout c.in-Ok-read_layout.ensures.reads c.read_certificate_with_digest.new.feed
-    c.in-Ok-read_certificate_with_digest.cert c.in-Ok-read_certificate_with_digest.ensures.reads
+    c.in-Ok-read_layout.layout c.in-Ok-read_layout.ensures.reads c.read_certificate.new.feed
+    c.in-Ok-read_certificate.cert c.in-Ok-read_certificate.ensures.reads
     c.in-Err-finish.fault (c.in-Err-finish.ensures.more going) (c.in-Err-finish.ensures.fault going).0 in
     record {
       answered = IfOk-weaker c.refused-in-Err-finish.result _ _
@@ -62,23 +68,40 @@ returns-in-Err-finish g c =
           c.refused-in-Err-finish.ensures.told;
     }
 
+-- the certificate's section was read last, and the end of the text was looked for after it
+pub prepare-requires : goal.prepare-requires
+prepare-requires g c =
+    let going = going_3 c.args.feed c.read_circuit.new.feed c.requires.unread c.requires.going c.in-Ok.circuit
+    c.in-Ok.ensures (named_ports c.in_ok-ports.ports) c.read_layout.new.feed c.in_ok-ports.ensures.ports
+    c.in-Ok-read_layout.layout c.in-Ok-read_layout.ensures.reads c.read_certificate.new.feed
+    c.in-Ok-read_certificate.cert c.in-Ok-read_certificate.ensures.reads in
+    let cert = c.in-Ok-read_certificate.cert in
+    let read = text_taken c.one_text.ensures.printed
+    (setting_of c.in-Ok.circuit c.in-Ok-read_layout.layout) c.read_layout.new.feed c.read_certificate.new.feed cert
+    c.in-Ok-read_certificate.ensures.reads in
+    let bytes = section_bytes c.taken_text-from.result.now _ (certificate_text cert)
+    (read ∙ ap (λ (l : List ℕ). l ++ certificate_text cert) (sym c.taken_text-from.ensures)) in
+    subst (λ (f : FeedView). IsSectionOf f (length c.taken_text-from.result.now) cert)
+    (sym (c.in_default.ensures.ok going).2)
+    (record { within = bytes.0; bytes = bytes.1 })
+
 pub returns : goal.returns
 returns g c =
     let going = going_3 c.args.feed c.read_circuit.new.feed c.requires.unread c.requires.going c.in-Ok.circuit
     c.in-Ok.ensures (named_ports c.in_ok-ports.ports) c.read_layout.new.feed c.in_ok-ports.ensures.ports
-    c.in-Ok-read_layout.layout c.in-Ok-read_layout.ensures.reads c.read_certificate_with_digest.new.feed
-    c.in-Ok-read_certificate_with_digest.cert c.in-Ok-read_certificate_with_digest.ensures.reads in
+    c.in-Ok-read_layout.layout c.in-Ok-read_layout.ensures.reads c.read_certificate.new.feed
+    c.in-Ok-read_certificate.cert c.in-Ok-read_certificate.ensures.reads in
     let done = c.in_default.ensures.ok going in
     let was_read = bundle_read c.args.feed c.read_circuit.new.feed c.requires.unread c.requires.going c.in-Ok.circuit
     c.in-Ok.ensures (named_ports c.in_ok-ports.ports) c.read_layout.new.feed c.in_ok-ports.ensures.ports
-    c.in-Ok-read_layout.layout c.in-Ok-read_layout.ensures.reads c.read_certificate_with_digest.new.feed
-    c.in-Ok-read_certificate_with_digest.cert c.in-Ok-read_certificate_with_digest.ensures.reads
-    c.in-Ok-read_certificate_with_digest.ensures.circuit c.in-Ok-read_certificate_with_digest.ensures.layout done.0
+    c.in-Ok-read_layout.layout c.in-Ok-read_layout.ensures.reads c.read_certificate.new.feed
+    c.in-Ok-read_certificate.cert c.in-Ok-read_certificate.ensures.reads
+    c.in-Ok-read_certificate.ensures.circuit c.in-Ok-read_certificate.ensures.layout done.0
     done.1 in
     record {
       answered = IfOk-weaker c.report_on.result _ _
           (λ answered says. bundle_answers SaysReport
-          (bundle_of c.args.feed.text) c.in-Ok-read_certificate_with_digest.cert answered.output.items answered.outcome
+          (bundle_of c.args.feed.text) c.in-Ok-read_certificate.cert answered.output.items answered.outcome
           was_read
           says) c.report_on.ensures.says;
     }

@@ -4,7 +4,7 @@ use Rattle.std.specs.Arc.{arc_value}
 use Rattle.core_book.specs.Concluding.{AreOwnJobs}
 use Rattle.core_book.proofs.Fillings.{clones-same}
 use Rattle.check_main.proofs.Closings.{audit_of, completed_closed, many_filings, no_history, own_digest, own_jobs}
-use Rattle.check_main.proofs.auditing.audit.Goals as goal
+use Rattle.check_main.proofs.auditing.audit_opening.Goals as goal
 
 pub audited_by-requires-clause-fresh : goal.audited_by-requires-clause-fresh
 audited_by-requires-clause-fresh g c κs within = no_history c.in_ok-state.state _ _ c.in_ok-state.ensures
@@ -12,7 +12,7 @@ audited_by-requires-clause-fresh g c κs within = no_history c.in_ok-state.state
 pub complete-requires : goal.complete-requires
 complete-requires g c =
     let still = c.in_ok-audited.ensures.open_for_jobs in
-    let copied = clones-same arc_value c.in_ok-jobs.jobs.items c.in_ok-copies.copies.items
+    let copied = clones-same arc_value c.args.opening.jobs.items c.in_ok-copies.copies.items
     c.in_ok-copies.ensures.cases.0 in
     record {
       open_for_jobs = record {
@@ -25,17 +25,17 @@ complete-requires g c =
 
 pub returns-clause-full : goal.returns-clause-full
 returns-clause-full g c =
-    let copied = clones-same arc_value c.in_ok-jobs.jobs.items c.in_ok-copies.copies.items
+    let copied = clones-same arc_value c.args.opening.jobs.items c.in_ok-copies.copies.items
     c.in_ok-copies.ensures.cases.0 in
     let own = subst (AreOwnJobs c.args.cert.now)
-    (sym (ap (map arc_value) c.deref-4.ensures.value ∙ copied)) c.in_ok-jobs.ensures in
-    audit_of c.args.cert.now c.in_ok-digest.digest
-    (map arc_value c.deref-4.result.now) c.in_ok-audited.audited.state c.complete.new.state c.in_ok-digest.ensures own
+    (sym (ap (map arc_value) c.deref-4.ensures.value ∙ copied)) c.requires.own_jobs in
+    audit_of c.args.cert.now c.args.opening.digest
+    (map arc_value c.deref-4.result.now) c.in_ok-audited.audited.state c.complete.new.state c.requires.own_digest own
     c.in_ok-complete.ensures.completed
 
 pub returns-clause-closed : goal.returns-clause-closed
 returns-clause-closed g c =
-    completed_closed c.in_ok-digest.digest
+    completed_closed c.args.opening.digest
     (map arc_value c.deref-4.result.now) c.in_ok-audited.audited.state c.complete.new.state
     c.in_ok-complete.ensures.completed
 

@@ -1,5 +1,5 @@
 -- Each ledger is its blank's, and the book is of the state that it begins with.
-use Rattle.check_main.proofs.auditing.audit.Given as goal
+use Rattle.check_main.proofs.auditing.audit_opening.Given as goal
 
 abbrev pub ghosts-audited_by-F-Filings : goal.ghosts-audited_by-F-Filings
 ghosts-audited_by-F-Filings g a = record { digest = a.unopened.state.digest; jobs = a.unopened.state.jobs }

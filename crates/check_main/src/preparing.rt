@@ -1,0 +1,114 @@
+//! The work on a certificate before its modules run.
+ghost use Rattle.std.specs.Prelude.{◌≡◌, ◌≤◌, IfOk, drop, length};
+ghost use Rattle.sha2.specs.Sha256.{sha256};
+ghost use Rattle.certificate.specs.Text.{certificate_text};
+ghost use Rattle.check_main.specs.Preparing.{IsMadeFor, IsPreparedFor, IsSectionOf, taken_bytes};
+
+use crate::auditing::Opening;
+use border_match::{BorderFault, match_borders};
+use certificate::{Cert, Job};
+use section_text::Feed;
+use sha2::{Digest, Sha256};
+use std::alloc::{AllocError, Global};
+use std::sync::Arc;
+use std::thread::{Threads, join_mut};
+
+/// The digest and the jobs of a certificate, and the faults of its borders.
+#[derive(Drop)]
+pub(crate) struct Prepared {
+    pub(crate) opening: Opening,
+    pub(crate) borders: Vec<Option<BorderFault>>,
+}
+
+/// Takes the digest of a certificate, makes its jobs, and matches its borders. It frees the text, so that the modules
+/// can use its memory.
+///
+/// The certificate's section is the last part of the text's lines, from the byte `from` on. If there are several
+/// workers, a thread of its own takes the digest.
+pub(crate) fn prepare<R: Threads>(
+    rt: &R,
+    alloc: Global,
+    cert: &Cert<'_>,
+    text: Feed,
+    from: usize,
+    workers: usize,
+) -> Result<Prepared, AllocError>
+    requires { IsSectionOf text from cert.now }
+    ensures { IfOk result (IsPreparedFor cert.now) }
+{
+    let (digest, made) = digest_and_make(rt, alloc, cert, text, from, workers);
+    let Made { jobs, borders } = made?;
+    Ok(Prepared {
+        opening: Opening { digest, jobs },
+        borders,
+    })
+}
+
+// The digest of a certificate, and what is made without it.
+fn digest_and_make<R: Threads>(
+    rt: &R,
+    alloc: Global,
+    cert: &Cert<'_>,
+    text: Feed,
+    from: usize,
+    workers: usize,
+) -> ([u8; 32], Result<Made, AllocError>)
+    requires { IsSectionOf text from cert.now }
+    ensures digest { result.0 ≡ sha256 (certificate_text cert.now) }
+    ensures made { IfOk result.1 (IsMadeFor cert.now) }
+{
+    if workers == 1 {
+        let digest = Sha256::digest(section_in(&text, from));
+        drop(text);
+        return (digest, make(alloc, cert));
+    }
+    digest_beside_making(rt, alloc, cert, section_in(&text, from))
+}
+
+// The digest of a certificate's section, and what is made without it, in two threads.
+fn digest_beside_making<R: Threads>(
+    rt: &R,
+    alloc: Global,
+    cert: &Cert<'_>,
+    section: &[u8],
+) -> ([u8; 32], Result<Made, AllocError>)
+    ensures digest { result.0 ≡ sha256 section.now }
+    ensures made { IfOk result.1 (IsMadeFor cert.now) }
+{
+    join_mut(
+        rt,
+        &mut || -> [u8; 32]
+            ensures { result ≡ sha256 section.entry.now }
+        { Sha256::digest(section) },
+        &mut || make(alloc, cert),
+    )
+}
+
+// Jobs, and the faults of the borders between their modules.
+#[derive(Drop)]
+struct Made {
+    jobs: Vec<Arc<Job>>,
+    borders: Vec<Option<BorderFault>>,
+}
+
+fn make(alloc: Global, cert: &Cert<'_>) -> Result<Made, AllocError>
+    ensures { IfOk result (IsMadeFor cert.now) }
+{
+    let jobs = cert.jobs(alloc)?;
+    let borders = match_borders(alloc, cert, &jobs)?;
+    Ok(Made { jobs, borders })
+}
+
+fn section_in(text: &Feed, from: usize) -> &[u8]
+    requires { from ≤ length (taken_bytes text.now) }
+    ensures { result.now ≡ drop from (taken_bytes text.now) }
+{
+    bytes_from(text.taken_text(), from)
+}
+
+fn bytes_from(bytes: &[u8], from: usize) -> &[u8]
+    requires { from ≤ length bytes.now }
+    ensures { result.now ≡ drop from bytes.now }
+{
+    &bytes[from..]
+}
