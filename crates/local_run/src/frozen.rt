@@ -4,19 +4,14 @@
 //! are always dead. A cell is always the same if both its blocks stay. The greatest set of blocks that hold one another
 //! in this way never changes, and steps that turn whole planes pass over it.
 
-ghost use Rattle.bbm_rule.specs.Bits.{bit};
 ghost use Rattle.bbm_rule.specs.Marks.{IsUnmarked};
-ghost use Rattle.bbm_rule.specs.Plane.{turned};
-ghost use Rattle.bbm_rule.specs.Rows.{cell_at, mate};
-ghost use Rattle.local_run.specs.Calm.{EvenCalm, OddCalm};
+ghost use Rattle.bbm_rule.specs.Rows.{cell_at};
 ghost use Rattle.local_run.specs.Frozen.{Freezes, HasBlockMarks, IsEvenHeld, IsFrozen, IsMarkedBefore, IsOddEmpty, IsOddHeld};
-ghost use Rattle.local_run.specs.Lanes.{HasSize, lane};
-ghost use Rattle.local_run.specs.Live.{AllDead, HasMarks, HasSameRoom};
 ghost use Rattle.std.specs.Prelude.{ℕ, ◌≡◌, ◌≢◌, ◌+◌, ◌*◌, ◌/◌, ◌%◌, ◌<◌, ◌≤◌, length, vec_len, true, false};
 
-use crate::live::LiveMarks;
-use crate::marks::{is_marked, mark_lacking};
-use crate::planes::{Corners, Planes};
+use crate::held_cells::Corners;
+use crate::marks::is_marked;
+use crate::planes::Planes;
 use bbm_rule::marks::{mark, mark_all, unmark};
 use std::alloc::Global;
 
@@ -24,15 +19,15 @@ use std::alloc::Global;
 #[derive(Drop)]
 pub struct FrozenBlocks {
     // whether the marks are those of such a set
-    is_found: bool,
+    pub(crate) is_found: bool,
     // a bit for each block of the odd partition, and for each block of the even partition; the last blocks of rows of
     // the even partition, which are not turned, have one too
-    odd: Vec<u64>,
-    even: Vec<u64>,
+    pub(crate) odd: Vec<u64>,
+    pub(crate) even: Vec<u64>,
     // and for those blocks of the odd partition that are empty
-    empty: Vec<u64>,
+    pub(crate) empty: Vec<u64>,
     // about how many blocks of a partition have no mark
-    active: usize,
+    pub(crate) active: usize,
 }
 
 // Up to how many times all blocks are looked at. In a box of 64 by 64 cells with walls 20 times are enough.
@@ -129,8 +124,8 @@ impl FrozenBlocks {
         self.is_found = self.are_held(planes);
     }
 
-    // Marks all blocks, in as many words, and none as empty. Returns whether there was memory for it.
-    fn mark_all(&mut self, long: usize) -> bool
+    /// Marks all blocks, in as many words, and none as empty. Returns whether there was memory for it.
+    pub(crate) fn mark_all(&mut self, long: usize) -> bool
         ensures found { self.new.is_found ≡ self.old.is_found }
         ensures room { result ≡ true → (vec_len self.new.odd ≡ long)
             × (vec_len self.new.even ≡ long) × (vec_len self.new.empty ≡ long) }
@@ -334,77 +329,5 @@ impl FrozenBlocks {
             }
         }
         true
-    }
-}
-
-impl FrozenBlocks {
-    /// Marks the blocks of both partitions, but for the frozen ones.
-    pub fn mark_blocks(&self, planes: &Planes, odd_marks: &mut [u64], even_marks: &mut [u64])
-        requires frozen { Freezes self.now planes.now }
-        requires odd_room { planes.now.stride * planes.now.rows ≤ 64 * length odd_marks.old }
-        requires even_room { planes.now.stride * planes.now.rows ≤ 64 * length even_marks.old }
-        ensures odd { OddCalm odd_marks.new planes.now }
-        ensures even { EvenCalm even_marks.new planes.now }
-    {
-        if self.is_found {
-            planes.show_words();
-            mark_lacking(odd_marks, &self.odd, &self.odd);
-            mark_lacking(even_marks, &self.even, &self.even);
-        } else {
-            mark_all(odd_marks);
-            mark_all(even_marks);
-        }
-    }
-
-    /// Marks the cells that may be live, which those of the frozen and empty blocks are not.
-    pub fn mark_live(&self, planes: &Planes, live: &mut LiveMarks)
-        requires frozen { Freezes self.now planes.now }
-        requires room { HasMarks (planes.now.stride * planes.now.rows) live.old }
-        ensures dead { AllDead live.new planes.now }
-        ensures same_room { HasSameRoom live.old live.new }
-    {
-        if self.is_found {
-            planes.show_words();
-            live.mark_lacking(&self.odd, &self.empty);
-        } else {
-            live.mark_all();
-        }
-    }
-
-    /// Turns the blocks of the odd partition, and passes over the frozen ones.
-    pub fn odd_step(&self, planes: &mut Planes)
-        requires frozen { Freezes self.now planes.old }
-        ensures turned { (a x y : ℕ) → a < 64 * planes.old.words → x < 2 * planes.old.stride →
-            y < 2 * planes.old.rows → lane planes.new a x y
-            ≡ turned (lane planes.old a x y) (lane planes.old a (mate x) (mate y))
-            (lane planes.old a (mate x) y) (lane planes.old a x (mate y)) }
-        ensures size { HasSize planes.old.words planes.old.stride planes.old.rows planes.new }
-        ensures frozen { Freezes self.now planes.new }
-    {
-        if self.is_found {
-            planes.show_words();
-            planes.odd_step_between(&self.odd);
-        } else {
-            planes.odd_step();
-        }
-    }
-
-    /// Turns the blocks of the even partition in the box, and passes over the frozen ones.
-    pub fn even_step(&self, planes: &mut Planes)
-        requires frozen { Freezes self.now planes.old }
-        ensures turned { (a x y : ℕ) → a < 64 * planes.old.words → x + 2 < 2 * planes.old.stride →
-            y + 2 < 2 * planes.old.rows → lane planes.new a (1 + x) (1 + y)
-            ≡ turned (lane planes.old a (1 + x) (1 + y))
-            (lane planes.old a (1 + mate x) (1 + mate y))
-            (lane planes.old a (1 + mate x) (1 + y)) (lane planes.old a (1 + x) (1 + mate y)) }
-        ensures size { HasSize planes.old.words planes.old.stride planes.old.rows planes.new }
-        ensures frozen { Freezes self.now planes.new }
-    {
-        if self.is_found {
-            planes.show_words();
-            planes.even_step_between(&self.even);
-        } else {
-            planes.even_step();
-        }
     }
 }

@@ -21,23 +21,30 @@
 //! The step is that of Norman Margolus's billiard ball model (Physics-like Models of Computation, 1984).
 #![tactic(auto)]
 
+mod block_turns;
 mod border;
 mod fault;
 mod finding;
 mod frozen;
+mod frozen_steps;
+mod held_cells;
 mod keep;
 pub mod laws;
 mod leaps;
 mod lines;
 mod live;
+mod marked_blocks;
 mod marked_planes;
+mod marked_steps;
 mod marks;
+mod phases;
 mod places;
 mod planes;
 mod run;
 mod scan;
 mod steps;
 mod values;
+mod words;
 
 pub use fault::{Fault, KeepFault, Kind};
 pub use finding::Finding;

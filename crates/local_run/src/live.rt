@@ -10,7 +10,7 @@ ghost use Rattle.local_run.specs.Live.{AreMarked, AreMarkedBut, AreUnmarked, Has
 ghost use Rattle.std.specs.Prelude.{ℕ, ◌≡◌, ◌/◌, ◌<◌, ◌≤◌, ◌%◌, ◌+◌, ◌*◌, ◌^◌, ◌⊎◌, length, vec_len, IfOk, true, false};
 
 use crate::marks::{is_marked, mark_if, mark_lacking, next_in_either, swap_marks};
-use crate::planes::Changes;
+use crate::words::Changes;
 use bbm_rule::marks::mark_all;
 use std::alloc::{AllocError, Global};
 

@@ -10,7 +10,7 @@ ghost use Rattle.std.specs.Int.{trailing_zeros, w64};
 ghost use Rattle.std.specs.Prelude.{ℕ, ◌≡◌, ◌≢◌, ◌+◌, ◌*◌, ◌/◌, ◌%◌, ◌^◌, ◌<◌, ◌≤◌, ◌⊎◌, ◌&&◌, length, not, true, false};
 
 use crate::live::LiveMarks;
-use crate::planes::Changes;
+use crate::words::Changes;
 use bbm_rule::marks::{mark, mark_before, next_marked, unmark};
 
 /// Returns whether a number has a mark.

@@ -1,6 +1,6 @@
 use Rattle.std.proofs.Common.{◌≡◌, ◌≤◌, ◌-◌, length}
 use Rattle.local_run.specs.Turns.{SwapsPart}
-use Rattle.local_run.proofs.planes.swap_part.Given as goal
+use Rattle.local_run.proofs.words.swap_part.Given as goal
 
 -- the words so far have changed places
 abbrev pub invariant-fours : goal.invariant-fours

@@ -1,6 +1,6 @@
 use Rattle.std.proofs.lemmas.Bool.{not-true}
 use Rattle.local_run.proofs.HeldLemmas.{all_dead}
-use Rattle.local_run.proofs.planes.is_always_dead.Goals as goal
+use Rattle.local_run.proofs.held_cells.is_always_dead.Goals as goal
 
 pub returns-then-is_met : goal.returns-then-is_met
 returns-then-is_met c = λ h.

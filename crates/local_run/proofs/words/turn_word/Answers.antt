@@ -1,5 +1,5 @@
 use Rattle.local_run.proofs.LiveLemmas.{one_turned}
-use Rattle.local_run.proofs.planes.turn_word.Goals as goal
+use Rattle.local_run.proofs.words.turn_word.Goals as goal
 
 pub returns : goal.returns
 returns c = one_turned c.args.a c.args.b c.args.c c.args.d _ _ _ _ c.args.upper_left.now c.args.upper_right.now

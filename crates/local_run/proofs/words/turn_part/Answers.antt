@@ -1,6 +1,6 @@
 use Rattle.std.proofs.Common.{arith}
 use Rattle.local_run.proofs.TurnLemmas.{part_turned}
-use Rattle.local_run.proofs.planes.turn_part.Goals as goal
+use Rattle.local_run.proofs.words.turn_part.Goals as goal
 
 pub returns : goal.returns
 returns c =

@@ -1,6 +1,6 @@
 use Rattle.std.proofs.Common.{ℕ, ◌≡◌, ◌+◌, ◌<◌, slice_index}
 use Rattle.local_run.specs.Turns.{DiagonalStays}
-use Rattle.local_run.proofs.planes.part_changes.Given as goal
+use Rattle.local_run.proofs.words.part_changes.Given as goal
 
 -- where no flip is seen of a diagonal, it stays in the words so far
 abbrev pub invariant-loop-k : goal.invariant-loop-k

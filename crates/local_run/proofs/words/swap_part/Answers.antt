@@ -1,6 +1,6 @@
 use Rattle.std.proofs.Common.{arith}
 use Rattle.local_run.proofs.LiveLemmas.{swaps_more}
-use Rattle.local_run.proofs.planes.swap_part.Goals as goal
+use Rattle.local_run.proofs.words.swap_part.Goals as goal
 
 pub fours-preserved : goal.fours-preserved
 fours-preserved c =

@@ -1,5 +1,5 @@
 use Rattle.std.proofs.Common.{ℕ, ◌≡◌, ◌+◌, ◌<◌, slice_index}
-use Rattle.local_run.proofs.planes.is_some_other.Given as goal
+use Rattle.local_run.proofs.words.is_some_other.Given as goal
 
 -- if no difference is seen, the words so far are the same
 abbrev pub invariant-loop-k : goal.invariant-loop-k

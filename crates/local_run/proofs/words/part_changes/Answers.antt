@@ -2,7 +2,7 @@ use Rattle.std.proofs.Common.{◌≡◌, ◌+◌, ℕ, arith, subst, inl, inr, s
 use Rattle.std.proofs.lemmas.Bool.{cases_lt}
 use Rattle.local_run.specs.Turns.{DiagonalStays}
 use Rattle.local_run.proofs.TurnLemmas.{none_first, none_last}
-use Rattle.local_run.proofs.planes.part_changes.Goals as goal
+use Rattle.local_run.proofs.words.part_changes.Goals as goal
 
 pub loop-k-preserved : goal.loop-k-preserved
 loop-k-preserved c = record {

@@ -1,7 +1,7 @@
 use Rattle.std.proofs.Common.{◌≡◌, ◌+◌, ℕ, arith, subst, inl, inr, slice_index}
 use Rattle.std.proofs.lemmas.Bool.{cases_lt}
 use Rattle.local_run.proofs.TurnLemmas.{none_first, none_last, same_word}
-use Rattle.local_run.proofs.planes.are_different.Goals as goal
+use Rattle.local_run.proofs.words.are_different.Goals as goal
 
 pub loop-k-preserved : goal.loop-k-preserved
 loop-k-preserved c = λ h k l. elim (cases_lt k c.loop-k.k) [

@@ -1,0 +1,220 @@
+//! Cells that are always the same, and runs of blocks between the blocks that they hold.
+
+ghost use Rattle.local_run.specs.Held.{AreAll, HasLiveDiagonals, IsEmptyBlock, bits_of};
+ghost use Rattle.local_run.specs.Turns.{TurnsPart};
+ghost use Rattle.std.specs.Prelude.{ℕ, ◌≡◌, ◌+◌, ◌-◌, ◌*◌, ◌/◌, ◌^◌, ◌<◌, ◌≤◌, length, slice_index, false, true};
+
+use crate::planes::Planes;
+use crate::words::{is_some_other, turn_part};
+use bbm_rule::marks::{next_marked, next_unmarked};
+
+/// For each corner of a block whether its cell meets a condition.
+#[derive(Clone, Copy)]
+pub struct Corners {
+    /// Whether the upper left cell meets it.
+    pub upper_left: bool,
+    /// Whether the upper right cell meets it.
+    pub upper_right: bool,
+    /// Whether the lower left cell meets it.
+    pub lower_left: bool,
+    /// Whether the lower right cell meets it.
+    pub lower_right: bool,
+}
+
+// Shows that words have 64 bits each. It does nothing.
+#[inline(always)]
+fn show_cells(cells: &[u64])
+    ensures { (k : ℕ) → slice_index cells.now k < 2 ^ 64 }
+{
+    let _long = cells.len();
+}
+
+// Whether a cell meets its condition and is live under each assignment.
+#[inline(always)]
+fn is_always_live(is_met: bool, cells: &[u64], at: usize, words: usize) -> bool
+    requires { words * at + words ≤ length cells.now }
+    ensures { result ≡ true →
+        (is_met ≡ true) × AreAll true words (bits_of words cells.now at) }
+{
+    is_met && !is_some_other(cells, words * at, 0xFFFF_FFFF_FFFF_FFFF, words)
+}
+
+// Whether a cell meets its condition and is dead under each assignment.
+#[inline(always)]
+fn is_always_dead(is_met: bool, cells: &[u64], at: usize, words: usize) -> bool
+    requires { words * at + words ≤ length cells.now }
+    ensures { result ≡ true →
+        (is_met ≡ true) × AreAll false words (bits_of words cells.now at) }
+{
+    is_met && !is_some_other(cells, words * at, 0, words)
+}
+
+impl Planes {
+    ghost use Rattle.local_run.specs.Frozen.{AreWords, IsEvenCalmAt, IsOddCalmAt, KeepsFirst};
+    ghost use Rattle.local_run.specs.Lanes.{HasSize};
+    ghost use Rattle.local_run.specs.Sweeps.{TurnsEven, TurnsOdd};
+
+    /// Returns whether each diagonal of block u of the odd partition has a cell that meets its condition and is live
+    /// under each assignment.
+    pub fn has_odd_diagonals(&self, u: usize, met: Corners) -> bool
+        requires { u < self.now.stride * self.now.rows }
+        ensures { result ≡ true → HasLiveDiagonals self.now.words (met.upper_left ≡ true)
+            (met.upper_right ≡ true) (met.lower_left ≡ true) (met.lower_right ≡ true)
+            (bits_of self.now.words self.now.odd.items u)
+            (bits_of self.now.words self.now.right.items u)
+            (bits_of self.now.words self.now.down.items u)
+            (bits_of self.now.words self.now.even.items u) }
+    {
+        let words = self.words;
+        (is_always_live(met.upper_left, &self.odd, u, words)
+            || is_always_live(met.lower_right, &self.even, u, words))
+            && (is_always_live(met.upper_right, &self.right, u, words)
+                || is_always_live(met.lower_left, &self.down, u, words))
+    }
+
+    /// Returns whether the cells of block u of the odd partition meet their conditions and are dead under each
+    /// assignment.
+    pub fn is_odd_empty(&self, u: usize, met: Corners) -> bool
+        requires { u < self.now.stride * self.now.rows }
+        ensures { result ≡ true → IsEmptyBlock self.now.words (met.upper_left ≡ true)
+            (met.upper_right ≡ true) (met.lower_left ≡ true) (met.lower_right ≡ true)
+            (bits_of self.now.words self.now.odd.items u)
+            (bits_of self.now.words self.now.right.items u)
+            (bits_of self.now.words self.now.down.items u)
+            (bits_of self.now.words self.now.even.items u) }
+    {
+        let words = self.words;
+        is_always_dead(met.upper_left, &self.odd, u, words)
+            && is_always_dead(met.upper_right, &self.right, u, words)
+            && is_always_dead(met.lower_left, &self.down, u, words)
+            && is_always_dead(met.lower_right, &self.even, u, words)
+    }
+
+    /// Returns the same as [`Planes::has_odd_diagonals`] of block n of the even partition.
+    pub fn has_even_diagonals(&self, n: usize, met: Corners) -> bool
+        requires { n + self.now.stride + 1 < self.now.stride * self.now.rows }
+        ensures { result ≡ true → HasLiveDiagonals self.now.words (met.upper_left ≡ true)
+            (met.upper_right ≡ true) (met.lower_left ≡ true) (met.lower_right ≡ true)
+            (bits_of self.now.words self.now.even.items n)
+            (bits_of self.now.words self.now.down.items (n + 1))
+            (bits_of self.now.words self.now.right.items (n + self.now.stride))
+            (bits_of self.now.words self.now.odd.items (n + self.now.stride + 1)) }
+    {
+        let words = self.words;
+        let stride = self.stride;
+        (is_always_live(met.upper_left, &self.even, n, words)
+            || is_always_live(met.lower_right, &self.odd, n + stride + 1, words))
+            && (is_always_live(met.upper_right, &self.down, n + 1, words)
+                || is_always_live(met.lower_left, &self.right, n + stride, words))
+    }
+
+    /// Returns the same as [`Planes::is_odd_empty`] of block n of the even partition.
+    pub fn is_even_empty(&self, n: usize, met: Corners) -> bool
+        requires { n + self.now.stride + 1 < self.now.stride * self.now.rows }
+        ensures { result ≡ true → IsEmptyBlock self.now.words (met.upper_left ≡ true)
+            (met.upper_right ≡ true) (met.lower_left ≡ true) (met.lower_right ≡ true)
+            (bits_of self.now.words self.now.even.items n)
+            (bits_of self.now.words self.now.down.items (n + 1))
+            (bits_of self.now.words self.now.right.items (n + self.now.stride))
+            (bits_of self.now.words self.now.odd.items (n + self.now.stride + 1)) }
+    {
+        let words = self.words;
+        let stride = self.stride;
+        is_always_dead(met.upper_left, &self.even, n, words)
+            && is_always_dead(met.upper_right, &self.down, n + 1, words)
+            && is_always_dead(met.lower_left, &self.right, n + stride, words)
+            && is_always_dead(met.lower_right, &self.odd, n + stride + 1, words)
+    }
+
+    /// Shows that the words of the planes have 64 bits each. It does nothing.
+    #[inline(always)]
+    pub fn show_words(&self)
+        ensures { AreWords self.now }
+    {
+        show_cells(&self.odd);
+        show_cells(&self.right);
+        show_cells(&self.down);
+        show_cells(&self.even);
+    }
+
+    // Turns the blocks of the odd partition from `first` on to below `end`.
+    fn turn_odd_run(&mut self, first: usize, end: usize)
+        requires { (first ≤ end) × (end ≤ self.old.stride * self.old.rows) }
+        ensures part { let at = self.old.words * first in
+            TurnsPart at at at at (self.old.words * (end - first)) self.old.odd.items
+            self.old.right.items self.old.down.items self.old.even.items self.new.odd.items
+            self.new.right.items self.new.down.items self.new.even.items }
+        ensures size { HasSize self.old.words self.old.stride self.old.rows self.new }
+    {
+        let at = self.words * first;
+        turn_part(
+            &mut self.odd,
+            &mut self.right,
+            &mut self.down,
+            &mut self.even,
+            at,
+            at,
+            at,
+            at,
+            self.words * (end - first),
+        );
+    }
+
+    // Turns the blocks of the even partition from `first` on to below `end`.
+    fn turn_even_run(&mut self, first: usize, end: usize)
+        requires { (first ≤ end) × (end + self.old.stride + 1 ≤ self.old.stride * self.old.rows) }
+        ensures part { let w = self.old.words in TurnsPart (w * first) (w * (first + 1))
+            (w * (first + self.old.stride)) (w * (first + self.old.stride + 1)) (w * (end - first))
+            self.old.even.items self.old.down.items self.old.right.items self.old.odd.items
+            self.new.even.items self.new.down.items self.new.right.items self.new.odd.items }
+        ensures size { HasSize self.old.words self.old.stride self.old.rows self.new }
+    {
+        let words = self.words;
+        let stride = self.stride;
+        turn_part(
+            &mut self.even,
+            &mut self.down,
+            &mut self.right,
+            &mut self.odd,
+            words * first,
+            words * (first + 1),
+            words * (first + stride),
+            words * (first + stride + 1),
+            words * (end - first),
+        );
+    }
+
+    /// Turns the blocks of the odd partition. Those with a mark stay, and are passed over.
+    pub fn odd_step_between(&mut self, marks: &[u64])
+        requires room { self.old.stride * self.old.rows ≤ 64 * length marks.now }
+        requires calm { IsOddCalmAt marks.now self.old }
+        ensures turned { TurnsOdd 0 (self.old.stride * self.old.rows) self.old self.new }
+        ensures size { HasSize self.old.words self.old.stride self.old.rows self.new }
+    {
+        let cells = self.cells();
+        let mut at = next_unmarked(marks, 0, cells);
+        'runs: while at < cells {
+            let end = next_marked(marks, at, cells);
+            self.turn_odd_run(at, end);
+            at = next_unmarked(marks, end, cells);
+        }
+    }
+
+    /// Turns the blocks of the even partition in the box. Those with a mark stay, and are passed over.
+    pub fn even_step_between(&mut self, marks: &[u64])
+        requires room { self.old.stride * self.old.rows ≤ 64 * length marks.now }
+        requires calm { IsEvenCalmAt marks.now self.old }
+        ensures turned { (n : ℕ) → n + self.old.stride + 1 ≡ self.old.stride * self.old.rows →
+            TurnsEven 0 n self.old self.new }
+        ensures first { KeepsFirst self.old self.new }
+        ensures size { HasSize self.old.words self.old.stride self.old.rows self.new }
+    {
+        let cells = self.cells() - self.stride() - 1;
+        let mut at = next_unmarked(marks, 0, cells);
+        'runs: while at < cells {
+            let end = next_marked(marks, at, cells);
+            self.turn_even_run(at, end);
+            at = next_unmarked(marks, end, cells);
+        }
+    }
+}

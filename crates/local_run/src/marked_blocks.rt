@@ -1,0 +1,370 @@
+//! The turns of single blocks, by their marks.
+
+ghost use Rattle.std.specs.Prelude.{◌≡◌, ◌≢◌, ◌+◌, ◌*◌, ◌/◌, ◌%◌, ◌<◌, true, false};
+
+use crate::marked_planes::MarkedPlanes;
+use crate::marks::{is_marked, mark_around, mark_corners};
+use crate::words::Changes;
+use bbm_rule::marks::{mark, unmark};
+
+// For how many odd times the words of all blocks are read, after that many more blocks with two live cells than with
+// one or none.
+const BUSY: u32 = 31;
+
+const CROWD: u32 = 64;
+
+impl MarkedPlanes {
+    ghost use Rattle.local_run.specs.Live.{AreUnmarked, IsLoneAnti, IsLoneMain};
+    ghost use Rattle.local_run.specs.Turns.{TurnsPart};
+    ghost use Rattle.local_run.specs.Lanes.{HasSize};
+
+    // Counts a block, that may have two live cells or has fewer. Where most have two, it costs less to read their words
+    // at once.
+    fn count_block(&mut self, is_full: bool)
+        ensures planes { self.new.planes ≡ self.old.planes }
+        ensures odd { self.new.odd_marks ≡ self.old.odd_marks }
+        ensures even { self.new.even_marks ≡ self.old.even_marks }
+        ensures live { self.new.live_marks ≡ self.old.live_marks }
+    {
+        if !is_full {
+            self.crowd = self.crowd.saturating_sub(1);
+        } else if self.crowd < CROWD {
+            self.crowd += 1;
+        } else {
+            self.crowd = 0;
+            self.busy = BUSY;
+            self.is_exact = false;
+        }
+    }
+
+    // Counts a block with one live cell, and the dead one that this cell left in the step before. Steps pass over dead
+    // blocks.
+    fn count_lone(&mut self)
+        ensures planes { self.new.planes ≡ self.old.planes }
+        ensures odd { self.new.odd_marks ≡ self.old.odd_marks }
+        ensures even { self.new.even_marks ≡ self.old.even_marks }
+        ensures live { self.new.live_marks ≡ self.old.live_marks }
+    {
+        self.crowd = self.crowd.saturating_sub(2);
+    }
+
+    // Turns block u of the odd partition, of which no cell is live but one of its main diagonal: they change places.
+    fn move_odd_main(&mut self, u: usize)
+        requires place { u < self.old.planes.stride * self.old.planes.rows }
+        requires lone { IsLoneMain self.old.live_marks u u u u }
+        ensures part { let at = self.old.planes.words * u in TurnsPart at at at at
+            self.old.planes.words self.old.planes.odd.items self.old.planes.right.items
+            self.old.planes.down.items self.old.planes.even.items self.new.planes.odd.items
+            self.new.planes.right.items self.new.planes.down.items self.new.planes.even.items }
+        ensures size { HasSize self.old.planes.words self.old.planes.stride self.old.planes.rows
+            self.new.planes }
+    {
+        let stride = self.planes.stride();
+        mark(&mut self.odd_marks, u);
+        mark_around(&mut self.even_marks, u, stride, Changes::MAIN);
+        self.live_marks.swap_main(u, u);
+        self.planes.swap_main(u, u);
+    }
+
+    // The same for one cell of its other diagonal.
+    fn move_odd_anti(&mut self, u: usize)
+        requires place { u < self.old.planes.stride * self.old.planes.rows }
+        requires lone { IsLoneAnti self.old.live_marks u u u u }
+        ensures part { let at = self.old.planes.words * u in TurnsPart at at at at
+            self.old.planes.words self.old.planes.odd.items self.old.planes.right.items
+            self.old.planes.down.items self.old.planes.even.items self.new.planes.odd.items
+            self.new.planes.right.items self.new.planes.down.items self.new.planes.even.items }
+        ensures size { HasSize self.old.planes.words self.old.planes.stride self.old.planes.rows
+            self.new.planes }
+    {
+        let stride = self.planes.stride();
+        mark(&mut self.odd_marks, u);
+        mark_around(&mut self.even_marks, u, stride, Changes::ANTI);
+        self.live_marks.swap_anti(u, u);
+        self.planes.swap_anti(u, u);
+    }
+
+    // Takes the mark off block n of the even partition, if its cells are known to be dead.
+    #[inline(always)]
+    fn unmark_dead_even(&mut self, n: usize)
+        requires { n + self.old.planes.stride + 1 < self.old.planes.stride * self.old.planes.rows }
+        ensures planes { self.new.planes ≡ self.old.planes }
+        ensures odd { self.new.odd_marks ≡ self.old.odd_marks }
+        ensures live { self.new.live_marks ≡ self.old.live_marks }
+    {
+        if self.is_dead_even(n) {
+            unmark(&mut self.even_marks, n);
+        }
+    }
+
+    // Takes the mark off the block of the even partition that a cell of the main diagonal of block u of the odd
+    // partition has left, if nothing else is in it. So the next step does not come to it.
+    #[inline(always)]
+    fn leave_main(&mut self, u: usize)
+        requires { u < self.old.planes.stride * self.old.planes.rows }
+        ensures planes { self.new.planes ≡ self.old.planes }
+        ensures odd { self.new.odd_marks ≡ self.old.odd_marks }
+        ensures live { self.new.live_marks ≡ self.old.live_marks }
+    {
+        let stride = self.planes.stride();
+        if is_marked(&self.live_marks.odd, u) {
+            if u + stride + 1 < self.planes.cells() {
+                self.unmark_dead_even(u);
+            }
+        } else if u > stride {
+            self.unmark_dead_even(u - stride - 1);
+        }
+    }
+
+    // The same for a cell of the other diagonal.
+    #[inline(always)]
+    fn leave_anti(&mut self, u: usize)
+        requires { u < self.old.planes.stride * self.old.planes.rows }
+        ensures planes { self.new.planes ≡ self.old.planes }
+        ensures odd { self.new.odd_marks ≡ self.old.odd_marks }
+        ensures live { self.new.live_marks ≡ self.old.live_marks }
+    {
+        let stride = self.planes.stride();
+        let cells = self.planes.cells();
+        if is_marked(&self.live_marks.right, u) {
+            if u > 0 && u + stride < cells {
+                self.unmark_dead_even(u - 1);
+            }
+        } else if u >= stride && u + 1 < cells {
+            self.unmark_dead_even(u - stride);
+        }
+    }
+
+    // Turns block u of the odd partition, unless it stays, and tells whether it turned it.
+    fn turn_odd_words(&mut self, u: usize) -> bool
+        requires { u < self.old.planes.stride * self.old.planes.rows }
+        ensures part { let at = self.old.planes.words * u in TurnsPart at at at at
+            self.old.planes.words self.old.planes.odd.items self.old.planes.right.items
+            self.old.planes.down.items self.old.planes.even.items self.new.planes.odd.items
+            self.new.planes.right.items self.new.planes.down.items self.new.planes.even.items }
+        ensures size { HasSize self.old.planes.words self.old.planes.stride self.old.planes.rows
+            self.new.planes }
+        ensures stays { result ≡ false → self.new.planes ≡ self.old.planes }
+    {
+        let changes = self.planes.odd_changes(u);
+        if changes.is_none() {
+            unmark(&mut self.odd_marks, u);
+            return false;
+        }
+        let stride = self.planes.stride();
+        mark(&mut self.odd_marks, u);
+        mark_around(&mut self.even_marks, u, stride, changes);
+        self.live_marks.mark_cells(u, u, u, u, changes);
+        self.planes.turn_odd(u);
+        true
+    }
+
+    // Turns block u of the odd partition, unless it stays, and tells whether it turned it. Its words are read only if
+    // two of its cells may be live.
+    fn turn_odd_by_marks(&mut self, u: usize) -> bool
+        requires { u < self.old.planes.stride * self.old.planes.rows }
+        ensures part { let at = self.old.planes.words * u in TurnsPart at at at at
+            self.old.planes.words self.old.planes.odd.items self.old.planes.right.items
+            self.old.planes.down.items self.old.planes.even.items self.new.planes.odd.items
+            self.new.planes.right.items self.new.planes.down.items self.new.planes.even.items }
+        ensures size { HasSize self.old.planes.words self.old.planes.stride self.old.planes.rows
+            self.new.planes }
+        ensures stays { result ≡ false → self.new.planes ≡ self.old.planes }
+    {
+        if self.is_exact && self.live_marks.is_lone_main(u, u, u, u) {
+            self.move_odd_main(u);
+            self.leave_main(u);
+            self.count_lone();
+            return true;
+        }
+        if self.is_exact && self.live_marks.is_lone_anti(u, u, u, u) {
+            self.move_odd_anti(u);
+            self.leave_anti(u);
+            self.count_lone();
+            return true;
+        }
+        let is_turned = self.turn_odd_words(u);
+        self.drop_dead(u, u, u, u);
+        self.count_block(true);
+        is_turned
+    }
+
+    /// Turns block u of the odd partition, unless it stays, and tells whether it turned it.
+    pub(crate) fn turn_odd(&mut self, u: usize) -> bool
+        requires { u < self.old.planes.stride * self.old.planes.rows }
+        ensures part { let at = self.old.planes.words * u in TurnsPart at at at at
+            self.old.planes.words self.old.planes.odd.items self.old.planes.right.items
+            self.old.planes.down.items self.old.planes.even.items self.new.planes.odd.items
+            self.new.planes.right.items self.new.planes.down.items self.new.planes.even.items }
+        ensures size { HasSize self.old.planes.words self.old.planes.stride self.old.planes.rows
+            self.new.planes }
+        ensures stays { result ≡ false → self.new.planes ≡ self.old.planes }
+    {
+        if self.busy == 0 {
+            return self.turn_odd_by_marks(u);
+        }
+        let is_turned = self.turn_odd_words(u);
+        if !is_turned && !self.planes.is_live_at_first(u) {
+            self.drop_dead(u, u, u, u);
+        }
+        is_turned
+    }
+
+    // Turns block u of the even partition, of which no cell is live but one of its main diagonal: they change places.
+    fn move_even_main(&mut self, u: usize)
+        requires place { u + self.old.planes.stride + 1 < self.old.planes.stride
+            * self.old.planes.rows }
+        requires inside { (u + 1) % self.old.planes.stride ≢ 0 }
+        requires lone { let s = self.old.planes.stride in IsLoneMain self.old.live_marks
+            (u + s + 1) (u + s) (u + 1) u }
+        ensures part { let w = self.old.planes.words in TurnsPart (w * u) (w * (u + 1))
+            (w * (u + self.old.planes.stride)) (w * (u + self.old.planes.stride + 1)) w
+            self.old.planes.even.items self.old.planes.down.items self.old.planes.right.items
+            self.old.planes.odd.items self.new.planes.even.items self.new.planes.down.items
+            self.new.planes.right.items self.new.planes.odd.items }
+        ensures size { HasSize self.old.planes.words self.old.planes.stride self.old.planes.rows
+            self.new.planes }
+    {
+        let stride = self.planes.stride();
+        mark(&mut self.even_marks, u);
+        mark_corners(&mut self.odd_marks, u, stride, Changes::MAIN);
+        self.live_marks.swap_main(u + stride + 1, u);
+        self.planes.swap_main(u + stride + 1, u);
+    }
+
+    // The same for one cell of its other diagonal.
+    fn move_even_anti(&mut self, u: usize)
+        requires place { u + self.old.planes.stride + 1 < self.old.planes.stride
+            * self.old.planes.rows }
+        requires inside { (u + 1) % self.old.planes.stride ≢ 0 }
+        requires lone { let s = self.old.planes.stride in IsLoneAnti self.old.live_marks
+            (u + s + 1) (u + s) (u + 1) u }
+        ensures part { let w = self.old.planes.words in TurnsPart (w * u) (w * (u + 1))
+            (w * (u + self.old.planes.stride)) (w * (u + self.old.planes.stride + 1)) w
+            self.old.planes.even.items self.old.planes.down.items self.old.planes.right.items
+            self.old.planes.odd.items self.new.planes.even.items self.new.planes.down.items
+            self.new.planes.right.items self.new.planes.odd.items }
+        ensures size { HasSize self.old.planes.words self.old.planes.stride self.old.planes.rows
+            self.new.planes }
+    {
+        let stride = self.planes.stride();
+        mark(&mut self.even_marks, u);
+        mark_corners(&mut self.odd_marks, u, stride, Changes::ANTI);
+        self.live_marks.swap_anti(u + stride, u + 1);
+        self.planes.swap_anti(u + stride, u + 1);
+    }
+
+    // Turns block u of the even partition, unless it stays, and tells whether it turned it.
+    fn turn_even_words(&mut self, u: usize) -> bool
+        requires place { u + self.old.planes.stride + 1 < self.old.planes.stride
+            * self.old.planes.rows }
+        requires inside { (u + 1) % self.old.planes.stride ≢ 0 }
+        ensures part { let w = self.old.planes.words in TurnsPart (w * u) (w * (u + 1))
+            (w * (u + self.old.planes.stride)) (w * (u + self.old.planes.stride + 1)) w
+            self.old.planes.even.items self.old.planes.down.items self.old.planes.right.items
+            self.old.planes.odd.items self.new.planes.even.items self.new.planes.down.items
+            self.new.planes.right.items self.new.planes.odd.items }
+        ensures size { HasSize self.old.planes.words self.old.planes.stride self.old.planes.rows
+            self.new.planes }
+        ensures stays { result ≡ false → self.new.planes ≡ self.old.planes }
+    {
+        let changes = self.planes.even_changes(u);
+        if changes.is_none() {
+            unmark(&mut self.even_marks, u);
+            return false;
+        }
+        let stride = self.planes.stride();
+        mark(&mut self.even_marks, u);
+        mark_corners(&mut self.odd_marks, u, stride, changes);
+        self.live_marks
+            .mark_cells(u + stride + 1, u + stride, u + 1, u, changes);
+        self.planes.turn_even(u);
+        true
+    }
+
+    // Turns block u of the even partition, unless it stays, and tells whether it turned it. Its words are read only if
+    // two of its cells may be live.
+    fn turn_even_by_marks(&mut self, u: usize) -> bool
+        requires place { u + self.old.planes.stride + 1 < self.old.planes.stride
+            * self.old.planes.rows }
+        requires inside { (u + 1) % self.old.planes.stride ≢ 0 }
+        ensures part { let w = self.old.planes.words in TurnsPart (w * u) (w * (u + 1))
+            (w * (u + self.old.planes.stride)) (w * (u + self.old.planes.stride + 1)) w
+            self.old.planes.even.items self.old.planes.down.items self.old.planes.right.items
+            self.old.planes.odd.items self.new.planes.even.items self.new.planes.down.items
+            self.new.planes.right.items self.new.planes.odd.items }
+        ensures size { HasSize self.old.planes.words self.old.planes.stride self.old.planes.rows
+            self.new.planes }
+        ensures stays { result ≡ false → self.new.planes ≡ self.old.planes }
+    {
+        let stride = self.planes.stride();
+        let (odd, right, down) = (u + stride + 1, u + stride, u + 1);
+        if self.is_exact && self.live_marks.is_lone_main(odd, right, down, u) {
+            if self.is_dead_even(u) {
+                unmark(&mut self.even_marks, u);
+                return false;
+            }
+            self.move_even_main(u);
+            self.count_lone();
+            return true;
+        }
+        if self.is_exact && self.live_marks.is_lone_anti(odd, right, down, u) {
+            self.move_even_anti(u);
+            self.count_lone();
+            return true;
+        }
+        let is_turned = self.turn_even_words(u);
+        self.drop_dead(odd, right, down, u);
+        self.count_block(true);
+        is_turned
+    }
+
+    // Whether block u of the even partition is the last of its row. A division takes long, so most blocks are known to
+    // be others by their lack of a mark.
+    #[inline(always)]
+    fn is_last(&self, u: usize) -> bool
+        requires { u < self.now.planes.stride * self.now.planes.rows }
+        ensures last { result ≡ true → (u + 1) % self.now.planes.stride ≡ 0 }
+        ensures other { result ≡ false → (u + 1) % self.now.planes.stride ≢ 0 }
+    {
+        is_marked(&self.border_marks, u) && (u + 1) % self.planes.stride() == 0
+    }
+
+    // Whether each cell of block u of the even partition is known to be dead.
+    #[inline(always)]
+    fn is_dead_even(&self, u: usize) -> bool
+        requires { u + self.now.planes.stride + 1 < self.now.planes.stride * self.now.planes.rows }
+        ensures { result ≡ true → let s = self.now.planes.stride in
+            AreUnmarked self.now.live_marks (u + s + 1) (u + s) (u + 1) u }
+    {
+        let stride = self.planes.stride();
+        self.live_marks
+            .are_dead(u + stride + 1, u + stride, u + 1, u)
+    }
+
+    /// Turns block u of the even partition, unless it stays, and tells whether it turned it. The last block of a row is
+    /// not in the box and stays: its cells stand in the halo, at the right end of two rows and at the left end of the
+    /// next two.
+    pub(crate) fn turn_even(&mut self, u: usize) -> bool
+        requires { u + self.old.planes.stride + 1 < self.old.planes.stride * self.old.planes.rows }
+        ensures part { (u + 1) % self.old.planes.stride ≢ 0 →
+            let w = self.old.planes.words in TurnsPart (w * u) (w * (u + 1))
+            (w * (u + self.old.planes.stride)) (w * (u + self.old.planes.stride + 1)) w
+            self.old.planes.even.items self.old.planes.down.items self.old.planes.right.items
+            self.old.planes.odd.items self.new.planes.even.items self.new.planes.down.items
+            self.new.planes.right.items self.new.planes.odd.items }
+        ensures size { HasSize self.old.planes.words self.old.planes.stride self.old.planes.rows
+            self.new.planes }
+        ensures last { (u + 1) % self.old.planes.stride ≡ 0 → self.new.planes ≡ self.old.planes }
+        ensures stays { result ≡ false → self.new.planes ≡ self.old.planes }
+    {
+        if self.is_last(u) {
+            unmark(&mut self.even_marks, u);
+            return false;
+        }
+        if self.busy > 0 {
+            return self.turn_even_words(u);
+        }
+        self.turn_even_by_marks(u)
+    }
+}

@@ -1,0 +1,225 @@
+//! The steps of the planes, by marks or of whole planes.
+
+ghost use Rattle.bbm_rule.specs.Plane.{turned};
+ghost use Rattle.bbm_rule.specs.Rows.{mate};
+ghost use Rattle.std.specs.Prelude.{ℕ, ◌≡◌, ◌+◌, ◌*◌, ◌/◌, ◌%◌, ◌<◌, ◌≤◌, true, false};
+
+use crate::marked_planes::MarkedPlanes;
+use crate::marks::{next_live_word, next_word, take_first};
+use crate::phases::{WholePlaneSteps, are_many};
+
+/// In how many steps many blocks must change before those that no step changes are looked for: a search costs as much as
+/// some of these steps. And how often they are looked for again after they were given up.
+pub(crate) const STEPS_TO_SEARCH: u32 = 128;
+
+impl MarkedPlanes {
+    ghost use Rattle.local_run.specs.Sweeps.{TurnsEven, TurnsOdd};
+    ghost use Rattle.local_run.specs.Lanes.{HasSize, SameInside, lane};
+
+    // Looks whether the next steps are to turn whole planes, after a step by marks in which so many blocks changed.
+    // Where few did, they are not, even if most blocks are frozen.
+    #[inline(always)]
+    fn finish_step(&mut self, changed: usize)
+        requires { changed ≤ 4096 }
+        ensures { self.new.planes ≡ self.old.planes }
+    {
+        if are_many(
+            changed,
+            self.planes.cells() / 4,
+            self.planes.words(),
+            self.planes.columns_and_rows() / 4,
+        ) {
+            self.begin_phase(changed);
+        } else {
+            self.whole_plane_steps = WholePlaneSteps::NONE;
+        }
+    }
+
+    // Begins a phase of steps that turn whole planes, if it costs less than to go by marks.
+    fn begin_phase(&mut self, changed: usize)
+        requires { changed ≤ 4096 }
+        ensures { self.new.planes ≡ self.old.planes }
+    {
+        self.count_dense(1);
+        let cells = self.planes.cells();
+        if are_many(
+            changed,
+            self.frozen.active(cells),
+            self.planes.words(),
+            self.frozen.active_rows(self.planes.columns_and_rows()),
+        ) {
+            self.whole_plane_steps = self.whole_plane_steps.next_phase();
+            self.count_dense(self.whole_plane_steps.left);
+        } else {
+            self.whole_plane_steps = WholePlaneSteps::NONE;
+        }
+    }
+
+    // Counts steps in which many blocks change, and looks for the blocks that no step changes after enough of them.
+    fn count_dense(&mut self, steps: u32)
+        ensures { self.new.planes ≡ self.old.planes }
+    {
+        if self.frozen.is_found() || self.searches == 0 {
+            return;
+        }
+        if self.until_search > steps {
+            self.until_search -= steps;
+            return;
+        }
+        self.until_search = STEPS_TO_SEARCH;
+        self.searches -= 1;
+        self.frozen.find(&self.planes);
+    }
+
+    // Turns the blocks of the odd partition from `first` on to below `end`, whose marks are in one word, and returns
+    // how many it turned.
+    //
+    // The word is read once: the turn of a block changes marks of its partition and live marks at its own number alone.
+    fn turn_odd_word(&mut self, first: usize, end: usize) -> usize
+        requires word { (first % 64 ≡ 0) × (first < end) × (end ≤ first + 64) }
+        requires within { end ≤ self.old.planes.stride * self.old.planes.rows }
+        ensures turned { TurnsOdd first end self.old.planes self.new.planes }
+        ensures size { HasSize self.old.planes.words self.old.planes.stride self.old.planes.rows
+            self.new.planes }
+        ensures stays { result ≡ 0 → self.new.planes ≡ self.old.planes }
+        ensures count { first + result ≤ end }
+    {
+        let mut rest = self.odd_marks[first / 64] & self.live_marks.word(first / 64);
+        let mut changed = 0;
+        'marked: while rest != 0 {
+            let (place, others) = take_first(rest);
+            let u = first + place;
+            if u >= end {
+                return changed;
+            }
+            rest = others;
+            if self.turn_odd(u) {
+                changed += 1;
+            }
+        }
+        changed
+    }
+
+    // Returns the first number, from `from` on, of a word with a block of the odd partition that may change, or `end`
+    // if there is none below it.
+    fn next_odd_word(&self, from: usize, end: usize) -> usize
+        requires within { (from ≤ end) × (end ≤ self.now.planes.stride * self.now.planes.rows) }
+        requires word { from < end → from % 64 ≡ 0 }
+        ensures range { (from ≤ result) × (result ≤ end) }
+        ensures word { result < end → result % 64 ≡ 0 }
+        ensures calm { TurnsOdd from result self.now.planes self.now.planes }
+    {
+        next_live_word(&self.odd_marks, &self.live_marks, from, end)
+    }
+
+    // The same of the even partition.
+    fn next_even_word(&self, from: usize, end: usize) -> usize
+        requires within { (from ≤ end) × (end + self.now.planes.stride + 1 ≤ self.now.planes.stride
+            * self.now.planes.rows) }
+        requires word { from < end → from % 64 ≡ 0 }
+        ensures range { (from ≤ result) × (result ≤ end) }
+        ensures word { result < end → result % 64 ≡ 0 }
+        ensures calm { TurnsEven from result self.now.planes self.now.planes }
+    {
+        next_word(&self.even_marks, from, end)
+    }
+
+    // Turns the blocks of the even partition from `first` on to below `end`, whose marks are in one word, and returns
+    // how many it turned.
+    fn turn_even_word(&mut self, first: usize, end: usize) -> usize
+        requires word { (first % 64 ≡ 0) × (first < end) × (end ≤ first + 64) }
+        requires within { end + self.old.planes.stride + 1 ≤ self.old.planes.stride
+            * self.old.planes.rows }
+        ensures turned { TurnsEven first end self.old.planes self.new.planes }
+        ensures size { HasSize self.old.planes.words self.old.planes.stride self.old.planes.rows
+            self.new.planes }
+        ensures stays { result ≡ 0 → self.new.planes ≡ self.old.planes }
+        ensures count { first + result ≤ end }
+    {
+        let mut rest = self.even_marks[first / 64];
+        let mut changed = 0;
+        'marked: while rest != 0 {
+            let (place, others) = take_first(rest);
+            let u = first + place;
+            if u >= end {
+                return changed;
+            }
+            rest = others;
+            if self.turn_even(u) {
+                changed += 1;
+            }
+        }
+        changed
+    }
+
+    /// Turns the blocks whose upper left corner is odd, which fill box and halo. Returns whether a block may have
+    /// changed.
+    pub fn odd_step(&mut self) -> bool
+        ensures turned { (a x y : ℕ) → a < 64 * self.old.planes.words →
+            x < 2 * self.old.planes.stride → y < 2 * self.old.planes.rows →
+            lane self.new.planes a x y
+            ≡ turned (lane self.old.planes a x y) (lane self.old.planes a (mate x) (mate y))
+            (lane self.old.planes a (mate x) y) (lane self.old.planes a x (mate y)) }
+        ensures size { HasSize self.old.planes.words self.old.planes.stride self.old.planes.rows
+            self.new.planes }
+        ensures stays { result ≡ false → self.new.planes ≡ self.old.planes }
+    {
+        if self.whole_plane_steps.left > 0 {
+            self.whole_plane_steps.left -= 1;
+            self.is_exact = false;
+            self.frozen.odd_step(&mut self.planes);
+            self.frozen
+                .mark_blocks(&self.planes, &mut self.odd_marks, &mut self.even_marks);
+            self.frozen.mark_live(&self.planes, &mut self.live_marks);
+            return true;
+        }
+        let cells = self.planes.cells();
+        let mut changed = 0;
+        let mut at = self.next_odd_word(0, cells);
+        'words: while at < cells {
+            let end = (at + 64).min(cells);
+            changed += self.turn_odd_word(at, end);
+            at = self.next_odd_word(end, cells);
+        }
+        // Where nothing was known all blocks had marks, and these fill box and halo.
+        self.is_exact = true;
+        self.finish_step(changed);
+        changed > 0
+    }
+
+    /// Turns the blocks of the box whose upper left corner is even. Returns whether a cell of the box may have changed.
+    ///
+    /// It does not read the cells of the halo.
+    pub fn even_step(&mut self) -> bool
+        ensures turned { (a x y : ℕ) → a < 64 * self.old.planes.words →
+            x + 2 < 2 * self.old.planes.stride → y + 2 < 2 * self.old.planes.rows →
+            lane self.new.planes a (1 + x) (1 + y)
+            ≡ turned (lane self.old.planes a (1 + x) (1 + y))
+            (lane self.old.planes a (1 + mate x) (1 + mate y))
+            (lane self.old.planes a (1 + mate x) (1 + y))
+            (lane self.old.planes a (1 + x) (1 + mate y)) }
+        ensures size { HasSize self.old.planes.words self.old.planes.stride self.old.planes.rows
+            self.new.planes }
+        ensures stays { result ≡ false → SameInside self.old.planes self.new.planes }
+    {
+        if self.whole_plane_steps.left > 0 {
+            self.whole_plane_steps.left -= 1;
+            self.is_exact = false;
+            self.frozen.even_step(&mut self.planes);
+            self.frozen
+                .mark_blocks(&self.planes, &mut self.odd_marks, &mut self.even_marks);
+            self.frozen.mark_live(&self.planes, &mut self.live_marks);
+            return true;
+        }
+        let cells = self.planes.cells() - self.planes.stride() - 1;
+        let mut changed = 0;
+        let mut at = self.next_even_word(0, cells);
+        'words: while at < cells {
+            let end = (at + 64).min(cells);
+            changed += self.turn_even_word(at, end);
+            at = self.next_even_word(end, cells);
+        }
+        self.finish_step(changed);
+        changed > 0
+    }
+}

@@ -1,0 +1,54 @@
+//! When steps turn whole planes, and when they go by marks.
+
+ghost use Rattle.std.specs.Prelude.{◌+◌, ◌*◌, ◌/◌, ◌≤◌};
+
+// How many steps turn whole planes after one in which many blocks changed, at first and at most.
+const FIRST_PHASE: u32 = 62;
+
+const LONGEST_PHASE: u32 = 992;
+
+/// The steps that turn whole planes come in phases. A step by marks follows each of them, and begins the next one if
+/// many blocks change in it.
+#[derive(Clone, Copy)]
+pub(crate) struct WholePlaneSteps {
+    // how many are left of this phase
+    pub(crate) left: u32,
+    // how many the next one has: twice as many as this one
+    pub(crate) next: u32,
+}
+
+impl WholePlaneSteps {
+    /// No phase.
+    pub(crate) const NONE: WholePlaneSteps = WholePlaneSteps {
+        left: 0,
+        next: FIRST_PHASE,
+    };
+
+    /// The next phase.
+    pub(crate) fn next_phase(self) -> WholePlaneSteps {
+        WholePlaneSteps {
+            left: self.next,
+            next: self.next.saturating_mul(2).min(LONGEST_PHASE),
+        }
+    }
+}
+
+// What a block that changes costs in a step by marks, in turns of a word, and what it costs more for each word of a
+// cell.
+const MARKED_BLOCK_COST: usize = 40;
+
+const MARKED_WORD_COST: usize = 5;
+
+// What a step that turns whole planes costs more for each cell of a row and each row.
+const WHOLE_ROW_COST: usize = 48;
+
+/// Whether it costs less to turn all blocks, with that many words a cell, and that many cells a row and rows together,
+/// than to go by marks where so many change. A block that changes has up to four others looked at, two for each of its
+/// diagonals that changes. Where all are turned no cell of ring and halo is known to be dead, but for those of frozen
+/// and empty blocks, and at odd times the others are looked up.
+pub(crate) fn are_many(changed: usize, cells: usize, words: usize, columns_and_rows: usize) -> bool
+    requires { (changed ≤ 4096) × (cells ≤ 4096) × (words ≤ 64) × (columns_and_rows ≤ 128) }
+{
+    changed * (MARKED_BLOCK_COST + MARKED_WORD_COST * words)
+        > cells * words + WHOLE_ROW_COST * columns_and_rows
+}

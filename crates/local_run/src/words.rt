@@ -1,0 +1,250 @@
+//! Blocks of words: what a turn changes of them.
+
+ghost use Rattle.bbm_rule.specs.Words.{AreTurned};
+ghost use Rattle.local_run.specs.Turns.{DiagonalStays, SwapsPart, TurnsPart, is_main};
+ghost use Rattle.std.specs.Prelude.{ℕ, ◌≡◌, ◌+◌, ◌-◌, ◌/◌, ◌%◌, ◌^◌, ◌<◌, ◌≤◌, ◌⊎◌, length, bit_xor, slice_index, false, true, not};
+
+use bbm_rule::turn_lanes;
+
+/// Turns blocks whose corners begin at a place of their own in each slice.
+#[inline(always)]
+pub(crate) fn turn_part(
+    upper_left: &mut [u64],
+    upper_right: &mut [u64],
+    lower_left: &mut [u64],
+    lower_right: &mut [u64],
+    a: usize,
+    b: usize,
+    c: usize,
+    d: usize,
+    long: usize,
+)
+    requires upper { (a + long ≤ length upper_left.old) × (b + long ≤ length upper_right.old) }
+    requires lower { (c + long ≤ length lower_left.old) × (d + long ≤ length lower_right.old) }
+    ensures { TurnsPart a b c d long upper_left.old upper_right.old lower_left.old lower_right.old
+        upper_left.new upper_right.new lower_left.new lower_right.new }
+{
+    turn_lanes(
+        &mut upper_left[a..a + long],
+        &mut upper_right[b..b + long],
+        &mut lower_left[c..c + long],
+        &mut lower_right[d..d + long],
+    );
+}
+
+// Exchanges four words from a place on in one slice, and four from a place on in another. All are read before the first
+// is written, so that some are exchanged at once.
+#[inline(always)]
+fn swap_four(first: &mut [u64], second: &mut [u64], a: usize, b: usize)
+    requires { (a + 4 ≤ length first.old) × (b + 4 ≤ length second.old) }
+    ensures { SwapsPart a b 4 first.old second.old first.new second.new }
+{
+    let (a0, a1, a2, a3) = (first[a], first[a + 1], first[a + 2], first[a + 3]);
+    let (b0, b1, b2, b3) = (second[b], second[b + 1], second[b + 2], second[b + 3]);
+    first[a] = b0;
+    first[a + 1] = b1;
+    first[a + 2] = b2;
+    first[a + 3] = b3;
+    second[b] = a0;
+    second[b + 1] = a1;
+    second[b + 2] = a2;
+    second[b + 3] = a3;
+}
+
+/// Exchanges the words from a place on in one slice, and as many from a place on in another.
+#[inline(always)]
+pub(crate) fn swap_part(first: &mut [u64], second: &mut [u64], a: usize, b: usize, long: usize)
+    requires { (a + long ≤ length first.old) × (b + long ≤ length second.old) }
+    ensures { SwapsPart a b long first.old second.old first.new second.new }
+{
+    // The loops over words cost more than one word.
+    if long == 1 {
+        let word = first[a];
+        first[a] = second[b];
+        second[b] = word;
+        return;
+    }
+    let mut k = 0;
+    'fours: while k + 4 <= long {
+        swap_four(first, second, a + k, b + k);
+        k += 4;
+    }
+    'words: while k < long {
+        let word = first[a + k];
+        first[a + k] = second[b + k];
+        second[b + k] = word;
+        k += 1;
+    }
+}
+
+// The words that a turn flips of a block's main diagonal, and of the other one.
+#[inline(always)]
+fn flips_of(upper_left: u64, upper_right: u64, lower_left: u64, lower_right: u64) -> (u64, u64)
+    ensures turned { AreTurned upper_left upper_right lower_left lower_right
+        (bit_xor upper_left result.0) (bit_xor upper_right result.1) (bit_xor lower_left result.1)
+        (bit_xor lower_right result.0) }
+    ensures main { result.0 ≡ 0 → DiagonalStays upper_left lower_right upper_right lower_left }
+    ensures anti { result.1 ≡ 0 → DiagonalStays upper_right lower_left upper_left lower_right }
+{
+    // `a ^ (a & b)` stands for `a & !b`.
+    let changed = (upper_left | lower_right) ^ (upper_right | lower_left);
+    (
+        changed ^ (changed & (upper_right ^ lower_left)),
+        changed ^ (changed & (upper_left ^ lower_right)),
+    )
+}
+
+/// Whether some word from a place on in one slice is not that from a place on in another.
+#[inline(always)]
+pub(crate) fn are_different(first: &[u64], a: usize, second: &[u64], b: usize, long: usize) -> bool
+    requires { (a + long ≤ length first.now) × (b + long ≤ length second.now) }
+    ensures { result ≡ false → (k : ℕ) → k < long →
+        slice_index first.now (a + k) ≡ slice_index second.now (b + k) }
+{
+    let mut difference = 0;
+    // Over all words, so that some are compared at once.
+    for k in 0..long {
+        difference |= first[a + k] ^ second[b + k];
+    }
+    difference != 0
+}
+
+/// Whether some word from a place on is not the given one.
+#[inline(always)]
+pub(crate) fn is_some_other(words: &[u64], a: usize, word: u64, long: usize) -> bool
+    requires { a + long ≤ length words.now }
+    ensures { result ≡ false → (k : ℕ) → k < long → slice_index words.now (a + k) ≡ word }
+{
+    let mut difference = 0;
+    for k in 0..long {
+        difference |= words[a + k] ^ word;
+    }
+    difference != 0
+}
+
+/// The diagonals of a block that a turn changes: that of its upper left and lower right cells, and the other one.
+#[derive(Clone, Copy)]
+pub struct Changes {
+    /// The cells of the main diagonal.
+    pub main: bool,
+    /// The cells of the other diagonal.
+    pub anti: bool,
+}
+
+impl Changes {
+    /// The turn that changes the main diagonal alone.
+    pub const MAIN: Changes = Changes {
+        main: true,
+        anti: false,
+    };
+
+    /// The turn that changes the other diagonal alone.
+    pub const ANTI: Changes = Changes {
+        main: false,
+        anti: true,
+    };
+
+    /// Returns the change of the diagonal alone that a cell, counted from the halo, is on in its block of the odd
+    /// partition.
+    pub fn of_cell(x: usize, y: usize) -> Changes
+        ensures main { result.main ≡ is_main x y }
+        ensures anti { result.anti ≡ not (is_main x y) }
+    {
+        let main = x % 2 == y % 2;
+        Changes { main, anti: !main }
+    }
+
+    /// Returns whether the turn changes no diagonal, so that the block stays.
+    pub fn is_none(self) -> bool
+        ensures main { result ≡ true → self.main ≡ false }
+        ensures anti { result ≡ true → self.anti ≡ false }
+        ensures some { result ≡ false → (self.main ≡ true) ⊎ (self.anti ≡ true) }
+    {
+        !self.main && !self.anti
+    }
+}
+
+/// Turns the blocks of one word in each slice.
+#[inline(always)]
+pub(crate) fn turn_word(
+    upper_left: &mut [u64],
+    upper_right: &mut [u64],
+    lower_left: &mut [u64],
+    lower_right: &mut [u64],
+    a: usize,
+    b: usize,
+    c: usize,
+    d: usize,
+)
+    requires upper { (a < length upper_left.old) × (b < length upper_right.old) }
+    requires lower { (c < length lower_left.old) × (d < length lower_right.old) }
+    ensures { TurnsPart a b c d 1 upper_left.old upper_right.old lower_left.old lower_right.old
+        upper_left.new upper_right.new lower_left.new lower_right.new }
+{
+    let (main, anti) = flips_of(upper_left[a], upper_right[b], lower_left[c], lower_right[d]);
+    upper_left[a] ^= main;
+    upper_right[b] ^= anti;
+    lower_left[c] ^= anti;
+    lower_right[d] ^= main;
+}
+
+/// Which diagonals a turn of the blocks of one word changes under some assignment.
+#[inline(always)]
+pub(crate) fn word_changes(
+    upper_left: u64,
+    upper_right: u64,
+    lower_left: u64,
+    lower_right: u64,
+) -> Changes
+    ensures main { result.main ≡ false →
+        DiagonalStays upper_left lower_right upper_right lower_left }
+    ensures anti { result.anti ≡ false →
+        DiagonalStays upper_right lower_left upper_left lower_right }
+{
+    let (main, anti) = flips_of(upper_left, upper_right, lower_left, lower_right);
+    Changes {
+        main: main != 0,
+        anti: anti != 0,
+    }
+}
+
+/// Which diagonals a turn changes under some assignment.
+#[inline(always)]
+pub(crate) fn part_changes(
+    upper_left: &[u64],
+    upper_right: &[u64],
+    lower_left: &[u64],
+    lower_right: &[u64],
+    a: usize,
+    b: usize,
+    c: usize,
+    d: usize,
+    long: usize,
+) -> Changes
+    requires upper { (a + long ≤ length upper_left.now) × (b + long ≤ length upper_right.now) }
+    requires lower { (c + long ≤ length lower_left.now) × (d + long ≤ length lower_right.now) }
+    ensures main { result.main ≡ false → (k : ℕ) → k < long →
+        DiagonalStays (slice_index upper_left.now (a + k)) (slice_index lower_right.now (d + k))
+        (slice_index upper_right.now (b + k)) (slice_index lower_left.now (c + k)) }
+    ensures anti { result.anti ≡ false → (k : ℕ) → k < long →
+        DiagonalStays (slice_index upper_right.now (b + k)) (slice_index lower_left.now (c + k))
+        (slice_index upper_left.now (a + k)) (slice_index lower_right.now (d + k)) }
+{
+    let mut main = 0;
+    let mut anti = 0;
+    // Over all words, so that some are taken at once.
+    for k in 0..long {
+        let (main_flips, anti_flips) = flips_of(
+            upper_left[a + k],
+            upper_right[b + k],
+            lower_left[c + k],
+            lower_right[d + k],
+        );
+        main |= main_flips;
+        anti |= anti_flips;
+    }
+    Changes {
+        main: main != 0,
+        anti: anti != 0,
+    }
+}
