@@ -6,7 +6,7 @@ ghost use Rattle.std.specs.Prelude.{◌≡◌, ◌+◌, ◌-◌, ◌*◌, ◌/�
 use crate::live::LiveMarks;
 use crate::marks::drop_if_dead;
 use crate::planes::Planes;
-use crate::words::{Changes, part_changes, swap_part, turn_part, turn_word, word_changes};
+use crate::words::{Changes, Places, part_changes, swap_part, turn_part, turn_word, word_changes};
 
 impl Planes {
     ghost use Rattle.local_run.specs.Lanes.{HasSize};
@@ -31,10 +31,12 @@ impl Planes {
             &self.right,
             &self.down,
             &self.even,
-            at,
-            at,
-            at,
-            at,
+            Places {
+                upper_left: at,
+                upper_right: at,
+                lower_left: at,
+                lower_right: at,
+            },
             self.words,
         )
     }
@@ -53,10 +55,12 @@ impl Planes {
                 &mut self.right,
                 &mut self.down,
                 &mut self.even,
-                u,
-                u,
-                u,
-                u,
+                Places {
+                    upper_left: u,
+                    upper_right: u,
+                    lower_left: u,
+                    lower_right: u,
+                },
             );
             return;
         }
@@ -66,10 +70,12 @@ impl Planes {
             &mut self.right,
             &mut self.down,
             &mut self.even,
-            at,
-            at,
-            at,
-            at,
+            Places {
+                upper_left: at,
+                upper_right: at,
+                lower_left: at,
+                lower_right: at,
+            },
             self.words,
         );
     }
@@ -101,10 +107,12 @@ impl Planes {
             &self.down,
             &self.right,
             &self.odd,
-            words * u,
-            words * (u + 1),
-            words * (u + stride),
-            words * (u + stride + 1),
+            Places {
+                upper_left: words * u,
+                upper_right: words * (u + 1),
+                lower_left: words * (u + stride),
+                lower_right: words * (u + stride + 1),
+            },
             words,
         )
     }
@@ -126,10 +134,12 @@ impl Planes {
                 &mut self.down,
                 &mut self.right,
                 &mut self.odd,
-                u,
-                u + 1,
-                u + stride,
-                u + stride + 1,
+                Places {
+                    upper_left: u,
+                    upper_right: u + 1,
+                    lower_left: u + stride,
+                    lower_right: u + stride + 1,
+                },
             );
             return;
         }
@@ -138,10 +148,12 @@ impl Planes {
             &mut self.down,
             &mut self.right,
             &mut self.odd,
-            words * u,
-            words * (u + 1),
-            words * (u + stride),
-            words * (u + stride + 1),
+            Places {
+                upper_left: words * u,
+                upper_right: words * (u + 1),
+                lower_left: words * (u + stride),
+                lower_right: words * (u + stride + 1),
+            },
             words,
         );
     }

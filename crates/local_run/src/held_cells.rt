@@ -5,7 +5,7 @@ ghost use Rattle.local_run.specs.Turns.{TurnsPart};
 ghost use Rattle.std.specs.Prelude.{ℕ, ◌≡◌, ◌+◌, ◌-◌, ◌*◌, ◌/◌, ◌^◌, ◌<◌, ◌≤◌, length, slice_index, false, true};
 
 use crate::planes::Planes;
-use crate::words::{is_some_other, turn_part};
+use crate::words::{Places, is_some_other, turn_part};
 use bbm_rule::marks::{next_marked, next_unmarked};
 
 /// For each corner of a block whether its cell meets a condition.
@@ -152,10 +152,12 @@ impl Planes {
             &mut self.right,
             &mut self.down,
             &mut self.even,
-            at,
-            at,
-            at,
-            at,
+            Places {
+                upper_left: at,
+                upper_right: at,
+                lower_left: at,
+                lower_right: at,
+            },
             self.words * (end - first),
         );
     }
@@ -176,10 +178,12 @@ impl Planes {
             &mut self.down,
             &mut self.right,
             &mut self.odd,
-            words * first,
-            words * (first + 1),
-            words * (first + stride),
-            words * (first + stride + 1),
+            Places {
+                upper_left: words * first,
+                upper_right: words * (first + 1),
+                lower_left: words * (first + stride),
+                lower_right: words * (first + stride + 1),
+            },
             words * (end - first),
         );
     }

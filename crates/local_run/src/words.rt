@@ -6,6 +6,15 @@ ghost use Rattle.std.specs.Prelude.{ℕ, ◌≡◌, ◌+◌, ◌-◌, ◌/◌, �
 
 use bbm_rule::turn_lanes;
 
+/// The place of each corner of a block in the slice that it lies in.
+#[derive(Clone, Copy)]
+pub(crate) struct Places {
+    pub(crate) upper_left: usize,
+    pub(crate) upper_right: usize,
+    pub(crate) lower_left: usize,
+    pub(crate) lower_right: usize,
+}
+
 /// Turns blocks whose corners begin at a place of their own in each slice.
 #[inline(always)]
 pub(crate) fn turn_part(
@@ -13,22 +22,21 @@ pub(crate) fn turn_part(
     upper_right: &mut [u64],
     lower_left: &mut [u64],
     lower_right: &mut [u64],
-    a: usize,
-    b: usize,
-    c: usize,
-    d: usize,
+    at: Places,
     long: usize,
 )
-    requires upper { (a + long ≤ length upper_left.old) × (b + long ≤ length upper_right.old) }
-    requires lower { (c + long ≤ length lower_left.old) × (d + long ≤ length lower_right.old) }
-    ensures { TurnsPart a b c d long upper_left.old upper_right.old lower_left.old lower_right.old
-        upper_left.new upper_right.new lower_left.new lower_right.new }
+    requires upper { (at.upper_left + long ≤ length upper_left.old)
+        × (at.upper_right + long ≤ length upper_right.old) }
+    requires lower { (at.lower_left + long ≤ length lower_left.old)
+        × (at.lower_right + long ≤ length lower_right.old) }
+    ensures { TurnsPart at.upper_left at.upper_right at.lower_left at.lower_right long
+        upper_left.old upper_right.old lower_left.old lower_right.old upper_left.new upper_right.new lower_left.new lower_right.new }
 {
     turn_lanes(
-        &mut upper_left[a..a + long],
-        &mut upper_right[b..b + long],
-        &mut lower_left[c..c + long],
-        &mut lower_right[d..d + long],
+        &mut upper_left[at.upper_left..at.upper_left + long],
+        &mut upper_right[at.upper_right..at.upper_right + long],
+        &mut lower_left[at.lower_left..at.lower_left + long],
+        &mut lower_right[at.lower_right..at.lower_right + long],
     );
 }
 
@@ -171,21 +179,23 @@ pub(crate) fn turn_word(
     upper_right: &mut [u64],
     lower_left: &mut [u64],
     lower_right: &mut [u64],
-    a: usize,
-    b: usize,
-    c: usize,
-    d: usize,
+    at: Places,
 )
-    requires upper { (a < length upper_left.old) × (b < length upper_right.old) }
-    requires lower { (c < length lower_left.old) × (d < length lower_right.old) }
-    ensures { TurnsPart a b c d 1 upper_left.old upper_right.old lower_left.old lower_right.old
-        upper_left.new upper_right.new lower_left.new lower_right.new }
+    requires upper { (at.upper_left < length upper_left.old) × (at.upper_right < length upper_right.old) }
+    requires lower { (at.lower_left < length lower_left.old) × (at.lower_right < length lower_right.old) }
+    ensures { TurnsPart at.upper_left at.upper_right at.lower_left at.lower_right 1
+        upper_left.old upper_right.old lower_left.old lower_right.old upper_left.new upper_right.new lower_left.new lower_right.new }
 {
-    let (main, anti) = flips_of(upper_left[a], upper_right[b], lower_left[c], lower_right[d]);
-    upper_left[a] ^= main;
-    upper_right[b] ^= anti;
-    lower_left[c] ^= anti;
-    lower_right[d] ^= main;
+    let (main, anti) = flips_of(
+        upper_left[at.upper_left],
+        upper_right[at.upper_right],
+        lower_left[at.lower_left],
+        lower_right[at.lower_right],
+    );
+    upper_left[at.upper_left] ^= main;
+    upper_right[at.upper_right] ^= anti;
+    lower_left[at.lower_left] ^= anti;
+    lower_right[at.lower_right] ^= main;
 }
 
 /// Which diagonals a turn of the blocks of one word changes under some assignment.
@@ -215,30 +225,33 @@ pub(crate) fn part_changes(
     upper_right: &[u64],
     lower_left: &[u64],
     lower_right: &[u64],
-    a: usize,
-    b: usize,
-    c: usize,
-    d: usize,
+    at: Places,
     long: usize,
 ) -> Changes
-    requires upper { (a + long ≤ length upper_left.now) × (b + long ≤ length upper_right.now) }
-    requires lower { (c + long ≤ length lower_left.now) × (d + long ≤ length lower_right.now) }
+    requires upper { (at.upper_left + long ≤ length upper_left.now)
+        × (at.upper_right + long ≤ length upper_right.now) }
+    requires lower { (at.lower_left + long ≤ length lower_left.now)
+        × (at.lower_right + long ≤ length lower_right.now) }
     ensures main { result.main ≡ false → (k : ℕ) → k < long →
-        DiagonalStays (slice_index upper_left.now (a + k)) (slice_index lower_right.now (d + k))
-        (slice_index upper_right.now (b + k)) (slice_index lower_left.now (c + k)) }
+        DiagonalStays (slice_index upper_left.now (at.upper_left + k))
+        (slice_index lower_right.now (at.lower_right + k))
+        (slice_index upper_right.now (at.upper_right + k))
+        (slice_index lower_left.now (at.lower_left + k)) }
     ensures anti { result.anti ≡ false → (k : ℕ) → k < long →
-        DiagonalStays (slice_index upper_right.now (b + k)) (slice_index lower_left.now (c + k))
-        (slice_index upper_left.now (a + k)) (slice_index lower_right.now (d + k)) }
+        DiagonalStays (slice_index upper_right.now (at.upper_right + k))
+        (slice_index lower_left.now (at.lower_left + k))
+        (slice_index upper_left.now (at.upper_left + k))
+        (slice_index lower_right.now (at.lower_right + k)) }
 {
     let mut main = 0;
     let mut anti = 0;
     // Over all words, so that some are taken at once.
     for k in 0..long {
         let (main_flips, anti_flips) = flips_of(
-            upper_left[a + k],
-            upper_right[b + k],
-            lower_left[c + k],
-            lower_right[d + k],
+            upper_left[at.upper_left + k],
+            upper_right[at.upper_right + k],
+            lower_left[at.lower_left + k],
+            lower_right[at.lower_right + k],
         );
         main |= main_flips;
         anti |= anti_flips;

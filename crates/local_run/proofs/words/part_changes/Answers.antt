@@ -10,18 +10,18 @@ loop-k-preserved c = record {
     | inl lt ↦ c.loop-k.invariant.main (none_first _ _ h) k lt
     | inr ge ↦
         let e : c.loop-k.k ≡ k = omega arith in
-        subst (λ (n : ℕ). DiagonalStays (slice_index c.args.upper_left.now (c.args.a + n))
-        (slice_index c.args.lower_right.now (c.args.d + n)) (slice_index c.args.upper_right.now (c.args.b + n))
-        (slice_index c.args.lower_left.now (c.args.c + n))) e
+        subst (λ (n : ℕ). DiagonalStays (slice_index c.args.upper_left.now (c.args.at.upper_left + n))
+        (slice_index c.args.lower_right.now (c.args.at.lower_right + n)) (slice_index c.args.upper_right.now (c.args.at.upper_right + n))
+        (slice_index c.args.lower_left.now (c.args.at.lower_left + n))) e
         (c.flips_of-main_flips.ensures.main (none_last _ _ h))
   ];
   anti = λ h k l. elim (cases_lt k c.loop-k.k) [
     | inl lt ↦ c.loop-k.invariant.anti (none_first _ _ h) k lt
     | inr ge ↦
         let e : c.loop-k.k ≡ k = omega arith in
-        subst (λ (n : ℕ). DiagonalStays (slice_index c.args.upper_right.now (c.args.b + n))
-        (slice_index c.args.lower_left.now (c.args.c + n)) (slice_index c.args.upper_left.now (c.args.a + n))
-        (slice_index c.args.lower_right.now (c.args.d + n))) e
+        subst (λ (n : ℕ). DiagonalStays (slice_index c.args.upper_right.now (c.args.at.upper_right + n))
+        (slice_index c.args.lower_left.now (c.args.at.lower_left + n)) (slice_index c.args.upper_left.now (c.args.at.upper_left + n))
+        (slice_index c.args.lower_right.now (c.args.at.lower_right + n))) e
         (c.flips_of-main_flips.ensures.anti (none_last _ _ h))
   ];
 }
