@@ -1,5 +1,6 @@
 -- Rows whose cells are moved by one place
-use Rattle.std.proofs.Common.{◌≡◌, ◌≢◌, ℕ, Bool, false, ◌<◌, ◌≤◌, ◌+◌, ◌-◌, ◌*◌, ◌/◌, ◌^◌, ◌%◌, zero, suc, refl, arith, ◌∙◌}
+use Rattle.std.proofs.Common.{◌≡◌, ◌≢◌, ℕ, Bool, false, ◌<◌, ◌≤◌, ◌+◌, ◌-◌, ◌*◌, ◌/◌, ◌^◌, ◌%◌, zero, suc, refl, arith}
+use Rattle.std.proofs.Common.{◌∙◌}
 use Rattle.std.proofs.Common.{sym, ap, List, length, get_or, set, bit_and, bit_or}
 use Rattle.std.proofs.lemmas.List.{get_or-set_same, get_or-set_other}
 use Rattle.bbm_rule.specs.Plane.{turned}
@@ -120,7 +121,8 @@ moved_up from count carried value first second room moving = record {
     new : List ℕ
     new = set second (from + count) (bit_or (bit_and (get_or second (from + count) 0) 18446744073709551614) carried)
 
-    sets : SetsWindow (64 * (from + count)) (bit_or (bit_and (get_or second (from + count) 0) 18446744073709551614) carried)
+    sets : SetsWindow (64 * (from + count))
+        (bit_or (bit_and (get_or second (from + count) 0) 18446744073709551614) carried)
         second new
     sets = word_set second (from + count) _ room
 

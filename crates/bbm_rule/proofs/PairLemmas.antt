@@ -258,7 +258,12 @@ kept_bit w = rw (bit-and w 1 0, bit_one 0 (omega arith)) (and-true (bit w 0))
 -- a word that gets another first bit
 pub rest_zero : (w c : ℕ) → bit (bit_or (bit_and w 18446744073709551614) c) 0 ≡ bit c 0
 rest_zero w c =
-    rw (bit-or (bit_and w 18446744073709551614) c 0, bit-and w 18446744073709551614 0, bit_rest 0 (omega arith), and-false (bit w 0))
+    rw (
+      bit-or (bit_and w 18446744073709551614) c 0,
+      bit-and w 18446744073709551614 0,
+      bit_rest 0 (omega arith),
+      and-false (bit w 0),
+    )
     refl
 
 pub rest_kept : (w c j : ℕ) → c < 2 → 0 < j → j < 64 → bit (bit_or (bit_and w 18446744073709551614) c) j ≡ bit w j

@@ -22,7 +22,7 @@ use Rattle.module_job.specs.Signals.{renumber_signals}
 use Rattle.certificate_lines.specs.declared.certificate_line.BorderLine.{BorderLine}
 use Rattle.border_match.specs.BorderFaults.{halo_signal, edge_signal, IsBorderFault, IsLeastBorderFault}
 use Rattle.border_match.specs.Boards.{job_signal, IsJobFault, IsQuiet, IsBoard}
-use Rattle.border_match.specs.declared.signals.Border.TheVariants.{Halo, Ring}
+use Rattle.border_match.specs.declared.signals.RingOrHalo.TheVariants.{Halo, Ring}
 use Rattle.border_match.specs.Candidates.{IsLeast}
 use Rattle.border_match.specs.declared.fault.BorderFault.{BorderFault}
 use Rattle.border_match.proofs.Modules.{there, value_of, area_at}

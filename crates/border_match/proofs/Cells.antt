@@ -21,7 +21,7 @@ use Rattle.module_box.proofs.BoxCells.{in_span_nat, in_box_nats, same_some}
 use Rattle.module_box.proofs.NearBoxes.{near_one, near_parts}
 use Rattle.module_job.specs.Jobs.{JobView, IsJob}
 use Rattle.border_match.specs.Boards.{job_signal, jobs_of, IsAround, AreReadyBorders, Faults}
-use Rattle.border_match.specs.declared.signals.Border.TheVariants.{Halo, Ring}
+use Rattle.border_match.specs.declared.signals.RingOrHalo.TheVariants.{Halo, Ring}
 use Rattle.border_match.specs.Boards.{Differ}
 use Rattle.border_match.specs.declared.borders.Borders.{Borders}
 use Rattle.border_match.specs.declared.fault.BorderFault.{BorderFault}
@@ -41,7 +41,8 @@ owner_within b x y ready h =
 
 pub differ_is : (b : Borders) (t : ℕ) (x y : ℤ) (owner : JobView) (halo edge : Signal) (r : Bool) →
     slice_get (jobs_of b) (owner_of b.owners.now x y) ≡ Some owner →
-    halo ≡ job_signal Halo b.job.now t x y → edge ≡ job_signal Ring owner t x y → IsTrue r ↔ (halo ≢ edge) → IsTrue r ↔ Differ b t x y
+    halo ≡ job_signal Halo b.job.now t x y → edge ≡ job_signal Ring owner t x y → IsTrue r ↔ (halo ≢ edge) →
+    IsTrue r ↔ Differ b t x y
 differ_is b t x y owner halo edge r numbered e f h = (
   λ yes. record { owner = owner; numbered = numbered; differ = λ same. h.0 yes (e ∙ same ∙ sym f) },
   λ d. h.1 (λ same. d.differ (sym e ∙ same ∙ f

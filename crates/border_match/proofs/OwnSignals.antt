@@ -14,8 +14,8 @@ use Rattle.module_box.specs.declared.schedules.Signal.TheVariants.{Zero}
 use Rattle.module_job.specs.Jobs.{JobView, NamesOwnWires}
 use Rattle.module_job.specs.Signals.{IsBelow}
 use Rattle.border_match.specs.Boards.{IsListed, job_signals}
-use Rattle.border_match.specs.declared.signals.Border.{Border}
-use Rattle.border_match.specs.declared.signals.Border.TheVariants.{Halo, Ring}
+use Rattle.border_match.specs.declared.signals.RingOrHalo.{RingOrHalo}
+use Rattle.border_match.specs.declared.signals.RingOrHalo.TheVariants.{Halo, Ring}
 
 all_tail : {A : Type 0} (P : A → Type 0) (x : A) (xs : List A) → All P (x ∷ xs) → All P xs
 all_tail P x xs all = λ k d h. all (suc k) d (omega arith)
@@ -57,13 +57,14 @@ pub halo_below : (j : JobView) (t : ℕ) (x y : ℤ) → NamesOwnWires j →
 halo_below j t x y own = signal_below (wires j.locals.netlist) j.halos t x y own.halo_all_times own.halo_events
 
 -- and so is one that an event of its ring or halo names
-pub listed_below : (b : Border) (j : JobView) (e : TimedSignal) → NamesOwnWires j → IsListed (job_signals b j).events e →
+pub listed_below : (b : RingOrHalo) (j : JobView) (e : TimedSignal) → NamesOwnWires j →
+    IsListed (job_signals b j).events e →
     IsBelow (wires j.locals.netlist) e.signal
 listed_below b j e own at =
     let P : TimedSignal → Type 0 = λ e. IsBelow (wires j.locals.netlist) e.signal in
     let es = (job_signals b j).events in
     subst P (get_or_from_slice_get es at.0 e e at.1) (all_below b at.0 e (slice_get_within es at.0 e at.1))
   where
-    all_below : (b : Border) → All (λ e. IsBelow (wires j.locals.netlist) e.signal) (job_signals b j).events
+    all_below : (b : RingOrHalo) → All (λ e. IsBelow (wires j.locals.netlist) e.signal) (job_signals b j).events
     all_below Ring = own.edge_events
     all_below Halo = own.halo_events

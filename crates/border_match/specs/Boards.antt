@@ -18,18 +18,18 @@ use Rattle.module_job.specs.Jobs.{JobView}
 use Rattle.module_job.specs.Signals.{renumber_signal}
 use Rattle.border_match.specs.declared.borders.Borders.{Borders}
 use Rattle.border_match.specs.declared.fault.BorderFault.{BorderFault}
-use Rattle.border_match.specs.declared.signals.Border.{Border}
-use Rattle.border_match.specs.declared.signals.Border.TheVariants.{Halo, Ring}
+use Rattle.border_match.specs.declared.signals.RingOrHalo.{RingOrHalo}
+use Rattle.border_match.specs.declared.signals.RingOrHalo.TheVariants.{Halo, Ring}
 
 -- ---- border faults by jobs
 
 -- what a job says of the cells of its ring, or of its halo
-abbrev pub job_signals : Border → JobView → Signals
+abbrev pub job_signals : RingOrHalo → JobView → Signals
 job_signals Ring j = j.edges
 job_signals Halo j = j.halos
 
 -- and of one of them, by the wires of the circuit
-abbrev pub job_signal : Border → JobView → ℕ → ℤ → ℤ → Signal
+abbrev pub job_signal : RingOrHalo → JobView → ℕ → ℤ → ℤ → Signal
 job_signal b j t x y = renumber_signal (circuit_wire j.locals) (signal_at (job_signals b j) t x y)
 
 -- the job says another thing of the cell (x, y) of its halo than the job of the module that has the cell

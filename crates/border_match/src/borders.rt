@@ -7,10 +7,10 @@ ghost use Rattle.module_box.specs.Tiling.{owner_of};
 ghost use Rattle.border_match.specs.Boards.{AddsMark, AreMarked, AreNumbers, AreOwnersNoted, Differ, Faults, IsEdgeNamed, IsEdgeNamedAt, IsAtEvent, IsAtEventOf, IsListed, IsNamedOf, IsPlaceOf, IsUnmarked, AreReadyBorders, MayBeFault, job_signal, jobs_of};
 ghost use Rattle.border_match.specs.Candidates.{IsBetter, IsLeast};
 ghost use Rattle.border_match.specs.declared.fault.BorderFault.{BorderFault};
-ghost use Rattle.border_match.specs.declared.signals.Border.TheVariants.{Halo};
+ghost use Rattle.border_match.specs.declared.signals.RingOrHalo.TheVariants.{Halo};
 
 use crate::fault::{BorderFault, is_less, lesser};
-use crate::signals::{Border, event_signal, signal_at};
+use crate::signals::{RingOrHalo, event_signal, signal_at};
 use crate::surroundings::{Leaps, Window, after_far, place_from};
 use bbm_rule::Cell;
 use certificate::Job;
@@ -60,7 +60,7 @@ impl<'a> Borders<'a> {
         &self.jobs[self.owners.owner(cell)]
     }
 
-    /// Whether the cell is in the module's halo and in the rectangle.
+    /// Returns whether the cell is in the module's halo and in the rectangle.
     pub(crate) fn reaches(&self, cell: Cell) -> bool
         ensures { result
             ≡ (in_box self.now.whole cell.x cell.y && in_halo self.now.job.now.area cell.x cell.y) }
@@ -68,7 +68,7 @@ impl<'a> Borders<'a> {
         self.whole.holds(cell) & self.job.area().in_halo(cell)
     }
 
-    /// Whether the module says another thing of a cell of the rectangle than the module that has it.
+    /// Returns whether the module says another thing of a cell of the rectangle than the module that has it.
     pub(crate) fn differs(&self, time: u32, cell: Cell) -> bool
         requires ready { AreReadyBorders self.now }
         requires inside { IsTrue (in_box self.now.whole cell.x cell.y) }
@@ -77,7 +77,8 @@ impl<'a> Borders<'a> {
         let owner = self.owner(cell);
         // The cell lies in the owner's box, and so not far away.
         let _area = owner.area();
-        signal_at(self.job, Border::Halo, time, cell) != signal_at(owner, Border::Ring, time, cell)
+        signal_at(self.job, RingOrHalo::Halo, time, cell)
+            != signal_at(owner, RingOrHalo::Ring, time, cell)
     }
 
     // Returns the same for the cell and the time of an event of the module's halo, with one search less.
@@ -89,8 +90,8 @@ impl<'a> Borders<'a> {
     {
         let owner = self.owner(event.at.cell);
         let _area = owner.area();
-        event_signal(self.job, Border::Halo, event)
-            != signal_at(owner, Border::Ring, event.at.time, event.at.cell)
+        event_signal(self.job, RingOrHalo::Halo, event)
+            != signal_at(owner, RingOrHalo::Ring, event.at.time, event.at.cell)
     }
 
     // Returns the same for the cell and the time of an event of the ring of the module that has the cell, where `own`
@@ -106,7 +107,7 @@ impl<'a> Borders<'a> {
         ensures { IsTrue result ↔ Differ self.now event.at.time event.at.cell.x event.at.cell.y }
     {
         let _area = owner.area();
-        own != event_signal(owner, Border::Ring, event)
+        own != event_signal(owner, RingOrHalo::Ring, event)
     }
 
     // Returns whether a border fault can be at this time and cell.
@@ -122,7 +123,7 @@ impl<'a> Borders<'a> {
         self.reaches(fault.cell)
     }
 
-    /// Whether this is a border fault of the module.
+    /// Returns whether this is a border fault of the module.
     pub(crate) fn is_fault(&self, fault: BorderFault) -> bool
         requires { AreReadyBorders self.now }
         ensures { IsTrue result ↔ Faults self.now fault }
@@ -145,7 +146,7 @@ impl<'a> Borders<'a> {
 
     // Returns the place of the event of the module's halo at this time and cell, or `None` if the search from a place
     // on meets none.
-    fn halo_place(&self, at: Moment, from: usize) -> Option<usize>
+    fn halo_event_place(&self, at: Moment, from: usize) -> Option<usize>
         requires { IsNear at.cell }
         ensures { IfSome result (IsPlaceOf self.now.job.now.halos.events at) }
     {
@@ -175,13 +176,13 @@ impl<'a> Borders<'a> {
         ensures signal { result ≡ job_signal Halo self.now.job.now at.time at.cell.x at.cell.y }
         ensures marks { AddsMark self.now.job.now.halos.events at seen.old seen.new }
     {
-        match self.halo_place(at, *from) {
+        match self.halo_event_place(at, *from) {
             Some(place) => {
                 *from = place.saturating_add(1);
                 mark(seen, place);
-                event_signal(self.job, Border::Halo, self.job.halo_event(place))
+                event_signal(self.job, RingOrHalo::Halo, self.job.halo_event(place))
             }
-            None => signal_at(self.job, Border::Halo, at.time, at.cell),
+            None => signal_at(self.job, RingOrHalo::Halo, at.time, at.cell),
         }
     }
 

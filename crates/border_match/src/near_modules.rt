@@ -69,8 +69,8 @@ impl<'a> Borders<'a> {
         Ok(next)
     }
 
-    /// Returns the numbers of the modules that have cells of the module's halo. It leaps from box to box and not from cell to
-    /// cell, so a module among others of its size takes a dozen looks.
+    /// Returns the numbers of the modules that have cells of the module's halo. It leaps from box to box and not from
+    /// cell to cell, so a module among others of its size takes a dozen looks.
     pub(crate) fn near_modules(&self, alloc: Global) -> Result<Vec<usize>, AllocError>
         requires { AreReadyBorders self.now }
         ensures noted { IfOk result (λ near. AreOwnersNoted self.now near.items) }

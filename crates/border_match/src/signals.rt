@@ -1,4 +1,4 @@
-//! What a module says of the cells of its ring and of its halo.
+//! Signals of the cells of a module's ring and halo, as the module states them.
 ghost use Rattle.std.specs.Prelude.{◌≡◌, [], false};
 ghost use Rattle.circuit.specs.Meaning.{wires};
 ghost use Rattle.module_box.specs.Locals.{circuit_wire};
@@ -14,7 +14,7 @@ use module_job::Shape;
 
 /// The cells of a module on one side of the edge of its box.
 #[derive(Clone, Copy)]
-pub(crate) enum Border {
+pub(crate) enum RingOrHalo {
     /// Those in the box: its ring.
     Ring,
     /// Those around the box: its halo.
@@ -35,34 +35,34 @@ fn circuit_signal(job: &Job, signal: Signal) -> Signal
 
 /// Returns what the lines of a module say of these cells, counted from the corner of its box.
 #[inline(always)]
-pub(crate) fn schedule(job: &Job, border: Border) -> &Schedule
+pub(crate) fn schedule(job: &Job, border: RingOrHalo) -> &Schedule
     ensures { result.now ≡ moved_signals (shift_to_origin job.now.area.x)
         (shift_to_origin job.now.area.y) (job_signals border job.now) }
 {
     let own: &Shape = job.shape();
     match border {
-        Border::Ring => own.edges(),
-        Border::Halo => own.halos(),
+        RingOrHalo::Ring => own.edges(),
+        RingOrHalo::Halo => own.halos(),
     }
 }
 
 /// Returns what a module says of one of these cells at a time.
 #[inline(always)]
-pub(crate) fn signal_at(job: &Job, border: Border, time: u32, cell: Cell) -> Signal
+pub(crate) fn signal_at(job: &Job, border: RingOrHalo, time: u32, cell: Cell) -> Signal
     requires { IsNear cell }
     ensures { result ≡ job_signal border job.now time cell.x cell.y }
 {
     // A job names no wires but its own, as its box tells with it.
     let _area = job.area();
     match border {
-        Border::Ring => circuit_signal(job, job.edge(time, cell)),
-        Border::Halo => circuit_signal(job, job.halo(time, cell)),
+        RingOrHalo::Ring => circuit_signal(job, job.edge(time, cell)),
+        RingOrHalo::Halo => circuit_signal(job, job.halo(time, cell)),
     }
 }
 
 // Returns whether a line with a star, which speaks of all times, is for one of these cells.
 #[inline(always)]
-fn has_star(job: &Job, border: Border) -> bool
+fn has_star(job: &Job, border: RingOrHalo) -> bool
     ensures { result ≡ false → (job_signals border job.now).all_times ≡ [] }
 {
     !schedule(job, border).all_times().is_empty()
@@ -71,7 +71,7 @@ fn has_star(job: &Job, border: Border) -> bool
 /// Returns what a module says of the cell and the time of an event of these cells. If no line has a star, the event
 /// itself says it: no two events are of one cell and time, since they rise.
 #[inline(always)]
-pub(crate) fn event_signal(job: &Job, border: Border, event: TimedSignal) -> Signal
+pub(crate) fn event_signal(job: &Job, border: RingOrHalo, event: TimedSignal) -> Signal
     requires near { IsNear event.at.cell }
     requires listed { IsListed (job_signals border job.now).events event }
     ensures { result ≡ job_signal border job.now event.at.time event.at.cell.x event.at.cell.y }

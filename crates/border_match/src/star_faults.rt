@@ -5,11 +5,11 @@ ghost use Rattle.module_box.specs.Moves.{moved_all_times};
 ghost use Rattle.border_match.specs.Boards.{AreNumbers, AreOwnersNoted, Faults, DiffersAlways, DiffersAlwaysAt, AreReadyBorders, IsStarred, job_signals};
 ghost use Rattle.border_match.specs.Candidates.{IsBetter};
 ghost use Rattle.border_match.specs.declared.fault.BorderFault.{BorderFault};
-ghost use Rattle.border_match.specs.declared.signals.Border.TheVariants.{Halo};
+ghost use Rattle.border_match.specs.declared.signals.RingOrHalo.TheVariants.{Halo};
 
 use crate::borders::Borders;
 use crate::fault::{BorderFault, lesser};
-use crate::signals::{Border, schedule};
+use crate::signals::{RingOrHalo, schedule};
 use crate::surroundings::cell_around;
 use bbm_rule::Cell;
 use certificate::Job;
@@ -73,7 +73,7 @@ impl<'a> Borders<'a> {
         &self,
         best: Option<BorderFault>,
         job: &Job,
-        border: Border,
+        border: RingOrHalo,
     ) -> Option<BorderFault>
         requires ready { AreReadyBorders self.now }
         ensures { IsBetter (Faults self.now)
@@ -83,18 +83,19 @@ impl<'a> Borders<'a> {
         self.with_stars(best, corner, schedule(job, border).all_times())
     }
 
-    /// The least of the candidate and the faults of those cells of the halo for which such signals differ, where these
-    /// are the numbers of the modules that have cells of the halo. A cell of which no line with a star speaks is `Zero`
-    /// for both modules.
+    /// Returns the least of the candidate and the faults of those cells of the halo for which such signals differ.
+    ///
+    /// `near` lists the modules that have cells of the halo. A cell of which no line with a star speaks is `Zero` for
+    /// both modules.
     pub(crate) fn with_halo(&self, best: Option<BorderFault>, near: &[usize]) -> Option<BorderFault>
         requires ready { AreReadyBorders self.now }
         requires noted { AreOwnersNoted self.now near.now }
         requires below { AreNumbers self.now near.now }
         ensures { IsBetter (Faults self.now) (DiffersAlways self.now) best result }
     {
-        let mut least = self.with_stars_of(best, self.job, Border::Halo);
+        let mut least = self.with_stars_of(best, self.job, RingOrHalo::Halo);
         'modules: for number in near {
-            least = self.with_stars_of(least, &self.jobs[*number], Border::Ring);
+            least = self.with_stars_of(least, &self.jobs[*number], RingOrHalo::Ring);
         }
         least
     }

@@ -19,7 +19,8 @@ use Rattle.certificate.specs.Arrivals.{TellsOfMeeting}
 use Rattle.certificate.specs.Laws.{KeptIsOnTime, LinesTell}
 use Rattle.certificate.specs.Times.{agreed, all_stops, delay_by, delay_line, earlier, first_seen, gap_between}
 use Rattle.certificate.specs.Times.{is_obeyed}
-use Rattle.certificate.specs.Times.{last_seen, last_times, later, meet_by, meet_line, numbered, of_wire, times_of}
+use Rattle.certificate.specs.Times.{last_seen, last_times, later, meet_by, meet_line, numbered, first_wire_time}
+use Rattle.certificate.specs.Times.{times_of}
 use Rattle.certificate_lines.specs.declared.certificate_line.StopLine.{StopLine}
 use Rattle.certificate.specs.declared.times.StopGap.{StopGap}
 use Rattle.certificate.specs.declared.times.StopGap.TheVariants.{Steps, NoStop, Before}
@@ -113,11 +114,12 @@ gap_before (Some k) (Some g) e = by_case (nat_lt g k) refl e
 
 -- the gap of a gate with one wire on each side
 own_gap : (c : Circuit) (ss : List StopLine) (ins outs : List ℕ) (a b : ℕ) (gap : StopGap) →
-    gap_between (of_wire (last_seen c ss) ins) (of_wire (first_seen c ss) outs) ≡ gap →
+    gap_between (first_wire_time (last_seen c ss) ins) (first_wire_time (first_seen c ss) outs) ≡ gap →
     ins ≡ a ∷ [] → outs ≡ b ∷ [] → gap_between (last_seen c ss a) (first_seen c ss b) ≡ gap
 own_gap c ss ins outs a b gap e one_in one_out =
-    sym (ap (λ (ws : List ℕ). gap_between (of_wire (last_seen c ss) ws) (of_wire (first_seen c ss) outs)) one_in
-    ∙ ap (λ (ws : List ℕ). gap_between (last_seen c ss a) (of_wire (first_seen c ss) ws)) one_out) ∙ e
+    sym (ap (λ (ws : List ℕ). gap_between (first_wire_time (last_seen c ss) ws)
+    (first_wire_time (first_seen c ss) outs)) one_in
+    ∙ ap (λ (ws : List ℕ). gap_between (last_seen c ss a) (first_wire_time (first_seen c ss) ws)) one_out) ∙ e
 
 takes : (c : Circuit) (ss : List StopLine) (m a b : ℕ) → gap_between (last_seen c ss a) (first_seen c ss b) ≡ Steps m →
     TakesSteps c ss m a b
@@ -220,7 +222,8 @@ meet_tells c ss ws None some e = λ t meet. none_agreed _ t some e (all_meet c s
 
 delay_lines_tell : (c : Circuit) (ss : List StopLine) (k : ℕ) (r : GateKind) (g : Gate) →
     slice_get c.netlist.gates k ≡ Some g → g.kind ≡ r →
-    All (Tells c ss) (delay_by k r (gap_between (of_wire (last_seen c ss) g.ins) (of_wire (first_seen c ss) g.outs)))
+    All (Tells c ss) (delay_by k r
+    (gap_between (first_wire_time (last_seen c ss) g.ins) (first_wire_time (first_seen c ss) g.outs)))
 delay_lines_tell c ss k (Source b) g at is = All-nil (Tells c ss)
 delay_lines_tell c ss k Fredkin g at is = All-nil (Tells c ss)
 delay_lines_tell c ss k Cswap g at is = All-nil (Tells c ss)

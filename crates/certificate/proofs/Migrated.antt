@@ -20,7 +20,8 @@ use Rattle.certificate.specs.Laws.{AreFaultlessLines, GoodWithoutHalos, IsSectio
 use Rattle.certificate.specs.Grammars.{certificate_grammar}
 use Rattle.certificate_lines.specs.Modules.{AreModules}
 use Rattle.certificate_lines.specs.Orders.{may_follow, may_precede}
-use Rattle.certificate_lines.specs.Rules.{cut_fault, is_edge_place, is_starred, use_fault, keep_fault, is_stop_place}
+use Rattle.certificate_lines.specs.Rules.{cut_fault, is_edge_place, is_starred, use_fault, keep_line_code}
+use Rattle.certificate_lines.specs.Rules.{is_stop_place}
 use Rattle.certificate_lines.specs.Rules.{border_count, border_fault, border_limit, end_fault, entry_fault, inner_fault}
 use Rattle.certificate_lines.specs.Rules.{is_incomplete, is_local, lacks_port, leaves_gap, line_fault, module_fault}
 use Rattle.certificate_lines.specs.Rules.{box_fault, is_misplaced, is_wrong_side, overlaps, words_fault}
@@ -224,7 +225,7 @@ unfolding is_halo stripped
 words_kept g m (Module b) o h = refl
 words_kept g m (Cut n) o h = ap₂ (λ cs ws. cut_fault g.circuit (length cs) ws n) (cuts_kept g m) (known_kept g m) ∙ h
 words_kept g m (Use k) o h = ap₂ (λ gs ws. use_fault g.circuit (length gs) ws k) (gates_kept g m) (known_kept g m) ∙ h
-words_kept g m (Keep k) o h = ap (λ gs. keep_fault g.circuit gs k) (gates_kept g m) ∙ h
+words_kept g m (Keep k) o h = ap (λ gs. keep_line_code g.circuit gs k) (gates_kept g m) ∙ h
 words_kept g m (Edge e) o h =
     border_less g.circuit (border_count (stripped m)) (border_count m) (known g.circuit (stripped m)) _ e.signal
     (fewer g m)

@@ -24,8 +24,8 @@ use Rattle.certificate.specs.Timetables.{IsTimetable, borders_in}
 use Rattle.certificate_lines.specs.declared.certificate_line.BorderLine.{BorderLine}
 use Rattle.certificate_lines.specs.declared.certificate_line.CertificateLine.{CertificateLine}
 use Rattle.certificate.specs.declared.named_wires.NamedWire.{NamedWire}
-use Rattle.certificate.specs.declared.timetable.Border.{Border}
-use Rattle.certificate.specs.declared.timetable.Border.TheVariants.{Ring, Halo}
+use Rattle.certificate.specs.declared.timetable.RingOrHalo.{RingOrHalo}
+use Rattle.certificate.specs.declared.timetable.RingOrHalo.TheVariants.{Ring, Halo}
 use Rattle.certificate.specs.declared.timetable.Timetable.{Timetable}
 use Rattle.certificate.proofs.BorderOrder.{Before, edges_rise, halos_rise, all_times_rises, events_rise}
 use Rattle.certificate_lines.proofs.Pairs.{Pairs}
@@ -127,7 +127,7 @@ module _ (c : Circuit) (l : LocalNet) where
     slots = slots;
   }
 
-  pub next_table : (side : Border) (lines : List CertificateLine) (i : ℕ) (line : CertificateLine) (t : Timetable) →
+  pub next_table : (side : RingOrHalo) (lines : List CertificateLine) (i : ℕ) (line : CertificateLine) (t : Timetable) →
       i < length lines →
       line ≡ get_or lines i line →
       IsTimetable c l (flat_map (borders_in side) (take i lines) ++ borders_in side line) t →
@@ -135,7 +135,7 @@ module _ (c : Circuit) (l : LocalNet) where
   next_table side lines i line t lt e h =
       subst (λ es. IsTimetable c l es t) (next_line (borders_in side) lines i line lt e) h
 
-  pub all_lines : (side : Border) (lines : List CertificateLine) (i : ℕ) (t : Timetable) → length lines ≤ i →
+  pub all_lines : (side : RingOrHalo) (lines : List CertificateLine) (i : ℕ) (t : Timetable) → length lines ≤ i →
       IsTimetable c l (flat_map (borders_in side) (take i lines)) t →
       IsTimetable c l (flat_map (borders_in side) lines) t
   all_lines side lines i t le h =
@@ -143,12 +143,12 @@ module _ (c : Circuit) (l : LocalNet) where
 
 -- ---- all lines
 
-pub borders_rise : (side : Border) (lines : List CertificateLine) → AreInOrder lines →
+pub borders_rise : (side : RingOrHalo) (lines : List CertificateLine) → AreInOrder lines →
     Pairs Before (flat_map (borders_in side) lines)
 borders_rise Ring lines o = edges_rise lines o
 borders_rise Halo lines o = halos_rise lines o
 
-pub table_all_times_rises : (c : Circuit) (l : LocalNet) (side : Border) (lines : List CertificateLine)
+pub table_all_times_rises : (c : Circuit) (l : LocalNet) (side : RingOrHalo) (lines : List CertificateLine)
     (t : Timetable) →
     AreInOrder lines → IsTimetable c l (flat_map (borders_in side) lines) t →
     IsRising cell_cmp cell_of t.all_times.items
@@ -156,7 +156,8 @@ table_all_times_rises c l side lines t o h =
     all_times_rises (λ e. line_signal c e.signal) (circuit_wire l) (flat_map (borders_in side) lines)
     (borders_rise side lines o) t.all_times.items h.all_times
 
-pub table_events_rise : (c : Circuit) (l : LocalNet) (side : Border) (lines : List CertificateLine) (t : Timetable) →
+pub table_events_rise : (c : Circuit) (l : LocalNet) (side : RingOrHalo) (lines : List CertificateLine)
+    (t : Timetable) →
     AreInOrder lines → IsTimetable c l (flat_map (borders_in side) lines) t →
     IsRising moment_cmp moment_of t.events.items
 table_events_rise c l side lines t o h =

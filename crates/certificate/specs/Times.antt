@@ -54,9 +54,9 @@ gap_between (Some last) None = NoStop
 gap_between (Some last) (Some first) = if nat_lt first last then Before else Steps (first - last)
 
 -- the time of the first of these wires
-abbrev pub of_wire : (ℕ → Option ℕ) → List ℕ → Option ℕ
-of_wire seen [] = None
-of_wire seen (w ∷ ws) = seen w
+abbrev pub first_wire_time : (ℕ → Option ℕ) → List ℕ → Option ℕ
+first_wire_time seen [] = None
+first_wire_time seen (w ∷ ws) = seen w
 
 -- the line for a gate that is a delay, and none for another gate
 abbrev pub delay_by : ℕ → GateKind → StopGap → List TimeLine
@@ -66,7 +66,7 @@ delay_by k _ gap = []
 -- the line of gate k, if it is a delay: from the last time of the wire that it uses to the first time of the one that
 -- it defines
 abbrev pub delay_line : (first last : ℕ → Option ℕ) → ℕ → Gate → List TimeLine
-delay_line first last k g = delay_by k g.kind (gap_between (of_wire last g.ins) (of_wire first g.outs))
+delay_line first last k g = delay_by k g.kind (gap_between (first_wire_time last g.ins) (first_wire_time first g.outs))
 
 -- ---- meetings
 

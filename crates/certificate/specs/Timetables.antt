@@ -11,12 +11,12 @@ use Rattle.certificate_lines.specs.Rules.{is_local}
 use Rattle.module_job.specs.Signals.{IsBelow, renumber_all_times, renumber_event}
 use Rattle.certificate_lines.specs.declared.certificate_line.BorderLine.{BorderLine}
 use Rattle.certificate_lines.specs.declared.certificate_line.CertificateLine.{CertificateLine}
-use Rattle.certificate.specs.declared.timetable.Border.{Border}
-use Rattle.certificate.specs.declared.timetable.Border.TheVariants.{Ring, Halo}
+use Rattle.certificate.specs.declared.timetable.RingOrHalo.{RingOrHalo}
+use Rattle.certificate.specs.declared.timetable.RingOrHalo.TheVariants.{Ring, Halo}
 use Rattle.certificate.specs.declared.timetable.Timetable.{Timetable}
 
 -- what a line says of cells of this side
-abbrev pub borders_in : Border → CertificateLine → List BorderLine
+abbrev pub borders_in : RingOrHalo → CertificateLine → List BorderLine
 borders_in Ring i = edge_in i
 borders_in Halo i = halo_in i
 

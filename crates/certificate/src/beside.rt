@@ -11,7 +11,7 @@ ghost use Rattle.certificate_lines.specs.Versions.{edge_lines_beside, in_order, 
 ghost use Rattle.certificate_lines.specs.declared.certificate_line.CertificateLine.TheVariants.{Halo, Stop};
 
 use certificate_lines::{
-    CertificateLine, StoredBorder, StoredLine, compare_borders, inner_lines, push_entry,
+    CertificateLine, StoredBorder, StoredLine, compare_borders, lines_of_module, push_entry,
 };
 use module_box::Box2;
 use std::alloc::{AllocError, Global};
@@ -35,7 +35,7 @@ pub(crate) fn module_slices<'b, 'a>(
         if let CertificateLine::Module(area) = entry.line() {
             parts.push(ModuleSlice {
                 area,
-                lines: inner_lines(&entries[place + 1..]),
+                lines: lines_of_module(&entries[place + 1..]),
             })?;
         }
     }

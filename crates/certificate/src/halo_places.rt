@@ -16,7 +16,7 @@ ghost use Rattle.certificate.specs.SliceLines.{slice_lines};
 use crate::beside::ModuleSlice;
 use crate::layout_tables::LayoutTables;
 use bbm_rule::Cell;
-use certificate_lines::{CertificateLine, StoredLine, inner_lines, is_module, odd_partner};
+use certificate_lines::{CertificateLine, StoredLine, is_module, lines_of_module, odd_partner};
 use module_box::{Box2, Owners, owner_table};
 use std::alloc::{AllocError, Global};
 use std::mem::replace;
@@ -233,7 +233,7 @@ fn push_modules(
 {
     'lines: for (place, entry) in entries.iter().enumerate() {
         if is_module(entry) {
-            let lines = inner_lines(&entries[place + 1..]);
+            let lines = lines_of_module(&entries[place + 1..]);
             push_lines(lists, owners, boxes, place + 1, lines)?;
         }
     }

@@ -26,9 +26,9 @@ use crate::cert::Cert;
 use crate::halo_places::{halo_places, take_list};
 use crate::layout_tables::LayoutTables;
 use crate::stops::stops_of;
-use crate::timetable::{Border, signals_of};
+use crate::timetable::{RingOrHalo, signals_of};
 use certificate_lines::{
-    CertificateLine, StoredLine, cut_list, inner_lines, kept_places, used_gates,
+    CertificateLine, StoredLine, cut_list, kept_places, lines_of_module, used_gates,
 };
 use circuit::Circuit;
 use module_box::{Box2, Locals, Schedule};
@@ -77,7 +77,7 @@ fn own_signals(
     alloc: Global,
     circuit: &Circuit,
     locals: &Locals,
-    side: Border,
+    side: RingOrHalo,
     area: Box2,
     lines: &[StoredLine],
 ) -> Result<Schedule, AllocError>
@@ -109,15 +109,15 @@ fn schedules(
 ) -> Result<(Schedule, Schedule), AllocError>
     requires order { AreInOrder lines.now }
     requires edges { All (IsNamedLocal (circuit_of circuit.now) locals.now)
-        (flat_map (borders_in Border.Ring) lines.now) }
-    requires low_edges { All (λ e. IsLow e.cell) (flat_map (borders_in Border.Ring) lines.now) }
+        (flat_map (borders_in RingOrHalo.Ring) lines.now) }
+    requires low_edges { All (λ e. IsLow e.cell) (flat_map (borders_in RingOrHalo.Ring) lines.now) }
     requires halos { All (IsNamedLocal (circuit_of circuit.now) locals.now)
-        (flat_map (borders_in Border.Halo) lines.now) }
-    requires low_halos { All (λ e. IsLow e.cell) (flat_map (borders_in Border.Halo) lines.now) }
+        (flat_map (borders_in RingOrHalo.Halo) lines.now) }
+    requires low_halos { All (λ e. IsLow e.cell) (flat_map (borders_in RingOrHalo.Halo) lines.now) }
     requires corner { (area.x ≤ 512) × (area.y ≤ 512) }
     ensures edges { IfOk result (λ sides. renumber_signals (circuit_wire locals.now)
         (from_corner area sides.0)
-        ≡ line_signals (circuit_of circuit.now) (flat_map (borders_in Border.Ring) lines.now)) }
+        ≡ line_signals (circuit_of circuit.now) (flat_map (borders_in RingOrHalo.Ring) lines.now)) }
     ensures edges_all_times { IfOk result (λ sides. All
         (λ h. IsBelow (wires locals.now.netlist) h.signal) (from_corner area sides.0).all_times) }
     ensures edge_events { IfOk result (λ sides. All
@@ -125,15 +125,15 @@ fn schedules(
     ensures near_edges { IfOk result (λ sides. All (λ e. IsNear e.at.cell) sides.0.events) }
     ensures halos { IfOk result (λ sides. renumber_signals (circuit_wire locals.now)
         (from_corner area sides.1)
-        ≡ line_signals (circuit_of circuit.now) (flat_map (borders_in Border.Halo) lines.now)) }
+        ≡ line_signals (circuit_of circuit.now) (flat_map (borders_in RingOrHalo.Halo) lines.now)) }
     ensures halos_all_times { IfOk result (λ sides. All
         (λ h. IsBelow (wires locals.now.netlist) h.signal) (from_corner area sides.1).all_times) }
     ensures halo_events { IfOk result (λ sides. All
         (λ e. IsBelow (wires locals.now.netlist) e.signal) (from_corner area sides.1).events) }
     ensures near_halos { IfOk result (λ sides. All (λ e. IsNear e.at.cell) sides.1.events) }
 {
-    let edges = own_signals(alloc, circuit, locals, Border::Ring, area, lines)?;
-    let halos = own_signals(alloc, circuit, locals, Border::Halo, area, lines)?;
+    let edges = own_signals(alloc, circuit, locals, RingOrHalo::Ring, area, lines)?;
+    let halos = own_signals(alloc, circuit, locals, RingOrHalo::Halo, area, lines)?;
     Ok((edges, halos))
 }
 
@@ -219,7 +219,7 @@ fn jobs_of_lines(
     let mut jobs = Vec::new(alloc);
     'lines: for (place, entry) in entries.iter().enumerate() {
         if let CertificateLine::Module(area) = entry.line() {
-            let job = make_job(alloc, tables, area, inner_lines(&entries[place + 1..]))?;
+            let job = make_job(alloc, tables, area, lines_of_module(&entries[place + 1..]))?;
             jobs.push(Arc::new(alloc, job)?)?;
         }
     }

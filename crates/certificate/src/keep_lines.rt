@@ -8,7 +8,7 @@ ghost use Rattle.certificate_lines.specs.Settings.{setting_of};
 ghost use Rattle.certificate.specs.Keeps.{is_kept, unkept};
 
 use crate::cert::Cert;
-use certificate_lines::{CertificateLine, StoredLine, inner_lines, is_module};
+use certificate_lines::{CertificateLine, StoredLine, is_module, lines_of_module};
 use circuit::GateNo;
 use indexmap::IndexSet;
 use std::alloc::{AllocError, Global};
@@ -44,7 +44,7 @@ fn kept_gates(alloc: Global, entries: &[StoredLine]) -> Result<IndexSet<u32>, Al
     let mut kept = IndexSet::new(alloc);
     'lines: for (place, entry) in entries.iter().enumerate() {
         if is_module(entry) {
-            note_keeps(&mut kept, inner_lines(&entries[place + 1..]))?;
+            note_keeps(&mut kept, lines_of_module(&entries[place + 1..]))?;
         }
     }
     Ok(kept)

@@ -6,12 +6,12 @@ ghost use Rattle.circuit.specs.Meaning.{wires};
 ghost use Rattle.circuit.specs.Wiring.{gate_of};
 ghost use Rattle.certificate_lines.specs.Entries.{modules_of, stop_in};
 ghost use Rattle.certificate.specs.Grammars.{modules_in};
-ghost use Rattle.certificate.specs.Times.{agreed, all_stops, delay_line, gap_between, is_obeyed, last_times, lines_by, meet_line, of_wire, time_lines};
+ghost use Rattle.certificate.specs.Times.{agreed, all_stops, delay_line, gap_between, is_obeyed, last_times, lines_by, meet_line, first_wire_time, time_lines};
 ghost use Rattle.certificate.specs.SeenTimes.{IsTable, chosen, told_by};
 ghost use Rattle.certificate_lines.specs.declared.certificate_line.StopLine.{StopLine as Line};
 
 use crate::cert::Cert;
-use certificate_lines::{StoredLine, StoredStop, inner_lines};
+use certificate_lines::{StoredLine, StoredStop, lines_of_module};
 use circuit::{Circuit, GateKind, GateNo, GateWires, WireNo};
 use std::alloc::{AllocError, Global};
 
@@ -128,7 +128,7 @@ fn time_of(table: &[Option<u32>], wire: WireNo) -> Option<u32>
 
 // The time of the first of some wires.
 fn time_of_first(table: &[Option<u32>], wires: &[WireNo]) -> Option<u32>
-    ensures { result ≡ of_wire (told_by table.now) wires.now }
+    ensures { result ≡ first_wire_time (told_by table.now) wires.now }
 {
     match wires.first() {
         Some(wire) => time_of(table, *wire),
@@ -252,7 +252,7 @@ fn lines_by(
 fn module_lines<'b, 'a>(entries: &'b [StoredLine<'a>]) -> &'b [StoredLine<'a>]
     ensures { flat_map stop_in result.now ≡ all_stops (modules_of entries.now) }
 {
-    let before = inner_lines(entries).len();
+    let before = lines_of_module(entries).len();
     &entries[before..]
 }
 

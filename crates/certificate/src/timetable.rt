@@ -22,7 +22,7 @@ use std::alloc::{AllocError, Global};
 
 /// The cells that a line is about: of the ring of a module's box, or of its halo.
 #[derive(Clone, Copy)]
-pub(crate) enum Border {
+pub(crate) enum RingOrHalo {
     Ring,
     Halo,
 }
@@ -99,7 +99,7 @@ impl<'a> Timetable<'a> {
         &mut self,
         circuit: &Circuit,
         locals: &Locals,
-        side: Border,
+        side: RingOrHalo,
         line: &StoredLine<'a>,
     ) -> Result<(), AllocError>
         requires { All (IsNamedLocal (circuit_of circuit.now) locals.now)
@@ -110,8 +110,8 @@ impl<'a> Timetable<'a> {
             self.new) }
     {
         let border = match side {
-            Border::Ring => line.edge(),
-            Border::Halo => line.halo(),
+            RingOrHalo::Ring => line.edge(),
+            RingOrHalo::Halo => line.halo(),
         };
         match border {
             Some(border) => self.add(circuit, locals, &border),
@@ -125,7 +125,7 @@ pub(crate) fn signals_of(
     alloc: Global,
     circuit: &Circuit,
     locals: &Locals,
-    side: Border,
+    side: RingOrHalo,
     lines: &[StoredLine],
 ) -> Result<Schedule, AllocError>
     requires order { AreInOrder lines.now }

@@ -17,7 +17,7 @@ use Rattle.certificate_lines.specs.Entries.{Setting, ModuleLines, with_line, cut
 use Rattle.certificate_lines.specs.Entries.{stop_in, cuts, gates, keeps, edges, halos, stops, cut_wires, known}
 use Rattle.certificate_lines.specs.Orders.{may_follow}
 use Rattle.certificate_lines.specs.Rules.{is_odd, is_local, is_star, are_new, cut_fault, cut_wire_fault, gate_fault}
-use Rattle.certificate_lines.specs.Rules.{use_fault, keep_fault, is_starred, is_time, is_edge_place, is_halo_place}
+use Rattle.certificate_lines.specs.Rules.{use_fault, keep_line_code, is_starred, is_time, is_edge_place, is_halo_place}
 use Rattle.certificate_lines.specs.Rules.{is_stop_place, signal_fault, wire_fault, border_fault, border_count}
 use Rattle.certificate_lines.specs.Rules.{border_limit, edge_fault, halo_fault, stop_fault}
 use Rattle.certificate_lines.specs.Modules.{AreUnstarred, IsEdge, IsHalo, IsKeep, IsModule, IsStop}
@@ -417,8 +417,8 @@ module _ (g : Setting) (m : ModuleLines) (i : CertificateLine) (no_cut : cut_in 
 
 -- ---- a kept gate
 
-keep_good : (g : Setting) (used : List ℕ) (k : ℕ) → keep_fault g.circuit used k ≡ None → IsKeep g used k
-unfolding keep_fault
+keep_good : (g : Setting) (used : List ℕ) (k : ℕ) → keep_line_code g.circuit used k ≡ None → IsKeep g used k
+unfolding keep_line_code
 keep_good g mine k e =
     let parts = both_none _ _ e in
     record { inverse = not_false _ (no_code _ UnknownName parts.0); among = not_false _ (no_code _ NotLocal parts.1) }
@@ -427,7 +427,7 @@ keeps_keep : (m : ModuleLines) (k : ℕ) → keeps (with_line (Keep k) m) ≡ ke
 keeps_keep m k = flat_push keep_in m.lines (Keep k)
 
 pub keep_pushed : (g : Setting) (m : ModuleLines) → IsWritten g m → (k : ℕ) → may_follow m.lines (Keep k) ≡ true →
-    keep_fault g.circuit (gates m) k ≡ None → IsWritten g (with_line (Keep k) m)
+    keep_line_code g.circuit (gates m) k ≡ None → IsWritten g (with_line (Keep k) m)
 keep_pushed g m written k follows good =
     let is = written.good in
     let more = with_line (Keep k) m in

@@ -129,8 +129,8 @@ is_inverse_gate None = false
 is_inverse_gate (Some gate) = is_inverse gate.kind
 
 -- it is the number of an inverse gate, and the module uses that gate
-unfoldable pub keep_fault : Circuit → List ℕ → ℕ → Option RefusalCode
-keep_fault c used k =
+unfoldable pub keep_line_code : Circuit → List ℕ → ℕ → Option RefusalCode
+keep_line_code c used k =
     or_else (code_where (not (is_inverse_gate (slice_get c.netlist.gates k))) UnknownName)
     (code_where (not (is_among used k)) NotLocal)
 
@@ -214,7 +214,7 @@ abbrev pub words_fault : Setting → ModuleLines → CertificateLine → Option 
 words_fault g m (Module b) = None
 words_fault g m (Cut n) = cut_fault g.circuit (length (cuts m)) (known g.circuit m) n
 words_fault g m (Use k) = use_fault g.circuit (length (gates m)) (known g.circuit m) k
-words_fault g m (Keep k) = keep_fault g.circuit (gates m) k
+words_fault g m (Keep k) = keep_line_code g.circuit (gates m) k
 words_fault g m (Edge e) = edge_fault g m e
 words_fault g m (Halo e) = halo_fault g m e
 words_fault g m (Stop s) = stop_fault g m s

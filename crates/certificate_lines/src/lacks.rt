@@ -15,7 +15,7 @@ use crate::blocks::odd_partner;
 use crate::builder::Builder;
 use crate::certificate_line::CertificateLine;
 use crate::line_tables::LineTables;
-use crate::lines::inner_lines;
+use crate::lines::lines_of_module;
 use crate::rules::is_local_name;
 use crate::stored_line::{StoredBorder, StoredLine};
 use crate::tiles::whole_of;
@@ -130,7 +130,7 @@ impl<'a> Builder<'a> {
     }
 
     // The same of some module. It asks each module, and takes no memory.
-    fn lacks_some_of_all(&self, area: Box2, lines: &[StoredLine]) -> bool
+    fn does_any_lack(&self, area: Box2, lines: &[StoredLine]) -> bool
         requires inside { AreInBox area (flat_map edge_in lines.now) }
         ensures { result
             ≡ list_any (lacks_edge self.now.setting.circuit (flat_map edge_in lines.now))
@@ -359,7 +359,7 @@ impl<'a> Builder<'a> {
     {
         match owners {
             Some(owners) => self.lacks_some_beside(owners, lines),
-            None => self.lacks_some_of_all(area, lines),
+            None => self.does_any_lack(area, lines),
         }
     }
 
@@ -371,7 +371,7 @@ impl<'a> Builder<'a> {
     {
         'lines: for (place, entry) in self.entries.iter().enumerate() {
             if let CertificateLine::Module(area) = entry.line() {
-                if self.lacks_some_in(owners, area, inner_lines(&self.entries[place + 1..])) {
+                if self.lacks_some_in(owners, area, lines_of_module(&self.entries[place + 1..])) {
                     return true;
                 }
             }

@@ -24,7 +24,7 @@ pub fn is_module(entry: &StoredLine) -> bool
 }
 
 /// Returns the lines before the next `module` line.
-pub fn inner_lines<'b, 'a>(entries: &'b [StoredLine<'a>]) -> &'b [StoredLine<'a>]
+pub fn lines_of_module<'b, 'a>(entries: &'b [StoredLine<'a>]) -> &'b [StoredLine<'a>]
     ensures { result.now ≡ inner entries.now }
 {
     for (place, entry) in entries.iter().enumerate() {

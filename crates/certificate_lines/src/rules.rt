@@ -3,7 +3,7 @@ ghost use Rattle.std.specs.Prelude.{◌≡◌, ◌+◌, ℕ, List, Some};
 ghost use Rattle.circuit.specs.Meaning.{Circuit, wire_of};
 ghost use Rattle.certificate_lines.specs.BuilderView.{AreLocalNames};
 ghost use Rattle.certificate_lines.specs.Entries.{ModuleLines, gates, last_module};
-ghost use Rattle.certificate_lines.specs.Rules.{is_wrong_side, is_misplaced, is_odd, is_local, is_local_wire, cut_fault, gate_fault, use_fault, keep_fault, is_time, is_edge_place, is_halo_place, is_stop_place, signal_fault, wire_fault, border_fault};
+ghost use Rattle.certificate_lines.specs.Rules.{is_wrong_side, is_misplaced, is_odd, is_local, is_local_wire, cut_fault, gate_fault, use_fault, keep_line_code, is_time, is_edge_place, is_halo_place, is_stop_place, signal_fault, wire_fault, border_fault};
 
 use crate::certificate_line::{BorderLine, StopLine};
 use crate::known::{are_all_new, knows_all};
@@ -109,14 +109,14 @@ pub(crate) fn use_code(
 }
 
 /// Returns the code of a kept gate. `lines` are the lines before it.
-#[tactic(auto, unfolding(crate::specs::Rules::keep_fault))]
+#[tactic(auto, unfolding(crate::specs::Rules::keep_line_code))]
 pub(crate) fn keep_code(
     tables: &LineTables,
     entries: &[StoredLine],
     number: u32,
 ) -> Option<RefusalCode>
     ensures { (m : ModuleLines) → last_module entries.now ≡ Some m →
-        result ≡ keep_fault tables.now.circuit (gates m) number }
+        result ≡ keep_line_code tables.now.circuit (gates m) number }
 {
     if !tables.is_inverse(number) {
         return Some(RefusalCode::UnknownName);

@@ -222,7 +222,7 @@ unfolding timed_modules there_and_back plain_yes plain_no bundle_of words.lines_
     forms.area_of forms.time_at forms.signal_at forms.timed_cell forms.border_of forms.timed_wire forms.stop_of
     forms.form_of orders.rank_of orders.number_of orders.cell_of orders.line_cmp orders.is_cut orders.may_precede
     orders.may_follow rules.lacks_port rules.box_fault rules.module_fault rules.cut_fault rules.are_new rules.gate_fault
-    rules.use_fault rules.keep_fault rules.is_time rules.is_edge_place rules.is_halo_place rules.is_stop_place
+    rules.use_fault rules.keep_line_code rules.is_time rules.is_edge_place rules.is_halo_place rules.is_stop_place
     rules.signal_fault rules.border_fault rules.entry_fault rules.end_fault cell_cmp versions.meant start_signal
     end_demand
     port_at places placed_gate placed_gates place_among numbered numbered_all_times numbered_event numbered_signals

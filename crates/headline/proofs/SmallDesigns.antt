@@ -31,7 +31,8 @@ use Rattle.certificate_lines.specs.Entries.{add_line, use_in, areas}
 use Rattle.certificate_lines.specs.ModuleParts.{is_module}
 use Rattle.certificate_lines.specs.Orders.{cell_of, is_cut, line_cmp, may_follow, may_precede, number_of, rank_of}
 use Rattle.certificate_lines.specs.Rules.{are_new, cut_fault, cut_wire_fault, entry_fault, gate_fault, inner_fault}
-use Rattle.certificate_lines.specs.Rules.{is_inverse_gate, keep_fault, line_fault, use_fault, words_fault, box_cells}
+use Rattle.certificate_lines.specs.Rules.{is_inverse_gate, keep_line_code, line_fault, use_fault, words_fault}
+use Rattle.certificate_lines.specs.Rules.{box_cells}
 use Rattle.certificate_lines.specs.Rules.{box_fault, end_fault, is_incomplete, is_local, is_local_wire, is_odd}
 use Rattle.certificate_lines.specs.Rules.{is_wrong_side, lacks_port, leaves_gap, module_fault, whole}
 use Rattle.certificate_lines.specs.Settings.{setting_of}
@@ -293,8 +294,8 @@ use_ok c count local k x few at ins new =
     (ap (λ b. code_where (not b) DefinedTwice) new))
 
 keep_ok : (c : Circuit) (used : List ℕ) (k : ℕ) → is_inverse_gate (slice_get c.netlist.gates k) ≡ true →
-    is_among used k ≡ true → keep_fault c used k ≡ None
-unfolding keep_fault
+    is_among used k ≡ true → keep_line_code c used k ≡ None
+unfolding keep_line_code
 keep_ok c used k inverse among =
     ap₂ or_else (ap (λ b. code_where (not b) UnknownName) inverse) (ap (λ b. code_where (not b) NotLocal) among)
 

@@ -10,7 +10,7 @@ use Rattle.bbm_rule.specs.Rows.{cell_at}
 use Rattle.bbm_rule.specs.Words.{AreTurned}
 use Rattle.bbm_rule.proofs.BitLemmas.{by_eq_or_not, by_lt_or_le}
 use Rattle.local_run.specs.Calm.{ChangesCells, EvenCalm, OddCalm}
-use Rattle.local_run.specs.Frozen.{AreWords, Freezes, HasBlockMarks, IsEvenCalmAt, IsFrozen, IsMarkedBefore}
+use Rattle.local_run.specs.Frozen.{AreWords, Freezes, HasRoomForMarks, IsEvenCalmAt, IsFrozen, IsMarkedBefore}
 use Rattle.local_run.specs.Frozen.{IsOddCalmAt, KeepsFirst}
 use Rattle.local_run.specs.Held.{AreAll, bits_of}
 use Rattle.local_run.specs.Lanes.{HasSize}
@@ -157,8 +157,8 @@ even_all_may p q end total t first = record {
     }
 
 -- ---- frozen blocks after a step
-same_room : (b : FrozenBlocks) (p q : Planes) → HasSize p.words p.stride p.rows q → HasBlockMarks b p →
-    HasBlockMarks b q
+same_room : (b : FrozenBlocks) (p q : Planes) → HasSize p.words p.stride p.rows q → HasRoomForMarks b p →
+    HasRoomForMarks b q
 same_room b p q size room = record {
   odd = rw (size.1, size.2) room.odd;
   even = rw (size.1, size.2) room.even;
@@ -285,10 +285,10 @@ pub even_calm_found : (b : FrozenBlocks) (p : Planes) → AreWords p → Freezes
 even_calm_found b p words f e = ∥∥₁_elim f (even_calm_prop b.even.items p) (λ h. even_calm_at b p words (h e))
 
 -- and the room for their marks
-pub room_found : (b : FrozenBlocks) (p : Planes) → Freezes b p → b.is_found ≡ true → HasBlockMarks b p
+pub room_found : (b : FrozenBlocks) (p : Planes) → Freezes b p → b.is_found ≡ true → HasRoomForMarks b p
 room_found b p f e = ∥∥₁_elim f (room_prop b p) (λ h. (h e).room)
   where
-    room_prop : (b : FrozenBlocks) (p : Planes) → IsProp (HasBlockMarks b p)
+    room_prop : (b : FrozenBlocks) (p : Planes) → IsProp (HasRoomForMarks b p)
     room_prop b p = Prim.hlevel props
 
 -- they are the same blocks whether they are known to be frozen or not
@@ -375,6 +375,6 @@ dead_but b l p words f but = (
 )
 
 pub dead_found : (b : FrozenBlocks) (l : LiveMarks) (p : Planes) → AreWords p → Freezes b p → b.is_found ≡ true →
-    (HasBlockMarks b p → AreMarkedBut (p.stride * p.rows) b.odd.items b.empty.items l) → AllDead l p
+    (HasRoomForMarks b p → AreMarkedBut (p.stride * p.rows) b.odd.items b.empty.items l) → AllDead l p
 dead_found b l p words f e but =
     ∥∥₁_elim f (AllDead-prop l p) (λ h. dead_but b l p words (h e) (but (h e).room))

@@ -32,7 +32,7 @@ IsEvenHeld marks p n =
     (bits_of p.words p.right.items (n + p.stride)) (bits_of p.words p.odd.items (n + p.stride + 1))
 
 -- there is room for the marks of all blocks
-pub record HasBlockMarks (b : FrozenBlocks) (p : Planes) : Type 0 where
+pub record HasRoomForMarks (b : FrozenBlocks) (p : Planes) : Type 0 where
   pub odd : p.stride * p.rows ≤ 64 * vec_len b.odd
   pub even : p.stride * p.rows ≤ 64 * vec_len b.even
   pub empty : p.stride * p.rows ≤ 64 * vec_len b.empty
@@ -40,7 +40,7 @@ pub record HasBlockMarks (b : FrozenBlocks) (p : Planes) : Type 0 where
 -- Each block with a mark is held by cells both of whose blocks have marks, so none of them ever changes. The last
 -- blocks of the rows of the even partition, which are not turned, have marks
 pub record IsFrozen (b : FrozenBlocks) (p : Planes) : Type 0 where
-  pub room : HasBlockMarks b p
+  pub room : HasRoomForMarks b p
   pub odd : (u : ℕ) → u < p.stride * p.rows → cell_at b.odd.items u ≡ true → IsOddHeld b.even.items p u
   pub empty : (u : ℕ) → u < p.stride * p.rows → cell_at b.odd.items u ≡ true → cell_at b.empty.items u ≡ true →
       IsOddEmpty b.even.items p u

@@ -6,7 +6,7 @@
 
 ghost use Rattle.bbm_rule.specs.Marks.{IsUnmarked};
 ghost use Rattle.bbm_rule.specs.Rows.{cell_at};
-ghost use Rattle.local_run.specs.Frozen.{Freezes, HasBlockMarks, IsEvenHeld, IsFrozen, IsMarkedBefore, IsOddEmpty, IsOddHeld};
+ghost use Rattle.local_run.specs.Frozen.{Freezes, HasRoomForMarks, IsEvenHeld, IsFrozen, IsMarkedBefore, IsOddEmpty, IsOddHeld};
 ghost use Rattle.std.specs.Prelude.{ℕ, ◌≡◌, ◌≢◌, ◌+◌, ◌*◌, ◌/◌, ◌%◌, ◌<◌, ◌≤◌, length, vec_len, true, false};
 
 use crate::held_cells::Corners;
@@ -137,7 +137,7 @@ impl FrozenBlocks {
 
     // For each corner of block u of the odd partition, whether its block of the even partition has a mark.
     fn odd_corners(&self, planes: &Planes, u: usize) -> Corners
-        requires room { HasBlockMarks self.now planes.now }
+        requires room { HasRoomForMarks self.now planes.now }
         requires place { u < planes.now.stride * planes.now.rows }
         ensures upper_left { result.upper_left ≡ true →
             IsMarkedBefore self.now.even.items (planes.now.stride + 1) u }
@@ -157,7 +157,7 @@ impl FrozenBlocks {
 
     // Whether block u of the odd partition is empty, and stays so if the blocks with marks stay.
     fn is_odd_empty(&self, planes: &Planes, u: usize) -> bool
-        requires room { HasBlockMarks self.now planes.now }
+        requires room { HasRoomForMarks self.now planes.now }
         requires place { u < planes.now.stride * planes.now.rows }
         ensures { result ≡ true → IsOddEmpty self.now.even.items planes.now u }
     {
@@ -166,7 +166,7 @@ impl FrozenBlocks {
 
     // Whether block u of the odd partition stays if the blocks with marks stay.
     fn is_odd_held(&self, planes: &Planes, u: usize) -> bool
-        requires room { HasBlockMarks self.now planes.now }
+        requires room { HasRoomForMarks self.now planes.now }
         requires place { u < planes.now.stride * planes.now.rows }
         ensures { result ≡ true → IsOddHeld self.now.even.items planes.now u }
     {
@@ -176,7 +176,7 @@ impl FrozenBlocks {
 
     // Whether block n of the even partition stays if the blocks with marks stay.
     fn is_even_held(&self, planes: &Planes, n: usize) -> bool
-        requires room { HasBlockMarks self.now planes.now }
+        requires room { HasRoomForMarks self.now planes.now }
         requires place { n + planes.now.stride + 1 < planes.now.stride * planes.now.rows }
         ensures { result ≡ true → IsEvenHeld self.now.odd.items planes.now n }
     {
@@ -192,8 +192,8 @@ impl FrozenBlocks {
 
     // Takes the marks off the blocks that are not held, and returns whether there were some.
     fn sweep(&mut self, planes: &Planes) -> bool
-        requires room { HasBlockMarks self.old planes.now }
-        ensures room { HasBlockMarks self.new planes.now }
+        requires room { HasRoomForMarks self.old planes.now }
+        ensures room { HasRoomForMarks self.new planes.now }
         ensures found { self.new.is_found ≡ self.old.is_found }
     {
         let is_odd = self.sweep_odd(planes);
@@ -203,8 +203,8 @@ impl FrozenBlocks {
 
     // Takes the marks off the blocks of the odd partition that are not held, and returns whether there were some.
     fn sweep_odd(&mut self, planes: &Planes) -> bool
-        requires room { HasBlockMarks self.old planes.now }
-        ensures room { HasBlockMarks self.new planes.now }
+        requires room { HasRoomForMarks self.old planes.now }
+        ensures room { HasRoomForMarks self.new planes.now }
         ensures found { self.new.is_found ≡ self.old.is_found }
     {
         let mut is_some = false;
@@ -219,8 +219,8 @@ impl FrozenBlocks {
 
     // The same of the even partition, and counts the blocks without a mark.
     fn sweep_even(&mut self, planes: &Planes) -> bool
-        requires room { HasBlockMarks self.old planes.now }
-        ensures room { HasBlockMarks self.new planes.now }
+        requires room { HasRoomForMarks self.old planes.now }
+        ensures room { HasRoomForMarks self.new planes.now }
         ensures found { self.new.is_found ≡ self.old.is_found }
     {
         let stride = planes.stride();
@@ -240,8 +240,8 @@ impl FrozenBlocks {
 
     // Marks the blocks of the odd partition that are empty and stay.
     fn mark_empty(&mut self, planes: &Planes)
-        requires room { HasBlockMarks self.old planes.now }
-        ensures room { HasBlockMarks self.new planes.now }
+        requires room { HasRoomForMarks self.old planes.now }
+        ensures room { HasRoomForMarks self.new planes.now }
         ensures found { self.new.is_found ≡ self.old.is_found }
     {
         for u in 0..planes.cells() {
@@ -254,7 +254,7 @@ impl FrozenBlocks {
     // Whether block u of the odd partition stays if those with marks do, where it has a mark, and is empty then, where
     // it is marked as empty.
     fn is_odd_right(&self, planes: &Planes, u: usize) -> bool
-        requires room { HasBlockMarks self.now planes.now }
+        requires room { HasRoomForMarks self.now planes.now }
         requires place { u < planes.now.stride * planes.now.rows }
         ensures held { result ≡ true → cell_at self.now.odd.items u ≡ true →
             IsOddHeld self.now.even.items planes.now u }
@@ -270,7 +270,7 @@ impl FrozenBlocks {
     // Whether block n of the even partition stays if those with marks do, where it has a mark, and has one if it is the
     // last of its row.
     fn is_even_right(&self, planes: &Planes, n: usize) -> bool
-        requires room { HasBlockMarks self.now planes.now }
+        requires room { HasRoomForMarks self.now planes.now }
         requires place { n + planes.now.stride + 1 < planes.now.stride * planes.now.rows }
         ensures held { result ≡ true → (n + 1) % planes.now.stride ≢ 0 →
             cell_at self.now.even.items n ≡ true → IsEvenHeld self.now.odd.items planes.now n }
@@ -285,7 +285,7 @@ impl FrozenBlocks {
 
     // Whether each block with a mark is frozen.
     fn are_held(&self, planes: &Planes) -> bool
-        requires { HasBlockMarks self.now planes.now }
+        requires { HasRoomForMarks self.now planes.now }
         ensures { result ≡ true → IsFrozen self.now planes.now }
     {
         if !self.are_odd_held(planes) {
@@ -296,7 +296,7 @@ impl FrozenBlocks {
 
     // Whether each block of the odd partition with a mark stays if those of the even partition do.
     fn are_odd_held(&self, planes: &Planes) -> bool
-        requires { HasBlockMarks self.now planes.now }
+        requires { HasRoomForMarks self.now planes.now }
         ensures held { result ≡ true → (u : ℕ) → u < planes.now.stride * planes.now.rows →
             cell_at self.now.odd.items u ≡ true → IsOddHeld self.now.even.items planes.now u }
         ensures empty { result ≡ true → (u : ℕ) → u < planes.now.stride * planes.now.rows →
@@ -314,7 +314,7 @@ impl FrozenBlocks {
     // Whether each block of the even partition with a mark stays if those of the odd partition do, and the last ones of
     // the rows have marks.
     fn are_even_held(&self, planes: &Planes) -> bool
-        requires { HasBlockMarks self.now planes.now }
+        requires { HasRoomForMarks self.now planes.now }
         ensures held { result ≡ true → (n : ℕ) →
             n + planes.now.stride + 1 < planes.now.stride * planes.now.rows →
             (n + 1) % planes.now.stride ≢ 0 → cell_at self.now.even.items n ≡ true →

@@ -189,7 +189,7 @@ impl MarkedPlanes {
         is_turned
     }
 
-    /// Turns block u of the odd partition, unless it stays, and tells whether it turned it.
+    /// Turns block u of the odd partition, unless it stays, and returns whether it turned it.
     pub(crate) fn turn_odd(&mut self, u: usize) -> bool
         requires { u < self.old.planes.stride * self.old.planes.rows }
         ensures part { let at = self.old.planes.words * u in TurnsPart at at at at
@@ -342,9 +342,10 @@ impl MarkedPlanes {
             .are_dead(u + stride + 1, u + stride, u + 1, u)
     }
 
-    /// Turns block u of the even partition, unless it stays, and tells whether it turned it. The last block of a row is
-    /// not in the box and stays: its cells stand in the halo, at the right end of two rows and at the left end of the
-    /// next two.
+    /// Turns block u of the even partition, unless it stays, and returns whether it turned it.
+    ///
+    /// The last block of a row is not in the box and stays: its cells are in the halo, at the right end of two rows and
+    /// at the left end of the next two.
     pub(crate) fn turn_even(&mut self, u: usize) -> bool
         requires { u + self.old.planes.stride + 1 < self.old.planes.stride * self.old.planes.rows }
         ensures part { (u + 1) % self.old.planes.stride ≢ 0 →

@@ -8,8 +8,8 @@ use crate::marked_planes::MarkedPlanes;
 use crate::marks::{next_live_word, next_word, take_first};
 use crate::phases::{WholePlaneSteps, are_many};
 
-/// In how many steps many blocks must change before those that no step changes are looked for: a search costs as much as
-/// some of these steps. And how often they are looked for again after they were given up.
+/// In how many steps many blocks must change before those that no step changes are looked for: a search costs as much
+/// as some of these steps. And how often they are looked for again after they were given up.
 pub(crate) const STEPS_TO_SEARCH: u32 = 128;
 
 impl MarkedPlanes {

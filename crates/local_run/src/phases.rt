@@ -24,7 +24,7 @@ impl WholePlaneSteps {
         next: FIRST_PHASE,
     };
 
-    /// The next phase.
+    /// Returns the next phase.
     pub(crate) fn next_phase(self) -> WholePlaneSteps {
         WholePlaneSteps {
             left: self.next,
@@ -42,10 +42,11 @@ const MARKED_WORD_COST: usize = 5;
 // What a step that turns whole planes costs more for each cell of a row and each row.
 const WHOLE_ROW_COST: usize = 48;
 
-/// Whether it costs less to turn all blocks, with that many words a cell, and that many cells a row and rows together,
-/// than to go by marks where so many change. A block that changes has up to four others looked at, two for each of its
-/// diagonals that changes. Where all are turned no cell of ring and halo is known to be dead, but for those of frozen
-/// and empty blocks, and at odd times the others are looked up.
+/// Returns whether it costs less to turn all blocks than to go by marks, if this many change.
+///
+/// A block that changes has up to four others looked at, two for each of its diagonals that changes. If all are turned,
+/// only cells of frozen and empty blocks are known to be dead. Then the other cells of ring and halo are looked up at
+/// odd times.
 pub(crate) fn are_many(changed: usize, cells: usize, words: usize, columns_and_rows: usize) -> bool
     requires { (changed ≤ 4096) × (cells ≤ 4096) × (words ≤ 64) × (columns_and_rows ≤ 128) }
 {

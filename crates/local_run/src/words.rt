@@ -30,7 +30,8 @@ pub(crate) fn turn_part(
     requires lower { (at.lower_left + long ≤ length lower_left.old)
         × (at.lower_right + long ≤ length lower_right.old) }
     ensures { TurnsPart at.upper_left at.upper_right at.lower_left at.lower_right long
-        upper_left.old upper_right.old lower_left.old lower_right.old upper_left.new upper_right.new lower_left.new lower_right.new }
+        upper_left.old upper_right.old lower_left.old lower_right.old upper_left.new upper_right.new
+        lower_left.new lower_right.new }
 {
     turn_lanes(
         &mut upper_left[at.upper_left..at.upper_left + long],
@@ -102,7 +103,7 @@ fn flips_of(upper_left: u64, upper_right: u64, lower_left: u64, lower_right: u64
     )
 }
 
-/// Whether some word from a place on in one slice is not that from a place on in another.
+/// Returns whether some word from a place on in one slice is not that from a place on in another.
 #[inline(always)]
 pub(crate) fn are_different(first: &[u64], a: usize, second: &[u64], b: usize, long: usize) -> bool
     requires { (a + long ≤ length first.now) × (b + long ≤ length second.now) }
@@ -117,7 +118,7 @@ pub(crate) fn are_different(first: &[u64], a: usize, second: &[u64], b: usize, l
     difference != 0
 }
 
-/// Whether some word from a place on is not the given one.
+/// Returns whether some word from a place on is not the given one.
 #[inline(always)]
 pub(crate) fn is_some_other(words: &[u64], a: usize, word: u64, long: usize) -> bool
     requires { a + long ≤ length words.now }
@@ -181,10 +182,13 @@ pub(crate) fn turn_word(
     lower_right: &mut [u64],
     at: Places,
 )
-    requires upper { (at.upper_left < length upper_left.old) × (at.upper_right < length upper_right.old) }
-    requires lower { (at.lower_left < length lower_left.old) × (at.lower_right < length lower_right.old) }
-    ensures { TurnsPart at.upper_left at.upper_right at.lower_left at.lower_right 1
-        upper_left.old upper_right.old lower_left.old lower_right.old upper_left.new upper_right.new lower_left.new lower_right.new }
+    requires upper { (at.upper_left < length upper_left.old)
+        × (at.upper_right < length upper_right.old) }
+    requires lower { (at.lower_left < length lower_left.old)
+        × (at.lower_right < length lower_right.old) }
+    ensures { TurnsPart at.upper_left at.upper_right at.lower_left at.lower_right 1 upper_left.old
+        upper_right.old lower_left.old lower_right.old upper_left.new upper_right.new lower_left.new
+        lower_right.new }
 {
     let (main, anti) = flips_of(
         upper_left[at.upper_left],
@@ -198,7 +202,7 @@ pub(crate) fn turn_word(
     lower_right[at.lower_right] ^= main;
 }
 
-/// Which diagonals a turn of the blocks of one word changes under some assignment.
+/// Returns which diagonals a turn of the blocks of one word changes under some assignment.
 #[inline(always)]
 pub(crate) fn word_changes(
     upper_left: u64,
@@ -218,7 +222,7 @@ pub(crate) fn word_changes(
     }
 }
 
-/// Which diagonals a turn changes under some assignment.
+/// Returns which diagonals a turn changes under some assignment.
 #[inline(always)]
 pub(crate) fn part_changes(
     upper_left: &[u64],

@@ -30,14 +30,14 @@ abbrev pub refusal_line : Refusal → List ℕ
 refusal_line r = line_text (codes "refused") (decimal r.line ∷ decimal r.code ∷ [])
 
 -- the word for a kind of fault
-abbrev pub kind_word : Kind → List ℕ
-kind_word Edge = codes "edge"
-kind_word Stop = codes "stop"
-kind_word End = codes "end"
+abbrev pub fault_kind_word : Kind → List ℕ
+fault_kind_word Edge = codes "edge"
+fault_kind_word Stop = codes "stop"
+fault_kind_word End = codes "end"
 
 -- a fault of a job: its kind, its time, its cell and its assignment
 abbrev pub fault_words : Fault → List (List ℕ)
-fault_words f = kind_word f.kind ∷ decimal f.time ∷ signed_decimal f.cell.x ∷ signed_decimal f.cell.y
+fault_words f = fault_kind_word f.kind ∷ decimal f.time ∷ signed_decimal f.cell.x ∷ signed_decimal f.cell.y
     ∷ decimal f.assignment ∷ []
 
 -- a border fault: its time and its cell

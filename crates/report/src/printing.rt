@@ -9,7 +9,7 @@ ghost use Rattle.certificate.specs.Text.{certificate_text};
 ghost use Rattle.certificate.specs.Times.{time_lines};
 ghost use Rattle.certificate.specs.Grammars.{modules_in};
 ghost use Rattle.circuit.specs.Bridge.{circuit_of};
-ghost use Rattle.report.specs.ReportText.{fault_line, kind_word, opening_lines, refusal_line, report_lines, verdict_lines};
+ghost use Rattle.report.specs.ReportText.{fault_line, fault_kind_word, opening_lines, refusal_line, report_lines, verdict_lines};
 
 use border_match::BorderFault;
 use certificate::{Cert, StopGap, TimeLine};
@@ -135,7 +135,7 @@ fn print_line(alloc: Global, text: &mut Vec<u8>, line: ReportLine) -> Result<(),
 fn local_line(alloc: Global, number: usize, fault: Fault) -> Result<String, AllocError>
     ensures { IfOk result (λ line. string_bytes line ≡ fault_line (Local number fault)) }
 {
-    let kind = kind_word(fault.kind);
+    let kind = fault_kind_word(fault.kind);
     let line = format!(in alloc;
         "local {number} {kind} {} {} {} {}\n",
         fault.time, fault.cell.x, fault.cell.y, fault.assignment
@@ -188,8 +188,8 @@ fn meet_line(alloc: Global, number: usize, at: Option<u32>) -> Result<String, Al
     Ok(line)
 }
 
-fn kind_word(kind: Kind) -> &'static str
-    ensures { result.now ≡ kind_word kind }
+fn fault_kind_word(kind: Kind) -> &'static str
+    ensures { result.now ≡ fault_kind_word kind }
 {
     match kind {
         Kind::Edge => "edge",

@@ -9,7 +9,8 @@ loop-k-init c = none_up _ _ _ c.requires.one_bit
 pub loop-k-preserved : goal.loop-k-preserved
 loop-k-preserved c =
     let e = c.move_word_up-moved.ensures in
-    up_step c.args.from c.loop-k.k c.loop-k.carried _ _ (bit c.args.first 0) c.args.words.now c.loop-k.words (omega arith)
+    up_step c.args.from c.loop-k.k c.loop-k.carried _ _ (bit c.args.first 0) c.args.words.now c.loop-k.words
+    (omega arith)
     e.first e.others e.last e.one_bit c.loop-k.invariant
 
 pub returns : goal.returns

@@ -16,10 +16,10 @@ lines-preserved c =
       | in-Module+in_ok-push w ↦
           let line_is : Module w.in-Module.area ≡ get_or es c.lines.place (Module w.in-Module.area) =
           subst (λ e. e ≡ get_or es c.lines.place e) (sym c.line.ensures ∙ w.in-Module.is) c.index-entries-place.is in
-          let inner_is : w.inner_lines.result.now ≡ inner (drop (c.lines.place + 1) es) =
-          w.inner_lines.ensures ∙ ap inner (rest_of_lines es (c.lines.place + 1)) in
+          let inner_is : w.lines_of_module.result.now ≡ inner (drop (c.lines.place + 1) es) =
+          w.lines_of_module.ensures ∙ ap inner (rest_of_lines es (c.lines.place + 1)) in
           one_part es c.lines.place w.in-Module.area
-          (record { area = w.in-Module.area; lines = w.inner_lines.result }) c.lines.parts.items
+          (record { area = w.in-Module.area; lines = w.lines_of_module.result }) c.lines.parts.items
           c.match-line.parts.items c.lines-test.true line_is
           (ap (λ ls. record { area = w.in-Module.area; lines = ls }) inner_is)
           (ap (λ v. v.items) w.parts-is ∙ w.in_ok-push.ensures.items) c.lines.invariant

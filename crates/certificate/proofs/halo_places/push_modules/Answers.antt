@@ -16,9 +16,9 @@ use Rattle.certificate.proofs.halo_places.push_modules.Goals as goal
 pub push_lines-requires-clause-inner : goal.push_lines-requires-clause-inner
 push_lines-requires-clause-inner c =
     let es = c.args.entries.now in let place = c.lines.place in
-    let lines = c.inner_lines-lines.result.now in
+    let lines = c.lines_of_module-lines.result.now in
     let are : lines ≡ inner (drop (place + 1) es) =
-    c.inner_lines-lines.ensures ∙ ap inner (rest_of_lines es (place + 1)) in
+    c.lines_of_module-lines.ensures ∙ ap inner (rest_of_lines es (place + 1)) in
     let more = c.lines.invariant.lists.0 in
     let P : BorderLine → Type 0 = λ e. IsInnerCell (rectangle c.args.owners.now) e.cell in
     let split : more ++ (flat_map edge_in lines ++ flat_map edges (modules_of (drop (place + 1) es)))
@@ -32,8 +32,8 @@ push_lines-requires-clause-inner c =
 pub push_lines-requires-clause-few : goal.push_lines-requires-clause-few
 push_lines-requires-clause-few c =
     let es = c.args.entries.now in let place = c.lines.place in
-    few_from es c.inner_lines-lines.result.now place
-    (c.inner_lines-lines.ensures ∙ ap inner (rest_of_lines es (place + 1))) c.lines-test.true c.requires.few
+    few_from es c.lines_of_module-lines.result.now place
+    (c.lines_of_module-lines.ensures ∙ ap inner (rest_of_lines es (place + 1))) c.lines-test.true c.requires.few
 
 pub lines-preserved : goal.lines-preserved
 lines-preserved c =
@@ -44,9 +44,9 @@ lines-preserved c =
     let rest = flat_map edges (modules_of (drop (place + 1) es)) in
     elim c.if-is_module.branch [
       | then-is_module+in_ok-push_lines w ↦
-          let lines = w.inner_lines-lines.result.now in
+          let lines = w.lines_of_module-lines.result.now in
           let are : lines ≡ inner (drop (place + 1) es) =
-          w.inner_lines-lines.ensures ∙ ap inner (rest_of_lines es (place + 1)) in
+          w.lines_of_module-lines.ensures ∙ ap inner (rest_of_lines es (place + 1)) in
           let new = map (λ l. l.items) w.push_lines.new.lists.items in
           record {
             table = subst (λ v. AreReady boxes c.args.owners.now (map (λ l. l.items) v.items)) (sym w.lists-is)

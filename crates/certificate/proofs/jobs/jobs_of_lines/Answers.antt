@@ -29,8 +29,8 @@ make_job-requires-clause-module c =
     subst (λ e. e ≡ get_or es c.lines.place e) (sym c.line.ensures ∙ c.in-Module.is) c.index-entries-place.is in
     let next = next_module (circuit_of p.circuit) p.layout es c.lines.place c.in-Module.area
     (map arc_value c.lines.jobs.items) c.lines-test.true line_is c.lines.invariant in
-    let inner_is : c.inner_lines.result.now ≡ inner (drop (c.lines.place + 1) es) =
-    c.inner_lines.ensures ∙ ap inner (rest_of_lines es (c.lines.place + 1)) in
+    let inner_is : c.lines_of_module.result.now ≡ inner (drop (c.lines.place + 1) es) =
+    c.lines_of_module.ensures ∙ ap inner (rest_of_lines es (c.lines.place + 1)) in
     subst (λ ls. IsModule (setting_of p.circuit p.layout) (record { area = c.in-Module.area; lines = ls }))
     (sym inner_is) (c.requires.each _ _ next.0)
 
@@ -42,8 +42,8 @@ make_job-requires-clause-ports c =
     subst (λ e. e ≡ get_or es c.lines.place e) (sym c.line.ensures ∙ c.in-Module.is) c.index-entries-place.is in
     let next = next_module (circuit_of p.circuit) p.layout es c.lines.place c.in-Module.area
     (map arc_value c.lines.jobs.items) c.lines-test.true line_is c.lines.invariant in
-    let inner_is : c.inner_lines.result.now ≡ inner (drop (c.lines.place + 1) es) =
-    c.inner_lines.ensures ∙ ap inner (rest_of_lines es (c.lines.place + 1)) in
+    let inner_is : c.lines_of_module.result.now ≡ inner (drop (c.lines.place + 1) es) =
+    c.lines_of_module.ensures ∙ ap inner (rest_of_lines es (c.lines.place + 1)) in
     subst (λ ls. HasPorts (setting_of p.circuit p.layout) (record { area = c.in-Module.area; lines = ls }))
     (sym inner_is) (c.requires.ports _ _ next.0)
 
@@ -56,8 +56,8 @@ lines-preserved c =
       | in-Module+in_ok-job+in_ok-new+in_ok-push w ↦
           let line_is : Module w.in-Module.area ≡ get_or es c.lines.place (Module w.in-Module.area) =
           subst (λ e. e ≡ get_or es c.lines.place e) (sym c.line.ensures ∙ w.in-Module.is) c.index-entries-place.is in
-          let inner_is : w.inner_lines.result.now ≡ inner (drop (c.lines.place + 1) es) =
-          w.inner_lines.ensures ∙ ap inner (rest_of_lines es (c.lines.place + 1)) in
+          let inner_is : w.lines_of_module.result.now ≡ inner (drop (c.lines.place + 1) es) =
+          w.lines_of_module.ensures ∙ ap inner (rest_of_lines es (c.lines.place + 1)) in
           let grown : c.match-line.jobs.items ≡ c.lines.jobs.items ++ w.in_ok-new.field-0 ∷ [] =
           ap (λ v. v.items) w.jobs-is ∙ w.in_ok-push.ensures.items in
           let made : IsJobOf b p.layout

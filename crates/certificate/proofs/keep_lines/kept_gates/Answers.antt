@@ -14,10 +14,10 @@ lines-preserved c =
     let p = c.lines.place in
     elim c.if-is_module.branch [
       | then-is_module+in_ok-note_keeps w ↦
-          let lines_are : w.inner_lines.result.now ≡ inner (drop (p + 1) es) =
-          w.inner_lines.ensures ∙ ap inner (rest_of_lines es (p + 1)) in
+          let lines_are : w.lines_of_module.result.now ≡ inner (drop (p + 1) es) =
+          w.lines_of_module.ensures ∙ ap inner (rest_of_lines es (p + 1)) in
           subst (λ s. AreNoted es (p + 1) s.keys) (sym w.kept-is)
-          (module_noted es p c.index-entries-place.result w.inner_lines.result.now c.lines.kept.keys
+          (module_noted es p c.index-entries-place.result w.lines_of_module.result.now c.lines.kept.keys
           w.note_keeps.new.kept.keys c.lines-test.true c.index-entries-place.is
           (sym c.is_module.ensures ∙ w.if-is_module.true) lines_are w.in_ok-note_keeps.ensures c.lines.invariant)
       | else-is_module w ↦

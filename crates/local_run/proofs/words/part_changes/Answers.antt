@@ -11,7 +11,8 @@ loop-k-preserved c = record {
     | inr ge ↦
         let e : c.loop-k.k ≡ k = omega arith in
         subst (λ (n : ℕ). DiagonalStays (slice_index c.args.upper_left.now (c.args.at.upper_left + n))
-        (slice_index c.args.lower_right.now (c.args.at.lower_right + n)) (slice_index c.args.upper_right.now (c.args.at.upper_right + n))
+        (slice_index c.args.lower_right.now (c.args.at.lower_right + n))
+        (slice_index c.args.upper_right.now (c.args.at.upper_right + n))
         (slice_index c.args.lower_left.now (c.args.at.lower_left + n))) e
         (c.flips_of-main_flips.ensures.main (none_last _ _ h))
   ];
@@ -20,7 +21,8 @@ loop-k-preserved c = record {
     | inr ge ↦
         let e : c.loop-k.k ≡ k = omega arith in
         subst (λ (n : ℕ). DiagonalStays (slice_index c.args.upper_right.now (c.args.at.upper_right + n))
-        (slice_index c.args.lower_left.now (c.args.at.lower_left + n)) (slice_index c.args.upper_left.now (c.args.at.upper_left + n))
+        (slice_index c.args.lower_left.now (c.args.at.lower_left + n))
+        (slice_index c.args.upper_left.now (c.args.at.upper_left + n))
         (slice_index c.args.lower_right.now (c.args.at.lower_right + n))) e
         (c.flips_of-main_flips.ensures.anti (none_last _ _ h))
   ];

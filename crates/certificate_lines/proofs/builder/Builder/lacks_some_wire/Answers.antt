@@ -33,13 +33,13 @@ lacks_some_in-requires c =
     let line_is : Module c.in-Module.area ≡ get_or es c.lines.place (Module c.in-Module.area) =
     subst (λ e. e ≡ get_or es c.lines.place e) (sym c.line.ensures ∙ c.in-Module.is)
     (c.entry-item.is ∙ ap (λ l. get_or l c.lines.place c.entry-item.result) here) in
-    let inner_is : c.inner_lines.result.now ≡ inner (drop (c.lines.place + 1) es) =
-    c.inner_lines.ensures ∙ ap inner (rest_of_lines c.deref.result.now (c.lines.place + 1))
+    let inner_is : c.lines_of_module.result.now ≡ inner (drop (c.lines.place + 1) es) =
+    c.lines_of_module.ensures ∙ ap inner (rest_of_lines c.deref.result.now (c.lines.place + 1))
     ∙ ap (λ l. inner (drop (c.lines.place + 1) l)) c.deref.ensures.value in
     record {
       owners = c.requires.owners;
       on_layout = subst
-          (λ (z : BuilderView). AreInBox (whole z.setting.size) (flat_map edge_in c.inner_lines.result.now))
+          (λ (z : BuilderView). AreInBox (whole z.setting.size) (flat_map edge_in c.lines_of_module.result.now))
           c.self.view_is
           (subst (λ ls. AreInBox (whole c.self.inside.tables.size) (flat_map edge_in ls)) (sym inner_is)
           (lines_on_layout c.self.inside.tables es c.lines.place c.in-Module.area c.self.invariant.kept.built.sound
@@ -57,8 +57,8 @@ returns-then-lacks_some_in c =
     let line_is : Module c.in-Module.area ≡ get_or es c.lines.place (Module c.in-Module.area) =
     subst (λ e. e ≡ get_or es c.lines.place e) (sym c.line.ensures ∙ c.in-Module.is)
     (c.entry-item.is ∙ ap (λ l. get_or l c.lines.place c.entry-item.result) here) in
-    let inner_is : c.inner_lines.result.now ≡ inner (drop (c.lines.place + 1) es) =
-    c.inner_lines.ensures ∙ ap inner (rest_of_lines c.deref.result.now (c.lines.place + 1))
+    let inner_is : c.lines_of_module.result.now ≡ inner (drop (c.lines.place + 1) es) =
+    c.lines_of_module.ensures ∙ ap inner (rest_of_lines c.deref.result.now (c.lines.place + 1))
     ∙ ap (λ l. inner (drop (c.lines.place + 1) l)) (c.deref.ensures.value ∙ same) in
     let many : nat_lt 1 v.setting.size.steps ≡ true =
     long v.setting.size.steps c.requires.long in
@@ -80,8 +80,8 @@ lines-preserved c =
           let line_is : Module w.in-Module.area ≡ get_or es c.lines.place (Module w.in-Module.area) =
           subst (λ e. e ≡ get_or es c.lines.place e) (sym c.line.ensures ∙ w.in-Module.is)
           (c.entry-item.is ∙ ap (λ l. get_or l c.lines.place c.entry-item.result) here) in
-          let inner_is : w.inner_lines.result.now ≡ inner (drop (c.lines.place + 1) es) =
-          w.inner_lines.ensures ∙ ap inner (rest_of_lines w.deref.result.now (c.lines.place + 1))
+          let inner_is : w.lines_of_module.result.now ≡ inner (drop (c.lines.place + 1) es) =
+          w.lines_of_module.ensures ∙ ap inner (rest_of_lines w.deref.result.now (c.lines.place + 1))
           ∙ ap (λ l. inner (drop (c.lines.place + 1) l)) (w.deref.ensures.value ∙ same) in
           let none : lacks v (record { area = w.in-Module.area; lines = inner (drop (c.lines.place + 1) es) }) ≡ false =
           ap (λ ls. list_any (lacks_edge v.setting.circuit (flat_map edge_in ls)) (modules_of es)) (sym inner_is)

@@ -1,10 +1,10 @@
 use Rattle.std.proofs.Common.{◌≡◌, false}
-use Rattle.local_run.specs.Frozen.{HasBlockMarks}
+use Rattle.local_run.specs.Frozen.{HasRoomForMarks}
 use Rattle.local_run.proofs.frozen.FrozenBlocks.find.Given as goal
 
 -- there is still room for all marks
 abbrev pub invariant-sweeps : goal.invariant-sweeps
 invariant-sweeps l = record {
-  room : HasBlockMarks l.self l.planes;
+  room : HasRoomForMarks l.self l.planes;
   found : l.self.is_found ≡ false;
 }

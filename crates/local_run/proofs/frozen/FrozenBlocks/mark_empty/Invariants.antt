@@ -1,10 +1,10 @@
 use Rattle.std.proofs.Common.{◌≡◌}
-use Rattle.local_run.specs.Frozen.{HasBlockMarks}
+use Rattle.local_run.specs.Frozen.{HasRoomForMarks}
 use Rattle.local_run.proofs.frozen.FrozenBlocks.mark_empty.Given as goal
 
 -- there is still room for all marks
 abbrev pub invariant-loop-u : goal.invariant-loop-u
 invariant-loop-u l = record {
-  room : HasBlockMarks l.self l.planes;
+  room : HasRoomForMarks l.self l.planes;
   found : l.self.is_found ≡ l.fn.self.is_found;
 }

@@ -1,6 +1,6 @@
 use Rattle.std.proofs.Common.{◌∙◌, sym}
 use Rattle.certificate_lines.proofs.InnerLines.{inner_found, inner_more, inner_all}
-use Rattle.certificate_lines.proofs.lines.inner_lines.Goals as goal
+use Rattle.certificate_lines.proofs.lines.lines_of_module.Goals as goal
 
 -- src/lines.rt:29:13
 pub returns-then-is_module : goal.returns-then-is_module
