@@ -5,6 +5,7 @@ It runs with Debian's python3-selenium. The status is 1 where the page does not 
 """
 import sys
 import time
+from collections.abc import Callable
 from pathlib import Path
 
 from selenium import webdriver
@@ -27,17 +28,24 @@ def shown(browser: webdriver.Chrome, name: str) -> str:
     return browser.find_element(By.ID, name).text
 
 
+def wait(test: Callable[[], bool], what: str, seconds: float = 30) -> None:
+    """Waits until something holds."""
+    until = time.monotonic() + seconds
+    while not test():
+        assert time.monotonic() < until, what
+        time.sleep(0.05)
+
+
 def use(browser: webdriver.Chrome, folder: Path) -> None:
     """Steps, plays, toggles an input and clicks a fault."""
     assert shown(browser, "time") == "0 of 6" and "no, for 2 reasons" in shown(browser, "verdict")
     browser.find_element(By.TAG_NAME, "body").send_keys(Keys.ARROW_RIGHT)
     assert shown(browser, "time") == "1 of 6"
     browser.find_element(By.CSS_SELECTOR, "#inputs input[value=q]").click()
-    time.sleep(0.3)
-    assert "c=1" in shown(browser, "outputs") and "✗" not in shown(browser, "outputs"), shown(browser, "outputs")
+    wait(lambda: "c=1" in shown(browser, "outputs"), "the output of the other input")
+    assert "✗" not in shown(browser, "outputs"), shown(browser, "outputs")
     browser.find_element(By.ID, "play").click()
-    time.sleep(1.5)
-    assert shown(browser, "time") == "6 of 6" and "play" in shown(browser, "play")
+    wait(lambda: shown(browser, "time") == "6 of 6" and "play" in shown(browser, "play"), "it plays to the end")
     browser.find_elements(By.CSS_SELECTOR, "#report button")[1].click()
     assert shown(browser, "time") == "5 of 6" and "Module 1 by itself with a=0 c=1" in shown(browser, "beside-title")
     browser.save_screenshot(str(folder / "large.png"))
