@@ -33,7 +33,7 @@ use Rattle.certificate.specs.Jobs.{AreJobsOf, IsJobOf}
 use Rattle.certificate.specs.Keeps.{is_kept, unkept_from}
 use Rattle.certificate.specs.StopLists.{AreStops}
 use Rattle.certificate.specs.Times.{agreed, all_stops, are_all_obeyed, delay_by, delay_line, first_seen, gap_between}
-use Rattle.certificate.specs.Times.{last_seen, last_times, lines_by, meet_by, meet_line, numbered, of_wire, time_lines}
+use Rattle.certificate.specs.Times.{last_seen, last_times, lines_by, meet_by, meet_line, numbered, first_wire_time, time_lines}
 use Rattle.certificate.specs.declared.times.StopGap.{StopGap}
 use Rattle.certificate.specs.declared.times.TimeLine.{TimeLine}
 use Rattle.certificate.specs.declared.times.TimeLine.TheVariants.{Meet}
@@ -125,7 +125,7 @@ few_meetings k ts = by (nat_le 2 (length ts)) (agreed ts)
 two_each : (first last : ℕ → Option ℕ) (gs : List Gate) → length (lines_by first last gs) ≤ 2 * length gs
 two_each first last gs =
     let a = line_each (delay_line first last)
-    (λ k g. few_delays k g.kind (gap_between (of_wire last g.ins) (of_wire first g.outs))) 0 gs in
+    (λ k g. few_delays k g.kind (gap_between (first_wire_time last g.ins) (first_wire_time first g.outs))) 0 gs in
     let b = line_each (meet_line last) (λ k g. few_meetings k (last_times last g.ins)) 0 gs in
     let sum = length-append (numbered (delay_line first last) 0 gs) (numbered (meet_line last) 0 gs) in
     omega (arith, a, b, sum)
