@@ -33,7 +33,8 @@ use Rattle.certificate.specs.Jobs.{AreJobsOf, IsJobOf}
 use Rattle.certificate.specs.Keeps.{is_kept, unkept_from}
 use Rattle.certificate.specs.StopLists.{AreStops}
 use Rattle.certificate.specs.Times.{agreed, all_stops, are_all_obeyed, delay_by, delay_line, first_seen, gap_between}
-use Rattle.certificate.specs.Times.{last_seen, last_times, lines_by, meet_by, meet_line, numbered, first_wire_time, time_lines}
+use Rattle.certificate.specs.Times.{last_seen, last_times, lines_by, meet_by, meet_line, numbered, first_wire_time}
+use Rattle.certificate.specs.Times.{time_lines}
 use Rattle.certificate.specs.declared.times.StopGap.{StopGap}
 use Rattle.certificate.specs.declared.times.TimeLine.{TimeLine}
 use Rattle.certificate.specs.declared.times.TimeLine.TheVariants.{Meet}
