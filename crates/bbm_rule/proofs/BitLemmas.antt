@@ -44,6 +44,10 @@ xor true false = true
 xor false true = true
 xor false false = false
 
+pub xor_false : (a : Bool) → xor a false ≡ a
+xor_false true = refl
+xor_false false = refl
+
 pub zero_or_one : (n : ℕ) → n < 2 → (n ≡ 0) ⊎ (n ≡ 1)
 zero_or_one zero h = inl refl
 zero_or_one (suc zero) h = inr refl

@@ -1,14 +1,12 @@
 -- Rows whose cells are moved by one place
-use Rattle.std.proofs.Common.{◌≡◌, ◌≢◌, ℕ, Bool, false, ◌<◌, ◌≤◌, ◌+◌, ◌-◌, ◌*◌, ◌/◌, ◌^◌, ◌%◌, zero, suc, refl, arith}
+use Rattle.std.proofs.Common.{◌≡◌, ℕ, Bool, ◌<◌, ◌≤◌, ◌+◌, ◌-◌, ◌*◌, ◌%◌, zero, suc, refl, arith}
 use Rattle.std.proofs.Common.{◌∙◌}
 use Rattle.std.proofs.Common.{sym, ap, List, length, get_or, set, bit_and, bit_or}
-use Rattle.std.proofs.lemmas.List.{get_or-set_same, get_or-set_other}
-use Rattle.bbm_rule.specs.Plane.{turned}
 use Rattle.bbm_rule.specs.Bits.{bit}
 use Rattle.bbm_rule.specs.Rows.{cell_at, mate, AreSameCells, HasWindow, MovesDown, MovesUp, SetsWindow, TurnsRun}
-use Rattle.bbm_rule.proofs.BitLemmas.{by_lt_or_le, by_eq_or_not, bit-and, bit-or, bit-shr, bit_above}
+use Rattle.bbm_rule.proofs.BitLemmas.{by_lt_or_le, by_eq_or_not, bit_above}
 use Rattle.bbm_rule.proofs.BlockRuns.{mate_lt, word_set}
-use Rattle.bbm_rule.proofs.PairLemmas.{by_place, cell_in_word, joined_first, joined_zero, kept_bit, rest_kept}
+use Rattle.bbm_rule.proofs.PairLemmas.{by_place, cell_in_word, joined_first, kept_bit, rest_kept}
 use Rattle.bbm_rule.proofs.PairLemmas.{rest_zero}
 
 -- ---- down

@@ -1,19 +1,16 @@
 -- Two words one above the other, and windows of 64 cells.
-use Rattle.std.proofs.Common.{◌≡◌, ◌≢◌, ℕ, Bool, true, false, ◌&&◌, nat_eq, ◌<◌, ◌≤◌, ◌+◌, ◌-◌, ◌*◌, ◌/◌, ◌^◌}
-use Rattle.std.proofs.Common.{◌%◌, zero, suc, refl, arith, bit_and, bit_or, ◌∙◌, List, length, get_or, set, min}
-use Rattle.std.proofs.lemmas.List.{length-set}
-use Rattle.std.proofs.lemmas.Bool.Decides.{nat_tests}
-use Rattle.std.proofs.lemmas.List.{get_or-set_same, get_or-set_other}
+use Rattle.std.proofs.Common.{◌≡◌, ℕ, Bool, true, false, ◌&&◌, nat_eq, ◌<◌, ◌+◌, ◌-◌, ◌*◌, ◌/◌, ◌^◌}
+use Rattle.std.proofs.Common.{◌%◌, ◌||◌, zero, suc, refl, arith, bit_and, bit_or, ◌∙◌, List, get_or, min}
+use Rattle.std.specs.Prelude.{bit_xor}
 use Rattle.std.proofs.lemmas.Nat.{div-mul-add, mod-mul-add}
 use Rattle.std.proofs.Math.Nat.{div-add-mod}
 use Rattle.std.proofs.Math.Dec.{eqb}
 use Rattle.std.proofs.Math.Bool.{and-false, and-true, or-false}
 use Rattle.bbm_rule.specs.Plane.{turned}
-use Rattle.bbm_rule.specs.Words.{AreTurned}
-use Rattle.bbm_rule.specs.Bits.{bit, AreSameBits}
-use Rattle.bbm_rule.specs.Rows.{cell_at, mate, ArePairsTurned, HasWindow, SetsWindow}
+use Rattle.bbm_rule.specs.Bits.{bit, AreSameBits, IsBlank}
+use Rattle.bbm_rule.specs.Rows.{cell_at, mate, AreFlips, ArePairsTurned, HasWindow}
 use Rattle.bbm_rule.proofs.BitLemmas.{by_lt_or_le, by_eq_or_not, holds_below, below_from_test, bit-and, bit-or, bit-shr}
-use Rattle.bbm_rule.proofs.BitLemmas.{bit-mod, bit-shl_low, bit-shl_high, bit_above}
+use Rattle.bbm_rule.proofs.BitLemmas.{bit-mod, bit-shl_low, bit-shl_high, bit_above, bit-xor, xor, xor_false}
 
 -- ---- a pair
 abbrev pub first_mask : ℕ
@@ -40,17 +37,6 @@ bit_mask : (j : ℕ) → j < 64 → bit first_mask j ≡ nat_eq (j % 2) 0
 bit_mask j l = same_bool-true _ _
     (below_from_test (λ j. same_bool (bit first_mask j) (nat_eq (j % 2) 0)) 64 mask_tested j l)
 
-all_dead : turned false false false false ≡ false
-unfolding turned
-all_dead = refl
-
--- a bit of a word that keeps the first of each pair
-kept_first : (n j : ℕ) → j < 64 → j % 2 ≡ 0 → bit (bit_and n first_mask) j ≡ bit n j
-kept_first n j l even = rw (bit-and n first_mask j, bit_mask j l, even) (and-true (bit n j))
-
-kept_second : (n j : ℕ) → j < 64 → j % 2 ≡ 1 → bit (bit_and n first_mask) j ≡ false
-kept_second n j l odd = rw (bit-and n first_mask j, bit_mask j l, odd) (and-false (bit n j))
-
 -- a word that is joined from first and second cells of pairs
 pub joined_first : (f s j : ℕ) → j < 63 → bit f (1 + j) ≡ false →
     bit (bit_or f (s * 2 % 18446744073709551616)) (1 + j) ≡ bit s j
@@ -72,114 +58,91 @@ mate_odd i even =
     let odd : (1 + i) % 2 ≡ 1 = omega arith in
     rw odd (omega arith)
 
--- one of the two words, from the answers for the first and the second cells of its pairs
-side_turned : (a b u v : ℕ) →
-    ((j : ℕ) → bit u j ≡ turned (bit (bit_and a first_mask) j) (bit (bit_and (b / 2) first_mask) j)
-    (bit (bit_and (a / 2) first_mask) j) (bit (bit_and b first_mask) j)) →
-    ((j : ℕ) → bit v j ≡ turned (bit (bit_and (a / 2) first_mask) j) (bit (bit_and b first_mask) j)
-    (bit (bit_and a first_mask) j) (bit (bit_and (b / 2) first_mask) j)) → (j : ℕ) → j < 64 →
-    bit (bit_or u (v * 2 % 18446744073709551616)) j ≡ turned (bit a j) (bit b (mate j)) (bit a (mate j)) (bit b j)
-side_turned a b u v first second j l = at_parity j l
-  where
-    half : (n j : ℕ) → bit (n / 2) j ≡ bit n (1 + j)
-    half n j = bit-shr n 1 j
-
-    first_at : (j : ℕ) → j < 64 → j % 2 ≡ 0 → bit u j ≡ turned (bit a j) (bit b (1 + j)) (bit a (1 + j)) (bit b j)
-    first_at j l even = first j ∙ rw (
-      kept_first a j l even,
-      kept_first (a / 2) j l even,
-      kept_first b j l even,
-      kept_first (b / 2) j l even,
-      half a j,
-      half b j,
-    ) refl
-
-    second_at : (j : ℕ) → j < 64 → j % 2 ≡ 0 → bit v j ≡ turned (bit a (1 + j)) (bit b j) (bit a j) (bit b (1 + j))
-    second_at j l even = second j ∙ rw (
-      kept_first a j l even,
-      kept_first (a / 2) j l even,
-      kept_first b j l even,
-      kept_first (b / 2) j l even,
-      half a j,
-      half b j,
-    ) refl
-
-    first_none : (j : ℕ) → j < 64 → j % 2 ≡ 1 → bit u j ≡ false
-    first_none j l odd =
-        first j
-        ∙ (rw (kept_second a j l odd, kept_second (a / 2) j l odd, kept_second b j l odd, kept_second (b / 2) j l odd)
-        all_dead)
-
-    second_none : (j : ℕ) → j < 64 → j % 2 ≡ 1 → bit v j ≡ false
-    second_none j l odd = second j
-        ∙ (rw (kept_second a j l odd, kept_second (a / 2) j l odd, kept_second b j l odd, kept_second (b / 2) j l odd)
-        all_dead)
-
-    at_even : (j : ℕ) → j < 64 → j % 2 ≡ 0 → bit (bit_or u (v * 2 % 18446744073709551616)) j ≡ bit u j
-    at_even zero l even = joined_zero u v
-    at_even (suc i) l even =
-        let e : suc i ≡ 1 + i = omega arith in
-        let none : bit v i ≡ false = second_none i (omega arith) (omega arith) in
-        rw (
-          bit-or u (v * 2 % 2 ^ 64) (suc i),
-          e,
-          bit-mod (v * 2 ^ 1) 64 (1 + i) (omega arith),
-          bit-shl_high v 1 i (omega arith),
-          none,
-        ) (or-false (bit u (1 + i)))
-
-    at_odd : (i : ℕ) → i < 63 → i % 2 ≡ 0 → bit (bit_or u (v * 2 % 18446744073709551616)) (1 + i) ≡ bit v i
-    at_odd i l even = joined_first u v i l (first_none (1 + i) (omega arith) (omega arith))
-
-    at_parity : (j : ℕ) → j < 64 →
-        bit (bit_or u (v * 2 % 18446744073709551616)) j ≡ turned (bit a j) (bit b (mate j)) (bit a (mate j)) (bit b j)
-    at_parity j l =
-        by_eq_or_not (j % 2) 0
-        (λ even. at_even j l even ∙ (first_at j l even ∙ rw (mate_even j even) refl))
-        (λ odd.
-        let i : ℕ = j - 1 in
-        let e : j ≡ 1 + i = omega arith in
-        let even : i % 2 ≡ 0 = omega arith in
-        rw e (at_odd i (omega arith) even ∙ (second_at i (omega arith) even ∙ rw (mate_odd i even) refl)))
-
-pub pairs_turned : (a b ul ur ll lr : ℕ) →
-    AreTurned (bit_and a first_mask) (bit_and (a / 2) first_mask) (bit_and b first_mask)
-    (bit_and (b / 2) first_mask) ul ur ll lr →
-    ArePairsTurned a b (bit_or ul (ur * 2 % 18446744073709551616)) (bit_or ll (lr * 2 % 18446744073709551616))
-pairs_turned a b ul ur ll lr t = record {
-  upper = side_turned a b ul ur t.upper_left t.upper_right;
-  lower = side_turned b a ll lr t.lower_left t.lower_right;
+-- the flips are those of the lower row and the upper one too
+flips_below : (f a n b m main anti : ℕ) → AreFlips f a n b m main anti → AreFlips f b m a n anti main
+flips_below f a n b m main anti flips = record {
+  upper_first = flips.lower_first;
+  upper_second = flips.lower_second;
+  lower_first = flips.upper_first;
+  lower_second = flips.upper_second;
+  elsewhere = λ j off. let none = flips.elsewhere j off in (none.1, none.0);
 }
 
--- a word that is joined again from its first and its second cells
-pub joined_same : (a u v : ℕ) → AreSameBits (bit_and a first_mask) u → AreSameBits (bit_and (a / 2) first_mask) v →
-    AreSameBits a (bit_or u (v * 2 % 18446744073709551616))
-joined_same a u v first second j l = by_eq_or_not (j % 2) 0
-    (λ even. at_even j l even)
+-- a row of 32 blocks is turned if the first and the second cell of each is
+cells_turned : (a b a' : ℕ) →
+    ((i : ℕ) → i < 63 → i % 2 ≡ 0 → (bit a' i ≡ turned (bit a i) (bit b (1 + i)) (bit a (1 + i)) (bit b i))
+    × (bit a' (1 + i) ≡ turned (bit a (1 + i)) (bit b i) (bit a i) (bit b (1 + i)))) →
+    (j : ℕ) → j < 64 → bit a' j ≡ turned (bit a j) (bit b (mate j)) (bit a (mate j)) (bit b j)
+cells_turned a b a' each j l = by_eq_or_not (j % 2) 0
+    (λ even. rw (mate_even j even) ((each j (omega arith) even).0))
     (λ odd.
     let i : ℕ = j - 1 in
     let e : j ≡ 1 + i = omega arith in
-    rw e (at_odd i (omega arith) (omega arith)))
-  where
-    at_even : (j : ℕ) → j < 64 → j % 2 ≡ 0 → bit (bit_or u (v * 2 % 18446744073709551616)) j ≡ bit a j
-    at_even zero l even = joined_zero u v ∙ first 0 l ∙ kept_first a 0 l even
-    at_even (suc i) l even = let e : suc i ≡ 1 + i = omega arith in rw e (at_later i (omega arith) (omega arith))
-      where
-        at_later : (i : ℕ) → i < 63 → i % 2 ≡ 1 → bit (bit_or u (v * 2 % 18446744073709551616)) (1 + i) ≡ bit a (1 + i)
-        at_later i l odd =
-            let none : bit v i ≡ false = second i (omega arith) ∙ kept_second (a / 2) i (omega arith) odd in
-            rw (
-              bit-or u (v * 2 % 2 ^ 64) (1 + i),
-              bit-mod (v * 2 ^ 1) 64 (1 + i) (omega arith),
-              bit-shl_high v 1 i (omega arith),
-              none,
-            ) (or-false (bit u (1 + i))) ∙ first (1 + i) (omega arith)
-            ∙ kept_first a (1 + i) (omega arith) (omega arith)
+    let even : i % 2 ≡ 0 = omega arith in
+    rw (e, mate_odd i even) ((each i (omega arith) even).1))
 
-    at_odd : (i : ℕ) → i < 63 → i % 2 ≡ 0 → bit (bit_or u (v * 2 % 18446744073709551616)) (1 + i) ≡ bit a (1 + i)
-    at_odd i l even = joined_first u v i l
-        (first (1 + i) (omega arith) ∙ kept_second a (1 + i) (omega arith) (omega arith)) ∙ second i (omega arith)
-        ∙ kept_first (a / 2) i (omega arith) even ∙ bit-shr a 1 i
+-- a word that gets flips of first cells, and those of second cells one place up
+row_flipped : (a first second j : ℕ) → j < 63 → bit (bit_xor a (bit_or first (second * 2 % 18446744073709551616)))
+    (1 + j) ≡ xor (bit a (1 + j)) (bit first (1 + j) || bit second j)
+row_flipped a first second j l = rw (
+  bit-xor a (bit_or first (second * 2 % 2 ^ 64)) (1 + j),
+  bit-or first (second * 2 % 2 ^ 64) (1 + j),
+  bit-mod (second * 2 ^ 1) 64 (1 + j) (omega arith),
+  bit-shl_high second 1 j (omega arith),
+) refl
+
+side_turned : (a b main anti : ℕ) → AreFlips first_mask a (a / 2) b (b / 2) main anti → (j : ℕ) → j < 64 →
+    bit (bit_xor a (bit_or main (anti * 2 % 18446744073709551616))) j
+    ≡ turned (bit a j) (bit b (mate j)) (bit a (mate j)) (bit b j)
+side_turned a b main anti flips = cells_turned a b _ (λ i l even. (
+  first_at i l even ∙ flips.upper_first i (on i l even) ∙ rw (bit-shr a 1 i, bit-shr b 1 i) refl,
+  second_at i l even ∙ flips.upper_second i (on i l even) ∙ rw (bit-shr a 1 i, bit-shr b 1 i) refl,
+))
+  where
+    on : (i : ℕ) → i < 63 → i % 2 ≡ 0 → bit first_mask i ≡ true
+    on i l even = rw (bit_mask i (omega arith), even) refl
+
+    none : (i : ℕ) → i < 64 → i % 2 ≡ 1 → (bit main i ≡ false) × (bit anti i ≡ false)
+    none i l odd = flips.elsewhere i (rw (bit_mask i l, odd) refl)
+
+    first_at : (i : ℕ) → i < 63 → i % 2 ≡ 0 →
+        bit (bit_xor a (bit_or main (anti * 2 % 18446744073709551616))) i ≡ bit (bit_xor a main) i
+    first_at zero l even = rw (bit-xor a (bit_or main (anti * 2 % 2 ^ 64)) 0, bit-xor a main 0, joined_zero main anti) refl
+    first_at (suc i) l even =
+        let e : suc i ≡ 1 + i = omega arith in
+        rw (
+          e,
+          row_flipped a main anti i (omega arith),
+          (none i (omega arith) (omega arith)).1,
+          or-false (bit main (1 + i)),
+          bit-xor a main (1 + i),
+        ) refl
+
+    second_at : (i : ℕ) → i < 63 → i % 2 ≡ 0 →
+        bit (bit_xor a (bit_or main (anti * 2 % 18446744073709551616))) (1 + i) ≡ bit (bit_xor (a / 2) anti) i
+    second_at i l even = rw (
+      row_flipped a main anti i l,
+      (none (1 + i) (omega arith) (omega arith)).0,
+      bit-xor (a / 2) anti i,
+      bit-shr a 1 i,
+    ) refl
+
+pub pairs_turned : (a b main anti : ℕ) → AreFlips first_mask a (a / 2) b (b / 2) main anti →
+    ArePairsTurned a b (bit_xor a (bit_or main (anti * 2 % 18446744073709551616)))
+    (bit_xor b (bit_or anti (main * 2 % 18446744073709551616)))
+pairs_turned a b main anti flips = record {
+  upper = side_turned a b main anti flips;
+  lower = side_turned b a anti main (flips_below _ _ _ _ _ _ _ flips);
+}
+
+-- a word stays where nothing flips
+pub flipped_same : (a main anti : ℕ) → IsBlank main → IsBlank anti →
+    AreSameBits a (bit_xor a (bit_or main (anti * 2 % 18446744073709551616)))
+flipped_same a main anti no_main no_anti zero l =
+    rw (bit-xor a _ 0, joined_zero main anti, no_main 0) (xor_false (bit a 0))
+flipped_same a main anti no_main no_anti (suc j) l =
+    let e : suc j ≡ 1 + j = omega arith in
+    rw (e, row_flipped a main anti j (omega arith), no_main (1 + j), no_anti j) (xor_false (bit a (1 + j)))
 
 -- ---- windows
 pub cell_in_word : (words : List ℕ) (i b : ℕ) → b < 64 → cell_at words (64 * i + b) ≡ bit (get_or words i 0) b

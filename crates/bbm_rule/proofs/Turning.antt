@@ -2,10 +2,12 @@
 use Rattle.std.proofs.Common.{◌≡◌, ℕ, Bool, true, false, ◌&&◌, ◌||◌, refl, bit_and, bit_or, ◌<◌, List, [], ◌∷◌, get_or}
 use Rattle.std.proofs.Common.{nat_eq}
 use Rattle.std.proofs.lemmas.Bool.{eqb-true}
+use Rattle.std.proofs.Math.Bool.{and-false, and-true}
 use Rattle.std.specs.Prelude.{bit_xor}
 use Rattle.bbm_rule.specs.Plane.{turned}
 use Rattle.bbm_rule.specs.Words.{turn_of, AreTurned}
-use Rattle.bbm_rule.specs.Bits.{bit, AreSameBits, IsBlank}
+use Rattle.bbm_rule.specs.Bits.{bit, IsBlank}
+use Rattle.bbm_rule.specs.Rows.{AreFlips}
 use Rattle.bbm_rule.proofs.BitLemmas.{holds_below, below_from_test, xor, bit-and, bit-or, bit-xor}
 
 -- where a block is one that is not as it was, and the flips of the two diagonals
@@ -107,25 +109,32 @@ words_turned ul ur ll lr = record {
   lower_right = λ j. simp (bit-xor, bit-or, bit-and) (by_cases_lr (bit ul j) (bit ur j) (bit ll j) (bit lr j));
 }
 
--- a bit stays where no block changes
-flip_none : (n changed other j : ℕ) → bit changed j ≡ false →
-    bit (bit_xor n (bit_xor changed (bit_and changed other))) j ≡ bit n j
-flip_none n changed other j none =
-    rw (bit-xor n _ j, bit-xor changed _ j, bit-and changed other j, none) (xor_false (bit n j))
-  where
-    xor_false : (a : Bool) → xor a false ≡ a
-    xor_false true = refl
-    xor_false false = refl
+-- nothing flips where no block changes
+flip_none : (changed other j : ℕ) → bit changed j ≡ false → bit (bit_xor changed (bit_and changed other)) j ≡ false
+flip_none changed other j none = rw (bit-xor changed _ j, bit-and changed other j, none) refl
 
-pub words_stay : (ul ur ll lr : ℕ) → IsBlank (changed_of ul ur ll lr) →
-    AreSameBits ul (bit_xor ul (flip_main_of ul ur ll lr)) × AreSameBits ur (bit_xor ur (flip_anti_of ul ur ll lr))
-    × AreSameBits ll (bit_xor ll (flip_anti_of ul ur ll lr)) × AreSameBits lr (bit_xor lr (flip_main_of ul ur ll lr))
-words_stay ul ur ll lr none = (
-  λ j l. flip_none ul _ _ j (none j),
-  λ j l. flip_none ur _ _ j (none j),
-  λ j l. flip_none ll _ _ j (none j),
-  λ j l. flip_none lr _ _ j (none j),
-)
+pub no_flips : (changed main anti : ℕ) → IsBlank changed →
+    IsBlank (bit_xor changed (bit_and changed anti)) × IsBlank (bit_xor changed (bit_and changed main))
+no_flips changed main anti none = (λ j. flip_none changed anti j (none j), λ j. flip_none changed main j (none j))
+
+-- the flips of some blocks
+pub flips_found : (f a n b m : ℕ) → let changed = bit_and (changed_of a n b m) f in
+    AreFlips f a n b m (bit_xor changed (bit_and changed (bit_xor n b)))
+    (bit_xor changed (bit_and changed (bit_xor a m)))
+flips_found f a n b m = record {
+  upper_first = λ j on.
+      simp (bit-xor, bit-or, bit-and, on, and-true) (by_cases_ul (bit a j) (bit n j) (bit b j) (bit m j));
+  upper_second = λ j on.
+      simp (bit-xor, bit-or, bit-and, on, and-true) (by_cases_ur (bit a j) (bit n j) (bit b j) (bit m j));
+  lower_first = λ j on.
+      simp (bit-xor, bit-or, bit-and, on, and-true) (by_cases_ll (bit a j) (bit n j) (bit b j) (bit m j));
+  lower_second = λ j on.
+      simp (bit-xor, bit-or, bit-and, on, and-true) (by_cases_lr (bit a j) (bit n j) (bit b j) (bit m j));
+  elsewhere = λ j off.
+      let none : bit (bit_and (changed_of a n b m) f) j ≡ false =
+      rw (bit-and (changed_of a n b m) f j, off) (and-false (bit (changed_of a n b m) j)) in
+      (flip_none _ _ j none, flip_none _ _ j none);
+}
 
 abbrev pub turns : List ℕ
 turns = 0 ∷ 8 ∷ 4 ∷ 3 ∷ 2 ∷ 5 ∷ 9 ∷ 7 ∷ 1 ∷ 6 ∷ 10 ∷ 11 ∷ 12 ∷ 13 ∷ 14 ∷ 15 ∷ []

@@ -1,6 +1,6 @@
 -- A plane of bits in words, for this crate's own functions: the cell at place p is bit p % 64 of word p / 64
 use Rattle.std.specs.Prelude.{◌≡◌, ◌==◌, ◌&&◌, Bool, true, false, if◌then◌else◌, ℕ, ◌+◌, ◌-◌, ◌*◌, ◌/◌, ◌%◌, ◌<◌, ◌≤◌}
-use Rattle.std.specs.Prelude.{List, slice_index, ◌≢◌, nat_le, ℤ, pos, negsuc}
+use Rattle.std.specs.Prelude.{List, slice_index, ◌≢◌, nat_le, ℤ, pos, negsuc, bit_xor}
 use Rattle.bbm_rule.specs.Plane.{turned}
 use Rattle.bbm_rule.specs.Bits.{bit}
 
@@ -11,6 +11,19 @@ cell_at words p = bit (slice_index words (p / 64)) (p % 64)
 -- the other place of a pair: 0 and 1, 2 and 3, and so on
 unfoldable pub mate : ℕ → ℕ
 mate j = if j % 2 == 0 then j + 1 else j - 1
+
+-- A bit of f is a block: that bit of a and n is its first and its second cell in the upper row, that of b and m in the
+-- lower one. It is turned where the bits of the two flips are set, main on one diagonal and anti on the other.
+pub record AreFlips (f a n b m main anti : ℕ) : Type 0 where
+  pub upper_first : (j : ℕ) → bit f j ≡ true →
+      bit (bit_xor a main) j ≡ turned (bit a j) (bit m j) (bit n j) (bit b j)
+  pub upper_second : (j : ℕ) → bit f j ≡ true →
+      bit (bit_xor n anti) j ≡ turned (bit n j) (bit b j) (bit a j) (bit m j)
+  pub lower_first : (j : ℕ) → bit f j ≡ true →
+      bit (bit_xor b anti) j ≡ turned (bit b j) (bit n j) (bit m j) (bit a j)
+  pub lower_second : (j : ℕ) → bit f j ≡ true →
+      bit (bit_xor m main) j ≡ turned (bit m j) (bit a j) (bit b j) (bit n j)
+  pub elsewhere : (j : ℕ) → bit f j ≡ false → (bit main j ≡ false) × (bit anti j ≡ false)
 
 -- two words one above the other, before and after each of their 32 blocks is turned
 pub record ArePairsTurned (a b a' b' : ℕ) : Type 0 where

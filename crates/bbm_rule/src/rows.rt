@@ -4,29 +4,48 @@
 ghost use Rattle.std.specs.Prelude.{ℕ, ◌≡◌, ◌+◌, ◌*◌, ◌<◌, ◌≤◌, ◌^◌, ◌-◌, length, false};
 ghost use Rattle.bbm_rule.specs.Bands.{AreCalm};
 ghost use Rattle.bbm_rule.specs.Bits.{AreSameBits, IsBlank, bit};
-ghost use Rattle.bbm_rule.specs.Rows.{ArePairsTurned, AreSameCells, HasWindow, MovesDown, MovesUp, TurnsRun, TurnsRows};
+ghost use Rattle.bbm_rule.specs.Rows.{AreFlips, ArePairsTurned, AreSameCells, HasWindow, MovesDown, MovesUp, TurnsRun, TurnsRows};
 
 use crate::marks::{mark, mark_before, next_marked, unmark};
-use crate::words::turn_words_told;
 
 // the first cell of each pair
 const FIRST_OF_PAIR: u64 = 0x5555_5555_5555_5555;
 
-/// Turns the 32 blocks of two words that lie one above the other. The third word has a bit for each block that changes.
+// Returns which blocks flip their upper first and lower second cell, which flip the other two, and which change. A bit
+// of `firsts` is a block: that bit of `upper` and of `lower` is its first cell in a row, that of the next words its
+// second.
 #[inline(always)]
-pub(crate) fn turn_pairs(upper: u64, lower: u64) -> (u64, u64, u64)
+fn block_flips(
+    firsts: u64,
+    upper: u64,
+    upper_next: u64,
+    lower: u64,
+    lower_next: u64,
+) -> (u64, u64, u64)
+    ensures flips { AreFlips firsts upper upper_next lower lower_next result.0 result.1 }
+    ensures stays { IsBlank result.2 → IsBlank result.0 × IsBlank result.1 }
+{
+    let main = upper ^ lower_next;
+    let anti = upper_next ^ lower;
+    let changed = ((upper | lower_next) ^ (upper_next | lower)) & firsts;
+    // `a ^ (a & b)` stands for `a & !b`.
+    (
+        changed ^ (changed & anti),
+        changed ^ (changed & main),
+        changed,
+    )
+}
+
+// Turns the 32 blocks of two words that lie one above the other. The third word has a bit for each block that changes.
+#[inline(always)]
+fn turn_pairs(upper: u64, lower: u64) -> (u64, u64, u64)
     ensures turned { ArePairsTurned upper lower result.0 result.1 }
     ensures stays { IsBlank result.2 → AreSameBits upper result.0 × AreSameBits lower result.1 }
 {
-    let (upper_first, upper_second, lower_first, lower_second, changed) = turn_words_told(
-        upper & FIRST_OF_PAIR,
-        (upper >> 1) & FIRST_OF_PAIR,
-        lower & FIRST_OF_PAIR,
-        (lower >> 1) & FIRST_OF_PAIR,
-    );
+    let (main, anti, changed) = block_flips(FIRST_OF_PAIR, upper, upper >> 1, lower, lower >> 1);
     (
-        upper_first | (upper_second << 1),
-        lower_first | (lower_second << 1),
+        upper ^ (main | (anti << 1)),
+        lower ^ (anti | (main << 1)),
         changed,
     )
 }

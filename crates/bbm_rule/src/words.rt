@@ -1,7 +1,6 @@
 //! Many blocks at a time, on words of bits.
 
 ghost use Rattle.std.specs.Prelude.{◌≡◌, ◌+◌, ◌<◌, ◌≤◌, ℕ, length, slice_index};
-ghost use Rattle.bbm_rule.specs.Bits.{AreSameBits, IsBlank};
 ghost use Rattle.bbm_rule.specs.Words.{AreTurned, AreTurnedAt, TurnsBetween};
 
 use std::simd::prelude::*;
@@ -18,24 +17,6 @@ pub fn turn_words(
     ensures { AreTurned upper_left upper_right lower_left lower_right result.0 result.1 result.2
         result.3 }
 {
-    let (a, b, c, d, _) = turn_words_told(upper_left, upper_right, lower_left, lower_right);
-    (a, b, c, d)
-}
-
-/// Turns the blocks as `turn_words` does, and returns a fifth word with a bit for each block that changes.
-#[inline(always)]
-pub(crate) fn turn_words_told(
-    upper_left: u64,
-    upper_right: u64,
-    lower_left: u64,
-    lower_right: u64,
-) -> (u64, u64, u64, u64, u64)
-    ensures turned { AreTurned upper_left upper_right lower_left lower_right result.0 result.1
-        result.2 result.3 }
-    ensures stays { IsBlank result.4 →
-        AreSameBits upper_left result.0 × AreSameBits upper_right result.1
-        × AreSameBits lower_left result.2 × AreSameBits lower_right result.3 }
-{
     // `a ^ (a & b)` stands for `a & !b`.
     let main = upper_left ^ lower_right;
     let anti = upper_right ^ lower_left;
@@ -47,7 +28,6 @@ pub(crate) fn turn_words_told(
         upper_right ^ flip_anti,
         lower_left ^ flip_anti,
         lower_right ^ flip_main,
-        changed,
     )
 }
 
