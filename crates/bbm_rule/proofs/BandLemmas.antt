@@ -23,11 +23,11 @@ or_none : (a b : Bool) → (a || b) ≡ false → (a ≡ false) × (b ≡ false)
 or_none true b h = cc
 or_none false b h = (refl, h)
 
-noted_bits : (changed told j : ℕ) → bit (bit_or changed told) j ≡ false → (bit changed j ≡ false) × (bit told j ≡ false)
+pub noted_bits : (changed told j : ℕ) → bit (bit_or changed told) j ≡ false → (bit changed j ≡ false) × (bit told j ≡ false)
 noted_bits changed told j h = or_none (bit changed j) _ (sym (bit-or changed told j) ∙ h)
 
 -- a window that gets the cells that it has
-window_same : (p a v : ℕ) (old new : List ℕ) → AreSameBits v a → HasWindow old p v → SetsWindow p a old new →
+pub window_same : (p a v : ℕ) (old new : List ℕ) → AreSameBits v a → HasWindow old p v → SetsWindow p a old new →
     AreSameCells old new
 window_same p a v old new same has sets q = by_lt_or_le q p (sets.before q)
     (λ le. by_lt_or_le q (p + 64)

@@ -3,7 +3,7 @@ pub mod Turning
 pub mod Lanes
 pub mod PairLemmas
 pub mod BlockRuns
-pub mod MovedCells
+pub mod ShiftedRuns
 pub mod Spans
 pub mod Steps
 pub mod PlaneLemmas

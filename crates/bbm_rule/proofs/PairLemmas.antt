@@ -1,15 +1,15 @@
 -- Two words one above the other, and windows of 64 cells.
-use Rattle.std.proofs.Common.{◌≡◌, ℕ, Bool, true, false, ◌&&◌, nat_eq, ◌<◌, ◌+◌, ◌-◌, ◌*◌, ◌/◌, ◌^◌}
-use Rattle.std.proofs.Common.{◌%◌, ◌||◌, zero, suc, refl, arith, bit_and, bit_or, ◌∙◌, List, get_or, min}
+use Rattle.std.proofs.Common.{◌≡◌, ℕ, Bool, true, false, nat_eq, ◌<◌, ◌+◌, ◌-◌, ◌*◌, ◌/◌, ◌^◌}
+use Rattle.std.proofs.Common.{◌%◌, ◌||◌, zero, suc, refl, arith, bit_or, ◌∙◌, List, get_or}
 use Rattle.std.specs.Prelude.{bit_xor}
 use Rattle.std.proofs.lemmas.Nat.{div-mul-add, mod-mul-add}
 use Rattle.std.proofs.Math.Nat.{div-add-mod}
 use Rattle.std.proofs.Math.Dec.{eqb}
-use Rattle.std.proofs.Math.Bool.{and-false, and-true, or-false}
+use Rattle.std.proofs.Math.Bool.{or-false}
 use Rattle.bbm_rule.specs.Plane.{turned}
 use Rattle.bbm_rule.specs.Bits.{bit, AreSameBits, IsBlank}
 use Rattle.bbm_rule.specs.Rows.{cell_at, mate, AreFlips, ArePairsTurned, HasWindow}
-use Rattle.bbm_rule.proofs.BitLemmas.{by_lt_or_le, by_eq_or_not, holds_below, below_from_test, bit-and, bit-or, bit-shr}
+use Rattle.bbm_rule.proofs.BitLemmas.{by_lt_or_le, by_eq_or_not, holds_below, below_from_test, bit-or, bit-shr}
 use Rattle.bbm_rule.proofs.BitLemmas.{bit-mod, bit-shl_low, bit-shl_high, bit_above, bit-xor, xor, xor_false}
 
 -- ---- a pair
@@ -37,12 +37,18 @@ bit_mask : (j : ℕ) → j < 64 → bit first_mask j ≡ nat_eq (j % 2) 0
 bit_mask j l = same_bool-true _ _
     (below_from_test (λ j. same_bool (bit first_mask j) (nat_eq (j % 2) 0)) 64 mask_tested j l)
 
--- a word that is joined from first and second cells of pairs
-pub joined_first : (f s j : ℕ) → j < 63 → bit f (1 + j) ≡ false →
-    bit (bit_or f (s * 2 % 18446744073709551616)) (1 + j) ≡ bit s j
-joined_first f s j l none = rw (bit-or f (s * 2 % 2 ^ 64) (1 + j), none, bit-mod (s * 2 ^ 1) 64 (1 + j) (omega arith))
-    (bit-shl_high s 1 j (omega arith))
+abbrev pub second_mask : ℕ
+second_mask = 0xAAAA_AAAA_AAAA_AAAA
 
+second_tested : holds_below (λ j. same_bool (bit second_mask j) (nat_eq (j % 2) 1)) 64 ≡ true
+unfolding bit same_bool
+second_tested = refl
+
+pub bit_second : (j : ℕ) → j < 64 → bit second_mask j ≡ nat_eq (j % 2) 1
+bit_second j l = same_bool-true _ _
+    (below_from_test (λ j. same_bool (bit second_mask j) (nat_eq (j % 2) 1)) 64 second_tested j l)
+
+-- a word that is joined from first and second cells of pairs
 pub joined_zero : (f s : ℕ) → bit (bit_or f (s * 2 % 18446744073709551616)) 0 ≡ bit f 0
 joined_zero f s =
     rw (bit-or f (s * 2 % 2 ^ 64) 0, bit-mod (s * 2 ^ 1) 64 0 (omega arith), bit-shl_low s 1 0 (omega arith))
@@ -59,7 +65,7 @@ mate_odd i even =
     rw odd (omega arith)
 
 -- the flips are those of the lower row and the upper one too
-flips_below : (f a n b m main anti : ℕ) → AreFlips f a n b m main anti → AreFlips f b m a n anti main
+pub flips_below : (f a n b m main anti : ℕ) → AreFlips f a n b m main anti → AreFlips f b m a n anti main
 flips_below f a n b m main anti flips = record {
   upper_first = flips.lower_first;
   upper_second = flips.lower_second;
@@ -69,7 +75,7 @@ flips_below f a n b m main anti flips = record {
 }
 
 -- a row of 32 blocks is turned if the first and the second cell of each is
-cells_turned : (a b a' : ℕ) →
+pub cells_turned : (a b a' : ℕ) →
     ((i : ℕ) → i < 63 → i % 2 ≡ 0 → (bit a' i ≡ turned (bit a i) (bit b (1 + i)) (bit a (1 + i)) (bit b i))
     × (bit a' (1 + i) ≡ turned (bit a (1 + i)) (bit b i) (bit a i) (bit b (1 + i)))) →
     (j : ℕ) → j < 64 → bit a' j ≡ turned (bit a j) (bit b (mate j)) (bit a (mate j)) (bit b j)
@@ -82,7 +88,7 @@ cells_turned a b a' each j l = by_eq_or_not (j % 2) 0
     rw (e, mate_odd i even) ((each i (omega arith) even).1))
 
 -- a word that gets flips of first cells, and those of second cells one place up
-row_flipped : (a first second j : ℕ) → j < 63 → bit (bit_xor a (bit_or first (second * 2 % 18446744073709551616)))
+pub row_flipped : (a first second j : ℕ) → j < 63 → bit (bit_xor a (bit_or first (second * 2 % 18446744073709551616)))
     (1 + j) ≡ xor (bit a (1 + j)) (bit first (1 + j) || bit second j)
 row_flipped a first second j l = rw (
   bit-xor a (bit_or first (second * 2 % 2 ^ 64)) (1 + j),
@@ -198,45 +204,3 @@ by_place P f q =
     let e : 64 * (q / 64) + q % 64 ≡ q = div-add-mod q 64 in
     let small : q % 64 < 64 = omega arith in
     rw e at (f (q / 64) (q % 64) small)
-
-first_bit_tested : holds_below (λ j. same_bool (bit 1 j) (nat_eq j 0)) 64 ≡ true
-unfolding bit same_bool
-first_bit_tested = refl
-
-bit_one : (j : ℕ) → j < 64 → bit 1 j ≡ nat_eq j 0
-bit_one j l = same_bool-true _ _ (below_from_test (λ j. same_bool (bit 1 j) (nat_eq j 0)) 64 first_bit_tested j l)
-
-rest_tested : holds_below (λ j. same_bool (bit 18446744073709551614 j) (nat_eq (min j 1) 1)) 64 ≡ true
-unfolding bit same_bool
-rest_tested = refl
-
-bit_rest : (j : ℕ) → j < 64 → bit 18446744073709551614 j ≡ nat_eq (min j 1) 1
-bit_rest j l = same_bool-true _ _
-    (below_from_test (λ j. same_bool (bit 18446744073709551614 j) (nat_eq (min j 1) 1)) 64 rest_tested j l)
-
--- the first bit of a word
-pub kept_bit : (w : ℕ) → bit (bit_and w 1) 0 ≡ bit w 0
-kept_bit w = rw (bit-and w 1 0, bit_one 0 (omega arith)) (and-true (bit w 0))
-
--- a word that gets another first bit
-pub rest_zero : (w c : ℕ) → bit (bit_or (bit_and w 18446744073709551614) c) 0 ≡ bit c 0
-rest_zero w c =
-    rw (
-      bit-or (bit_and w 18446744073709551614) c 0,
-      bit-and w 18446744073709551614 0,
-      bit_rest 0 (omega arith),
-      and-false (bit w 0),
-    )
-    refl
-
-pub rest_kept : (w c j : ℕ) → c < 2 → 0 < j → j < 64 → bit (bit_or (bit_and w 18446744073709551614) c) j ≡ bit w j
-rest_kept w c j small positive l =
-    let one : min j 1 ≡ 1 = omega arith in
-    rw (
-      bit-or (bit_and w 18446744073709551614) c j,
-      bit-and w 18446744073709551614 j,
-      bit_rest j l,
-      one,
-      bit_above c 1 j (omega (arith, small)) (omega arith),
-      or-false (bit w j && true),
-    ) (and-true (bit w j))

@@ -1,6 +1,6 @@
 -- A plane of bits in words, for this crate's own functions: the cell at place p is bit p % 64 of word p / 64
 use Rattle.std.specs.Prelude.{◌≡◌, ◌==◌, ◌&&◌, Bool, true, false, if◌then◌else◌, ℕ, ◌+◌, ◌-◌, ◌*◌, ◌/◌, ◌%◌, ◌<◌, ◌≤◌}
-use Rattle.std.specs.Prelude.{List, slice_index, ◌≢◌, nat_le, ℤ, pos, negsuc, bit_xor}
+use Rattle.std.specs.Prelude.{List, slice_index, ◌≢◌, nat_le, ℤ, pos, negsuc, bit_xor, set, ◌^◌}
 use Rattle.bbm_rule.specs.Plane.{turned}
 use Rattle.bbm_rule.specs.Bits.{bit}
 
@@ -12,8 +12,8 @@ cell_at words p = bit (slice_index words (p / 64)) (p % 64)
 unfoldable pub mate : ℕ → ℕ
 mate j = if j % 2 == 0 then j + 1 else j - 1
 
--- A bit of f is a block: that bit of a and n is its first and its second cell in the upper row, that of b and m in the
--- lower one. It is turned where the bits of the two flips are set, main on one diagonal and anti on the other.
+-- A bit of f is a block: that bit of a and n is its left and its right cell in the upper row, that of b and m in the lower
+-- one. The block turns if the cells of a and m flip where main has a bit, and those of n and b where anti has one.
 pub record AreFlips (f a n b m main anti : ℕ) : Type 0 where
   pub upper_first : (j : ℕ) → bit f j ≡ true →
       bit (bit_xor a main) j ≡ turned (bit a j) (bit m j) (bit n j) (bit b j)
@@ -40,18 +40,13 @@ pub record SetsWindow (p v : ℕ) (old new : List ℕ) : Type 0 where
   pub before : (q : ℕ) → q < p → cell_at new q ≡ cell_at old q
   pub after : (q : ℕ) → p + 64 ≤ q → cell_at new q ≡ cell_at old q
 
--- each of the n cells from place p on gets the cell behind it, and no other cell changes
-pub record MovesDown (p n : ℕ) (old new : List ℕ) : Type 0 where
-  pub cells : (j : ℕ) → j < n → cell_at new (p + j) ≡ cell_at old (p + j + 1)
-  pub before : (q : ℕ) → q < p → cell_at new q ≡ cell_at old q
-  pub after : (q : ℕ) → p + n ≤ q → cell_at new q ≡ cell_at old q
+-- the bits of word i flip where f has a bit
+abbrev pub flip : ℕ → ℕ → List ℕ → List ℕ
+flip i f words = set words i (bit_xor (slice_index words i) f)
 
--- each of the n cells behind place p gets the cell before it, that at p becomes the value, and no other cell changes
-pub record MovesUp (p n : ℕ) (value : Bool) (old new : List ℕ) : Type 0 where
-  pub first : cell_at new p ≡ value
-  pub cells : (j : ℕ) → j < n → cell_at new (p + 1 + j) ≡ cell_at old (p + j)
-  pub before : (q : ℕ) → q < p → cell_at new q ≡ cell_at old q
-  pub after : (q : ℕ) → p + n < q → cell_at new q ≡ cell_at old q
+-- the first bits of word i and of the word s words behind it flip where anti and main have their last bit
+abbrev pub carry : ℕ → ℕ → ℕ → ℕ → List ℕ → List ℕ
+carry i s main anti words = flip (i + s) (main / 2 ^ 63) (flip i (anti / 2 ^ 63) words)
 
 -- The blocks of the n cells from place p on and the n cells a row of s cells below are turned, and no other cell
 -- changes.

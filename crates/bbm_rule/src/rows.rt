@@ -4,30 +4,32 @@
 ghost use Rattle.std.specs.Prelude.{ℕ, ◌≡◌, ◌+◌, ◌*◌, ◌<◌, ◌≤◌, ◌^◌, ◌-◌, length, false};
 ghost use Rattle.bbm_rule.specs.Bands.{AreCalm};
 ghost use Rattle.bbm_rule.specs.Bits.{AreSameBits, IsBlank, bit};
-ghost use Rattle.bbm_rule.specs.Rows.{AreFlips, ArePairsTurned, AreSameCells, HasWindow, MovesDown, MovesUp, TurnsRun, TurnsRows};
+ghost use Rattle.bbm_rule.specs.Rows.{AreFlips, ArePairsTurned, AreSameCells, HasWindow, TurnsRun, TurnsRows, carry};
 
 use crate::marks::{mark, mark_before, next_marked, unmark};
 
 // the first cell of each pair
 const FIRST_OF_PAIR: u64 = 0x5555_5555_5555_5555;
 
-// Returns which blocks flip their upper first and lower second cell, which flip the other two, and which change. A bit
-// of `firsts` is a block: that bit of `upper` and of `lower` is its first cell in a row, that of the next words its
-// second.
+// the second cell of each pair
+const SECOND_OF_PAIR: u64 = 0xAAAA_AAAA_AAAA_AAAA;
+
+// Returns which blocks flip their upper left and lower right cell, which flip the other two, and which change. A bit of
+// `lefts` is a block: that bit of `upper` and `lower` is a left cell of it, and that of the two next words a right one.
 #[inline(always)]
 fn block_flips(
-    firsts: u64,
+    lefts: u64,
     upper: u64,
     upper_next: u64,
     lower: u64,
     lower_next: u64,
 ) -> (u64, u64, u64)
-    ensures flips { AreFlips firsts upper upper_next lower lower_next result.0 result.1 }
+    ensures flips { AreFlips lefts upper upper_next lower lower_next result.0 result.1 }
     ensures stays { IsBlank result.2 → IsBlank result.0 × IsBlank result.1 }
 {
     let main = upper ^ lower_next;
     let anti = upper_next ^ lower;
-    let changed = ((upper | lower_next) ^ (upper_next | lower)) & firsts;
+    let changed = ((upper | lower_next) ^ (upper_next | lower)) & lefts;
     // `a ^ (a & b)` stands for `a & !b`.
     (
         changed ^ (changed & anti),
@@ -78,49 +80,40 @@ fn turn_aligned(words: &mut [u64], upper: usize, stride: usize) -> bool
     changed != 0
 }
 
-// Moves the cells of some words one place down. The last of them gets the first cell of the word behind.
+// Turns the blocks that begin at the second cell of word i and of the word a row below. `main` and `anti` are the flips
+// of the two words before, whose last block has its right cells in these two. Returns the flips of these two, and a bit
+// for each block that changes.
 #[inline(always)]
-fn move_down(words: &mut [u64], from: usize, count: usize)
-    requires { from + count < length words.old }
-    ensures { MovesDown (64 * from) (64 * count) words.old words.new }
+fn turn_words_shifted(
+    words: &mut [u64],
+    i: usize,
+    stride: usize,
+    main: u64,
+    anti: u64,
+) -> (u64, u64, u64)
+    requires rows_inside { i + stride + 1 < length words.old }
+    requires wide { 0 < stride }
+    requires alone { stride ≡ 1 → main ≡ 0 }
+    ensures turned { TurnsRun (64 * i + 1) 64 (64 * stride) (carry i stride main anti words.old)
+        (carry (i + 1) stride result.0 result.1 words.new) }
+    ensures stays { IsBlank result.2 → AreSameCells (carry i stride main anti words.old)
+        (carry (i + 1) stride result.0 result.1 words.new) }
 {
-    for k in 0..count {
-        words[from + k] = window(words, from + k);
-    }
+    let (upper, lower) = (words[i], words[i + stride]);
+    let (next_main, next_anti, changed) = block_flips(
+        SECOND_OF_PAIR,
+        upper,
+        window(words, i),
+        lower,
+        window(words, i + stride),
+    );
+    words[i] = upper ^ (anti >> 63) ^ (next_main | (next_anti << 1));
+    words[i + stride] = lower ^ (main >> 63) ^ (next_anti | (next_main << 1));
+    (next_main, next_anti, changed)
 }
 
-// Moves the cells of a word one place up, behind one that is carried. Returns them, and the last cell, which is carried
-// on.
-#[inline(always)]
-fn move_word_up(word: u64, carried: u64) -> (u64, u64)
-    requires { carried < 2 }
-    ensures first { bit result.0 0 ≡ bit carried 0 }
-    ensures others { (i : ℕ) → i < 63 → bit result.0 (1 + i) ≡ bit word i }
-    ensures last { bit result.1 0 ≡ bit word 63 }
-    ensures one_bit { result.1 < 2 }
-{
-    (carried | (word << 1), word >> 63)
-}
-
-// Moves the cells of some words one place up. The first of them becomes bit 0 of `first`, which has no other bit, and
-// the last one goes to the word behind.
-#[inline(always)]
-fn move_up(words: &mut [u64], from: usize, count: usize, first: u64)
-    requires words_inside { from + count < length words.old }
-    requires one_bit { first < 2 }
-    ensures { MovesUp (64 * from) (64 * count) (bit first 0) words.old words.new }
-{
-    let mut carried = first;
-    for k in 0..count {
-        let (moved, last) = move_word_up(words[from + k], carried);
-        words[from + k] = moved;
-        carried = last;
-    }
-    words[from + count] = (words[from + count] & 0xFFFF_FFFF_FFFF_FFFE) | carried;
-}
-
-// The same, where the blocks begin at the second cell of each. Three passes over words take half the time of one over
-// cells that lie in two words each, since the compiler makes each of them several words at a time.
+// The same, where the blocks begin at the second cell of each. The compiler turns several words at a time only if the
+// loop keeps whole words of flips, and does not read the lower row's first word as the one behind the upper row.
 #[inline(always)]
 fn turn_shifted(words: &mut [u64], upper: usize, stride: usize) -> bool
     requires rows_inside { upper + stride + stride < length words.old }
@@ -128,11 +121,23 @@ fn turn_shifted(words: &mut [u64], upper: usize, stride: usize) -> bool
     ensures turned { TurnsRun (64 * upper + 1) (64 * stride) (64 * stride) words.old words.new }
     ensures same_cells { result ≡ false → AreSameCells words.old words.new }
 {
-    let first = words[upper] & 1;
-    move_down(words, upper, 2 * stride);
-    let changed = turn_aligned(words, upper, stride);
-    move_up(words, upper, 2 * stride, first);
-    changed
+    let (mut main, mut anti, mut changed) = (0, 0, 0);
+    for k in 0..stride - 1 {
+        let (next_main, next_anti, told) = turn_words_shifted(words, upper + k, stride, main, anti);
+        main = next_main;
+        anti = next_anti;
+        changed |= told;
+    }
+    let (last_main, last_anti, told) = turn_words_shifted(
+        words,
+        upper + (stride - 1),
+        stride,
+        main,
+        anti,
+    );
+    words[upper + stride] ^= last_anti >> 63;
+    words[upper + stride + stride] ^= last_main >> 63;
+    (changed | told) != 0
 }
 
 /// Turns the blocks of all pairs of rows, the first of which begins at word 0. A pair without a mark stays, and is
