@@ -34,7 +34,17 @@ pub(crate) fn cell_bit(words: &[u64], place: usize) -> bool
     requires { place / 64 < length words.now }
     ensures { result ≡ cell_at words.now place }
 {
-    (words[place / 64] >> (place % 64)) & 1 == 1
+    is_live_in(words, place / 64, place % 64)
+}
+
+// whether a cell of word i is live
+#[inline(always)]
+fn is_live_in(words: &[u64], i: usize, bit: usize) -> bool
+    requires inside { i < length words.now }
+    requires one_word { bit < 64 }
+    ensures { result ≡ cell_at words.now (64 * i + bit) }
+{
+    (words[i] >> bit) & 1 == 1
 }
 
 // makes the cell at a place live or dead
@@ -118,17 +128,15 @@ fn is_margin_live(words: &[u64], stride: usize, width: usize, height: usize, y: 
     ensures live { OnTrue result (HasLiveMargin width height (64 * stride) words.now) }
     ensures dead { result ≡ false → IsDeadMarginIn width height (64 * stride) y words.now }
 {
-    let first = 64 * stride * y;
-    if cell_bit(words, first) || cell_bit(words, first + (width + 1)) {
+    let first = stride * y;
+    // The word of the last column is found once for all rows.
+    let (word, bit) = ((width + 1) / 64, (width + 1) % 64);
+    if is_live_in(words, first, 0) || is_live_in(words, first + word, bit) {
         return true;
     }
     if 0 < y && y <= height {
         return false;
     }
-    for x in 0..width + 2 {
-        if cell_bit(words, first + x) {
-            return true;
-        }
-    }
-    false
+    let end = 64 * first + (width + 2);
+    next_marked(words, 64 * first, end) < end
 }

@@ -1,39 +1,51 @@
-use Rattle.std.proofs.Common.{arith, refl, sym, ◌≡◌, ◌+◌, ◌*◌, ◌≤◌}
-use Rattle.std.proofs.Math.Nat.{mul-le-mul_left}
-use Rattle.bbm_rule.proofs.BoardLemmas.{not_inner_column}
-use Rattle.bbm_rule.proofs.cells.is_margin_live.Goals.{then-cell_bit-via-then-cell_bit}
-use Rattle.bbm_rule.proofs.cells.is_margin_live.Goals.{then-cell_bit-via-else-cell_bit+then-cell_bit-2}
+use Rattle.std.proofs.Common.{arith, refl, sym, false, inl, inr, ℕ, ◌≡◌, ◌+◌, ◌-◌, ◌*◌, ◌/◌, ◌%◌}
+use Rattle.std.proofs.lemmas.Bool.{OnTrue_from, ltb-true}
+use Rattle.bbm_rule.specs.Rows.{is_inner}
+use Rattle.bbm_rule.proofs.BoardLemmas.{not_inner_column, not_inner_first_row, not_inner_row}
+use Rattle.bbm_rule.proofs.cells.is_margin_live.Goals.{then-is_live_in-via-then-is_live_in}
+use Rattle.bbm_rule.proofs.cells.is_margin_live.Goals.{then-is_live_in-via-else-is_live_in+then-is_live_in-2}
 use Rattle.bbm_rule.proofs.cells.is_margin_live.Goals as goal
 
-pub cell_bit-requires : goal.cell_bit-requires
-cell_bit-requires c =
-    let m : c.args.stride * (c.args.y + 1) ≤ c.args.stride * (c.args.height + 2) =
-    mul-le-mul_left c.args.stride (omega (arith, c.requires.row)) in
-    omega (arith, c.requires.word_count, c.requires.width)
-
-pub cell_bit-requires-else-cell_bit : goal.cell_bit-requires-else-cell_bit
-cell_bit-requires-else-cell_bit c =
-    let m : c.args.stride * (c.args.y + 1) ≤ c.args.stride * (c.args.height + 2) =
-    mul-le-mul_left c.args.stride (omega (arith, c.requires.row)) in
-    omega (arith, c.requires.word_count, c.requires.width)
-
-pub returns-then-cell_bit-clause-live : goal.returns-then-cell_bit-clause-live
-returns-then-cell_bit-clause-live c = elim c.then-cell_bit.branch [
-  | then-cell_bit-via-then-cell_bit w ↦ record {
+pub returns-then-is_live_in-clause-live : goal.returns-then-is_live_in-clause-live
+returns-then-is_live_in-clause-live c = elim c.then-is_live_in.branch [
+  | then-is_live_in-via-then-is_live_in w ↦ record {
     x = 0;
     y = c.args.y;
     column = omega arith;
     row = c.requires.row;
     outer = refl;
-    lives = let e : 64 * c.args.stride * c.args.y + 0 ≡ 64 * c.args.stride * c.args.y = omega arith in
-        rw e (sym w.if-cell_bit.ensures);
+    lives = let e : 64 * c.args.stride * c.args.y + 0 ≡ 64 * (c.args.stride * c.args.y) + 0 = omega arith in
+        rw e (sym w.if-is_live_in.ensures);
   }
-  | then-cell_bit-via-else-cell_bit+then-cell_bit-2 w ↦ record {
+  | then-is_live_in-via-else-is_live_in+then-is_live_in-2 w ↦ record {
     x = c.args.width + 1;
     y = c.args.y;
     column = omega arith;
     row = c.requires.row;
     outer = not_inner_column c.args.width c.args.height (c.args.width + 1) c.args.y (omega arith);
-    lives = sym w.if-cell_bit-2.ensures;
+    lives = let e : 64 * c.args.stride * c.args.y + (c.args.width + 1)
+        ≡ 64 * (c.args.stride * c.args.y + (c.args.width + 1) / 64) + (c.args.width + 1) % 64 = omega arith in
+        rw e (sym w.if-is_live_in-2.ensures);
   }
 ]
+
+pub returns-clause-live : goal.returns-clause-live
+returns-clause-live c = OnTrue_from _ _ (λ h.
+    let found = ltb-true c.next_marked.result (64 * (c.args.stride * c.args.y) + (c.args.width + 2)) h in
+    record {
+      x = c.next_marked.result - 64 * (c.args.stride * c.args.y);
+      y = c.args.y;
+      column = omega (arith, found);
+      row = c.requires.row;
+      outer = outer (c.next_marked.result - 64 * (c.args.stride * c.args.y));
+      lives = let e : 64 * c.args.stride * c.args.y + (c.next_marked.result - 64 * (c.args.stride * c.args.y))
+          ≡ c.next_marked.result = omega (arith, c.next_marked.ensures.range.0) in
+          rw e (c.next_marked.ensures.marked found);
+    })
+  where
+    outer : (x : ℕ) → is_inner c.args.width c.args.height x c.args.y ≡ false
+    outer x = elim c.else-y-gt0.either [
+      | inl over ↦ not_inner_row c.args.width c.args.height x c.args.y over.1
+      | inr le ↦ let e : c.args.y ≡ 0 = omega (arith, le) in
+          rw e (not_inner_first_row c.args.width c.args.height x)
+    ]
