@@ -23,7 +23,8 @@ or_none : (a b : Bool) → (a || b) ≡ false → (a ≡ false) × (b ≡ false)
 or_none true b h = cc
 or_none false b h = (refl, h)
 
-pub noted_bits : (changed told j : ℕ) → bit (bit_or changed told) j ≡ false → (bit changed j ≡ false) × (bit told j ≡ false)
+pub noted_bits : (changed told j : ℕ) → bit (bit_or changed told) j ≡ false →
+    (bit changed j ≡ false) × (bit told j ≡ false)
 noted_bits changed told j h = or_none (bit changed j) _ (sym (bit-or changed told j) ∙ h)
 
 -- a window that gets the cells that it has

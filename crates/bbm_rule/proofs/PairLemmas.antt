@@ -113,7 +113,8 @@ side_turned a b main anti flips = cells_turned a b _ (λ i l even. (
 
     first_at : (i : ℕ) → i < 63 → i % 2 ≡ 0 →
         bit (bit_xor a (bit_or main (anti * 2 % 18446744073709551616))) i ≡ bit (bit_xor a main) i
-    first_at zero l even = rw (bit-xor a (bit_or main (anti * 2 % 2 ^ 64)) 0, bit-xor a main 0, joined_zero main anti) refl
+    first_at zero l even = rw (bit-xor a (bit_or main (anti * 2 % 2 ^ 64)) 0, bit-xor a main 0, joined_zero main anti)
+        refl
     first_at (suc i) l even =
         let e : suc i ≡ 1 + i = omega arith in
         rw (

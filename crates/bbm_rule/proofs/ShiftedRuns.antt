@@ -171,7 +171,12 @@ window_set i v a n b m main anti words room flips has = record {
     last =
         let e : 64 * i + 1 + 63 ≡ 64 * (i + 1) + 0 = omega arith in
         ap (cell_at (flip_window i main anti words)) e ∙ two.cells 0 (omega arith) ∙ next_bit 0 (omega arith)
-        ∙ rw (window_bit v main anti 63, (flips.elsewhere 64 (off_above 64 (omega arith))).0, has.cells 63 (omega arith), e)
+        ∙ rw (
+          window_bit v main anti 63,
+          (flips.elsewhere 64 (off_above 64 (omega arith))).0,
+          has.cells 63 (omega arith),
+          e,
+        )
         refl
 
     first : cell_at (flip_window i main anti words) (64 * i + 0) ≡ cell_at words (64 * i + 0)
@@ -184,7 +189,8 @@ window_set i v a n b m main anti words room flips has = record {
 
     behind : (b : ℕ) → 0 < b → b < 64 →
         cell_at (flip_window i main anti words) (64 * (i + 1) + b) ≡ cell_at words (64 * (i + 1) + b)
-    behind b positive l = two.cells b l ∙ next_bit b l ∙ rw (flips.elsewhere (63 + b) (off_above (63 + b) (omega arith))).1
+    behind b positive l = two.cells b l ∙ next_bit b l
+        ∙ rw (flips.elsewhere (63 + b) (off_above (63 + b) (omega arith))).1
         (xor_false (cell_at words (64 * (i + 1) + b)))
 
 -- ---- the steps of the loop

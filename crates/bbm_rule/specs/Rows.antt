@@ -12,8 +12,8 @@ cell_at words p = bit (slice_index words (p / 64)) (p % 64)
 unfoldable pub mate : ℕ → ℕ
 mate j = if j % 2 == 0 then j + 1 else j - 1
 
--- A bit of f is a block: that bit of a and n is its left and its right cell in the upper row, that of b and m in the lower
--- one. The block turns if the cells of a and m flip where main has a bit, and those of n and b where anti has one.
+-- A bit of f is a block, whose upper cells are that bit of a and n, and its lower ones that of b and m. It turns if the
+-- cells of a and m flip where main has a bit, and those of n and b where anti has one.
 pub record AreFlips (f a n b m main anti : ℕ) : Type 0 where
   pub upper_first : (j : ℕ) → bit f j ≡ true →
       bit (bit_xor a main) j ≡ turned (bit a j) (bit m j) (bit n j) (bit b j)
