@@ -1,9 +1,9 @@
 //! A plane of bits in rows of words, whose blocks are turned in place. The cell at place p of the plane is bit p % 64
 //! of word p / 64, and a row is `stride` words.
 
-ghost use Rattle.std.specs.Prelude.{ℕ, ◌≡◌, ◌+◌, ◌*◌, ◌<◌, ◌≤◌, ◌^◌, ◌-◌, length, false};
+ghost use Rattle.std.specs.Prelude.{◌≡◌, ◌+◌, ◌*◌, ◌<◌, ◌≤◌, ◌^◌, ◌-◌, length, false};
 ghost use Rattle.bbm_rule.specs.Bands.{AreCalm};
-ghost use Rattle.bbm_rule.specs.Bits.{AreSameBits, IsBlank, bit};
+ghost use Rattle.bbm_rule.specs.Bits.{AreSameBits, IsBlank};
 ghost use Rattle.bbm_rule.specs.Rows.{AreFlips, ArePairsTurned, AreSameCells, HasWindow, TurnsRun, TurnsRows, carry};
 
 use crate::marks::{mark, mark_before, next_marked, unmark};

@@ -1,6 +1,6 @@
 //! Many blocks at a time, on words of bits.
 
-ghost use Rattle.std.specs.Prelude.{◌≡◌, ◌+◌, ◌<◌, ◌≤◌, ℕ, length, slice_index};
+ghost use Rattle.std.specs.Prelude.{◌≡◌, ◌+◌, ◌<◌, ◌≤◌, ℕ, length};
 ghost use Rattle.bbm_rule.specs.Words.{AreTurned, AreTurnedAt, TurnsBetween};
 
 use std::simd::prelude::*;
