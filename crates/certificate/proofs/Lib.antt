@@ -1,5 +1,6 @@
 pub mod JobLemmas
 pub mod KeepLemmas
+pub mod KindLemmas
 pub mod LayoutTableLemmas
 pub mod JobLists
 pub mod TimetableLemmas

@@ -14,6 +14,7 @@ mod jobs;
 mod keep_lines;
 pub mod laws;
 mod layout_tables;
+mod line_kinds;
 mod named_wires;
 mod printing;
 mod reading;
