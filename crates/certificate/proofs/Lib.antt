@@ -1,8 +1,8 @@
 pub mod JobLemmas
 pub mod KeepLemmas
 pub mod KindLemmas
+pub mod SliceLemmas
 pub mod LayoutTableLemmas
-pub mod JobLists
 pub mod TimetableLemmas
 pub mod StopLemmas
 pub mod TimeLemmas

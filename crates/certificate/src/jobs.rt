@@ -28,9 +28,7 @@ use crate::layout_tables::LayoutTables;
 use crate::line_kinds::{side_lines, stop_lines, wiring_lines};
 use crate::stops::stops_of;
 use crate::timetable::{RingOrHalo, signals_of};
-use certificate_lines::{
-    CertificateLine, StoredLine, cut_list, kept_places, lines_of_module, used_gates,
-};
+use certificate_lines::{StoredLine, cut_list, kept_places, used_gates};
 use circuit::Circuit;
 use module_box::{Box2, Locals, Schedule};
 use module_job::{Job, Shape, Stop, moved_stops, shift_to_origin};
@@ -238,23 +236,21 @@ fn make_job(
     })
 }
 
-// The jobs of the modules that have these lines.
-fn jobs_of_lines(
+// The jobs of modules as they are written.
+fn jobs_of_written(
     alloc: Global,
     tables: &LayoutTables,
-    entries: &[StoredLine],
+    parts: &[ModuleSlice],
 ) -> Result<Vec<Arc<Job>>, AllocError>
     requires { AreModules (setting_of tables.now.circuit tables.now.layout)
-        (modules_of entries.now) }
+        (map slice_lines parts.now) }
     ensures { IfOk result (λ js. AreJobsOf (circuit_of tables.now.circuit) tables.now.layout
-        (modules_of entries.now) (map arc_value js.items)) }
+        (map slice_lines parts.now) (map arc_value js.items)) }
 {
     let mut jobs = Vec::new(alloc);
-    'lines: for (place, entry) in entries.iter().enumerate() {
-        if let CertificateLine::Module(area) = entry.line() {
-            let job = make_job(alloc, tables, area, lines_of_module(&entries[place + 1..]))?;
-            jobs.push(Arc::new(alloc, job)?)?;
-        }
+    'parts: for part in parts {
+        let job = make_job(alloc, tables, part.area, part.lines)?;
+        jobs.push(Arc::new(alloc, job)?)?;
     }
     Ok(jobs)
 }
@@ -306,11 +302,11 @@ fn jobs_of_version(
         (meant version (setting_of tables.now.circuit tables.now.layout) (modules_of entries.now))
         (map arc_value js.items)) }
 {
+    let parts = module_slices(alloc, entries)?;
     if version == 2 {
-        let parts = module_slices(alloc, entries)?;
         return jobs_of_parts(alloc, tables, entries, parts.as_slice());
     }
-    jobs_of_lines(alloc, tables, entries)
+    jobs_of_written(alloc, tables, parts.as_slice())
 }
 
 impl<'a> Cert<'a> {
