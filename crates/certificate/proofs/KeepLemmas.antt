@@ -1,21 +1,13 @@
 -- The inverse gates that no module keeps
-use Rattle.std.proofs.Common.{◌≡◌, ℕ, ◌+◌, ◌<◌, ◌≤◌, ◌&&◌, ◌||◌, Bool, true, false, not, cond, List, [], ◌∷◌, ◌++◌}
-use Rattle.std.proofs.Common.{drop, get_or, length, slice_get, Some, refl, sym, ap, ap₂, ◌∙◌, append_assoc, add-one}
+use Rattle.std.proofs.Common.{◌≡◌, ℕ, ◌+◌, ◌<◌, ◌≤◌, ◌&&◌, Bool, not, cond, List, [], ◌∷◌, ◌++◌}
+use Rattle.std.proofs.Common.{drop, get_or, length, slice_get, Some, sym, ap, ap₂, ◌∙◌, append_assoc, add-one}
 use Rattle.std.proofs.Common.{drop-cons, drop_of_length-le}
-use Rattle.std.specs.List.{flat_map}
-use Rattle.std.proofs.lemmas.List.{append-nil, drop_all}
+use Rattle.std.proofs.lemmas.List.{append-nil}
 use Rattle.std.proofs.lemmas.Option.{get_or_from_slice_get}
 use Rattle.circuit.specs.Gates.{is_inverse}
 use Rattle.circuit.specs.Meaning.{Gate}
-use Rattle.module_box.specs.Locals.{is_among}
-use Rattle.certificate_lines.specs.Entries.{ModuleLines, keep_in, modules_of}
+use Rattle.certificate_lines.specs.Entries.{ModuleLines}
 use Rattle.certificate.specs.Keeps.{is_kept, unkept_from}
-use Rattle.certificate_lines.specs.ModuleParts.{inner, is_module}
-use Rattle.certificate_lines.specs.declared.certificate_line.CertificateLine.{CertificateLine}
-use Rattle.certificate_lines.specs.declared.certificate_line.CertificateLine.TheVariants.{Module, Cut, Use, Keep, Edge}
-use Rattle.certificate_lines.specs.declared.certificate_line.CertificateLine.TheVariants.{Halo, Stop}
-use Rattle.certificate_lines.proofs.ModuleSplit.{split_module, split_other}
-use Rattle.certificate_lines.proofs.StarLemmas.{or_none}
 
 -- ---- the gates that nobody keeps
 

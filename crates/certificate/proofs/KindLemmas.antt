@@ -4,7 +4,6 @@ use Rattle.std.proofs.Common.{refl, sym, ap, ap₂, subst, ◌∙◌, arith, Gre
 use Rattle.std.specs.List.{All, flat_map, list_all}
 use Rattle.std.specs.List.Sorted.{IsNonDecreasingBy, IsPartitionPoint}
 use Rattle.std.specs.Cmp.{nat_cmp_is}
-use Rattle.std.specs.Ordering.{nat_cmp}
 use Rattle.std.proofs.lemmas.Bool.{and_parts}
 use Rattle.std.proofs.lemmas.Grind.{flat_map-append}
 use Rattle.std.proofs.lemmas.Bool.{ltb-false, ltb-true}
@@ -92,8 +91,10 @@ split_parts r lines place order within point =
           let n = length-drop place lines in
           subst (λ i. r ≤ rank_of i) (sym (get_or-drop place lines k d))
           (ltb-false _ _ (point.1 (place + k) d (omega arith) (omega (arith, lt, n, within))));
-      orders = (order_left (take place lines) (drop place lines) ordered,
-          order_right (take place lines) (drop place lines) ordered);
+      orders = (
+        order_left (take place lines) (drop place lines) ordered,
+        order_right (take place lines) (drop place lines) ordered,
+      );
     })
 
 -- ---- a part that adds nothing

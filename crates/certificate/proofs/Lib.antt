@@ -21,7 +21,6 @@ pub mod MeantLines
 pub mod Soundness
 pub mod Spelling
 mod RoundTrip
-mod SectionBytes
 pub mod NearLines
 mod HashedLines
 mod PrintedLines

@@ -26,5 +26,5 @@ pub use cert::Cert;
 pub use certificate_lines::{BorderLine, CertificateLine, Counts, StopLine};
 pub use module_job::{Demand, Job, Shape, Stop, job_groups, shape_groups};
 pub use printing::{print_certificate, print_migrated};
-pub use reading::{read_certificate, read_certificate_with_digest};
+pub use reading::read_certificate;
 pub use times::{StopGap, TimeLine};

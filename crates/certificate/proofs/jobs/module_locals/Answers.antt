@@ -1,4 +1,3 @@
-use Rattle.std.proofs.Common.{◌≡◌}
 use Rattle.certificate.proofs.jobs.module_locals.Goals as goal
 
 pub named_locals-requires-clause-lines : goal.named_locals-requires-clause-lines

@@ -1,8 +1,7 @@
-use Rattle.std.proofs.Common.{◌≡◌, ◌<◌, ◌≤◌, rules, arith, take, drop, ltb, sym, subst, ◌∙◌}
-use Rattle.std.proofs.lemmas.List.{take-append-drop, take_all, length-drop}
+use Rattle.std.proofs.Common.{rules, ltb}
 use Rattle.std.proofs.lemmas.List.Sorted.{IsPartitionPoint-from_clause, IsPartitionedBy-ltb}
-use Rattle.certificate_lines.specs.Orders.{AreInOrder, rank_of}
-use Rattle.certificate.proofs.KindLemmas.{order_left, order_right, ranks_rise, split_parts}
+use Rattle.certificate_lines.specs.Orders.{rank_of}
+use Rattle.certificate.proofs.KindLemmas.{ranks_rise, split_parts}
 use Rattle.certificate.proofs.line_kinds.split_at_rank.Goals as goal
 
 pub returns : goal.returns
