@@ -146,20 +146,20 @@ full_part {g} {es} {lists} {number} {part} {places} {made} {lines} parts are goo
       ports = subst (HasPorts g) (sym whole) (each.ports number _ there);
     }
 
-pub record PartJobs (c : Circuit) (p : Pattern) (g : Setting) (ms : List ModuleLines) (done : ℕ)
+-- the modules before this number have their jobs, where a module means what f says
+pub record PartJobs (c : Circuit) (p : Pattern) (f : ModuleLines → ModuleLines) (ms : List ModuleLines) (done : ℕ)
     (js : List JobView) : Type 0 where
   pub count : length js ≡ done
   pub few : done ≤ length ms
   pub each : (i : ℕ) (m : ModuleLines) (j : JobView) → slice_get ms i ≡ Some m → slice_get js i ≡ Some j →
-      IsJobOf c p (with_halos g ms m) j
+      IsJobOf c p (f m) j
 
-module _ (c : Circuit) (p : Pattern) (g : Setting) (ms : List ModuleLines) where
-  pub no_part_jobs : PartJobs c p g ms 0 []
+module _ (c : Circuit) (p : Pattern) (f : ModuleLines → ModuleLines) (ms : List ModuleLines) where
+  pub no_part_jobs : PartJobs c p f ms 0 []
   no_part_jobs = record { count = refl; few = omega arith; each = λ i m j a b. absurd cc }
 
   pub one_part_more : (done : ℕ) (js : List JobView) (m : ModuleLines) (j : JobView) → slice_get ms done ≡ Some m →
-      IsJobOf c p (with_halos g ms m) j → PartJobs c p g ms done js →
-      PartJobs c p g ms (done + 1) (js ++ j ∷ [])
+      IsJobOf c p (f m) j → PartJobs c p f ms done js → PartJobs c p f ms (done + 1) (js ++ j ∷ [])
   one_part_more done js m j at is h = record {
     count = length_push js j ∙ ap (λ n. n + 1) h.count;
     few = let w = slice_get_within ms done m at in omega (arith, w);
@@ -167,14 +167,14 @@ module _ (c : Circuit) (p : Pattern) (g : Setting) (ms : List ModuleLines) where
       | inl before ↦ h.each i n k a before
       | inr last ↦
           let same : m ≡ n = some_is m n (sym at ∙ ap (slice_get ms) (sym (last.0 ∙ h.count)) ∙ a) in
-          subst (IsJobOf c p (with_halos g ms n)) last.1 (subst (λ x. IsJobOf c p (with_halos g ms x) j) same is)
+          subst (IsJobOf c p (f n)) last.1 (subst (λ x. IsJobOf c p (f x) j) same is)
     ];
   }
 
-  pub parts_done : (done : ℕ) (js : List JobView) → length ms ≤ done → PartJobs c p g ms done js →
-      AreJobsOf c p (map (with_halos g ms) ms) js
+  pub parts_done : (done : ℕ) (js : List JobView) → length ms ≤ done → PartJobs c p f ms done js →
+      AreJobsOf c p (map f ms) js
   parts_done done js le h = record {
-    count = let a = h.count in let f = h.few in let l = length-map ms (with_halos g ms) in omega (arith, a, f, l, le);
-    each = λ k m j a e. let n = mapped_from (with_halos g ms) ms k m a in
+    count = let a = h.count in let few = h.few in let l = length-map ms f in omega (arith, a, few, l, le);
+    each = λ k m j a e. let n = mapped_from f ms k m a in
         subst (λ x. IsJobOf c p x j) n.2 (h.each k n.0 j n.1 e);
   }

@@ -1,7 +1,8 @@
 pub mod JobLemmas
 pub mod KeepLemmas
+pub mod KindLemmas
+pub mod SliceLemmas
 pub mod LayoutTableLemmas
-pub mod JobLists
 pub mod TimetableLemmas
 pub mod StopLemmas
 pub mod TimeLemmas
@@ -20,7 +21,6 @@ pub mod MeantLines
 pub mod Soundness
 pub mod Spelling
 mod RoundTrip
-mod SectionBytes
 pub mod NearLines
 mod HashedLines
 mod PrintedLines

@@ -1,10 +1,9 @@
 -- Tables of times, line by line, and the lines of gates one after the other.
 use Rattle.std.proofs.Common.{◌≡◌, ℕ, suc, ◌+◌, ◌<◌, ◌≤◌, false, List, [], ◌∷◌, ◌++◌, length, drop, get_or, Option}
 use Rattle.std.proofs.Common.{Some, refl, sym, ap, ap₂, ◌∙◌, arith, drop-cons, add-one, append_assoc, append-nil}
-use Rattle.std.proofs.Common.{length-drop, take, ◌-◌}
 use Rattle.std.specs.Prelude.{slice_get}
 use Rattle.std.specs.List.{flat_map}
-use Rattle.std.proofs.lemmas.List.{drop_all, take_all}
+use Rattle.std.proofs.lemmas.List.{drop_all}
 use Rattle.std.proofs.lemmas.Option.{same_Some, slice_get-get_or, slice_get_within}
 use Rattle.circuit.specs.Meaning.{Circuit, Gate}
 use Rattle.section_text.proofs.Good.{AreFaultless, IsFaultless}
@@ -77,33 +76,6 @@ pub all_in_modules : (g : Setting) (v : ℕ) (es : List CertificateLine) → IsF
 all_in_modules g v es good = sym
     (splits es ∙ ap (λ xs. flat_map stop_in xs ++ all_stops (modules_of es)) (starts_with_module g v es good.each))
 
-abbrev Begins : List CertificateLine → Type 0
-Begins es = flat_map stop_in (drop (length (inner es)) es) ≡ all_stops (modules_of es)
-
-begins_other : (e : CertificateLine) (es : List CertificateLine) → is_module e ≡ false → Begins es → Begins (e ∷ es)
-begins_other e es o h = ap (λ xs. flat_map stop_in (drop (length xs) (e ∷ es))) (inner_other e es o) ∙ h
-    ∙ ap all_stops (sym (split_other e es o))
-
-begins_step : (e : CertificateLine) (es : List CertificateLine) → Begins es → Begins (e ∷ es)
-begins_step (Module b) es h =
-    ap (λ xs. flat_map stop_in (drop (length xs) (Module b ∷ es))) (inner_module (Module b) es refl)
-    ∙ splits (Module b ∷ es)
-    ∙ ap (λ xs. flat_map stop_in xs ++ all_stops (modules_of (Module b ∷ es))) (inner_module (Module b) es refl)
-begins_step (Cut n) es h = begins_other (Cut n) es refl h
-begins_step (Use k) es h = begins_other (Use k) es refl h
-begins_step (Keep k) es h = begins_other (Keep k) es refl h
-begins_step (Edge e) es h = begins_other (Edge e) es refl h
-begins_step (Halo e) es h = begins_other (Halo e) es refl h
-begins_step (Stop s) es h = begins_other (Stop s) es refl h
-
-begins_none : Begins []
-unfolding inner modules_of
-begins_none = refl
-
-pub from_module : (es : List CertificateLine) → Begins es
-from_module [] = begins_none
-from_module (e ∷ es) = begins_step e es (from_module es)
-
 -- ---- the lines of gates, one after the other
 
 numbered_step : (f : ℕ → Gate → List TimeLine) (n : ℕ) (gates : List Gate) (g : Gate) → slice_get gates n ≡ Some g →
@@ -156,13 +128,6 @@ within_none = omega arith
 pub inner_within : (es : List CertificateLine) → length (inner es) ≤ length es
 inner_within [] = within_none
 inner_within (e ∷ es) = length_step e es (inner_within es)
-
-pub stops_from : (es before : List CertificateLine) → before ≡ inner es →
-    flat_map stop_in (take (length es - length before) (drop (length before) es)) ≡ all_stops (modules_of es)
-stops_from es before e =
-    ap (flat_map stop_in) (take_all (length es - length before) (drop (length before) es)
-    (let n = length-drop (length before) es in omega (arith, n)))
-    ∙ ap (λ xs. flat_map stop_in (drop (length xs) es)) e ∙ from_module es
 
 -- ---- tables
 

@@ -1,13 +1,11 @@
 -- The fields of a certificate, and its view
-use Rattle.std.specs.Prelude.{◌≡◌, ◌≤◌, ◌&&◌, false, map, IfSome}
+use Rattle.std.specs.Prelude.{◌≡◌, ◌≤◌, ◌&&◌, false, map}
 use Rattle.std.specs.List.{All}
-use Rattle.sha2.specs.Sha256.{sha256}
 use Rattle.certificate_lines.specs.Entries.{modules_of, counts_of}
 use Rattle.certificate.specs.Grammars.{CertView}
 use Rattle.certificate_lines.specs.Settings.{setting_of}
 use Rattle.certificate_lines.specs.Modules.{AreModules, HasFewLines}
 use Rattle.certificate_lines.specs.Versions.{is_haloless, lacks_wire}
-use Rattle.certificate.specs.Text.{certificate_text}
 use Rattle.certificate.specs.declared.cert.Cert.TheInside.{Inside}
 
 -- the view of a certificate, from its fields
@@ -22,4 +20,3 @@ pub record IsCert (a : Inside) : Type 0 where
   pub known : (1 ≤ a.version) × (a.version ≤ 2)
   pub complete : (is_haloless a.version
       && lacks_wire (setting_of a.circuit.now a.layout.now) (modules_of a.entries.items)) ≡ false
-  pub hashed : IfSome a.digest (λ digest. digest ≡ sha256 (certificate_text (cert_view a)))

@@ -12,4 +12,5 @@ pub mod SeenTimes
 pub mod Laws
 pub mod LayoutTablesView
 pub mod SliceLines
+pub mod LineKinds
 pub mod HaloPlaces

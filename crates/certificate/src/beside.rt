@@ -1,15 +1,17 @@
 //! The halo lines that the edge lines of version 2 mean.
 ghost use Rattle.std.specs.Prelude.{◌≡◌, ◌++◌, ◌∷◌, [], map, slice_get, IfOk, OnOk};
-ghost use Rattle.std.specs.List.{filter, flat_map};
+ghost use Rattle.std.specs.List.{All, filter, flat_map};
 ghost use Rattle.std.specs.Option.{option_to_list};
 ghost use Rattle.module_box.specs.declared.boxes.Box2.{Box2};
 ghost use Rattle.certificate_lines.specs.Entries.{Setting, edge_in, modules_of, stop_in};
 ghost use Rattle.certificate_lines.specs.Modules.{AreModules};
+ghost use Rattle.certificate_lines.specs.Orders.{AreInOrder};
 ghost use Rattle.certificate.specs.HaloPlaces.{edges_at};
 ghost use Rattle.certificate.specs.SliceLines.{slice_lines};
 ghost use Rattle.certificate_lines.specs.Versions.{edge_lines_beside, in_order, is_early, is_halo, with_halos};
 ghost use Rattle.certificate_lines.specs.declared.certificate_line.CertificateLine.TheVariants.{Halo, Stop};
 
+use crate::cert::Cert;
 use certificate_lines::{
     CertificateLine, StoredBorder, StoredLine, compare_borders, lines_of_module, push_entry,
 };
@@ -40,6 +42,17 @@ pub(crate) fn module_slices<'b, 'a>(
         }
     }
     Ok(parts)
+}
+
+impl<'a> Cert<'a> {
+    /// Returns the modules as they are written.
+    pub(crate) fn slices(&self, alloc: Global) -> Result<Vec<ModuleSlice<'_, 'a>>, AllocError>
+        ensures modules { IfOk result (λ parts.
+            map slice_lines parts.items ≡ modules_of self.now.entries) }
+        ensures order { IfOk result (λ parts. All (λ p. AreInOrder p.lines.now) parts.items) }
+    {
+        module_slices(alloc, self.entries.as_slice())
+    }
 }
 
 // Adds a line that is an edge line.

@@ -26,8 +26,6 @@ pub struct Cert<'a> {
     pub(crate) version: u32,
     pub(crate) entries: Vec<StoredLine<'a>>,
     pub(crate) modules: Vec<Counts>,
-    // the digest of its text, if it was taken from the bytes that were read
-    pub(crate) digest: Option<[u8; 32]>,
 }
 
 impl<'a> Model for Cert<'a> {

@@ -40,21 +40,10 @@ fn hash_lines(
 impl<'a> Cert<'a> {
     /// Returns the SHA-256 digest of the certificate's text. It takes no memory for the whole text.
     ///
-    /// The text is the bytes of its section, from its header line to its `end` line with the line feed. The digest is
-    /// there already if [`read_certificate_with_digest`](crate::read_certificate_with_digest) made the certificate.
-    /// Otherwise the lines are printed and hashed one by one.
-    pub fn digest(&self, alloc: Global) -> Result<[u8; 32], AllocError>
-        ensures { IfOk result (λ digest. digest ≡ sha256 (certificate_text self.now)) }
-    {
-        match self.digest {
-            Some(digest) => Ok(digest),
-            None => self.printed_digest(alloc),
-        }
-    }
-
-    // The same, from the lines.
+    /// The text is the bytes of its section, from its header line to its `end` line with the line feed. The lines are
+    /// printed and hashed one by one. The SHA-256 of the bytes that were read is the same.
     #[tactic(auto, unfolding(crate::specs::Text::certificate_text))]
-    fn printed_digest(&self, alloc: Global) -> Result<[u8; 32], AllocError>
+    pub fn digest(&self, alloc: Global) -> Result<[u8; 32], AllocError>
         ensures { IfOk result (λ digest. digest ≡ sha256 (certificate_text self.now)) }
     {
         let mut hasher = Sha256::new();

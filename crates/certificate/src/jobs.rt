@@ -25,11 +25,10 @@ use crate::beside::{ModuleSlice, full_lines, module_slices};
 use crate::cert::Cert;
 use crate::halo_places::{halo_places, take_list};
 use crate::layout_tables::LayoutTables;
+use crate::line_kinds::{side_lines, stop_lines, wiring_lines};
 use crate::stops::stops_of;
 use crate::timetable::{RingOrHalo, signals_of};
-use certificate_lines::{
-    CertificateLine, StoredLine, cut_list, kept_places, lines_of_module, used_gates,
-};
+use certificate_lines::{StoredLine, cut_list, kept_places, used_gates};
 use circuit::Circuit;
 use module_box::{Box2, Locals, Schedule};
 use module_job::{Job, Shape, Stop, moved_stops, shift_to_origin};
@@ -72,6 +71,37 @@ fn named_locals(
     Ok((locals, kept))
 }
 
+// The same, without a look at edge lines, halo lines and stops.
+fn module_locals(
+    alloc: Global,
+    circuit: &Circuit,
+    lines: &[StoredLine],
+) -> Result<(Locals, Vec<u16>), AllocError>
+    requires order { AreInOrder lines.now }
+    requires lines { AreLocalLines (netlist_of circuit.now)
+        (flat_map (λ n. option_to_list (wire_of (circuit_of circuit.now) n))
+        (flat_map cut_in lines.now)) (flat_map use_in lines.now) }
+    requires kept { All (λ k. IsTrue (is_among (flat_map use_in lines.now) k))
+        (flat_map keep_in lines.now) }
+    ensures locals { IfOk result (λ l. AreLocalsOf (netlist_of circuit.now) l.0) }
+    ensures wires { IfOk result (λ l. l.0.circuit_wires
+        ≡ local_wires (netlist_of circuit.now)
+        (flat_map (λ n. option_to_list (wire_of (circuit_of circuit.now) n))
+        (flat_map cut_in lines.now)) (flat_map use_in lines.now)) }
+    ensures gates { IfOk result (λ l. l.0.circuit_gates ≡ flat_map use_in lines.now) }
+    ensures count { IfOk result (λ l. length l.0.netlist.gates
+        ≡ length (flat_map use_in lines.now)) }
+    ensures given { IfOk result (λ l. l.0.netlist.given
+        ≡ length (flat_map (λ n. option_to_list (wire_of (circuit_of circuit.now) n))
+        (flat_map cut_in lines.now))) }
+    ensures kept { IfOk result (λ l. map (slice_index (flat_map use_in lines.now)) l.1.items
+        ≡ flat_map keep_in lines.now) }
+    ensures within { IfOk result (λ l. All (λ k. k < length (flat_map use_in lines.now))
+        l.1.items) }
+{
+    named_locals(alloc, circuit, wiring_lines(lines))
+}
+
 // The signals of a module's lines about cells of its ring or of its halo, where the corner of its box is at (0, 0).
 fn own_signals(
     alloc: Global,
@@ -95,8 +125,8 @@ fn own_signals(
         (from_corner area s).events) }
     ensures near { IfOk result (λ s. All (λ e. IsNear e.at.cell) s.events) }
 {
-    let signals = signals_of(alloc, circuit, locals, side, lines)?;
-    signals.moved(alloc, shift_to_origin(area.x), shift_to_origin(area.y))
+    let signals = signals_of(alloc, circuit, locals, side, side_lines(side, lines))?;
+    Ok(signals.moved(shift_to_origin(area.x), shift_to_origin(area.y)))
 }
 
 // These signals of both sides: of the lines about cells of the ring, and of those about cells of the halo.
@@ -145,6 +175,7 @@ fn own_stops(
     area: Box2,
     lines: &[StoredLine],
 ) -> Result<Vec<Stop>, AllocError>
+    requires order { AreInOrder lines.now }
     requires local { All
         (λ s. IsTrue (is_local (circuit_of circuit.now) locals.now.circuit_wires s.wire))
         (flat_map stop_in lines.now) }
@@ -154,7 +185,7 @@ fn own_stops(
         (flat_map stop_in lines.now) (stops_from_corner area stops.items)) }
     ensures near { IfOk result (λ stops. All (λ s. IsNear s.at.cell) stops.items) }
 {
-    let stops = stops_of(alloc, circuit, locals, lines)?;
+    let stops = stops_of(alloc, circuit, locals, stop_lines(lines))?;
     moved_stops(
         alloc,
         stops.as_slice(),
@@ -179,7 +210,7 @@ fn make_job(
 {
     let circuit = tables.circuit();
     let size = tables.layout().size();
-    let (locals, kept) = named_locals(alloc, circuit, lines)?;
+    let (locals, kept) = module_locals(alloc, circuit, lines)?;
     let (starts, demands) = tables.cell_lists(alloc, area, &locals)?;
     let (edges, halos) = schedules(alloc, circuit, &locals, area, lines)?;
     let stops = own_stops(alloc, circuit, &locals, area, lines)?;
@@ -205,23 +236,21 @@ fn make_job(
     })
 }
 
-// The jobs of the modules that have these lines.
-fn jobs_of_lines(
+// The jobs of modules as they are written.
+fn jobs_of_written(
     alloc: Global,
     tables: &LayoutTables,
-    entries: &[StoredLine],
+    parts: &[ModuleSlice],
 ) -> Result<Vec<Arc<Job>>, AllocError>
     requires { AreModules (setting_of tables.now.circuit tables.now.layout)
-        (modules_of entries.now) }
+        (map slice_lines parts.now) }
     ensures { IfOk result (λ js. AreJobsOf (circuit_of tables.now.circuit) tables.now.layout
-        (modules_of entries.now) (map arc_value js.items)) }
+        (map slice_lines parts.now) (map arc_value js.items)) }
 {
     let mut jobs = Vec::new(alloc);
-    'lines: for (place, entry) in entries.iter().enumerate() {
-        if let CertificateLine::Module(area) = entry.line() {
-            let job = make_job(alloc, tables, area, lines_of_module(&entries[place + 1..]))?;
-            jobs.push(Arc::new(alloc, job)?)?;
-        }
+    'parts: for part in parts {
+        let job = make_job(alloc, tables, part.area, part.lines)?;
+        jobs.push(Arc::new(alloc, job)?)?;
     }
     Ok(jobs)
 }
@@ -273,11 +302,11 @@ fn jobs_of_version(
         (meant version (setting_of tables.now.circuit tables.now.layout) (modules_of entries.now))
         (map arc_value js.items)) }
 {
+    let parts = module_slices(alloc, entries)?;
     if version == 2 {
-        let parts = module_slices(alloc, entries)?;
         return jobs_of_parts(alloc, tables, entries, parts.as_slice());
     }
-    jobs_of_lines(alloc, tables, entries)
+    jobs_of_written(alloc, tables, parts.as_slice())
 }
 
 impl<'a> Cert<'a> {

@@ -1,14 +1,18 @@
 //! The inverse gates that no module keeps.
-ghost use Rattle.std.specs.Prelude.{◌≡◌, ◌<◌, ◌^◌, ◌&&◌, ◌||◌, ◌++◌, ◌∷◌, [], ℕ, not, if◌then◌else◌, IfOk, OnOk};
-ghost use Rattle.std.specs.List.{flat_map};
+ghost use Rattle.std.specs.Prelude.{◌≡◌, ◌<◌, ◌^◌, ◌&&◌, ◌||◌, ◌++◌, ◌∷◌, [], ℕ, not, if◌then◌else◌, map, IfOk, OnOk};
+ghost use Rattle.std.specs.List.{All, flat_map};
 ghost use Rattle.module_box.specs.Locals.{is_among};
-ghost use Rattle.certificate_lines.specs.Entries.{keep_in, modules_of};
+ghost use Rattle.certificate_lines.specs.Entries.{keep_in};
 ghost use Rattle.certificate.specs.Grammars.{modules_in};
 ghost use Rattle.certificate_lines.specs.Settings.{setting_of};
+ghost use Rattle.certificate_lines.specs.Orders.{AreInOrder};
 ghost use Rattle.certificate.specs.Keeps.{is_kept, unkept};
+ghost use Rattle.certificate.specs.SliceLines.{slice_lines};
 
+use crate::beside::ModuleSlice;
 use crate::cert::Cert;
-use certificate_lines::{CertificateLine, StoredLine, is_module, lines_of_module};
+use crate::line_kinds::wiring_lines;
+use certificate_lines::{CertificateLine, StoredLine};
 use circuit::GateNo;
 use indexmap::IndexSet;
 use std::alloc::{AllocError, Global};
@@ -36,16 +40,15 @@ fn note_keeps(kept: &mut IndexSet<u32>, lines: &[StoredLine]) -> Result<(), Allo
     Ok(())
 }
 
-// The gates that some module of the lines keeps.
-fn kept_gates(alloc: Global, entries: &[StoredLine]) -> Result<IndexSet<u32>, AllocError>
+// The gates that some of these modules keeps.
+fn kept_gates(alloc: Global, parts: &[ModuleSlice]) -> Result<IndexSet<u32>, AllocError>
+    requires { All (λ p. AreInOrder p.lines.now) parts.now }
     ensures { IfOk result (λ kept. (n : ℕ) →
-        is_among kept.keys n ≡ is_kept (modules_of entries.now) n) }
+        is_among kept.keys n ≡ is_kept (map slice_lines parts.now) n) }
 {
     let mut kept = IndexSet::new(alloc);
-    'lines: for (place, entry) in entries.iter().enumerate() {
-        if is_module(entry) {
-            note_keeps(&mut kept, lines_of_module(&entries[place + 1..]))?;
-        }
+    'parts: for part in parts {
+        note_keeps(&mut kept, wiring_lines(part.lines))?;
     }
     Ok(kept)
 }
@@ -81,7 +84,8 @@ impl<'a> Cert<'a> {
         ensures { IfOk result (λ gates. gates.items
             ≡ unkept (setting_of self.now.circuit self.now.layout) (modules_in self.now)) }
     {
-        let kept = kept_gates(alloc, self.entries.as_slice())?;
+        let parts = self.slices(alloc)?;
+        let kept = kept_gates(alloc, &parts)?;
         let mut gates = Vec::new(alloc);
         let count = self.circuit.gates();
         'gates: for number in 0..count {

@@ -10,7 +10,6 @@ use certificate_lines::{Builder, CertificateLine, LineTables, line_form};
 use circuit::Circuit;
 use pattern::Layout;
 use section_text::{Feed, Form, Line, LineFault, ReadFault, RefusalCode, Section, read_section};
-use sha2::{Digest, Sha256};
 use std::alloc::{AllocError, Global};
 
 // The version with halo lines, and the one without.
@@ -134,34 +133,7 @@ pub fn read_certificate<'a>(
             version,
             entries,
             modules,
-            digest: None,
         }),
         Err(fault) => Err(fault),
     }
-}
-
-fn bytes_from(text: &[u8], from: usize) -> &[u8]
-    requires { from ≤ length text.now }
-    ensures { result.now ≡ drop from text.now }
-{
-    &text[from..]
-}
-
-/// Reads a certificate section as [`read_certificate`] does, and hashes its bytes, so that [`Cert::digest`] has it.
-pub fn read_certificate_with_digest<'a>(
-    alloc: Global,
-    feed: &mut Feed,
-    circuit: &'a Circuit,
-    layout: &'a Layout,
-) -> Result<Cert<'a>, ReadFault>
-    requires { feed.old.closed ≡ true }
-    ensures reads { Reads (certificate_grammar (setting_of circuit.now layout.now))
-        certificate_value feed.old feed.new result }
-    ensures circuit { IfOk result (λ cert. cert.circuit ≡ circuit.now) }
-    ensures layout { IfOk result (λ cert. cert.layout ≡ layout.now) }
-{
-    let from = feed.taken_text().len();
-    let mut cert = read_certificate(alloc, feed, circuit, layout)?;
-    cert.digest = Some(Sha256::digest(bytes_from(feed.taken_text(), from)));
-    Ok(cert)
 }

@@ -1,17 +1,21 @@
 //! When wires are seen by stops, and what that says of delays and of gates whose inputs are to meet.
-ghost use Rattle.std.specs.Prelude.{◌≡◌, ◌==◌, ◌++◌, ◌∷◌, [], List, None, IfOk, OnOk, length};
-ghost use Rattle.std.specs.List.{flat_map, list_all};
+ghost use Rattle.std.specs.Prelude.{◌≡◌, ◌==◌, ◌++◌, ◌∷◌, [], List, None, IfOk, OnOk, length, map};
+ghost use Rattle.std.specs.List.{All, flat_map, list_all};
 ghost use Rattle.circuit.specs.Bridge.{circuit_of, netlist_of};
 ghost use Rattle.circuit.specs.Meaning.{wires};
 ghost use Rattle.circuit.specs.Wiring.{gate_of};
-ghost use Rattle.certificate_lines.specs.Entries.{modules_of, stop_in};
+ghost use Rattle.certificate_lines.specs.Entries.{stop_in};
+ghost use Rattle.certificate_lines.specs.Orders.{AreInOrder};
+ghost use Rattle.certificate.specs.SliceLines.{slice_lines};
 ghost use Rattle.certificate.specs.Grammars.{modules_in};
 ghost use Rattle.certificate.specs.Times.{agreed, all_stops, delay_line, gap_between, is_obeyed, last_times, lines_by, meet_line, first_wire_time, time_lines};
 ghost use Rattle.certificate.specs.SeenTimes.{IsTable, chosen, told_by};
 ghost use Rattle.certificate_lines.specs.declared.certificate_line.StopLine.{StopLine as Line};
 
+use crate::beside::ModuleSlice;
 use crate::cert::Cert;
-use certificate_lines::{StoredLine, StoredStop, lines_of_module};
+use crate::line_kinds::stop_lines;
+use certificate_lines::{StoredLine, StoredStop};
 use circuit::{Circuit, GateKind, GateNo, GateWires, WireNo};
 use std::alloc::{AllocError, Global};
 
@@ -102,19 +106,32 @@ fn note_line(table: &mut [Option<u32>], circuit: &Circuit, choice: Choice, line:
     }
 }
 
-// The first or the last time of each wire, by the stops of the lines.
+// Takes the stops among lines into it.
+fn note_lines(table: &mut [Option<u32>], circuit: &Circuit, choice: Choice, lines: &[StoredLine])
+    requires { length table.old ≡ wires (netlist_of circuit.now) }
+    ensures table { (ss : List Line) → IsTable choice (circuit_of circuit.now) ss table.old →
+        IsTable choice (circuit_of circuit.now) (ss ++ flat_map stop_in lines.now) table.new }
+    ensures long { length table.new ≡ length table.old }
+{
+    'lines: for line in lines {
+        note_line(table, circuit, choice, line);
+    }
+}
+
+// The first or the last time of each wire, by the stops of the modules.
 fn table_of(
     alloc: Global,
     circuit: &Circuit,
     choice: Choice,
-    lines: &[StoredLine],
+    parts: &[ModuleSlice],
 ) -> Result<Vec<Option<u32>>, AllocError>
+    requires { All (λ p. AreInOrder p.lines.now) parts.now }
     ensures { IfOk result (λ table. IsTable choice (circuit_of circuit.now)
-        (flat_map stop_in lines.now) table.items) }
+        (all_stops (map slice_lines parts.now)) table.items) }
 {
     let mut table = vec![in alloc; None; circuit.wires()]?;
-    'lines: for line in lines {
-        note_line(&mut table, circuit, choice, line);
+    'parts: for part in parts {
+        note_lines(&mut table, circuit, choice, stop_lines(part.lines));
     }
     Ok(table)
 }
@@ -247,27 +264,18 @@ fn lines_by(
     Ok(lines)
 }
 
-// The lines from the first `module` line on.
-#[tactic(auto, using(crate::proofs::TimeLemmas::inner_within))]
-fn module_lines<'b, 'a>(entries: &'b [StoredLine<'a>]) -> &'b [StoredLine<'a>]
-    ensures { flat_map stop_in result.now ≡ all_stops (modules_of entries.now) }
-{
-    let before = lines_of_module(entries).len();
-    &entries[before..]
-}
-
-// The lines by the stops of all modules of these lines.
+// The lines by the stops of these modules.
 fn lines_of(
     alloc: Global,
     circuit: &Circuit,
-    entries: &[StoredLine],
+    parts: &[ModuleSlice],
 ) -> Result<Vec<TimeLine>, AllocError>
+    requires { All (λ p. AreInOrder p.lines.now) parts.now }
     ensures { IfOk result (λ lines. lines.items
-        ≡ time_lines (circuit_of circuit.now) (modules_of entries.now)) }
+        ≡ time_lines (circuit_of circuit.now) (map slice_lines parts.now)) }
 {
-    let lines = module_lines(entries);
-    let firsts = table_of(alloc, circuit, Choice::First, lines)?;
-    let lasts = table_of(alloc, circuit, Choice::Last, lines)?;
+    let firsts = table_of(alloc, circuit, Choice::First, parts)?;
+    let lasts = table_of(alloc, circuit, Choice::Last, parts)?;
     lines_by(alloc, circuit, &firsts, &lasts)
 }
 
@@ -280,6 +288,7 @@ impl<'a> Cert<'a> {
         ensures { IfOk result (λ lines. lines.items
             ≡ time_lines (circuit_of self.now.circuit) (modules_in self.now)) }
     {
-        lines_of(alloc, self.circuit, self.entries.as_slice())
+        let parts = self.slices(alloc)?;
+        lines_of(alloc, self.circuit, &parts)
     }
 }

@@ -1,12 +1,11 @@
 //! Cells and signals that are moved.
 
-ghost use Rattle.std.specs.Prelude.{◌≡◌, IfOk, OnOk, map};
+ghost use Rattle.std.specs.Prelude.{◌≡◌, map};
 ghost use Rattle.std.specs.List.{All};
 ghost use Rattle.module_box.specs.Moves.{IsNear, IsSmallShift, moved_cell, moved_event, moved_all_times, moved_signals};
 
 use crate::schedules::{AllTimes, Moment, Schedule, TimedSignal};
 use bbm_rule::Cell;
-use std::alloc::{AllocError, Global};
 
 /// Returns the cell that lies `dx` columns and `dy` rows further. All these numbers are from -1024 to 1023.
 pub fn moved_cell(cell: Cell, dx: i32, dy: i32) -> Cell
@@ -47,51 +46,40 @@ pub fn moved_event(event: TimedSignal, dx: i32, dy: i32) -> TimedSignal
     }
 }
 
-fn moved_all_times_list(
-    alloc: Global,
-    all_times: &[AllTimes],
-    dx: i32,
-    dy: i32,
-) -> Result<Vec<AllTimes>, AllocError>
-    requires cells { All (λ h. IsNear h.cell) all_times.now }
+// Moves each signal at all times.
+fn move_all_times(all_times: &mut Vec<AllTimes>, dx: i32, dy: i32)
+    requires cells { All (λ h. IsNear h.cell) all_times.old.items }
     requires by { IsSmallShift dx × IsSmallShift dy }
-    ensures { IfOk result (λ v. v.items ≡ map (moved_all_times dx dy) all_times.now) }
+    ensures { all_times.new.items ≡ map (moved_all_times dx dy) all_times.old.items }
 {
-    let mut moved = Vec::with_capacity(alloc, all_times.len())?;
-    for signal in all_times {
-        moved.push(moved_all_times(*signal, dx, dy))?;
+    for signal in all_times.iter_mut() {
+        *signal = moved_all_times(*signal, dx, dy);
     }
-    Ok(moved)
 }
 
-fn moved_events(
-    alloc: Global,
-    events: &[TimedSignal],
-    dx: i32,
-    dy: i32,
-) -> Result<Vec<TimedSignal>, AllocError>
-    requires cells { All (λ e. IsNear e.at.cell) events.now }
+// Moves each event.
+fn move_events(events: &mut Vec<TimedSignal>, dx: i32, dy: i32)
+    requires cells { All (λ e. IsNear e.at.cell) events.old.items }
     requires by { IsSmallShift dx × IsSmallShift dy }
-    ensures { IfOk result (λ v. v.items ≡ map (moved_event dx dy) events.now) }
+    ensures { events.new.items ≡ map (moved_event dx dy) events.old.items }
 {
-    let mut moved = Vec::with_capacity(alloc, events.len())?;
-    for event in events {
-        moved.push(moved_event(*event, dx, dy))?;
+    for event in events.iter_mut() {
+        *event = moved_event(*event, dx, dy);
     }
-    Ok(moved)
 }
 
 impl Schedule {
     /// Returns the same signals at the cells that lie `dx` columns and `dy` rows further. All these numbers are from
-    /// -1024 to 1023.
-    pub fn moved(&self, alloc: Global, dx: i32, dy: i32) -> Result<Schedule, AllocError>
-        requires all_times { All (λ h. IsNear h.cell) self.now.all_times }
-        requires events { All (λ e. IsNear e.at.cell) self.now.events }
+    /// -1024 to 1023. It takes no memory.
+    pub fn moved(self, dx: i32, dy: i32) -> Schedule
+        requires all_times { All (λ h. IsNear h.cell) self.all_times }
+        requires events { All (λ e. IsNear e.at.cell) self.events }
         requires by { IsSmallShift dx × IsSmallShift dy }
-        ensures { IfOk result (λ s. s ≡ moved_signals dx dy self.now) }
+        ensures { result ≡ moved_signals dx dy self }
     {
-        let all_times = moved_all_times_list(alloc, self.all_times(), dx, dy)?;
-        let events = moved_events(alloc, self.events(), dx, dy)?;
-        Ok(Schedule::new(all_times, events))
+        let (mut all_times, mut events) = self.into_lists();
+        move_all_times(&mut all_times, dx, dy);
+        move_events(&mut events, dx, dy);
+        Schedule::new(all_times, events)
     }
 }

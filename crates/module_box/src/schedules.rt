@@ -132,6 +132,17 @@ impl Schedule {
         Schedule { all_times, events }
     }
 
+    // Returns the signals at all times and the events.
+    pub(crate) fn into_lists(self) -> (Vec<AllTimes>, Vec<TimedSignal>)
+        ensures all_times { result.0.items ≡ self.all_times }
+        ensures events { result.1.items ≡ self.events }
+        ensures rising_cells { IsRising cell_cmp cell_of result.0.items }
+        ensures rising_moments { IsRising moment_cmp moment_of result.1.items }
+    {
+        let Schedule { all_times, events } = self;
+        (all_times, events)
+    }
+
     /// Returns the signals at all times, rising strictly by y, then x of their cells.
     pub fn all_times(&self) -> &[AllTimes]
         ensures same_list { result.now ≡ self.now.all_times }

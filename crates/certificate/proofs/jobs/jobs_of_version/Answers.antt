@@ -38,11 +38,17 @@ returns-then-version-eq2 c =
     AreJobsOf (circuit_of p.circuit) p.layout (map (with_halos g ms) ms) (map arc_value js.items))) are
     c.jobs_of_parts.ensures)
 
+pub jobs_of_written-requires : goal.jobs_of_written-requires
+jobs_of_written-requires c =
+    let are = sym (ap (map slice_lines) c.as_slice-2.ensures.value ∙ c.in_ok-parts.ensures) in
+    subst (AreModules (setting_of c.args.tables.now.circuit c.args.tables.now.layout)) are c.requires.modules
+
 pub returns : goal.returns
 returns c =
     let p = c.args.tables.now in
     let g = setting_of p.circuit p.layout in
+    let are = ap (map slice_lines) c.as_slice-2.ensures.value ∙ c.in_ok-parts.ensures in
     let old : is_haloless c.args.version ≡ false = search rules in
-    subst (λ ms. IfOk c.jobs_of_lines.result
+    subst (λ ms. IfOk c.jobs_of_written.result
     (λ js. AreJobsOf (circuit_of p.circuit) p.layout ms (map arc_value js.items)))
-    (sym (meant_old c.args.version g (modules_of c.args.entries.now) old)) c.jobs_of_lines.ensures
+    (are ∙ sym (meant_old c.args.version g (modules_of c.args.entries.now) old)) c.jobs_of_written.ensures

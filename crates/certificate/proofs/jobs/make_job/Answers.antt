@@ -28,14 +28,14 @@ use Rattle.certificate.proofs.LayoutTableLemmas.{locals_have_ports}
 use Rattle.certificate.proofs.StopLemmas.{stops_named, stops_rise, stops_stand}
 use Rattle.certificate.proofs.jobs.make_job.Goals as goal
 
-pub named_locals-requires-clause-lines : goal.named_locals-requires-clause-lines
-named_locals-requires-clause-lines c =
+pub module_locals-requires-clause-lines : goal.module_locals-requires-clause-lines
+module_locals-requires-clause-lines c =
     let m : ModuleLines = record { area = c.args.area; lines = c.args.lines.now } in
     lists_local _ c.args.tables.now.circuit c.args.tables.now.layout m _ _ c.circuit-circuit.ensures refl refl
     c.requires.module
 
-pub named_locals-requires-clause-kept : goal.named_locals-requires-clause-kept
-named_locals-requires-clause-kept c =
+pub module_locals-requires-clause-kept : goal.module_locals-requires-clause-kept
+module_locals-requires-clause-kept c =
     let m : ModuleLines = record { area = c.args.area; lines = c.args.lines.now } in
     keeps_used (setting_of c.args.tables.now.circuit c.args.tables.now.layout) m (gates m) refl c.requires.module
 

@@ -1,9 +1,9 @@
 use Rattle.std.proofs.Common.{◌≡◌, ℕ, ℤ, arith, to_z, of_z, w32, sym, ap, ap₂, subst, ◌∙◌}
 use Rattle.std.specs.List.{All, flat_map}
 use Rattle.std.proofs.lemmas.Int.{ints}
-use Rattle.std.proofs.lemmas.Result.{IfOk-weaker}
 use Rattle.circuit.specs.Bridge.{circuit_of}
 use Rattle.circuit.specs.Meaning.{wires}
+use Rattle.certificate.specs.Jobs.{line_signals}
 use Rattle.module_box.specs.Locals.{circuit_wire}
 use Rattle.module_box.specs.Moves.{IsNear, IsSmallShift, moved_signals}
 use Rattle.module_box.specs.Schedules.{Signals}
@@ -24,15 +24,17 @@ pub moved-requires-clause-all_times : goal.moved-requires-clause-all_times
 moved-requires-clause-all_times c =
     near_all_times c.in_ok-signals.signals.all_times
     (low_all_times (circuit_wire c.args.locals.now) (circuit_of c.args.circuit.now)
-    (flat_map (borders_in c.args.side) c.args.lines.now) c.in_ok-signals.signals c.in_ok-signals.ensures.same_signals
-    c.requires.low)
+    (flat_map (borders_in c.args.side) c.args.lines.now) c.in_ok-signals.signals
+    (c.in_ok-signals.ensures.same_signals
+    ∙ ap (line_signals (circuit_of c.args.circuit.now)) c.side_lines.ensures.borders) c.requires.low)
 
 pub moved-requires-clause-events : goal.moved-requires-clause-events
 moved-requires-clause-events c =
     near_events c.in_ok-signals.signals.events
     (low_events (circuit_wire c.args.locals.now) (circuit_of c.args.circuit.now)
-    (flat_map (borders_in c.args.side) c.args.lines.now) c.in_ok-signals.signals c.in_ok-signals.ensures.same_signals
-    c.requires.low)
+    (flat_map (borders_in c.args.side) c.args.lines.now) c.in_ok-signals.signals
+    (c.in_ok-signals.ensures.same_signals
+    ∙ ap (line_signals (circuit_of c.args.circuit.now)) c.side_lines.ensures.borders) c.requires.low)
 
 -- what is moved back by these numbers
 moved_back : (x y : ℕ) (dx dy : ℤ) (s own : Signals) → dx ≡ shift_to_origin x → IsSmallShift dx →
@@ -51,34 +53,30 @@ there b s own is = ap (from_corner b) is ∙ placed_again b.x b.y s
 pub returns-clause-same_signals : goal.returns-clause-same_signals
 returns-clause-same_signals c =
     let s = c.in_ok-signals.signals in
-    IfOk-weaker c.moved.result _ _ (λ own is.
     ap (renumber_signals (circuit_wire c.args.locals.now))
-    (there c.args.area s own (moved_back c.args.area.x c.args.area.y _ _ s own
+    (there c.args.area s c.moved.result (moved_back c.args.area.x c.args.area.y _ _ s c.moved.result
     c.shift_to_origin.ensures.distance_is_exact c.shift_to_origin.ensures.small
-    c.shift_to_origin-2.ensures.distance_is_exact c.shift_to_origin-2.ensures.small is))
-    ∙ c.in_ok-signals.ensures.same_signals) c.moved.ensures
+    c.shift_to_origin-2.ensures.distance_is_exact c.shift_to_origin-2.ensures.small c.moved.ensures))
+    ∙ c.in_ok-signals.ensures.same_signals
+    ∙ ap (line_signals (circuit_of c.args.circuit.now)) c.side_lines.ensures.borders
 
 pub returns-clause-all_times : goal.returns-clause-all_times
 returns-clause-all_times c =
     let s = c.in_ok-signals.signals in
-    IfOk-weaker c.moved.result _ _ (λ own is.
     subst (λ (t : Signals). All (λ h. IsBelow (wires c.args.locals.now.netlist) h.signal) t.all_times)
-    (sym (there c.args.area s own
-    (moved_back c.args.area.x c.args.area.y _ _ s own c.shift_to_origin.ensures.distance_is_exact
-    c.shift_to_origin.ensures.small c.shift_to_origin-2.ensures.distance_is_exact
-    c.shift_to_origin-2.ensures.small is)))
-    c.in_ok-signals.ensures.all_times) c.moved.ensures
+    (sym (there c.args.area s c.moved.result (moved_back c.args.area.x c.args.area.y _ _ s c.moved.result
+    c.shift_to_origin.ensures.distance_is_exact c.shift_to_origin.ensures.small
+    c.shift_to_origin-2.ensures.distance_is_exact c.shift_to_origin-2.ensures.small c.moved.ensures)))
+    c.in_ok-signals.ensures.all_times
 
 pub returns-clause-events : goal.returns-clause-events
 returns-clause-events c =
     let s = c.in_ok-signals.signals in
-    IfOk-weaker c.moved.result _ _ (λ own is.
     subst (λ (t : Signals). All (λ e. IsBelow (wires c.args.locals.now.netlist) e.signal) t.events)
-    (sym (there c.args.area s own
-    (moved_back c.args.area.x c.args.area.y _ _ s own c.shift_to_origin.ensures.distance_is_exact
-    c.shift_to_origin.ensures.small c.shift_to_origin-2.ensures.distance_is_exact
-    c.shift_to_origin-2.ensures.small is)))
-    c.in_ok-signals.ensures.events) c.moved.ensures
+    (sym (there c.args.area s c.moved.result (moved_back c.args.area.x c.args.area.y _ _ s c.moved.result
+    c.shift_to_origin.ensures.distance_is_exact c.shift_to_origin.ensures.small
+    c.shift_to_origin-2.ensures.distance_is_exact c.shift_to_origin-2.ensures.small c.moved.ensures)))
+    c.in_ok-signals.ensures.events
 
 pub returns-clause-near : goal.returns-clause-near
 returns-clause-near c =
@@ -86,10 +84,11 @@ returns-clause-near c =
     let x = c.args.area.x in
     let y = c.args.area.y in
     let low = low_events (circuit_wire c.args.locals.now) (circuit_of c.args.circuit.now)
-    (flat_map (borders_in c.args.side) c.args.lines.now) s c.in_ok-signals.ensures.same_signals c.requires.low in
-    IfOk-weaker c.moved.result _ _ (λ own is.
+    (flat_map (borders_in c.args.side) c.args.lines.now) s
+    (c.in_ok-signals.ensures.same_signals
+    ∙ ap (line_signals (circuit_of c.args.circuit.now)) c.side_lines.ensures.borders) c.requires.low in
     subst (λ (t : Signals). All (λ (e : TimedSignal). IsNear e.at.cell) t.events)
-    (sym (moved_back x y _ _ s own c.shift_to_origin.ensures.distance_is_exact c.shift_to_origin.ensures.small
-    c.shift_to_origin-2.ensures.distance_is_exact c.shift_to_origin-2.ensures.small
-    is))
-    (near_moved x y s.events c.requires.corner.0 c.requires.corner.1 low)) c.moved.ensures
+    (sym (moved_back x y _ _ s c.moved.result c.shift_to_origin.ensures.distance_is_exact
+    c.shift_to_origin.ensures.small c.shift_to_origin-2.ensures.distance_is_exact
+    c.shift_to_origin-2.ensures.small c.moved.ensures))
+    (near_moved x y s.events c.requires.corner.0 c.requires.corner.1 low)

@@ -4,6 +4,9 @@ use Rattle.std.specs.List.{All, flat_map}
 use Rattle.std.proofs.lemmas.Int.{ints}
 use Rattle.std.proofs.lemmas.Result.{IfOk-weaker}
 use Rattle.circuit.specs.Bridge.{circuit_of}
+use Rattle.circuit.specs.Meaning.{Circuit}
+use Rattle.module_box.specs.Locals.{LocalNet}
+use Rattle.certificate_lines.specs.declared.certificate_line.StopLine.{StopLine}
 use Rattle.module_box.specs.Moves.{IsNear, IsSmallShift}
 use Rattle.module_box.specs.declared.boxes.Box2.{Box2}
 use Rattle.certificate_lines.specs.Entries.{stop_in}
@@ -16,12 +19,17 @@ use Rattle.module_job.proofs.ShapeParts.{back_forth, stops_back}
 use Rattle.certificate.proofs.StopLemmas.{stops_stand}
 use Rattle.certificate.proofs.jobs.own_stops.Goals as goal
 
+-- what is said of the stops is said of all lines
+of_all : {c : Circuit} {l : LocalNet} {own all : List StopLine} {ss : List Stop} → AreStops c l own ss → own ≡ all →
+    AreStops c l all ss
+of_all {c} {l} {ss = ss} said are = subst (λ lines. AreStops c l lines ss) are said
+
 pub moved_stops-requires-clause-cells : goal.moved_stops-requires-clause-cells
 moved_stops-requires-clause-cells c =
     subst (All (λ (s : Stop). IsNear s.at.cell)) (sym c.as_slice.ensures.value)
     (near_stops c.in_ok-stops.stops.items
     (stops_stand (λ q. IsLow q.cell) (circuit_of c.args.circuit.now) c.args.locals.now
-    (flat_map stop_in c.args.lines.now) c.in_ok-stops.stops.items c.in_ok-stops.ensures c.requires.low))
+    (flat_map stop_in c.args.lines.now) c.in_ok-stops.stops.items (of_all c.in_ok-stops.ensures c.stop_lines.ensures) c.requires.low))
 
 -- a small number is passed as it is
 passed : (z r : ℤ) → r ≡ z → IsSmallShift r → to_z w32 (of_z w32 r) ≡ z
@@ -52,14 +60,15 @@ returns-clause-said c =
     (moved_back area.x area.y _ _ ss _ own.items c.shift_to_origin.ensures.distance_is_exact
     c.shift_to_origin.ensures.small c.shift_to_origin-2.ensures.distance_is_exact
     c.shift_to_origin-2.ensures.small c.as_slice.ensures.value is)))
-    c.in_ok-stops.ensures) c.moved_stops.ensures
+    (of_all c.in_ok-stops.ensures c.stop_lines.ensures)) c.moved_stops.ensures
 
 pub returns-clause-near : goal.returns-clause-near
 returns-clause-near c =
     let ss = c.in_ok-stops.stops.items in
     let area : Box2 = c.args.area in
     let low = stops_stand (λ q. IsLow q.cell) (circuit_of c.args.circuit.now) c.args.locals.now
-    (flat_map stop_in c.args.lines.now) ss c.in_ok-stops.ensures c.requires.low in
+    (flat_map stop_in c.args.lines.now) ss (of_all c.in_ok-stops.ensures c.stop_lines.ensures)
+    c.requires.low in
     IfOk-weaker c.moved_stops.result _ _ (λ own is.
     subst (All (λ (s : Stop). IsNear s.at.cell))
     (sym (moved_back area.x area.y _ _ ss _ own.items c.shift_to_origin.ensures.distance_is_exact

@@ -1,30 +1,15 @@
-use Rattle.std.proofs.Common.{◌≡◌, ◌∙◌, ◌+◌, drop, sym, ap, subst}
-use Rattle.certificate_lines.specs.ModuleParts.{inner}
-use Rattle.certificate_lines.proofs.LinesLeft.{rest_of_lines}
-use Rattle.certificate.proofs.KeepLemmas.{AreNoted, none_noted, other_noted, module_noted, all_noted}
-use Rattle.certificate.proofs.keep_lines.kept_gates.Goals.{then-is_module+in_ok-note_keeps, else-is_module}
+use Rattle.std.proofs.Common.{◌≤◌, length, arith, sym, ap, ◌∙◌}
+use Rattle.std.specs.List.{flat_map, list_any}
+use Rattle.std.proofs.lemmas.List.{take_all}
+use Rattle.module_box.specs.Locals.{is_among}
+use Rattle.certificate_lines.specs.Entries.{keep_in, keeps}
+use Rattle.certificate.specs.SliceLines.{slice_lines}
+use Rattle.certificate.proofs.SliceLemmas.{any_mapped}
 use Rattle.certificate.proofs.keep_lines.kept_gates.Goals as goal
 
-pub lines-init : goal.lines-init
-lines-init c = none_noted c.args.entries.now c.new-kept.result.keys c.new-kept.ensures.empty
-
-pub lines-preserved : goal.lines-preserved
-lines-preserved c =
-    let es = c.args.entries.now in
-    let p = c.lines.place in
-    elim c.if-is_module.branch [
-      | then-is_module+in_ok-note_keeps w ↦
-          let lines_are : w.lines_of_module.result.now ≡ inner (drop (p + 1) es) =
-          w.lines_of_module.ensures ∙ ap inner (rest_of_lines es (p + 1)) in
-          subst (λ s. AreNoted es (p + 1) s.keys) (sym w.kept-is)
-          (module_noted es p c.index-entries-place.result w.lines_of_module.result.now c.lines.kept.keys
-          w.note_keeps.new.kept.keys c.lines-test.true c.index-entries-place.is
-          (sym c.is_module.ensures ∙ w.if-is_module.true) lines_are w.in_ok-note_keeps.ensures c.lines.invariant)
-      | else-is_module w ↦
-          subst (λ s. AreNoted es (p + 1) s.keys) (sym w.kept-is)
-          (other_noted es p c.index-entries-place.result c.lines.kept.keys c.lines-test.true c.index-entries-place.is
-          (sym c.is_module.ensures ∙ w.if-is_module.false) c.lines.invariant)
-    ]
-
 pub returns : goal.returns
-returns c = all_noted c.args.entries.now c.lines.place c.lines.kept.keys c.lines-test.false c.lines.invariant
+returns c n =
+    let past : length c.args.parts.now ≤ c.parts.part-index = omega (arith, c.parts-test.false) in
+    c.parts.invariant n
+    ∙ ap (list_any (λ p. is_among (flat_map keep_in p.lines.now) n)) (take_all c.parts.part-index c.args.parts.now past)
+    ∙ sym (any_mapped (λ m. is_among (keeps m) n) slice_lines c.args.parts.now)

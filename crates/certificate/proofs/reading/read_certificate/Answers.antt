@@ -33,5 +33,4 @@ invariant_of-result c =
           (subst (λ (g : Setting). (is_haloless c.read_section-read.new.section.version
           && lacks_wire g (modules_of c.read_section-read.new.section.builder.entries)) ≡ false) c.in-Ok.ensures.setting
           (read_complete c.in-Ok.reading.builder.setting _ _ faultless));
-      hashed = tt;
     }

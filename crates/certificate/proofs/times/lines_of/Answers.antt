@@ -1,7 +1,7 @@
-use Rattle.std.proofs.Common.{◌≡◌, subst}
+use Rattle.std.proofs.Common.{◌≡◌, map, refl, subst}
 use Rattle.std.specs.Result.{IfOk}
 use Rattle.circuit.specs.Bridge.{circuit_of}
-use Rattle.certificate_lines.specs.Entries.{modules_of}
+use Rattle.certificate.specs.SliceLines.{slice_lines}
 use Rattle.certificate.proofs.TimeLemmas.{lines_told}
 use Rattle.certificate.proofs.times.lines_of.Goals as goal
 
@@ -9,6 +9,6 @@ pub returns : goal.returns
 returns c =
     subst (λ xs. IfOk c.lines_by.result (λ lines. lines.items ≡ xs))
     (lines_told (circuit_of c.args.circuit.now)
-    (modules_of c.args.entries.now) _ c.in_ok-firsts.firsts.items c.in_ok-lasts.lasts.items c.deref.result.now
+    (map slice_lines c.args.parts.now) _ c.in_ok-firsts.firsts.items c.in_ok-lasts.lasts.items c.deref.result.now
     c.deref-2.result.now c.deref.ensures.value c.deref-2.ensures.value
-    c.module_lines-lines.ensures c.in_ok-firsts.ensures c.in_ok-lasts.ensures) c.lines_by.ensures
+    refl c.in_ok-firsts.ensures c.in_ok-lasts.ensures) c.lines_by.ensures

@@ -6,8 +6,9 @@ use Rattle.certificate_lines.specs.Entries.{stop_in}
 use Rattle.certificate.specs.SeenTimes.{IsTable}
 use Rattle.certificate.proofs.times.table_of.Given as goal
 
-abbrev pub invariant-lines : goal.invariant-lines
-invariant-lines l = record {
-  table : IsTable l.choice (circuit_of l.circuit) (flat_map stop_in (take l.line-index l.lines)) l.table.items;
+abbrev pub invariant-parts : goal.invariant-parts
+invariant-parts l = record {
+  table : IsTable l.choice (circuit_of l.circuit)
+      (flat_map (λ p. flat_map stop_in p.lines.now) (take l.part-index l.parts)) l.table.items;
   long : length l.table.items ≡ wires (netlist_of l.circuit);
 }

@@ -1,8 +1,9 @@
-use Rattle.std.proofs.Common.{◌≡◌, ◌∙◌, sym, ap, ap₂, subst}
+use Rattle.std.proofs.Common.{◌≡◌, ◌∙◌, map, sym, ap, ap₂, subst}
 use Rattle.std.specs.Prelude.{IfOk}
 use Rattle.circuit.specs.Bridge.{circuit_of}
 use Rattle.certificate_lines.specs.Entries.{modules_of}
 use Rattle.certificate.specs.Grammars.{CertView}
+use Rattle.certificate.specs.SliceLines.{slice_lines}
 use Rattle.certificate_lines.specs.Settings.{setting_of}
 use Rattle.certificate.specs.Times.{time_lines}
 use Rattle.certificate.proofs.MeantLines.{times_meant}
@@ -11,10 +12,9 @@ use Rattle.certificate.proofs.cert.Cert.times.Goals as goal
 pub returns : goal.returns
 returns c =
     let s : CertView = c.args.self.now in
-    let entries_are : c.as_slice.result.now ≡ s.entries =
-    c.as_slice.ensures.value ∙ ap (λ (t : CertView). t.entries) c.self.view_is in
+    let modules_are = ap (map slice_lines) c.deref.ensures.value ∙ c.in_ok-parts.ensures.modules in
     let circuit_is = ap (λ (t : CertView). t.circuit) c.self.view_is in
     subst (λ ls. IfOk c.lines_of.result (λ lines. lines.items ≡ ls))
-    (ap₂ (λ cs es. time_lines (circuit_of cs) (modules_of es)) circuit_is entries_are
+    (ap₂ (λ cs ms. time_lines (circuit_of cs) ms) circuit_is modules_are
     ∙ sym (times_meant s.version (setting_of s.circuit s.layout) (circuit_of s.circuit) (modules_of s.entries)))
     c.lines_of.ensures

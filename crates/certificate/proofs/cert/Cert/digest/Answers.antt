@@ -2,7 +2,7 @@
 use Rattle.std.proofs.Common.{[], ◌∙◌, ap}
 use Rattle.sha2.specs.Sha256.{sha256}
 use Rattle.certificate.proofs.HashedLines.{text_told}
-use Rattle.certificate.proofs.cert.Cert.printed_digest.Goals as goal
+use Rattle.certificate.proofs.cert.Cert.digest.Goals as goal
 
 pub returns : goal.returns
 returns c =

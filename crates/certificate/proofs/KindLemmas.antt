@@ -1,0 +1,183 @@
+-- Lines in order rise by rank, and the lines of one kind lie on one side of a split.
+use Rattle.std.proofs.Common.{◌≡◌, ℕ, zero, suc, ◌<◌, ◌≤◌, Bool, true, false, ◌&&◌, List, [], ◌∷◌, ◌++◌, length, get_or}
+use Rattle.std.proofs.Common.{refl, sym, ap, ap₂, subst, ◌∙◌, arith, Greater, ◌≢◌, ◌-◌, ◌+◌, take, drop, ltb}
+use Rattle.std.specs.List.{All, flat_map, list_all}
+use Rattle.std.specs.List.Sorted.{IsNonDecreasingBy, IsPartitionPoint}
+use Rattle.std.specs.Cmp.{nat_cmp_is}
+use Rattle.std.proofs.lemmas.Bool.{and_parts}
+use Rattle.std.proofs.lemmas.Grind.{flat_map-append}
+use Rattle.std.proofs.lemmas.Bool.{ltb-false, ltb-true}
+use Rattle.std.proofs.lemmas.List.{append-nil, get_or-drop, get_or-take, length-drop, length-take, take-append-drop}
+use Rattle.std.proofs.lemmas.List.{take_all}
+use Rattle.std.proofs.lemmas.List.Elements.{All-head, All-tail}
+use Rattle.std.proofs.lemmas.List.Sums.{AllPass-from_list_all}
+use Rattle.bbm_rule.proofs.BitLemmas.{by_lt_or_le}
+use Rattle.certificate_lines.specs.Entries.{cut_in, edge_in, halo_in, keep_in, stop_in, use_in}
+use Rattle.certificate_lines.specs.Orders.{AreInOrder, is_cut, line_cmp, may_precede, rank_of}
+use Rattle.certificate_lines.specs.declared.certificate_line.CertificateLine.{CertificateLine}
+use Rattle.certificate_lines.specs.declared.certificate_line.CertificateLine.TheVariants.{Module, Cut, Use, Keep, Edge}
+use Rattle.certificate_lines.specs.declared.certificate_line.CertificateLine.TheVariants.{Halo, Stop}
+use Rattle.certificate.specs.LineKinds.{IsSplitAt}
+
+-- ---- ranks
+
+not_both_cuts : (i j : CertificateLine) → rank_of j < rank_of i → (is_cut i && is_cut j) ≡ false
+unfolding rank_of is_cut
+not_both_cuts (Module b) j lt = refl
+not_both_cuts (Cut m) (Module b) lt = refl
+not_both_cuts (Cut m) (Cut n) lt = absurd (omega (arith, lt))
+not_both_cuts (Cut m) (Use k) lt = refl
+not_both_cuts (Cut m) (Keep k) lt = refl
+not_both_cuts (Cut m) (Edge e) lt = refl
+not_both_cuts (Cut m) (Halo e) lt = refl
+not_both_cuts (Cut m) (Stop s) lt = refl
+not_both_cuts (Use k) j lt = refl
+not_both_cuts (Keep k) j lt = refl
+not_both_cuts (Edge e) j lt = refl
+not_both_cuts (Halo e) j lt = refl
+not_both_cuts (Stop s) j lt = refl
+
+no_higher_first : (i j : CertificateLine) → rank_of j < rank_of i → may_precede i j ≡ false
+unfolding may_precede line_cmp
+no_higher_first i j lt = rw (sym (nat_cmp_is (rank_of i) (rank_of j) Greater lt)) (not_both_cuts i j lt)
+
+rank_rises : (i j : CertificateLine) → may_precede i j ≡ true → rank_of i ≤ rank_of j
+rank_rises i j h = by_lt_or_le (rank_of j) (rank_of i)
+    (λ lt. absurd (let never : true ≡ false = sym h ∙ no_higher_first i j lt in cc)) (λ le. le)
+
+pub ranks_rise : (lines : List CertificateLine) → AreInOrder lines → IsNonDecreasingBy rank_of lines
+unfolding AreInOrder
+ranks_rise [] h i j d le lt = absurd (omega (arith, lt))
+ranks_rise (x ∷ xs) h zero zero d le lt = omega arith
+ranks_rise (x ∷ xs) h zero (suc j) d le lt =
+    rank_rises x (get_or xs j d) (AllPass-from_list_all (may_precede x) xs h.0 j d (omega (arith, lt)))
+ranks_rise (x ∷ xs) h (suc i) zero d le lt = absurd (omega (arith, le))
+ranks_rise (x ∷ xs) h (suc i) (suc j) d le lt = ranks_rise xs h.1 i j d (omega (arith, le)) (omega (arith, lt))
+
+-- ---- order of a part
+
+all_left : {X : Type 0} (p : X → Bool) (xs ys : List X) → list_all p (xs ++ ys) ≡ true → list_all p xs ≡ true
+all_left p [] ys h = refl
+all_left p (x ∷ xs) ys h =
+    let both = and_parts (p x) (list_all p (xs ++ ys)) h in
+    ap₂ (λ a b. a && b) both.0 (all_left p xs ys both.1)
+
+pub order_left : (xs ys : List CertificateLine) → AreInOrder (xs ++ ys) → AreInOrder xs
+unfolding AreInOrder
+order_left [] ys h = tt
+order_left (x ∷ xs) ys h = (all_left (may_precede x) xs ys h.0, order_left xs ys h.1)
+
+pub order_right : (xs ys : List CertificateLine) → AreInOrder (xs ++ ys) → AreInOrder ys
+unfolding AreInOrder
+order_right [] ys h = h
+order_right (x ∷ xs) ys h = order_right xs ys h.1
+
+-- the lines on both sides of a partition point
+pub split_parts : (r : ℕ) (lines : List CertificateLine) (place : ℕ) → AreInOrder lines → place ≤ length lines →
+    IsPartitionPoint (λ i. ltb (rank_of i) r ≡ true) (λ i. ltb (rank_of i) r ≡ false) lines place →
+    IsSplitAt r lines (take place lines) (take (length lines - place) (drop place lines))
+split_parts r lines place order within point =
+    let rest : take (length lines - place) (drop place lines) ≡ drop place lines =
+    take_all (length lines - place) (drop place lines) (let n = length-drop place lines in omega (arith, n)) in
+    let whole : take place lines ++ drop place lines ≡ lines = take-append-drop place lines in
+    let ordered : AreInOrder (take place lines ++ drop place lines) = subst AreInOrder (sym whole) order in
+    subst (IsSplitAt r lines (take place lines)) (sym rest) (record {
+      whole = whole;
+      lower = λ k d lt.
+          let here : k < place = let n = length-take place lines in omega (arith, lt, n, within) in
+          subst (λ i. rank_of i < r) (sym (get_or-take place lines k d here))
+          (ltb-true _ _ (point.0 k d (omega arith) here));
+      higher = λ k d lt.
+          let n = length-drop place lines in
+          subst (λ i. r ≤ rank_of i) (sym (get_or-drop place lines k d))
+          (ltb-false _ _ (point.1 (place + k) d (omega arith) (omega (arith, lt, n, within))));
+      orders = (
+        order_left (take place lines) (drop place lines) ordered,
+        order_right (take place lines) (drop place lines) ordered,
+      );
+    })
+
+-- ---- a part that adds nothing
+
+nothing_in : {X : Type 0} (f : CertificateLine → List X) (lines : List CertificateLine) → All (λ i. f i ≡ []) lines →
+    flat_map f lines ≡ []
+nothing_in f [] none = refl
+nothing_in f (x ∷ xs) none = ap₂ (λ a b. a ++ b) (All-head (λ i. f i ≡ []) x xs none)
+    (nothing_in f xs (All-tail (λ i. f i ≡ []) x xs none))
+
+pub only_before : {X : Type 0} (f : CertificateLine → List X) (r : ℕ) (lines before after : List CertificateLine) →
+    IsSplitAt r lines before after → ((i : CertificateLine) → r ≤ rank_of i → f i ≡ []) →
+    flat_map f before ≡ flat_map f lines
+only_before f r lines before after s none =
+    sym (append-nil (flat_map f before)) ∙ ap (λ l. flat_map f before ++ l)
+    (sym (nothing_in f after (λ k d lt. none _ (s.higher k d lt))))
+    ∙ sym (flat_map-append f before after) ∙ ap (flat_map f) s.whole
+
+pub only_after : {X : Type 0} (f : CertificateLine → List X) (r : ℕ) (lines before after : List CertificateLine) →
+    IsSplitAt r lines before after → ((i : CertificateLine) → rank_of i < r → f i ≡ []) →
+    flat_map f after ≡ flat_map f lines
+only_after f r lines before after s none =
+    ap (λ l. l ++ flat_map f after) (sym (nothing_in f before (λ k d lt. none _ (s.lower k d lt))))
+    ∙ sym (flat_map-append f before after) ∙ ap (flat_map f) s.whole
+
+-- ---- the rank of each kind
+
+pub cuts_before : (i : CertificateLine) → 4 ≤ rank_of i → cut_in i ≡ []
+unfolding rank_of
+cuts_before (Cut n) le = absurd (omega (arith, le))
+cuts_before (Module b) le = refl
+cuts_before (Use k) le = refl
+cuts_before (Keep k) le = refl
+cuts_before (Edge e) le = refl
+cuts_before (Halo e) le = refl
+cuts_before (Stop s) le = refl
+
+pub uses_before : (i : CertificateLine) → 4 ≤ rank_of i → use_in i ≡ []
+unfolding rank_of
+uses_before (Use k) le = absurd (omega (arith, le))
+uses_before (Module b) le = refl
+uses_before (Cut n) le = refl
+uses_before (Keep k) le = refl
+uses_before (Edge e) le = refl
+uses_before (Halo e) le = refl
+uses_before (Stop s) le = refl
+
+pub keeps_before : (i : CertificateLine) → 4 ≤ rank_of i → keep_in i ≡ []
+unfolding rank_of
+keeps_before (Keep k) le = absurd (omega (arith, le))
+keeps_before (Module b) le = refl
+keeps_before (Cut n) le = refl
+keeps_before (Use k) le = refl
+keeps_before (Edge e) le = refl
+keeps_before (Halo e) le = refl
+keeps_before (Stop s) le = refl
+
+pub only_edges : (i : CertificateLine) → rank_of i ≢ 4 → edge_in i ≡ []
+unfolding rank_of
+only_edges (Edge e) other = absurd (other refl)
+only_edges (Module b) other = refl
+only_edges (Cut n) other = refl
+only_edges (Use k) other = refl
+only_edges (Keep k) other = refl
+only_edges (Halo e) other = refl
+only_edges (Stop s) other = refl
+
+pub only_halos : (i : CertificateLine) → rank_of i ≢ 5 → halo_in i ≡ []
+unfolding rank_of
+only_halos (Halo e) other = absurd (other refl)
+only_halos (Module b) other = refl
+only_halos (Cut n) other = refl
+only_halos (Use k) other = refl
+only_halos (Keep k) other = refl
+only_halos (Edge e) other = refl
+only_halos (Stop s) other = refl
+
+pub stops_after : (i : CertificateLine) → rank_of i < 6 → stop_in i ≡ []
+unfolding rank_of
+stops_after (Stop s) lt = absurd (omega (arith, lt))
+stops_after (Module b) lt = refl
+stops_after (Cut n) lt = refl
+stops_after (Use k) lt = refl
+stops_after (Keep k) lt = refl
+stops_after (Edge e) lt = refl
+stops_after (Halo e) lt = refl

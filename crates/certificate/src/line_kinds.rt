@@ -1,0 +1,99 @@
+//! The lines of a module by their kinds.
+//!
+//! A module's lines are in order, so those of one kind are neighbours: cut, use and keep lines, edge lines, halo lines,
+//! stops. A search by halves finds where a kind begins, so no line of another kind is read.
+ghost use Rattle.std.specs.Prelude.{◌≡◌, ◌≢◌, ◌<◌, [], List};
+ghost use Rattle.std.specs.List.{flat_map};
+ghost use Rattle.certificate.specs.LineKinds.{IsSplitAt};
+ghost use Rattle.certificate.specs.Timetables.{borders_in};
+ghost use Rattle.certificate_lines.specs.Entries.{cut_in, keep_in, stop_in, use_in};
+ghost use Rattle.certificate_lines.specs.Orders.{AreInOrder, rank_of};
+ghost use Rattle.certificate_lines.specs.declared.certificate_line.BorderLine.{BorderLine};
+ghost use Rattle.certificate_lines.specs.declared.certificate_line.CertificateLine.{CertificateLine};
+
+use crate::timetable::RingOrHalo;
+use certificate_lines::{CertificateLine, StoredLine};
+
+// The ranks of the kinds that `specs/Orders.antt` of `certificate_lines` orders.
+const EDGE_RANK: u8 = 4;
+
+const HALO_RANK: u8 = 5;
+
+const STOP_RANK: u8 = 6;
+
+#[tactic(auto, unfolding(certificate_lines::specs::Orders::rank_of))]
+fn rank(line: &StoredLine) -> u8
+    ensures { result ≡ rank_of line.now }
+{
+    match line.line() {
+        CertificateLine::Module(_) => 0,
+        CertificateLine::Cut(_) => 1,
+        CertificateLine::Use(_) => 2,
+        CertificateLine::Keep(_) => 3,
+        CertificateLine::Edge(_) => EDGE_RANK,
+        CertificateLine::Halo(_) => HALO_RANK,
+        CertificateLine::Stop(_) => STOP_RANK,
+    }
+}
+
+// The lines before the first one of this rank or a higher one, and the others.
+fn split_at_rank<'b, 'a>(
+    lines: &'b [StoredLine<'a>],
+    first: u8,
+) -> (&'b [StoredLine<'a>], &'b [StoredLine<'a>])
+    requires { AreInOrder lines.now }
+    ensures { IsSplitAt first lines.now result.0.now result.1.now }
+{
+    let place = lines.partition_point(|line| rank(line) < first);
+    (&lines[..place], &lines[place..])
+}
+
+/// Returns the cut, use and keep lines of a module.
+pub(crate) fn wiring_lines<'b, 'a>(lines: &'b [StoredLine<'a>]) -> &'b [StoredLine<'a>]
+    requires { AreInOrder lines.now }
+    ensures cuts { flat_map cut_in result.now ≡ flat_map cut_in lines.now }
+    ensures uses { flat_map use_in result.now ≡ flat_map use_in lines.now }
+    ensures keeps { flat_map keep_in result.now ≡ flat_map keep_in lines.now }
+{
+    let (wiring, _) = split_at_rank(lines, EDGE_RANK);
+    wiring
+}
+
+// The lines of this rank.
+fn lines_of_rank<'b, 'a>(lines: &'b [StoredLine<'a>], rank: u8) -> &'b [StoredLine<'a>]
+    requires order { AreInOrder lines.now }
+    requires small { rank < 255 }
+    ensures borders { (f : CertificateLine → List BorderLine) →
+        ((i : CertificateLine) → rank_of i ≢ rank → f i ≡ []) →
+        flat_map f result.now ≡ flat_map f lines.now }
+    ensures order { AreInOrder result.now }
+{
+    let (_, rest) = split_at_rank(lines, rank);
+    let (own, _) = split_at_rank(rest, rank + 1);
+    own
+}
+
+/// Returns the lines of a module about cells of this side.
+pub(crate) fn side_lines<'b, 'a>(
+    side: RingOrHalo,
+    lines: &'b [StoredLine<'a>],
+) -> &'b [StoredLine<'a>]
+    requires { AreInOrder lines.now }
+    ensures borders { flat_map (borders_in side) result.now
+        ≡ flat_map (borders_in side) lines.now }
+    ensures order { AreInOrder result.now }
+{
+    match side {
+        RingOrHalo::Ring => lines_of_rank(lines, EDGE_RANK),
+        RingOrHalo::Halo => lines_of_rank(lines, HALO_RANK),
+    }
+}
+
+/// Returns the stops of a module.
+pub(crate) fn stop_lines<'b, 'a>(lines: &'b [StoredLine<'a>]) -> &'b [StoredLine<'a>]
+    requires { AreInOrder lines.now }
+    ensures { flat_map stop_in result.now ≡ flat_map stop_in lines.now }
+{
+    let (_, stops) = split_at_rank(lines, STOP_RANK);
+    stops
+}
