@@ -60,13 +60,61 @@ pub fn conclude(
         AreNamed (Some (port_names_of cert.now.circuit)) (parts_of cert.now.layout) →
         IsOnTime (circuit_of cert.now.circuit) cert.now.layout (modules cert.now) }
 {
+    let faults = held_faults(alloc, jobs, book)?;
+    Ok(verdict_of(alloc, cert, jobs, &faults, borders)?)
+}
+
+/// Concludes the verdict as [`conclude`] does, from a book of the certificate's own jobs that holds a finding for each.
+///
+/// It compares no jobs: each finding that a book holds is for the book's job of its number.
+pub fn conclude_full(
+    alloc: Global,
+    cert: &Cert<'_>,
+    borders: &[Option<BorderFault>],
+    book: &BookState,
+) -> Result<Verdict, AllocError>
+    requires own_jobs { AreOwnJobs cert.now book.now.jobs }
+    requires held { AreHeldBelow book.now book.now.jobs (length book.now.jobs) }
+    requires borders { AreBorderFaultsOf (setting cert.now) (modules cert.now) borders.now }
+    ensures verdict { IfOk result (λ v. IsVerdict (setting cert.now) (modules cert.now)
+        book.now.jobs v) }
+    ensures correct { result ≡ Ok Yes →
+        AreNamed (Some (port_names_of cert.now.circuit)) (parts_of cert.now.layout) →
+        IsCorrect cert.now.circuit cert.now.layout }
+    ensures on_time { result ≡ Ok Yes →
+        AreNamed (Some (port_names_of cert.now.circuit)) (parts_of cert.now.layout) →
+        IsOnTime (circuit_of cert.now.circuit) cert.now.layout (modules cert.now) }
+{
+    let faults = own_faults(alloc, book)?;
+    verdict_of(alloc, cert, book.jobs(), &faults, borders)
+}
+
+// The verdict by the least faults of the certificate's jobs and borders.
+fn verdict_of(
+    alloc: Global,
+    cert: &Cert<'_>,
+    jobs: &[Arc<Job>],
+    faults: &[Reasons],
+    borders: &[Option<BorderFault>],
+) -> Result<Verdict, AllocError>
+    requires own_jobs { AreOwnJobs cert.now (map arc_value jobs.now) }
+    requires least { AreLeastFaults (map arc_value jobs.now) faults.now }
+    requires borders { AreBorderFaultsOf (setting cert.now) (modules cert.now) borders.now }
+    ensures verdict { IfOk result (λ v. IsVerdict (setting cert.now) (modules cert.now)
+        (map arc_value jobs.now) v) }
+    ensures correct { result ≡ Ok Yes →
+        AreNamed (Some (port_names_of cert.now.circuit)) (parts_of cert.now.layout) →
+        IsCorrect cert.now.circuit cert.now.layout }
+    ensures on_time { result ≡ Ok Yes →
+        AreNamed (Some (port_names_of cert.now.circuit)) (parts_of cert.now.layout) →
+        IsOnTime (circuit_of cert.now.circuit) cert.now.layout (modules cert.now) }
+{
     // What is known of the layout, the circuit and the modules.
     let _size = cert.size();
     let _count = cert.modules();
-    let faults = held_faults(alloc, jobs, book)?;
     let unkept = cert.unkept(alloc)?;
     let times = cert.times(alloc)?;
-    let mut lines = report_lines(alloc, &faults, borders, &unkept)?;
+    let mut lines = report_lines(alloc, faults, borders, &unkept)?;
     let obeyed = are_all_obeyed(&times);
     if obeyed & lines.is_empty() {
         return Ok(Verdict::Yes);
@@ -119,6 +167,22 @@ fn held_faults(
             return Err(Unfinished::Missing(number));
         };
         faults.push(told_of(finding))?;
+    }
+    Ok(faults)
+}
+
+// The least faults of a book's jobs, by the findings that it holds for each of them.
+fn own_faults(alloc: Global, book: &BookState) -> Result<Vec<Reasons>, AllocError>
+    requires { AreHeldBelow book.now book.now.jobs (length book.now.jobs) }
+    ensures { IfOk result (λ fs. AreLeastFaults book.now.jobs fs.items) }
+{
+    let count = book.jobs().len();
+    let mut faults = Vec::with_capacity(alloc, count)?;
+    'modules: for number in 0..count {
+        match book.found(number) {
+            Some(finding) => faults.push(told_of(finding))?,
+            None => unreachable!(),
+        }
     }
     Ok(faults)
 }

@@ -15,7 +15,7 @@
 mod concluding;
 pub mod laws;
 
-pub use concluding::conclude;
+pub use concluding::{conclude, conclude_full};
 pub use core_book::{
     Answer, BookState, Claim, Core, Event, Filing, LogEntry, Mismatch, NotApplied, NotFiled,
     Reasons, Reply, ReportLine, Unfinished, Verdict, fill, fill_open,

@@ -5,20 +5,20 @@ use Rattle.std.proofs.lemmas.Bool.{and_from, and_parts}
 use Rattle.module_job.specs.Jobs.{JobView}
 use Rattle.certificate.specs.Times.{are_all_obeyed, time_lines}
 use Rattle.core_book.specs.Concluding.{modules, setting}
-use Rattle.core_book.specs.Verdicts.{AreLeastFaults, lines_from, timing, unkept_lines}
+use Rattle.core_book.specs.Verdicts.{lines_from, timing, unkept_lines}
 use Rattle.core_book.specs.declared.verdict.ReportLine.TheVariants.{Unkept}
 use Rattle.audit_core.proofs.Conclusions.{AreAllFaults, verdict-yes, verdict-no, is_empty_list}
 use Rattle.soundness.proofs.YesMeansCorrect.{IsRead, yes_means-correct, yes_means-on_time}
-use Rattle.audit_core.proofs.concluding.conclude.Goals as goal
-use Rattle.audit_core.proofs.concluding.conclude.Goals.{After-is_empty}
+use Rattle.audit_core.proofs.concluding.verdict_of.Goals as goal
+use Rattle.audit_core.proofs.concluding.verdict_of.Goals.{After-is_empty}
 
 all : (c : After-is_empty) → AreAllFaults c.args.cert.now
-    (map arc_value c.args.jobs.now) c.deref.result.now c.args.borders.now
+    (map arc_value c.args.jobs.now) c.args.faults.now c.args.borders.now
 all c =
     let jobs : List JobView = map arc_value c.args.jobs.now in
     record {
       own = c.requires.own_jobs;
-      least = subst (AreLeastFaults jobs) (sym c.deref.ensures.value) c.in_ok-faults.ensures.least;
+      least = c.requires.least;
       borders = c.requires.borders;
     }
 
@@ -26,15 +26,15 @@ all c =
 kept_is : (c : After-is_empty) →
     c.are_all_obeyed-obeyed.result
     ≡ are_all_obeyed (time_lines (setting c.args.cert.now).circuit (modules c.args.cert.now))
-kept_is c = c.are_all_obeyed-obeyed.ensures ∙ ap are_all_obeyed (c.deref-3.ensures.value ∙ c.in_ok-times.ensures)
+kept_is c = c.are_all_obeyed-obeyed.ensures ∙ ap are_all_obeyed (c.deref-2.ensures.value ∙ c.in_ok-times.ensures)
 
 -- the lines on the modules, and on gates that are not kept
 lines_are : (c : After-is_empty) →
-    c.in_ok-lines.lines.items ≡ lines_from 0 c.deref.result.now c.args.borders.now
+    c.in_ok-lines.lines.items ≡ lines_from 0 c.args.faults.now c.args.borders.now
     ++ unkept_lines (setting c.args.cert.now) (modules c.args.cert.now)
 lines_are c = c.in_ok-lines.ensures
-    ∙ ap (λ ns. lines_from 0 c.deref.result.now c.args.borders.now ++ map (λ n. Unkept n) ns)
-    (c.deref-2.ensures.value ∙ c.in_ok-unkept.ensures)
+    ∙ ap (λ ns. lines_from 0 c.args.faults.now c.args.borders.now ++ map (λ n. Unkept n) ns)
+    (c.deref.ensures.value ∙ c.in_ok-unkept.ensures)
 
 pub returns-then-obeyed-is_empty-clause-verdict : goal.returns-then-obeyed-is_empty-clause-verdict
 returns-then-obeyed-is_empty-clause-verdict c =
@@ -42,7 +42,7 @@ returns-then-obeyed-is_empty-clause-verdict c =
     let parts = and_parts c.are_all_obeyed-obeyed.result c.is_empty.result c.if-obeyed-is_empty.true in
     let empty : c.is_empty.result ≡ true = parts.1 in
     let none : length c.in_ok-lines.lines.items ≡ 0 = search rules in
-    verdict-yes c.args.cert.now (map arc_value c.args.jobs.now) c.deref.result.now c.args.borders.now (all d)
+    verdict-yes c.args.cert.now (map arc_value c.args.jobs.now) c.args.faults.now c.args.borders.now (all d)
     (sym (lines_are d) ∙ is_empty_list c.in_ok-lines.lines.items none) (sym (kept_is d) ∙ parts.0)
 
 pub returns-then-obeyed-is_empty-clause-correct : goal.returns-then-obeyed-is_empty-clause-correct
@@ -77,10 +77,10 @@ pub returns-clause-verdict : goal.returns-clause-verdict
 returns-clause-verdict c =
     let d = (goal.at.returns-clause-verdict c).After-is_empty in
     let m = map timing (time_lines (setting c.args.cert.now).circuit (modules c.args.cert.now)) in
-    verdict-no c.args.cert.now (map arc_value c.args.jobs.now) c.deref.result.now c.args.borders.now
+    verdict-no c.args.cert.now (map arc_value c.args.jobs.now) c.args.faults.now c.args.borders.now
     c.push_times.new.lines (all d)
     (c.in_ok-push_times.ensures ∙ ap (λ ts. c.in_ok-lines.lines.items ++ map timing ts)
-    (c.deref-4.ensures.value ∙ c.in_ok-times.ensures) ∙ ap (λ xs. xs ++ m) (lines_are d))
+    (c.deref-3.ensures.value ∙ c.in_ok-times.ensures) ∙ ap (λ xs. xs ++ m) (lines_are d))
     (λ e.
     let none : length c.in_ok-lines.lines.items ≡ 0 = ap length (lines_are d ∙ e.0) in
     let len : vec_len c.in_ok-lines.lines ≡ 0 = search rules in
