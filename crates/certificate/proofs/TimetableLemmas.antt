@@ -20,13 +20,13 @@ use Rattle.certificate.specs.Jobs.{all_times_by, event_by, line_signal}
 use Rattle.certificate_lines.specs.Orders.{AreInOrder}
 use Rattle.module_job.specs.Signals.{IsBelow, renumber_signal, renumber_all_times, renumber_event}
 use Rattle.certificate.specs.NamedWires.{AreNamedWires, IsWireOf}
-use Rattle.certificate.specs.Timetables.{IsTimetable, borders_in}
+use Rattle.certificate.specs.Timetables.{AreSignalLists, borders_in}
 use Rattle.certificate_lines.specs.declared.certificate_line.BorderLine.{BorderLine}
 use Rattle.certificate_lines.specs.declared.certificate_line.CertificateLine.{CertificateLine}
 use Rattle.certificate.specs.declared.named_wires.NamedWire.{NamedWire}
 use Rattle.certificate.specs.declared.timetable.RingOrHalo.{RingOrHalo}
 use Rattle.certificate.specs.declared.timetable.RingOrHalo.TheVariants.{Ring, Halo}
-use Rattle.certificate.specs.declared.timetable.Timetable.{Timetable}
+use Rattle.certificate.specs.declared.timetable.SignalLists.{SignalLists}
 use Rattle.certificate.proofs.BorderOrder.{Before, edges_rise, halos_rise, all_times_rises, events_rise}
 use Rattle.certificate_lines.proofs.Pairs.{Pairs}
 
@@ -93,11 +93,11 @@ module _ (c : Circuit) (l : LocalNet) where
       (renumbered_event (circuit_wire l) e e.time s ∙ ap (event_by e e.time) same ∙ sym (one_flat by e)) ∙
       sym (flat_map-append by es (e ∷ []))
 
-  pub with_border : (es : List BorderLine) (e : BorderLine) (s : Signal) (old new : Timetable) →
+  pub with_border : (es : List BorderLine) (e : BorderLine) (s : Signal) (old new : SignalLists) →
       renumber_signal (circuit_wire l) s ≡ line_signal c e.signal → IsBelow (wires l.netlist) s →
       new.all_times.items ≡ old.all_times.items ++ all_times_by e e.time s →
       new.events.items ≡ old.events.items ++ event_by e e.time s → AreNamedWires c l new.slots →
-      IsTimetable c l es old → IsTimetable c l (es ++ e ∷ []) new
+      AreSignalLists c l es old → AreSignalLists c l (es ++ e ∷ []) new
   with_border es e s old new same own all_times events slots t = record {
     all_times = more_all_times es e s old.all_times.items new.all_times.items same all_times t.all_times;
     events = more_events es e s old.events.items new.events.items same events t.events;
@@ -115,8 +115,8 @@ module _ (c : Circuit) (l : LocalNet) where
       let named : Option NamedWire → Type 0 = λ slot. IfSome slot (λ w. IsWireOf c l w.name.now w.wire) in
       subst (All named) (sym e) (All-replicate named 64 None tt)
 
-  pub no_lines : (t : Timetable) → t.all_times.items ≡ [] → t.events.items ≡ [] → AreNamedWires c l t.slots →
-      IsTimetable c l [] t
+  pub no_lines : (t : SignalLists) → t.all_times.items ≡ [] → t.events.items ≡ [] → AreNamedWires c l t.slots →
+      AreSignalLists c l [] t
   no_lines t h e slots = record {
     all_times = ap (map (renumber_all_times (circuit_wire l))) h;
     events = ap (map (renumber_event (circuit_wire l))) e;
@@ -127,19 +127,20 @@ module _ (c : Circuit) (l : LocalNet) where
     slots = slots;
   }
 
-  pub next_table : (side : RingOrHalo) (lines : List CertificateLine) (i : ℕ) (line : CertificateLine) (t : Timetable) →
+  pub next_table : (side : RingOrHalo) (lines : List CertificateLine) (i : ℕ) (line : CertificateLine)
+      (t : SignalLists) →
       i < length lines →
       line ≡ get_or lines i line →
-      IsTimetable c l (flat_map (borders_in side) (take i lines) ++ borders_in side line) t →
-      IsTimetable c l (flat_map (borders_in side) (take (i + 1) lines)) t
+      AreSignalLists c l (flat_map (borders_in side) (take i lines) ++ borders_in side line) t →
+      AreSignalLists c l (flat_map (borders_in side) (take (i + 1) lines)) t
   next_table side lines i line t lt e h =
-      subst (λ es. IsTimetable c l es t) (next_line (borders_in side) lines i line lt e) h
+      subst (λ es. AreSignalLists c l es t) (next_line (borders_in side) lines i line lt e) h
 
-  pub all_lines : (side : RingOrHalo) (lines : List CertificateLine) (i : ℕ) (t : Timetable) → length lines ≤ i →
-      IsTimetable c l (flat_map (borders_in side) (take i lines)) t →
-      IsTimetable c l (flat_map (borders_in side) lines) t
+  pub all_lines : (side : RingOrHalo) (lines : List CertificateLine) (i : ℕ) (t : SignalLists) → length lines ≤ i →
+      AreSignalLists c l (flat_map (borders_in side) (take i lines)) t →
+      AreSignalLists c l (flat_map (borders_in side) lines) t
   all_lines side lines i t le h =
-      subst (λ xs. IsTimetable c l (flat_map (borders_in side) xs) t) (take_all i lines le) h
+      subst (λ xs. AreSignalLists c l (flat_map (borders_in side) xs) t) (take_all i lines le) h
 
 -- ---- all lines
 
@@ -149,16 +150,16 @@ borders_rise Ring lines o = edges_rise lines o
 borders_rise Halo lines o = halos_rise lines o
 
 pub table_all_times_rises : (c : Circuit) (l : LocalNet) (side : RingOrHalo) (lines : List CertificateLine)
-    (t : Timetable) →
-    AreInOrder lines → IsTimetable c l (flat_map (borders_in side) lines) t →
+    (t : SignalLists) →
+    AreInOrder lines → AreSignalLists c l (flat_map (borders_in side) lines) t →
     IsRising cell_cmp cell_of t.all_times.items
 table_all_times_rises c l side lines t o h =
     all_times_rises (λ e. line_signal c e.signal) (circuit_wire l) (flat_map (borders_in side) lines)
     (borders_rise side lines o) t.all_times.items h.all_times
 
 pub table_events_rise : (c : Circuit) (l : LocalNet) (side : RingOrHalo) (lines : List CertificateLine)
-    (t : Timetable) →
-    AreInOrder lines → IsTimetable c l (flat_map (borders_in side) lines) t →
+    (t : SignalLists) →
+    AreInOrder lines → AreSignalLists c l (flat_map (borders_in side) lines) t →
     IsRising moment_cmp moment_of t.events.items
 table_events_rise c l side lines t o h =
     events_rise (λ e. line_signal c e.signal) (circuit_wire l) (flat_map (borders_in side) lines)

@@ -1,4 +1,4 @@
--- Where the lines of a module are split
+-- How the lines of a module are split at a kind
 use Rattle.std.specs.Prelude.{◌≡◌, ℕ, ◌<◌, ◌≤◌, ◌++◌, List}
 use Rattle.std.specs.List.{All}
 use Rattle.certificate_lines.specs.Orders.{AreInOrder, rank_of}

@@ -13,7 +13,7 @@ use Rattle.certificate_lines.specs.declared.certificate_line.BorderLine.{BorderL
 use Rattle.certificate_lines.specs.declared.certificate_line.CertificateLine.{CertificateLine}
 use Rattle.certificate.specs.declared.timetable.RingOrHalo.{RingOrHalo}
 use Rattle.certificate.specs.declared.timetable.RingOrHalo.TheVariants.{Ring, Halo}
-use Rattle.certificate.specs.declared.timetable.Timetable.{Timetable}
+use Rattle.certificate.specs.declared.timetable.SignalLists.{SignalLists}
 
 -- what a line says of cells of this side
 abbrev pub borders_in : RingOrHalo → CertificateLine → List BorderLine
@@ -30,7 +30,7 @@ pub record IsLow (c : Cell) : Type 0 where
   pub row : (pos 0 ≤ℤ c.y) × (c.y ≤ℤ pos 511)
 
 -- what is held and what happens is what the lines say, each wire is one of the module's, and so are those in slots
-pub record IsTimetable (c : Circuit) (l : LocalNet) (es : List BorderLine) (t : Timetable) : Type 0 where
+pub record AreSignalLists (c : Circuit) (l : LocalNet) (es : List BorderLine) (t : SignalLists) : Type 0 where
   pub all_times : map (renumber_all_times (circuit_wire l)) t.all_times.items ≡ (line_signals c es).all_times
   pub events : map (renumber_event (circuit_wire l)) t.events.items ≡ (line_signals c es).events
   pub own_all_times : All (λ h. IsBelow (wires l.netlist) h.signal) t.all_times.items

@@ -9,7 +9,7 @@ ghost use Rattle.certificate.specs.Jobs.{event_by, all_times_by, line_signal, li
 ghost use Rattle.certificate_lines.specs.Orders.{AreInOrder};
 ghost use Rattle.certificate_lines.specs.Rules.{is_local};
 ghost use Rattle.module_job.specs.Signals.{IsBelow, renumber_signal, renumber_signals};
-ghost use Rattle.certificate.specs.Timetables.{IsTimetable, borders_in, IsNamedLocal};
+ghost use Rattle.certificate.specs.Timetables.{AreSignalLists, borders_in, IsNamedLocal};
 ghost use Rattle.certificate.specs.NamedWires.{AreNamedWires};
 ghost use Rattle.certificate_lines.specs.declared.certificate_line.BorderLine.{BorderLine};
 
@@ -29,7 +29,7 @@ pub(crate) enum RingOrHalo {
 
 // What the lines so far say: at all odd times, and at single ones. And wires that they named, in slots.
 #[derive(Drop)]
-struct Timetable<'a> {
+struct SignalLists<'a> {
     all_times: Vec<AllTimes>,
     events: Vec<TimedSignal>,
     slots: [Option<NamedWire<'a>>; SLOT_COUNT],
@@ -58,7 +58,7 @@ fn local_signal<'a>(
     }
 }
 
-impl<'a> Timetable<'a> {
+impl<'a> SignalLists<'a> {
     fn push(&mut self, border: &StoredBorder, signal: Signal) -> Result<(), AllocError>
         ensures all_times { OnOk result (self.new.all_times.items
             ≡ self.old.all_times.items ++ all_times_by border.now border.now.time signal) }
@@ -87,8 +87,8 @@ impl<'a> Timetable<'a> {
     ) -> Result<(), AllocError>
         requires { IsNamedLocal (circuit_of circuit.now) locals.now border.now }
         ensures { OnOk result ((es : List BorderLine) →
-            IsTimetable (circuit_of circuit.now) locals.now es self.old →
-            IsTimetable (circuit_of circuit.now) locals.now (es ++ border.now ∷ []) self.new) }
+            AreSignalLists (circuit_of circuit.now) locals.now es self.old →
+            AreSignalLists (circuit_of circuit.now) locals.now (es ++ border.now ∷ []) self.new) }
     {
         let signal = local_signal(circuit, locals, &mut self.slots, border.signal());
         self.push(border, signal)
@@ -105,8 +105,8 @@ impl<'a> Timetable<'a> {
         requires { All (IsNamedLocal (circuit_of circuit.now) locals.now)
             (borders_in side line.now) }
         ensures { OnOk result ((es : List BorderLine) →
-            IsTimetable (circuit_of circuit.now) locals.now es self.old →
-            IsTimetable (circuit_of circuit.now) locals.now (es ++ borders_in side line.now)
+            AreSignalLists (circuit_of circuit.now) locals.now es self.old →
+            AreSignalLists (circuit_of circuit.now) locals.now (es ++ borders_in side line.now)
             self.new) }
     {
         let border = match side {
@@ -140,7 +140,7 @@ pub(crate) fn signals_of(
 {
     // Few lines have a star. For the others, room for each line costs less than a count of those of this side: it is
     // freed soon, and most is never touched.
-    let mut table = Timetable {
+    let mut table = SignalLists {
         all_times: Vec::new(alloc),
         events: Vec::with_capacity(alloc, lines.len())?,
         slots: empty_slots(),

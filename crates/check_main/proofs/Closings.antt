@@ -1,7 +1,6 @@
 -- The book of an audit.
 use Rattle.std.proofs.Common.{◌≡◌, ◌∙◌, ◌+◌, ◌≤◌, ℕ, suc, zero, List, [], ◌∷◌, ◌++◌, length, map, false, refl, sym, ap}
 use Rattle.std.proofs.Common.{arith, subst, length-append}
-use Rattle.std.proofs.lemmas.Option.{slice_get_within}
 use Rattle.std.specs.Prelude.{replicate}
 use Rattle.sha2.specs.Sha256.{sha256}
 use Rattle.certificate.specs.Grammars.{CertView}
@@ -9,7 +8,7 @@ use Rattle.certificate.specs.Text.{certificate_text}
 use Rattle.core_book.specs.Book.{BookView, IsReplayed, accepted_in, after_closing, new_book}
 use Rattle.core_book.specs.Concluding.{AreOwnJobs}
 use Rattle.core_book.specs.Replay.{Replayed, accepted_after, after_entry, beginning, has_closing, replay, replay_from}
-use Rattle.core_book.specs.Verdicts.{AreHeldBelow, IsFirstMissing}
+use Rattle.core_book.specs.Verdicts.{AreHeldBelow}
 use Rattle.core_book.specs.declared.reply.Reply.{Reply}
 use Rattle.core_book.specs.declared.reply.Reply.TheVariants as reply
 use Rattle.core_book.proofs.Replays.{closed-by_its_history}
@@ -100,12 +99,6 @@ audit_of s digest jobs b c of_text own is =
           (subst (λ (js : List JobView). AreHeldBelow is.full js (length js)) same full.all_held);
       all_accepted = full.all_accepted ∙ ap length same;
     })
-
--- no number is missing
-pub none_missing : (b : BookView) (jobs : List JobView) (n : ℕ) → AreHeldBelow b jobs (length jobs) →
-    IsFirstMissing b jobs n → ⊥
-none_missing b jobs n held first =
-    first.missing (held n first.job (slice_get_within jobs n first.job first.numbered) first.numbered)
 
 -- new shares have filed nothing
 pub none_filed : (n : ℕ) → filed_by (replicate n no_counts) ≡ 0

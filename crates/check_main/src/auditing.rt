@@ -93,7 +93,7 @@ pub(crate) fn audit_opening<G: Gate + Sync, R: Threads + Wait + Sync>(
     let copies = jobs.clone()?;
     let groups = job_groups(alloc, &copies)?;
     let state = BookState::new(alloc, digest, jobs)?;
-    let unopened = UnopenedBook {
+    let unopened = BookToOpen {
         state,
         filings: Blank::new(workers as u64),
         acceptances: Blank::new(workers as u64),
@@ -127,7 +127,7 @@ fn complete(
 
 // A state without history, and the blanks of two ledgers with a part for each worker.
 #[derive(Drop)]
-struct UnopenedBook {
+struct BookToOpen {
     state: BookState,
     filings: Blank,
     acceptances: Blank,
@@ -141,7 +141,7 @@ fn audited_by<F: Filings + Sync, A: Ledger + Sync, G: Gate + Sync, R: Threads + 
     gate: &G,
     jobs: &[Arc<Job>],
     groups: &[usize],
-    unopened: UnopenedBook,
+    unopened: BookToOpen,
 ) -> Result<Audited, AllocError>
     requires filings { (unopened.filings.name ≡ F.name) × (unopened.filings.parts ≡ F.parts)
         × (unopened.filings.parts ≡ unopened.workers) }
@@ -159,7 +159,7 @@ fn audited_by<F: Filings + Sync, A: Ledger + Sync, G: Gate + Sync, R: Threads + 
     ensures filed { IfOk result (λ audited. audited.memory ≡ false →
         length audited.state.history ≡ length jobs.now) }
 {
-    let UnopenedBook {
+    let BookToOpen {
         state,
         filings,
         acceptances,

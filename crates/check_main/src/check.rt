@@ -12,10 +12,10 @@ ghost use Rattle.check_main.specs.Preparing.{IsPreparedFor};
 use crate::auditing::audit_opening;
 use crate::preparing::Prepared;
 use answers::{Answered, Outcome};
-use audit_core::conclude;
+use audit_core::conclude_full;
 use border_match::BorderFault;
 use certificate::Cert;
-use core_book::{BookState, Unfinished, Verdict};
+use core_book::{BookState, Verdict};
 use job_pool::Gate;
 use report::report_under;
 use std::alloc::{AllocError, Global};
@@ -86,14 +86,7 @@ fn verdict_from(
     requires audit { IsAuditOf cert.now state.now }
     ensures { IfOk result (IsVerdictOn cert.now) }
 {
-    // What is known of the modules.
-    let _count = cert.modules();
-    let jobs = state.jobs();
-    match conclude(alloc, cert, jobs, borders, state) {
-        Ok(verdict) => Ok(verdict),
-        Err(Unfinished::Memory) => Err(AllocError),
-        Err(Unfinished::Missing(_)) => unreachable!(),
-    }
+    conclude_full(alloc, cert, borders, state)
 }
 
 fn outcome_of(verdict: &Verdict) -> Outcome

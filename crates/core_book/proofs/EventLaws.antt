@@ -17,7 +17,7 @@ use Rattle.core_book.specs.Book.{IsBook, IsReplayed, after_filing, found_in, rep
 use Rattle.core_book.specs.Core.{CoreView, IsCore, IsSeated, after_claim, after_event, after_events, answer_of_claim}
 use Rattle.core_book.specs.Core.{answer_to, draws_of, new_core, numbers_in}
 use Rattle.core_book.specs.CoreLaws.{AcceptsOneForEach, AreAllDrawn, DrawsEachOnce, EmptyWhereAllAreDrawn}
-use Rattle.core_book.specs.CoreLaws.{EventsKeepWhatIsHeld, EventsReplay, HoldsHonestOwn, HoldsWhatWasAccepted}
+use Rattle.core_book.specs.CoreLaws.{EventsKeepWhatIsHeld, EventsReplay, FindingsAreOwnAndLeast, HoldsWhatWasAccepted}
 use Rattle.core_book.specs.CoreLaws.{OnlyAcceptedChangesWhatIsHeld, accepted_among, accepted_by, accepted_of}
 use Rattle.core_book.specs.CoreLaws.{core_after}
 use Rattle.core_book.specs.declared.machine.Answer.TheVariants as Answered
@@ -122,7 +122,7 @@ pub events-replay : EventsReplay
 events-replay digest jobs seats es =
     events-replayed es (new_core digest jobs seats) (new-book digest jobs seats) (new-replayed digest jobs seats)
 
-pub holds-honest_own : HoldsHonestOwn
+pub holds-honest_own : FindingsAreOwnAndLeast
 holds-honest_own digest jobs seats es k f h =
     ((events-book es (new_core digest jobs seats) (new-book digest jobs seats)).own k f h, f.honest, f.keeps)
 

@@ -72,8 +72,9 @@ AcceptsOneForEach = (digest : List ℕ) (jobs : List JobView) (seats : ℕ) (eve
     count_by (λ f. number_of f == number) (accepted_among (new_core digest jobs seats) events) ≤ 1
 
 -- each is of the book's job of its number, and has the least fault of that job
-abbrev pub HoldsHonestOwn : Type 0
-HoldsHonestOwn = (digest : List ℕ) (jobs : List JobView) (seats : ℕ) (events : List Event) (number : ℕ) (f : Finding) →
+abbrev pub FindingsAreOwnAndLeast : Type 0
+FindingsAreOwnAndLeast = (digest : List ℕ) (jobs : List JobView) (seats : ℕ) (events : List Event) (number : ℕ)
+    (f : Finding) →
     found_in (core_after digest jobs seats events).book number ≡ Some f →
     IsOwn (core_after digest jobs seats events).book number f × IsLeastFault (job_of f) (fault_of f)
     × IsLeastKeepFault (job_of f) (keep_of f)

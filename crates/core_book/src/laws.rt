@@ -1,5 +1,5 @@
 //! Laws of books and of the core, each the contract of a function without a body.
-ghost use Rattle.core_book.specs.CoreLaws.{AcceptsOneForEach, DrawsEachOnce, EmptyWhereAllAreDrawn, EventsKeepWhatIsHeld, EventsReplay, HoldsHonestOwn, HoldsWhatWasAccepted, OnlyAcceptedChangesWhatIsHeld, VerdictIsOne};
+ghost use Rattle.core_book.specs.CoreLaws.{AcceptsOneForEach, DrawsEachOnce, EmptyWhereAllAreDrawn, EventsKeepWhatIsHeld, EventsReplay, FindingsAreOwnAndLeast, HoldsWhatWasAccepted, OnlyAcceptedChangesWhatIsHeld, VerdictIsOne};
 ghost use Rattle.core_book.specs.Laws.{AcceptsItsOwn, BooksAgree, ClosedAnswersClosed, ClosedByItsHistory, DoublesWhatIsHeld, FullBookHoldsAll, HoldsWhatIsAccepted, HoldsNothingElse, KeepsWhatIsHeld, KnowsItsOwn, StaysBook, StaysReplayed};
 
 /// States that, after any events, a new core has given each number below the next to one seat, once.
@@ -16,7 +16,7 @@ pub fn core_draws_each_once()
 pub fn core_holds_what_was_accepted()
     ensures accepted { HoldsWhatWasAccepted }
     ensures one { AcceptsOneForEach }
-    ensures honest { HoldsHonestOwn }
+    ensures honest { FindingsAreOwnAndLeast }
     ensures replays { EventsReplay }
 {}
 

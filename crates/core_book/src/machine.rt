@@ -134,7 +134,7 @@ impl Core {
         ensures unchanged { OnErr result (self.new ≡ self.old) }
     {
         let count = self.book.jobs().len();
-        let Ok((claim, next)) = claim_from(&mut self.draws[seat], count, self.next) else {
+        let Ok((claim, next)) = next_claim(&mut self.draws[seat], count, self.next) else {
             return Err(AllocError);
         };
         self.next = next;
@@ -189,7 +189,7 @@ impl Core {
 }
 
 // One claim of a seat that drew these: what it gets, and the next number after it.
-fn claim_from(
+fn next_claim(
     drawn: &mut Vec<usize>,
     count: usize,
     next: usize,

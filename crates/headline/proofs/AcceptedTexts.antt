@@ -64,7 +64,7 @@ use Rattle.headline.specs.Laws.{ThereAndBackIsAccepted, TimedModulesAreAccepted}
 use Rattle.headline.specs.PlainLaws.{ThereAndBackIsPlain, ThereAndBackIsSmall}
 use Rattle.headline.specs.PlainNo.{plain_no}
 use Rattle.headline.specs.PlainYes.{plain_yes}
-use Rattle.headline.specs.SmallDesigns.{HasNoDelay, IsDesign, IsSmallDesign, plain_lines, plain_text}
+use Rattle.headline.specs.SmallDesigns.{HasNoDelay, IsDesign, IsSmallDesign, plain_lines, design_text}
 use Rattle.headline.specs.ThereAndBack.{there_and_back}
 use Rattle.headline.specs.TimedModules.{timed_modules}
 use Rattle.headline.specs.Witnesses.{PlainNoIsRefuted, PlainYesIsAccepted, SmallDesignIsAccepted, SmallDesignIsRefuted}
@@ -368,7 +368,7 @@ right_off touch = yes_off_rim plain_yes yes_accepted.0 yes_accepted.1 (record {
 
 pub design_accepted : SmallDesignIsAccepted
 design_accepted =
-    let r = some_report (plain_text meeting right_layout) in
+    let r = some_report (design_text meeting right_layout) in
     let d = each_is_decided meeting right_layout r.0 r.1 right_design (few (cell 2 2) (cell 5 5)) r.2 in
     let yes : r.1 ≡ Yes = d.1.1 (right_correct, no_delay, right_off) in
     record {
@@ -378,7 +378,7 @@ design_accepted =
       small = few (cell 2 2) (cell 5 5);
       steps = omega arith;
       output = r.0;
-      reported = subst (IsReportOf (plain_text meeting right_layout) r.0) yes r.2;
+      reported = subst (IsReportOf (design_text meeting right_layout) r.0) yes r.2;
     }
 
 pub no_of : (outcome : Outcome) → outcome ≢ Yes → outcome ≢ Refused → outcome ≡ No
@@ -388,7 +388,7 @@ no_of Refused a b = absurd (b refl)
 
 pub design_refuted : SmallDesignIsRefuted
 design_refuted =
-    let r = some_report (plain_text meeting wrong_layout) in
+    let r = some_report (design_text meeting wrong_layout) in
     let d = each_is_decided meeting wrong_layout r.0 r.1 wrong_design (few (cell 5 5) (cell 2 2)) r.2 in
     let is = is_refuted plain_no (meeting_bundle wrong_layout) are_read.no_reads wrong_layout one (cell 2 2) 1
     (Meet 0 (Some 1) ∷ []) are_read.no_fails in
@@ -400,5 +400,5 @@ design_refuted =
       small = few (cell 5 5) (cell 2 2);
       steps = omega arith;
       output = r.0;
-      reported = subst (IsReportOf (plain_text meeting wrong_layout) r.0) no r.2;
+      reported = subst (IsReportOf (design_text meeting wrong_layout) r.0) no r.2;
     }

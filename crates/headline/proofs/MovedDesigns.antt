@@ -12,7 +12,7 @@ use Rattle.answers.specs.declared.outcome.Outcome.{Outcome}
 use Rattle.answers.specs.declared.outcome.Outcome.TheVariants.{Yes}
 use Rattle.meaning.specs.Implements.{IsCorrect, run_under}
 use Rattle.headline.specs.MovedDesigns.{EachCorrectDesignGetsYes, HasRoom, enlarged, moved}
-use Rattle.headline.specs.SmallDesigns.{IsDesign, IsSmallDesign, plain_text}
+use Rattle.headline.specs.SmallDesigns.{IsDesign, IsSmallDesign, design_text}
 use Rattle.headline.proofs.MovedLines.{enlarged_good, moved_good}
 use Rattle.headline.proofs.MovedPlanes.{by_moved}
 use Rattle.headline.proofs.MovedRims.{not_rim}
@@ -59,7 +59,7 @@ off_rim circuit p correct t =
 
 pub each_gets_yes : EachCorrectDesignGetsYes
 each_gets_yes circuit p design room correct none =
-    let text = plain_text circuit (moved p) in
+    let text = design_text circuit (moved p) in
     let rules = design_moved circuit p design room in
     let small = small_moved circuit p room in
     let right = correct_moved circuit p correct in

@@ -30,7 +30,7 @@ use Rattle.answers.specs.CheckText.{IsReportOf}
 use Rattle.answers.specs.declared.outcome.Outcome.TheVariants.{No}
 use Rattle.meaning.specs.Implements.{IsCorrect, LooksAsAsked, run_under}
 use Rattle.headline.specs.MovedDesigns.{HasRoom, SomeDesignNeedsRoom}
-use Rattle.headline.specs.SmallDesigns.{HasNoDelay, IsDesign, IsSmallDesign, plain_text}
+use Rattle.headline.specs.SmallDesigns.{HasNoDelay, IsDesign, IsSmallDesign, design_text}
 use Rattle.headline.proofs.AcceptedTexts.{no_of}
 use Rattle.headline.proofs.MovedDesigns.{each_gets_yes}
 use Rattle.headline.proofs.SomeReport.{some_report}
@@ -263,7 +263,7 @@ touches = record {
 
 pub needs_room : SomeDesignNeedsRoom
 needs_room =
-    let text = plain_text constant rim_mirror in
+    let text = design_text constant rim_mirror in
     let r = some_report text in
     let decided = each_is_decided constant rim_mirror r.0 r.1 mirror_design small r.2 in
     let no : r.1 ≡ No = no_of r.1 (λ e. (decided.1.0 e).2 touches) decided.0 in

@@ -46,7 +46,7 @@ use Rattle.meaning.specs.Implements.{IsCorrect}
 use Rattle.headline.specs.Plain.{HasRimTouch}
 use Rattle.headline.specs.PlainLaws.{EachSmallDesignHasText, EachSmallDesignIsDecided}
 use Rattle.headline.specs.SmallDesigns.{AreInOrder, HasNoDelay, IsDesign, IsPlainText, IsSmallDesign, gate_numbers}
-use Rattle.headline.specs.SmallDesigns.{inverse_numbers, plain_lines, plain_text}
+use Rattle.headline.specs.SmallDesigns.{inverse_numbers, plain_lines, design_text}
 use Rattle.headline.specs.Stops.{HasRightStops, SaysBundle}
 use Rattle.headline.proofs.Designs.{one_certificate, one_design}
 use Rattle.headline.proofs.Migrations.{HasSections, text_is}
@@ -222,7 +222,7 @@ module _ (circuit : List CircuitLine) (p : Pattern) (design : IsDesign circuit p
     certificate_is = third.is;
   }
 
-  spelled : flat_map ended_line lines ≡ plain_text circuit p
+  spelled : flat_map ended_line lines ≡ design_text circuit p
   unfolding bundle_text layout_lines certificate_lines layout_text certificate_text
   spelled =
       let b : Bundle = record {
@@ -246,7 +246,7 @@ module _ (circuit : List CircuitLine) (p : Pattern) (design : IsDesign circuit p
       ∙ append_assoc (circuit_text circuit) (layout_text p) (certificate_text
       (record { circuit = circuit; layout = p; version = 1; entries = plain_lines circuit p }))
 
-  pub has_text : IsPlainText (plain_text circuit p) circuit p
+  pub has_text : IsPlainText (design_text circuit p) circuit p
   has_text = subst (λ text. IsPlainText text circuit p) spelled its_text
 
 pub each_has_text : EachSmallDesignHasText
@@ -323,7 +323,7 @@ module _ (text : List ℕ) (circuit : List CircuitLine) (p : Pattern) (t : IsPla
 
 pub each_is_decided : EachSmallDesignIsDecided
 each_is_decided circuit p output outcome design small reports =
-    let text = plain_text circuit p in
+    let text = design_text circuit p in
     let t = has_text circuit p design small in
     let d = small_is_decided text output outcome circuit p t small reports in (
       d.0,

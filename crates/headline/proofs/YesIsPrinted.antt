@@ -24,7 +24,7 @@ use Rattle.pattern.specs.declared.layout_line.LayoutLine.TheVariants.{Mirror, Ba
 use Rattle.core_book.specs.Concluding.{port_names_of}
 use Rattle.answers.specs.declared.outcome.Outcome.TheVariants.{Yes, Refused}
 use Rattle.meaning.specs.Printed.{BeginsWithDesign, IsForm, IsLine, layout_forms, part_form}
-use Rattle.headline.specs.Laws.{ReadIsPrinted, RightIsRightAsRead, YesMeansRight}
+use Rattle.headline.specs.Laws.{ReadIsPrinted, RightSaysCorrectDesign, YesMeansRight}
 use Rattle.headline.specs.SmallDesigns.{IsDesign}
 use Rattle.headline.proofs.Printed.{IsNumber, are_names, circuit_lines, circuit_same, counts_of, layout_same}
 use Rattle.headline.proofs.Printed.{other_forms, parts_read, printed_is_read, size_form}
@@ -160,7 +160,7 @@ yes_is_right text output says =
       correct = r.correct;
     }
 
-pub right_as_read : RightIsRightAsRead
+pub right_as_read : RightSaysCorrectDesign
 right_as_read text r = record {
   circuit = r.circuit;
   layout = r.layout;

@@ -62,7 +62,7 @@ use Rattle.answers.specs.BundleText.{Bundle, bundle_of}
 use Rattle.answers.specs.CheckText.{IsReportOf, SaysReport, verdict_outcome}
 use Rattle.meaning.specs.Design.{SaysDesign}
 use Rattle.meaning.specs.Streams.{SaysYes}
-use Rattle.headline.specs.Laws.{FourthLineTells, IsRightAsRead, ReportsOnGoodDesigns, YesHasOneValuation}
+use Rattle.headline.specs.Laws.{FourthLineTells, SaysCorrectDesign, ReportsOnGoodDesigns, YesHasOneValuation}
 use Rattle.headline.specs.Laws.{YesMeansRightStops}
 use Rattle.headline.specs.RightInFull.{IsGoodDesign}
 use Rattle.headline.proofs.OneAnswer.{layout_from}
@@ -382,7 +382,7 @@ module _ (text : List ℕ) (b : Bundle) (output : List ℕ) (outcome : Outcome) 
   accepted = subst (λ (w : Verdict). IsVerdict (setting_of c.circuit p) (modules_in c) jobs w) is
       says.is_verdict.judged
 
-  judged_yes : IsRightAsRead text
+  judged_yes : SaysCorrectDesign text
   judged_yes = record {
     circuit = b.circuit;
     layout = p;
@@ -421,9 +421,9 @@ pub by_outcome : (P : Type 0) (text output : List ℕ) →
 by_outcome P text output judged (Ok b) e says = judged b e says (is_yes says.verdict says.ends)
 by_outcome P text output judged (Err refusal) e told = absurd (not_refused told.1)
 
-pub yes_is_right_as_read : (text output : List ℕ) → IsReportOf text output Yes → IsRightAsRead text
+pub yes_is_right_as_read : (text output : List ℕ) → IsReportOf text output Yes → SaysCorrectDesign text
 yes_is_right_as_read text output says =
-    by_outcome (IsRightAsRead text) text output (λ b e. judged_yes text b output Yes e) (bundle_of text) refl says
+    by_outcome (SaysCorrectDesign text) text output (λ b e. judged_yes text b output Yes e) (bundle_of text) refl says
 
 pub yes_has_right_stops : YesMeansRightStops
 yes_has_right_stops text output says =

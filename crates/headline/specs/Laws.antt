@@ -33,15 +33,15 @@ abbrev pub YesMeansRight : Type 0
 YesMeansRight = (text output : List ℕ) → IsReportOf text output Yes → IsRight text
 
 -- The same by the words of the lines: the text says a circuit and then a layout, and the layout computes the circuit.
-pub record IsRightAsRead (text : List ℕ) : Type 0 where
+pub record SaysCorrectDesign (text : List ℕ) : Type 0 where
   pub circuit : List CircuitLine
   pub layout : Pattern
   pub says : SaysDesign text circuit layout
   pub correct : IsCorrect circuit layout
 
 -- a text that is right is right as it is read
-abbrev pub RightIsRightAsRead : Type 0
-RightIsRightAsRead = (text : List ℕ) → IsRight text → IsRightAsRead text
+abbrev pub RightSaysCorrectDesign : Type 0
+RightSaysCorrectDesign = (text : List ℕ) → IsRight text → SaysCorrectDesign text
 
 -- a text that begins with a circuit and a layout says them
 abbrev pub PrintedIsRead : Type 0

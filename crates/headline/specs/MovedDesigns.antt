@@ -15,7 +15,7 @@ use Rattle.answers.specs.declared.outcome.Outcome.{Outcome}
 use Rattle.answers.specs.declared.outcome.Outcome.TheVariants.{No, Yes}
 use Rattle.soundness.specs.PlainCertificates.{TouchesRim}
 use Rattle.meaning.specs.Implements.{IsCorrect}
-use Rattle.headline.specs.SmallDesigns.{HasNoDelay, IsDesign, IsPlainText, IsSmallDesign, plain_text}
+use Rattle.headline.specs.SmallDesigns.{HasNoDelay, IsDesign, IsPlainText, IsSmallDesign, design_text}
 
 -- ---- a layout that is moved
 
@@ -61,13 +61,13 @@ pub record HasRoom (circuit : List CircuitLine) (layout : Pattern) : Type 0 wher
 pub record MovedGetsYes (circuit : List CircuitLine) (layout : Pattern) : Type 0 where
   pub design : IsDesign circuit (moved layout)
   pub small : IsSmallDesign circuit (moved layout)
-  pub plain : IsPlainText (plain_text circuit (moved layout)) circuit (moved layout)
+  pub plain : IsPlainText (design_text circuit (moved layout)) circuit (moved layout)
   pub correct : IsCorrect circuit (moved layout)
   pub off_rim : ¬ TouchesRim circuit (moved layout)
   pub report : List ℕ
-  pub reported : IsReportOf (plain_text circuit (moved layout)) report Yes
+  pub reported : IsReportOf (design_text circuit (moved layout)) report Yes
   pub always : (output : List ℕ) (outcome : Outcome) →
-      IsReportOf (plain_text circuit (moved layout)) output outcome → outcome ≡ Yes
+      IsReportOf (design_text circuit (moved layout)) output outcome → outcome ≡ Yes
 
 -- This holds of each design with room that keeps the rules and computes its circuit, if the circuit has no delay.
 abbrev pub EachCorrectDesignGetsYes : Type 0
@@ -84,5 +84,5 @@ pub record SomeDesignNeedsRoom : Type 0 where
   pub no_delay : HasNoDelay circuit
   pub touches : TouchesRim circuit layout
   pub output : List ℕ
-  pub reported : IsReportOf (plain_text circuit layout) output No
+  pub reported : IsReportOf (design_text circuit layout) output No
   pub gets_yes : MovedGetsYes circuit layout

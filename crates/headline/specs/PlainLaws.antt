@@ -12,7 +12,7 @@ use Rattle.meaning.specs.Implements.{IsCorrect}
 use Rattle.headline.specs.Stops.{HasRightStops, SaysBundle}
 use Rattle.headline.specs.ThereAndBack.{there_and_back}
 use Rattle.headline.specs.Plain.{SaysPlain, HasRimTouch, IsWrongIfPlain}
-use Rattle.headline.specs.SmallDesigns.{plain_lines, plain_text, HasNoDelay, IsDesign, IsNoSmallDesign}
+use Rattle.headline.specs.SmallDesigns.{plain_lines, design_text, HasNoDelay, IsDesign, IsNoSmallDesign}
 use Rattle.headline.specs.SmallDesigns.{IsPlainText, IsSmallDesign}
 use Rattle.headline.specs.ReportLines.{LinesTell}
 
@@ -49,13 +49,13 @@ RefusedIsNoSmallDesign = (text output : List ℕ) → IsReportOf text output Ref
 -- Each small design has a plain text: its lines and the plain lines, each in its one spelling.
 abbrev pub EachSmallDesignHasText : Type 0
 EachSmallDesignHasText = (circuit : List CircuitLine) (layout : Pattern) → IsDesign circuit layout →
-    IsSmallDesign circuit layout → IsPlainText (plain_text circuit layout) circuit layout
+    IsSmallDesign circuit layout → IsPlainText (design_text circuit layout) circuit layout
 
 -- So `check` decides each small design, by this text. It does not refuse the text. It says yes exactly if the layout
 -- computes the circuit and keeps off its rim, and the circuit has no delay.
 abbrev pub EachSmallDesignIsDecided : Type 0
 EachSmallDesignIsDecided = (circuit : List CircuitLine) (layout : Pattern) (output : List ℕ) (outcome : Outcome) →
-    IsDesign circuit layout → IsSmallDesign circuit layout → IsReportOf (plain_text circuit layout) output outcome →
+    IsDesign circuit layout → IsSmallDesign circuit layout → IsReportOf (design_text circuit layout) output outcome →
     (outcome ≢ Refused)
     × ((outcome ≡ Yes) ↔ (IsCorrect circuit layout × HasNoDelay circuit × ¬ TouchesRim circuit layout))
 

@@ -86,8 +86,8 @@ pub record IsDesign (circuit : List CircuitLine) (layout : Pattern) : Type 0 whe
 
 -- The text of a design with its plain certificate: the circuit, the layout and the plain lines in version 1, each line
 -- in its one spelling.
-abbrev pub plain_text : List CircuitLine → Pattern → List ℕ
-plain_text circuit layout = circuit_text circuit ++ (layout_text layout ++ certificate_text
+abbrev pub design_text : List CircuitLine → Pattern → List ℕ
+design_text circuit layout = circuit_text circuit ++ (layout_text layout ++ certificate_text
     (record { circuit = circuit; layout = layout; version = 1; entries = plain_lines circuit layout }))
 
 -- no gate of the circuit is a delay

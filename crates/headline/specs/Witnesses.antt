@@ -18,7 +18,7 @@ use Rattle.headline.specs.Plain.{SaysPlain}
 use Rattle.headline.specs.PlainNo.{plain_no}
 use Rattle.headline.specs.PlainYes.{plain_yes}
 use Rattle.headline.specs.ReportLines.{SaysNoWith}
-use Rattle.headline.specs.SmallDesigns.{IsDesign, IsSmallDesign, plain_text}
+use Rattle.headline.specs.SmallDesigns.{IsDesign, IsSmallDesign, design_text}
 
 -- `plain_yes` is plain, has at least two steps, and is reported with the outcome yes. After the first step, whatever
 -- the inputs, the ball of p is at (3, 3) if p has one, and that of q at (4, 4) if q has one. Both cells are of one
@@ -57,7 +57,7 @@ pub record HasSmallDesign (outcome : Outcome) : Type 0 where
   pub small : IsSmallDesign circuit layout
   pub steps : 2 ≤ layout.size.steps
   pub output : List ℕ
-  pub reported : IsReportOf (plain_text circuit layout) output outcome
+  pub reported : IsReportOf (design_text circuit layout) output outcome
 
 -- there is one with the outcome yes
 abbrev pub SmallDesignIsAccepted : Type 0

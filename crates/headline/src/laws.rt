@@ -1,6 +1,6 @@
 //! Laws of the definitions, each the contract of a function without a body.
 ghost use Rattle.answers.specs.CheckText.{IsReportOf};
-ghost use Rattle.headline.specs.Laws.{BeginsWithOneDesign, FourthLineIsLine, FourthLineTells, HasAnAnswer, HasOneAnswer, PrintedIsRead, ReadIsPrinted, ReportsOnGoodDesigns, RightIsRightAsRead, SaysOneCertificate, SaysOneDesign, ThereAndBackIsAccepted, TimedModulesAreAccepted, YesHasOneValuation, YesMeansRight, YesMeansRightInFull, YesMeansRightStops};
+ghost use Rattle.headline.specs.Laws.{BeginsWithOneDesign, FourthLineIsLine, FourthLineTells, HasAnAnswer, HasOneAnswer, PrintedIsRead, ReadIsPrinted, ReportsOnGoodDesigns, RightSaysCorrectDesign, SaysOneCertificate, SaysOneDesign, ThereAndBackIsAccepted, TimedModulesAreAccepted, YesHasOneValuation, YesMeansRight, YesMeansRightInFull, YesMeansRightStops};
 ghost use Rattle.headline.specs.PlainLaws.{DesignsAreRead, EachSmallDesignHasText, EachSmallDesignIsDecided, PlainIsDecided, PlainLinesDecide, PlainNoMeansWrong, RefusedIsNoSmallDesign, SmallDesignIsDecided, ThereAndBackIsPlain, ThereAndBackIsSmall, YesKeepsOffRim, NoLinesTell};
 ghost use Rattle.headline.specs.Witnesses.{PlainNoIsRefuted, PlainYesIsAccepted, SmallDesignIsAccepted, SmallDesignIsRefuted};
 ghost use Rattle.headline.specs.MovedDesigns.{EachCorrectDesignGetsYes, SomeDesignNeedsRoom};
@@ -62,7 +62,7 @@ pub fn migration_keeps_what_is_accepted()
 /// `verdict yes` exactly if the verdict is yes.
 pub fn yes_means_right()
     ensures right { YesMeansRight }
-    ensures as_read { RightIsRightAsRead }
+    ensures as_read { RightSaysCorrectDesign }
     ensures stops { YesMeansRightStops }
     ensures in_full { YesMeansRightInFull }
     ensures one_valuation { YesHasOneValuation }
@@ -85,7 +85,7 @@ pub fn no_means_wrong()
 ///
 /// A text that says a design of at most 64 by 64 cells, 12 inputs and 64 gates, and then `plain_lines`, is not refused.
 /// `check` says yes to it exactly if the layout computes the circuit, the stops are right, and the layout keeps off its
-/// rim. Each such design that keeps the rules of both sections has a text, `plain_text`. So `check` says yes to this
+/// rim. Each such design that keeps the rules of both sections has a text, `design_text`. So `check` says yes to this
 /// text exactly if the layout computes the circuit and keeps off its rim, and the circuit has no delay. Each text that
 /// is not refused says a design that keeps these rules.
 pub fn small_designs_are_decided()

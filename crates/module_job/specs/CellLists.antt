@@ -30,8 +30,8 @@ abbrev pub demands_view : OfDemands.Inside → List Demand
 demands_view a = map numbered_demand a.numbers
 
 -- the wire of each signal has 16 bits
-abbrev pub AreSignals : OfStarts.Inside → Type 0
-AreSignals a = All (λ n. n < 65538) a.numbers
+abbrev pub AreSignalNumbers : OfStarts.Inside → Type 0
+AreSignalNumbers a = All (λ n. n < 65538) a.numbers
 
 -- the wire of each demand has 16 bits
 abbrev pub AreDemands : OfDemands.Inside → Type 0

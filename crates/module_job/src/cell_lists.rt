@@ -27,11 +27,11 @@ impl Model for StartSignals {
 
     ghost Value = { List Signal };
 
-    ghost use Rattle.module_job.specs.CellLists.{AreSignals, starts_view};
+    ghost use Rattle.module_job.specs.CellLists.{AreSignalNumbers, starts_view};
 
     ghost view = { starts_view };
 
-    ghost invariant = { AreSignals };
+    ghost invariant = { AreSignalNumbers };
 }
 
 /// A list of what the cells of a box must be at the last time, row by row. Contracts see the demands.

@@ -51,7 +51,7 @@ use Rattle.border_match.proofs.Haloless.{haloless_match}
 use Rattle.border_match.proofs.Modules.{there}
 use Rattle.border_match.proofs.Bridge.{halo_same}
 use Rattle.border_match.proofs.SameSignals.{not_different}
-use Rattle.soundness.specs.MigrationLaws.{AcceptedWithoutHalos, IsAcceptedWithout, MigrationIsAccepted}
+use Rattle.soundness.specs.MigrationLaws.{AcceptedWithoutHalos, IsAcceptedWithoutHalos, MigrationIsAccepted}
 use Rattle.core_book.specs.Concluding.{modules, setting}
 use Rattle.core_book.specs.Verdicts.{Accepts}
 use Rattle.soundness.proofs.JobSignals.{no_signal, other_cell}
@@ -281,7 +281,7 @@ module _ (lines : List CircuitLine) (p : Pattern) (ms : List ModuleLines) (jobs 
     keep_fault_kept f is = subst (λ (l : JobView). IsKeepFault l f) between_is
         (record { in_range = is.in_range; is_kept = is.is_kept; shown = is.shown })
 
-  pub accepted_without : IsAcceptedWithout lines p ms
+  pub accepted_without : IsAcceptedWithoutHalos lines p ms
   accepted_without = record {
     complete = no_strange;
     accepted = λ others are. record {

@@ -16,7 +16,7 @@ use Rattle.core_book.specs.Verdicts.{Accepts}
 
 -- The modules and their jobs are accepted. Then no edge line names a wire that a module beside it lacks. With the edge
 -- lines beside them in place of their own halo lines the modules are accepted too.
-pub record IsAcceptedWithout (lines : List CircuitLine) (p : Pattern) (ms : List ModuleLines) : Type 0 where
+pub record IsAcceptedWithoutHalos (lines : List CircuitLine) (p : Pattern) (ms : List ModuleLines) : Type 0 where
   pub complete : lacks_wire (setting_of lines p) ms ≡ false
   pub accepted : (jobs : List JobView) →
       AreJobsOf (circuit_of lines) p (map (with_halos (setting_of lines p) ms) ms) jobs →
@@ -26,7 +26,7 @@ pub record IsAcceptedWithout (lines : List CircuitLine) (p : Pattern) (ms : List
 abbrev pub AcceptedWithoutHalos : Type 0
 AcceptedWithoutHalos = (lines : List CircuitLine) (p : Pattern) (ms : List ModuleLines) (jobs : List JobView) →
     AreModules (setting_of lines p) ms →
-    AreJobsOf (circuit_of lines) p ms jobs → Accepts (setting_of lines p) ms jobs → IsAcceptedWithout lines p ms
+    AreJobsOf (circuit_of lines) p ms jobs → Accepts (setting_of lines p) ms jobs → IsAcceptedWithoutHalos lines p ms
 
 -- ---- certificates
 

@@ -45,7 +45,8 @@ parts-preserved c =
       subst (PartJobs (circuit_of p.circuit) p.layout (with_halos g ms) ms (c.parts.number + 1))
           (sym (ap (map arc_value) c.in_ok-push.ensures.items
           ∙ map-append arc_value c.parts.jobs.items (c.in_ok-job.job ∷ [])))
-          (one_part_more (circuit_of p.circuit) p.layout (with_halos g ms) ms c.parts.number (map arc_value c.parts.jobs.items) m
+          (one_part_more (circuit_of p.circuit) p.layout (with_halos g ms) ms c.parts.number
+          (map arc_value c.parts.jobs.items) m
           (arc_value c.in_ok-job.job) is.at made c.parts.invariant.0),
       one_list_less g c.args.entries.now (λ l. l.items) c.parts.number c.parts.places.items
           c.take_list-list.new.lists.items c.take_list-list.ensures.count c.take_list-list.ensures.others
@@ -57,7 +58,8 @@ parts-init c =
     let p = c.args.tables.now in
     let g = setting_of p.circuit p.layout in
     let ms = map slice_lines c.args.parts.now in (
-      subst (λ vs. PartJobs (circuit_of p.circuit) p.layout (with_halos g ms) ms 0 (map arc_value vs)) (sym c.new-jobs.ensures.items)
+      subst (λ vs. PartJobs (circuit_of p.circuit) p.layout (with_halos g ms) ms 0 (map arc_value vs))
+          (sym c.new-jobs.ensures.items)
           (no_part_jobs (circuit_of p.circuit) p.layout (with_halos g ms) ms),
       all_lists g c.args.entries.now (map (λ l. l.items) c.in_ok-places.places.items) c.in_ok-places.ensures,
     )
@@ -67,4 +69,5 @@ returns c =
     let p = c.args.tables.now in
     let l = length-map c.args.parts.now slice_lines in
     parts_done (circuit_of p.circuit) p.layout
-    (with_halos (setting_of p.circuit p.layout) (map slice_lines c.args.parts.now)) (map slice_lines c.args.parts.now) c.parts.number _ (omega (arith, l, c.parts-test.false)) c.parts.invariant.0
+    (with_halos (setting_of p.circuit p.layout) (map slice_lines c.args.parts.now))
+    (map slice_lines c.args.parts.now) c.parts.number _ (omega (arith, l, c.parts-test.false)) c.parts.invariant.0

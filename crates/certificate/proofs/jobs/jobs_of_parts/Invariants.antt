@@ -10,5 +10,6 @@ use Rattle.certificate.proofs.jobs.jobs_of_parts.Given as goal
 
 abbrev pub invariant-parts : goal.invariant-parts
 invariant-parts l = PartJobs (circuit_of l.tables.circuit) l.tables.layout
-    (with_halos (setting_of l.tables.circuit l.tables.layout) (map slice_lines l.parts)) (map slice_lines l.parts) l.number (map arc_value l.jobs.items)
+    (with_halos (setting_of l.tables.circuit l.tables.layout) (map slice_lines l.parts))
+    (map slice_lines l.parts) l.number (map arc_value l.jobs.items)
     × HaveListsFrom (setting_of l.tables.circuit l.tables.layout) l.entries l.number (map (λ l. l.items) l.places.items)

@@ -22,7 +22,8 @@ pub parts-init : goal.parts-init
 parts-init c =
     let p = c.args.tables.now in
     let ms = map slice_lines c.args.parts.now in
-    subst (λ vs. PartJobs (circuit_of p.circuit) p.layout (λ m. m) ms 0 (map arc_value vs)) (sym c.new-jobs.ensures.items)
+    subst (λ vs. PartJobs (circuit_of p.circuit) p.layout (λ m. m) ms 0 (map arc_value vs))
+    (sym c.new-jobs.ensures.items)
     (no_part_jobs (circuit_of p.circuit) p.layout (λ m. m) ms)
 
 pub parts-preserved : goal.parts-preserved

@@ -7,5 +7,6 @@ use Rattle.certificate.proofs.BesideLines.{PartJobs}
 use Rattle.certificate.proofs.jobs.jobs_of_written.Given as goal
 
 abbrev pub invariant-parts : goal.invariant-parts
-invariant-parts l = PartJobs (circuit_of l.tables.circuit) l.tables.layout (λ m. m) (map slice_lines l.parts) l.part-index
+invariant-parts l = PartJobs (circuit_of l.tables.circuit) l.tables.layout (λ m. m)
+    (map slice_lines l.parts) l.part-index
     (map arc_value l.jobs.items)

@@ -29,7 +29,8 @@ moved_stops-requires-clause-cells c =
     subst (All (λ (s : Stop). IsNear s.at.cell)) (sym c.as_slice.ensures.value)
     (near_stops c.in_ok-stops.stops.items
     (stops_stand (λ q. IsLow q.cell) (circuit_of c.args.circuit.now) c.args.locals.now
-    (flat_map stop_in c.args.lines.now) c.in_ok-stops.stops.items (of_all c.in_ok-stops.ensures c.stop_lines.ensures) c.requires.low))
+    (flat_map stop_in c.args.lines.now) c.in_ok-stops.stops.items
+    (of_all c.in_ok-stops.ensures c.stop_lines.ensures) c.requires.low))
 
 -- a small number is passed as it is
 passed : (z r : ℤ) → r ≡ z → IsSmallShift r → to_z w32 (of_z w32 r) ≡ z

@@ -13,5 +13,6 @@ returns-in-Ring-clause-borders c =
 pub returns-in-Halo-clause-borders : goal.returns-in-Halo-clause-borders
 returns-in-Halo-clause-borders c =
     subst
-    (λ side. flat_map (borders_in side) c.lines_of_rank-in-Halo.result.now ≡ flat_map (borders_in side) c.args.lines.now)
+    (λ side. flat_map (borders_in side) c.lines_of_rank-in-Halo.result.now
+    ≡ flat_map (borders_in side) c.args.lines.now)
     (sym c.in-Halo.is) (c.lines_of_rank-in-Halo.ensures.borders halo_in only_halos)

@@ -2,9 +2,9 @@
 use Rattle.std.proofs.Common.{take}
 use Rattle.std.specs.List.{flat_map}
 use Rattle.circuit.specs.Bridge.{circuit_of}
-use Rattle.certificate.specs.Timetables.{IsTimetable, borders_in}
+use Rattle.certificate.specs.Timetables.{AreSignalLists, borders_in}
 use Rattle.certificate.proofs.timetable.signals_of.Given as goal
 
 abbrev pub invariant-lines : goal.invariant-lines
-invariant-lines l = IsTimetable (circuit_of l.circuit) l.locals
+invariant-lines l = AreSignalLists (circuit_of l.circuit) l.locals
     (flat_map (borders_in l.side) (take l.line-index l.lines)) l.table

@@ -7,10 +7,10 @@ use Rattle.core_book.specs.Core.{CoreView, IsCore, after_claim, draws_of, number
 use Rattle.core_book.specs.CoreView.{core_view, lists_of}
 use Rattle.core_book.proofs.CoreSteps.{claim-core, drawn-at, left-claim, next-few}
 use Rattle.core_book.proofs.machine.Core.claim.Goals as goal
-use Rattle.core_book.proofs.machine.Core.claim.Goals.{After-index_mut, After-claim_from, at-After-claim_from}
+use Rattle.core_book.proofs.machine.Core.claim.Goals.{After-index_mut, After-next_claim, at-After-next_claim}
 
-pub claim_from-requires : goal.claim_from-requires
-claim_from-requires c =
+pub next_claim-requires : goal.next_claim-requires
+next_claim-requires c =
     let is = c.self.invariant in
     let seats : length (lists_of c.self.inside.draws.items) ≡ length c.self.inside.draws.items =
     length-map c.self.inside.draws.items (λ v. v.items) in
@@ -31,9 +31,9 @@ was c = drawn-at (λ (v : Vec ℕ Global). v.items) c.self.inside.draws.items c.
     (inside c) c.index_mut.ensures.value
 
 -- the lists are as before, where no memory was found
-kept : (c : After-claim_from) → c.claim_from.new.drawn.items ≡ c.index_mut.result.now.items →
-    lists_of (set c.self.inside.draws.items c.args.seat c.claim_from.new.drawn) ≡ lists_of c.self.inside.draws.items
-kept c same = map-set_same (λ (v : Vec ℕ Global). v.items) c.self.inside.draws.items c.args.seat c.claim_from.new.drawn
+kept : (c : After-next_claim) → c.next_claim.new.drawn.items ≡ c.index_mut.result.now.items →
+    lists_of (set c.self.inside.draws.items c.args.seat c.next_claim.new.drawn) ≡ lists_of c.self.inside.draws.items
+kept c same = map-set_same (λ (v : Vec ℕ Global). v.items) c.self.inside.draws.items c.args.seat c.next_claim.new.drawn
     c.index_mut.result.now (same ∙ ap (λ (v : Vec ℕ Global). v.items) c.index_mut.ensures.value)
 
 abbrev with_draws : CoreView → List (List ℕ) → CoreView
@@ -42,48 +42,48 @@ with_draws v draws = record v { draws = draws }
 pub invariant_of-self : goal.invariant_of-self
 invariant_of-self c =
     let is = c.self.invariant in
-    let d = (goal.at.invariant_of-self c).After-claim_from in
+    let d = (goal.at.invariant_of-self c).After-next_claim in
     record {
       core = subst (λ (ds : List (List ℕ)). IsCore (with_draws (core_view c.self.inside) ds))
           (sym (kept d c.in_default.ensures.unchanged)) is.core;
       numbers = is.numbers;
-      seats = omega (arith, is.seats, length-set c.self.inside.draws.items c.args.seat c.claim_from.new.drawn);
+      seats = omega (arith, is.seats, length-set c.self.inside.draws.items c.args.seat c.next_claim.new.drawn);
     }
 
 pub returns-in_default-clause-unchanged : goal.returns-in_default-clause-unchanged
 returns-in_default-clause-unchanged c =
-    let d = (goal.at.returns-in_default-clause-unchanged c).After-claim_from in
+    let d = (goal.at.returns-in_default-clause-unchanged c).After-next_claim in
     ap (with_draws (core_view c.self.inside)) (kept d c.in_default.ensures.unchanged) ∙ c.self.view_is
 
 -- what a claim leaves
-left : (c : After-claim_from) (next : ℕ) →
+left : (c : After-next_claim) (next : ℕ) →
     next ≡ claim_next (length c.jobs-count.result.now) c.index_mut.result.now.items c.self.inside.next
-    → c.claim_from.new.drawn.items
+    → c.next_claim.new.drawn.items
     ≡ claim_draws (length c.jobs-count.result.now) c.index_mut.result.now.items c.self.inside.next
     → record (core_view c.self.inside)
-    { next = next; draws = lists_of (set c.self.inside.draws.items c.args.seat c.claim_from.new.drawn) }
+    { next = next; draws = lists_of (set c.self.inside.draws.items c.args.seat c.next_claim.new.drawn) }
     ≡ after_claim (core_view c.self.inside) c.args.seat
 left c next next_is drawn_is =
-    let d = (at-After-claim_from c).After-index_mut in
+    let d = (at-After-next_claim c).After-index_mut in
     left-claim (core_view c.self.inside) c.args.seat
-    (length c.jobs-count.result.now) next c.index_mut.result.now.items c.claim_from.new.drawn.items _ (count d)
+    (length c.jobs-count.result.now) next c.index_mut.result.now.items c.next_claim.new.drawn.items _ (count d)
     (was d) next_is drawn_is
-    (map-set (λ (v : Vec ℕ Global). v.items) c.self.inside.draws.items c.args.seat c.claim_from.new.drawn)
+    (map-set (λ (v : Vec ℕ Global). v.items) c.self.inside.draws.items c.args.seat c.next_claim.new.drawn)
 
 pub invariant_of-self-2 : goal.invariant_of-self-2
 invariant_of-self-2 c =
     let is = c.self.invariant in
-    let d = (goal.at.invariant_of-self-2 c).After-claim_from in
+    let d = (goal.at.invariant_of-self-2 c).After-next_claim in
     let e = (goal.at.invariant_of-self-2 c).After-index_mut in
     record {
       core = subst IsCore (sym (left d c.in-Ok.next c.in-Ok.ensures.next c.in-Ok.ensures.draws))
           (claim-core (core_view c.self.inside) c.args.seat (seated e) is.core);
       numbers = is.numbers;
-      seats = omega (arith, is.seats, length-set c.self.inside.draws.items c.args.seat c.claim_from.new.drawn);
+      seats = omega (arith, is.seats, length-set c.self.inside.draws.items c.args.seat c.next_claim.new.drawn);
     }
 
 pub returns-clause-after : goal.returns-clause-after
 returns-clause-after c =
-    let d = (goal.at.returns-clause-after c).After-claim_from in
+    let d = (goal.at.returns-clause-after c).After-next_claim in
     left d c.in-Ok.next c.in-Ok.ensures.next c.in-Ok.ensures.draws
     ∙ ap (λ (v : CoreView). after_claim v c.args.seat) c.self.view_is

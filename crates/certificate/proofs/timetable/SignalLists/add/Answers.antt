@@ -3,7 +3,7 @@ use Rattle.circuit.specs.Bridge.{circuit_of}
 use Rattle.certificate.specs.Jobs.{line_signal}
 use Rattle.certificate.specs.NamedWires.{AreNamedWires}
 use Rattle.certificate.proofs.TimetableLemmas.{both_ok, with_border}
-use Rattle.certificate.proofs.timetable.Timetable.add.Goals as goal
+use Rattle.certificate.proofs.timetable.SignalLists.add.Goals as goal
 
 pub returns : goal.returns
 returns c =
