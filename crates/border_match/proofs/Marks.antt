@@ -47,11 +47,11 @@ pub none_added : (events : List TimedSignal) (at : Moment) (old : List Bool) →
 none_added events at old = record { sized = refl; marks = λ p e marked got. inl marked }
 
 -- the edge that names what the new mark's event names
-pub still_marked : (b : Borders) (k : ℕ) (other : JobView) (event : TimedSignal) (old new : List Bool) →
-    slice_get (jobs_of b) k ≡ Some other → owner_of b.owners.now event.at.cell.x event.at.cell.y ≡ k →
+pub still_marked : (b : Borders) (other : JobView) (event : TimedSignal) (old new : List Bool) →
+    slice_get (jobs_of b) (owner_of b.owners.now event.at.cell.x event.at.cell.y) ≡ Some other →
     IsListed other.edges.events event → AddsMark b.job.now.halos.events event.at old new → AreMarked b old →
     AreMarked b new
-still_marked b k other event old new numbered owned listed adds marked = record {
+still_marked b other event old new owned listed adds marked = record {
   sized = adds.sized ∙ marked.sized;
   edges = λ p e f mark got at. elim (adds.marks p e mark got) [
     | inl before ↦ marked.edges p e f before got at
@@ -60,8 +60,8 @@ still_marked b k other event old new numbered owned listed adds marked = record 
         sym same ∙ ap (λ (g : BorderFault). record { time = g.time; cell = g.cell }) (sym at) in
         record {
           owner = other;
-          numbered = ap (slice_get (jobs_of b))
-              (ap (λ (m : Moment). owner_of b.owners.now m.cell.x m.cell.y) (sym here) ∙ owned) ∙ numbered;
+          numbered = ap (λ (m : Moment). slice_get (jobs_of b) (owner_of b.owners.now m.cell.x m.cell.y)) (sym here)
+              ∙ owned;
           named = record {
             place = listed.0;
             event = event;

@@ -4,7 +4,7 @@ ghost use Rattle.std.specs.Prelude.{◌+◌, ◌≡◌, ◌<◌, ◌↔◌, ◌&
 ghost use Rattle.module_box.specs.Boxes.{in_box, in_halo};
 ghost use Rattle.module_box.specs.Moves.{IsNear};
 ghost use Rattle.module_box.specs.Tiling.{owner_of};
-ghost use Rattle.border_match.specs.Boards.{AddsMark, AreMarked, AreNumbers, AreOwnersNoted, Differ, Faults, IsEdgeNamed, IsEdgeNamedAt, IsAtEvent, IsAtEventOf, IsListed, IsNamedOf, IsPlaceOf, IsUnmarked, AreReadyBorders, MayBeFault, job_signal, jobs_of};
+ghost use Rattle.border_match.specs.Boards.{AddsMark, AreMarked, AreNumbers, AreOwnersNoted, Differ, Faults, IsEdgeNamed, IsEdgeNamedAt, IsAtEvent, IsListed, IsNamed, IsPlaceOf, IsUnmarked, AreReadyBorders, MayBeFault, job_signal, jobs_of};
 ghost use Rattle.border_match.specs.Candidates.{IsBetter, IsLeast};
 ghost use Rattle.border_match.specs.declared.fault.BorderFault.{BorderFault};
 ghost use Rattle.border_match.specs.declared.signals.RingOrHalo.TheVariants.{Halo};
@@ -17,7 +17,6 @@ use certificate::Job;
 use module_box::{Box2, Moment, Owners, Signal, TimedSignal, moved_cell};
 use module_job::{Shape, shift_to_origin};
 use std::alloc::{AllocError, Global};
-use std::cmp::Ordering;
 use std::sync::Arc;
 
 /// The borders of a module: the layout's rectangle, the number of the module that has each cell of it, the jobs of all
@@ -144,9 +143,21 @@ impl<'a> Borders<'a> {
         best
     }
 
+    // Returns whether the event of the module's halo at a place is at this time and cell.
+    #[inline(always)]
+    fn is_halo_event(&self, place: usize, at: Moment) -> bool
+        ensures { IsTrue result → IsPlaceOf self.now.job.now.halos.events at place }
+    {
+        if place >= self.job.halo_events() {
+            return false;
+        }
+        self.job.halo_event(place).at == at
+    }
+
     // Returns the place of the event of the module's halo at this time and cell, or `None` if the search from a place
     // on meets none.
-    fn halo_event_place(&self, at: Moment, from: usize) -> Option<usize>
+    #[inline(never)]
+    fn find_halo_event(&self, at: Moment, from: usize) -> Option<usize>
         requires { IsNear at.cell }
         ensures { IfSome result (IsPlaceOf self.now.job.now.halos.events at) }
     {
@@ -159,17 +170,31 @@ impl<'a> Borders<'a> {
         };
         let start = from.min(events.len());
         let place = place_from(events, start, start, local);
-        if place >= self.job.halo_events() {
-            return None;
+        if self.is_halo_event(place, at) {
+            return Some(place);
         }
-        match self.job.halo_event(place).at.compare(at) {
-            Ordering::Equal => Some(place),
-            _ => None,
+        None
+    }
+
+    // Does the same. Most often it is the next event, or the one behind it, since modules on two sides take turns.
+    #[inline(always)]
+    fn halo_event_place(&self, at: Moment, from: usize) -> Option<usize>
+        requires { IsNear at.cell }
+        ensures { IfSome result (IsPlaceOf self.now.job.now.halos.events at) }
+    {
+        if self.is_halo_event(from, at) {
+            return Some(from);
         }
+        let second = from.saturating_add(1);
+        if self.is_halo_event(second, at) {
+            return Some(second);
+        }
+        self.find_halo_event(at, from)
     }
 
     // Returns what the module says of this time and cell of its halo. If an event says it, that event gets its mark,
     // and the next search begins behind it.
+    #[inline(always)]
     fn mark_halo(&self, at: Moment, seen: &mut [bool], from: &mut usize) -> Signal
         requires near { IsNear at.cell }
         requires sized { length seen.old ≡ length self.now.job.now.halos.events }
@@ -186,37 +211,37 @@ impl<'a> Borders<'a> {
         }
     }
 
-    // The lesser of the candidate and the fault that an event of a module's ring names, if that module has the cell.
+    // The lesser of the candidate and the fault that an event of the ring of the module that has the cell names.
+    //
+    // Most often the two modules say the same, so this test comes before all others.
+    #[inline(always)]
     fn with_edge_event(
         &self,
         best: Option<BorderFault>,
-        number: usize,
-        other: &Job,
+        owner: &Job,
         event: TimedSignal,
         seen: &mut [bool],
         from: &mut usize,
     ) -> Option<BorderFault>
         requires ready { AreReadyBorders self.now }
-        requires numbered { slice_get (jobs_of self.now) number ≡ Some other.now }
-        requires listed { IsListed other.now.edges.events event }
+        requires inside { IsTrue (in_box self.now.whole event.at.cell.x event.at.cell.y) }
+        requires owner { slice_get (jobs_of self.now)
+            (owner_of self.now.owners.now event.at.cell.x event.at.cell.y) ≡ Some owner.now }
+        requires listed { IsListed owner.now.edges.events event }
         requires marked { AreMarked self.now seen.old }
-        ensures better { IsBetter (Faults self.now) (IsAtEventOf self.now number event) best
-            result }
+        ensures better { IsBetter (Faults self.now) (IsAtEvent event) best result }
         ensures marked { AreMarked self.now seen.new }
     {
-        let fault = fault_at(event);
-        if !is_less(fault, best) || !self.may_be_fault(fault) {
-            return best;
-        }
-        if self.owners.owner(fault.cell) != number {
-            return best;
-        }
-        let _area = other.area();
+        let _area = owner.area();
         let own = self.mark_halo(event.at, seen, from);
-        if self.edge_event_differs(other, event, own) {
-            return lesser(best, fault);
+        if !self.edge_event_differs(owner, event, own) {
+            return best;
         }
-        best
+        let fault = fault_at(event);
+        if !self.may_be_fault(fault) {
+            return best;
+        }
+        lesser(best, fault)
     }
 
     // The least of the candidate and the faults that the events of the module's halo without a mark name.
@@ -236,7 +261,7 @@ impl<'a> Borders<'a> {
         least
     }
 
-    // The least of the candidate and the faults that the events of a module's ring name at cells of that module.
+    // The least of the candidate and the faults that the events of a module's ring name.
     fn with_edge_events(
         &self,
         best: Option<BorderFault>,
@@ -247,8 +272,7 @@ impl<'a> Borders<'a> {
         requires ready { AreReadyBorders self.now }
         requires numbered { slice_get (jobs_of self.now) number ≡ Some other.now }
         requires marked { AreMarked self.now seen.old }
-        ensures better { IsBetter (Faults self.now)
-            (IsNamedOf self.now number other.now.edges.events) best result }
+        ensures better { IsBetter (Faults self.now) (IsNamed other.now.edges.events) best result }
         ensures marked { AreMarked self.now seen.new }
     {
         let window = Window::around(self.job.area(), other.area());
@@ -265,14 +289,12 @@ impl<'a> Borders<'a> {
                 continue;
             }
             leaps = leaps.after_near(place);
-            least = self.with_edge_event(
-                least,
-                number,
-                other,
-                other.edge_event(place),
-                seen,
-                &mut from,
-            );
+            let event = other.edge_event(place);
+            // The events rise, so no fault of the rest is less either.
+            if !is_less(fault_at(event), least) {
+                return least;
+            }
+            least = self.with_edge_event(least, other, event, seen, &mut from);
             place += 1;
         }
         least

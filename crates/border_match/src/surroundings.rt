@@ -27,8 +27,10 @@ pub(crate) struct Leaps {
     last: usize,
     // How many far events in a row the search looks at before a leap.
     wait: usize,
-    // How many places the last leap went. Most times have the same lines, so the next leap probably goes as many.
+    // How many places the last leap went, and the one before it. Most times have the same lines, and one or two leaps
+    // over them, so the next leap probably goes as many as the one before the last.
     length: usize,
+    length_before: usize,
 }
 
 impl Leaps {
@@ -37,19 +39,22 @@ impl Leaps {
         ensures last { result.last ≡ 0 }
         ensures wait { result.wait ≡ SHORT_WAIT }
         ensures length { result.length ≡ 0 }
+        ensures length_before { result.length_before ≡ 0 }
     {
         Leaps {
             last: 0,
             wait: SHORT_WAIT,
             length: 0,
+            length_before: 0,
         }
     }
 
-    // Returns the last place that a leap from a place passes if it is as long as the last one.
+    // Returns the last place that a leap from a place passes if it is as long as the one before the last.
     fn last_passed(self, place: usize) -> usize
-        ensures { place + self.length < usize.MAX → result ≡ place + self.length - 1 }
+        ensures { place + self.length_before < usize.MAX →
+            result ≡ place + self.length_before - 1 }
     {
-        place.saturating_add(self.length).saturating_sub(1)
+        place.saturating_add(self.length_before).saturating_sub(1)
     }
 
     // Returns whether to look at the event behind one at a far cell, and not to leap.
@@ -64,6 +69,7 @@ impl Leaps {
         ensures last { result.last ≡ place }
         ensures wait { result.wait ≡ self.wait }
         ensures length { result.length ≡ self.length }
+        ensures length_before { result.length_before ≡ self.length_before }
     {
         Leaps {
             last: place,
@@ -89,12 +95,14 @@ impl Leaps {
         ensures last { result.last ≡ next }
         ensures wait { result.wait ≤ LONG_WAIT }
         ensures length { result.length ≡ next - place }
+        ensures length_before { result.length_before ≡ self.length }
     {
         let length = next - place;
         Leaps {
             last: next,
             wait: self.wait_after(length),
             length,
+            length_before: self.length,
         }
     }
 }
