@@ -34,7 +34,7 @@ use Rattle.border_match.specs.Boards.{IsEdgeNamedAmong, IsEdgeNamedAt, DiffersAl
 use Rattle.border_match.specs.Boards.{IsAround}
 use Rattle.border_match.specs.Surroundings.{AreFar, IsWindow}
 use Rattle.border_match.specs.declared.surroundings.Window.{Window}
-use Rattle.border_match.proofs.FarEvents.{seen}
+use Rattle.border_match.proofs.FarEvents.{below_or_from, seen}
 use Rattle.border_match.specs.declared.borders.Borders.{Borders}
 use Rattle.border_match.specs.declared.fault.BorderFault.{BorderFault}
 use Rattle.border_match.specs.Candidates.{Covers}
@@ -46,9 +46,6 @@ use Rattle.border_match.proofs.NearModules.{among_more, lower_or_same}
 pub same_fault : (time : ℕ) (cell : Cell) (f : BorderFault) → f.time ≡ time → f.cell ≡ cell →
     f ≡ record { time = time; cell = cell }
 same_fault time cell f p q = let mk : ℕ → Cell → BorderFault = λ t c. record { time = t; cell = c } in ap₂ mk p q
-
-below_or_from : (i m : ℕ) → (i < m) ⊎ (m ≤ i)
-below_or_from i m = grind arith
 
 before_at_after : (i m : ℕ) → (i < m) ⊎ ((i ≡ m) ⊎ (m < i))
 before_at_after i m = grind arith

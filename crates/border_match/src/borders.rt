@@ -11,7 +11,7 @@ ghost use Rattle.border_match.specs.declared.signals.RingOrHalo.TheVariants.{Hal
 
 use crate::fault::{BorderFault, is_less, lesser};
 use crate::signals::{RingOrHalo, event_signal, signal_at};
-use crate::surroundings::{Leaps, Window, after_far, place_from};
+use crate::surroundings::{Leaps, Window, next_near, place_of};
 use bbm_rule::Cell;
 use certificate::Job;
 use module_box::{Box2, Moment, Owners, Signal, TimedSignal, moved_cell};
@@ -143,53 +143,20 @@ impl<'a> Borders<'a> {
         best
     }
 
-    // Returns whether the event of the module's halo at a place is at this time and cell.
-    #[inline(always)]
-    fn is_halo_event(&self, place: usize, at: Moment) -> bool
-        ensures { IsTrue result → IsPlaceOf self.now.job.now.halos.events at place }
-    {
-        if place >= self.job.halo_events() {
-            return false;
-        }
-        self.job.halo_event(place).at == at
-    }
-
     // Returns the place of the event of the module's halo at this time and cell, or `None` if the search from a place
     // on meets none.
-    #[inline(never)]
-    fn find_halo_event(&self, at: Moment, from: usize) -> Option<usize>
-        requires { IsNear at.cell }
-        ensures { IfSome result (IsPlaceOf self.now.job.now.halos.events at) }
-    {
-        let area = self.job.area();
-        let shape: &Shape = self.job.shape();
-        let events = shape.halos().events();
-        let local = Moment {
-            time: at.time,
-            cell: moved_cell(at.cell, shift_to_origin(area.x), shift_to_origin(area.y)),
-        };
-        let start = from.min(events.len());
-        let place = place_from(events, start, start, local);
-        if self.is_halo_event(place, at) {
-            return Some(place);
-        }
-        None
-    }
-
-    // Does the same. Most often it is the next event, or the one behind it, since modules on two sides take turns.
     #[inline(always)]
     fn halo_event_place(&self, at: Moment, from: usize) -> Option<usize>
         requires { IsNear at.cell }
         ensures { IfSome result (IsPlaceOf self.now.job.now.halos.events at) }
     {
-        if self.is_halo_event(from, at) {
-            return Some(from);
-        }
-        let second = from.saturating_add(1);
-        if self.is_halo_event(second, at) {
-            return Some(second);
-        }
-        self.find_halo_event(at, from)
+        let area = self.job.area();
+        let shape: &Shape = self.job.shape();
+        let local = Moment {
+            time: at.time,
+            cell: moved_cell(at.cell, shift_to_origin(area.x), shift_to_origin(area.y)),
+        };
+        place_of(shape.halos().events(), from, local)
     }
 
     // Returns what the module says of this time and cell of its halo. If an event says it, that event gets its mark,
@@ -281,21 +248,16 @@ impl<'a> Borders<'a> {
         let mut from = 0;
         let mut leaps = Leaps::new();
         let mut least = best;
-        let mut place = 0;
+        // Most events of a long side are far from this module, so this test comes before all others.
+        let mut place = next_near(window, events, 0, &mut leaps);
         'events: while place < events.len() {
-            // Most events of a long side are far from this module, so this test comes before all others.
-            if !window.holds(events[place].at.cell) {
-                place = after_far(window, events, place, &mut leaps);
-                continue;
-            }
-            leaps = leaps.after_near(place);
             let event = other.edge_event(place);
             // The events rise, so no fault of the rest is less either.
             if !is_less(fault_at(event), least) {
                 return least;
             }
             least = self.with_edge_event(least, other, event, seen, &mut from);
-            place += 1;
+            place = next_near(window, events, place + 1, &mut leaps);
         }
         least
     }

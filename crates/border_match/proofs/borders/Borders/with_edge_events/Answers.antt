@@ -1,35 +1,41 @@
-use Rattle.std.proofs.Common.{◌≡◌, ℕ, List, Some, ap, subst, ◌∙◌, arith}
+use Rattle.std.proofs.Common.{◌≡◌, ℕ, ◌+◌, List, Some, ap, subst, ◌∙◌, arith}
 use Rattle.std.specs.Prelude.{pos, slice_get}
 use Rattle.std.proofs.lemmas.Int.{ints}
 use Rattle.module_box.specs.Moments.{moment_cmp}
-use Rattle.module_box.specs.Schedules.{IsRising, moment_of}
+use Rattle.module_box.specs.Schedules.{IsRising, Signals, moment_of}
 use Rattle.module_box.specs.Tiling.{owner_of}
+use Rattle.module_box.specs.declared.boxes.Box2.{Box2}
 use Rattle.module_box.specs.declared.schedules.TimedSignal.{TimedSignal}
 use Rattle.module_job.specs.Jobs.{JobView}
-use Rattle.module_job.specs.Shapes.{ShapeView, shift_to_origin}
-use Rattle.border_match.specs.Boards.{AreReadyBorders, jobs_of}
+use Rattle.module_job.specs.Shapes.{ShapeView, shape_of, shift_to_origin}
+use Rattle.border_match.specs.Boards.{AreReadyBorders, Faults, IsNamedBelow, jobs_of}
 use Rattle.border_match.specs.Candidates.{Covers}
+use Rattle.border_match.specs.Surroundings.{AreFar, IsWindow}
 use Rattle.border_match.specs.declared.borders.Borders.{Borders}
+use Rattle.border_match.specs.declared.fault.BorderFault.{BorderFault}
+use Rattle.border_match.specs.declared.surroundings.Window.{Window}
 use Rattle.border_match.proofs.EventSignals.{events_unmoved}
-use Rattle.border_match.proofs.FarEvents.{far_at}
-use Rattle.border_match.proofs.Least.{better_for, better_rest, better_then}
+use Rattle.border_match.proofs.Least.{better_for, better_rest, better_same, better_then}
 use Rattle.border_match.proofs.Steps.{cornered, cornered_all, far_step, named_step, named_all, rest_covered, same_fault}
 use Rattle.border_match.proofs.borders.Borders.with_edge_events.Goals as goal
 
-pub after_far-place-requires-clause-far : goal.after_far-place-requires-clause-far
-after_far-place-requires-clause-far c = far_at c.around-window.result c.events-events.result.now c.events.place _
-    c.holds.result c.events-test.true c.holds.ensures.seen c.if-not-holds.true
+-- the events that the search passes over are no faults
+passed : (b : Borders) (other : JobView) (a corner : Box2) (w : Window) (es : List TimedSignal) (s : Signals)
+    (sv : ShapeView) (i next : ℕ) (f : BorderFault) → a ≡ b.job.now.area → corner ≡ other.area → IsWindow a corner w →
+    es ≡ s.events → s ≡ sv.edges → sv ≡ shape_of other → AreFar w es i next → Faults b f →
+    IsNamedBelow next other.edges.events f → IsNamedBelow i other.edges.events f
+passed b other a corner w es s sv i next f ea ec is same are shape far g h =
+    far_step b other a corner w es i next f ea ec is
+    (cornered other es s same (are ∙ ap (λ (s : ShapeView). s.edges) shape)) far g h
 
-pub events-preserved-then-not-holds : goal.events-preserved-then-not-holds
-events-preserved-then-not-holds c =
-    let other = c.args.other.now in
-    let are = cornered other c.events-events.result.now c.edges.result.now c.events-events.ensures.same_list
-    (c.edges.ensures ∙ ap (λ (s : ShapeView). s.edges) (c.deref-shape.ensures ∙ c.shape.ensures)) in
-    let better = better_for _ _ _ _ _ c.events.invariant.better
-    (λ h f r. far_step c.args.self.now other _ _ c.around-window.result c.events-events.result.now c.events.place
-    c.after_far-place.result h c.area.ensures.area c.area-2.ensures.area c.around-window.ensures are
-    c.after_far-place.ensures.far f r) in
-    record { better = better; marked = c.events.invariant.marked }
+pub events-init : goal.events-init
+events-init c = record {
+  better = better_same _ _ _ (λ h f r. let k = passed c.args.self.now c.args.other.now _ _ c.around-window.result
+      c.events-events.result.now c.edges.result.now _ 0 _ h c.area.ensures.area c.area-2.ensures.area
+      c.around-window.ensures c.events-events.ensures.same_list c.edges.ensures (c.deref-shape.ensures ∙ c.shape.ensures)
+      c.next_near-place.ensures.far f r in let lt = k.below in omega (arith, lt));
+  marked = c.requires.marked;
+}
 
 pub with_edge_event-least-requires-clause-listed : goal.with_edge_event-least-requires-clause-listed
 with_edge_event-least-requires-clause-listed c = (c.events.place, c.edge_event-event.ensures)
@@ -38,7 +44,11 @@ pub events-preserved : goal.events-preserved
 events-preserved c = record {
   better = better_then _ _ _ _ _ _ _ c.events.invariant.better c.with_edge_event-least.ensures.better
       (λ h f r. named_step c.args.other.now.edges.events c.events.place c.edge_event-event.result h
-      c.edge_event-event.ensures r);
+      c.edge_event-event.ensures
+      (passed c.args.self.now c.args.other.now _ _ c.around-window.result
+      c.events-events.result.now c.edges.result.now _ (c.events.place + 1) _ h c.area.ensures.area c.area-2.ensures.area
+      c.around-window.ensures c.events-events.ensures.same_list c.edges.ensures (c.deref-shape.ensures ∙ c.shape.ensures)
+      c.next_near-place-in-events.ensures.far f r));
   marked = c.with_edge_event-least.ensures.marked;
 }
 
