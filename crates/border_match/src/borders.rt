@@ -11,7 +11,7 @@ ghost use Rattle.border_match.specs.declared.signals.RingOrHalo.TheVariants.{Hal
 
 use crate::fault::{BorderFault, is_less, lesser};
 use crate::signals::{RingOrHalo, event_signal, signal_at};
-use crate::surroundings::{Leaps, Window, next_near, place_of};
+use crate::surroundings::{Leaps, Walk, Window, next_near, place_of};
 use bbm_rule::Cell;
 use certificate::Job;
 use module_box::{Box2, Moment, Owners, Signal, TimedSignal, moved_cell};
@@ -143,10 +143,10 @@ impl<'a> Borders<'a> {
         best
     }
 
-    // Returns the place of the event of the module's halo at this time and cell, or `None` if the search from a place
-    // on meets none.
+    // Returns the place of the event of the module's halo at this time and cell, or `None` if the search along the walk
+    // meets none.
     #[inline(always)]
-    fn halo_event_place(&self, at: Moment, from: usize) -> Option<usize>
+    fn halo_event_place(&self, at: Moment, walk: Walk) -> Option<usize>
         requires { IsNear at.cell }
         ensures { IfSome result (IsPlaceOf self.now.job.now.halos.events at) }
     {
@@ -156,21 +156,21 @@ impl<'a> Borders<'a> {
             time: at.time,
             cell: moved_cell(at.cell, shift_to_origin(area.x), shift_to_origin(area.y)),
         };
-        place_of(shape.halos().events(), from, local)
+        place_of(shape.halos().events(), walk, local)
     }
 
     // Returns what the module says of this time and cell of its halo. If an event says it, that event gets its mark,
-    // and the next search begins behind it.
+    // and the walk goes on behind it.
     #[inline(always)]
-    fn mark_halo(&self, at: Moment, seen: &mut [bool], from: &mut usize) -> Signal
+    fn mark_halo(&self, at: Moment, seen: &mut [bool], walk: &mut Walk) -> Signal
         requires near { IsNear at.cell }
         requires sized { length seen.old ≡ length self.now.job.now.halos.events }
         ensures signal { result ≡ job_signal Halo self.now.job.now at.time at.cell.x at.cell.y }
         ensures marks { AddsMark self.now.job.now.halos.events at seen.old seen.new }
     {
-        match self.halo_event_place(at, *from) {
+        match self.halo_event_place(at, *walk) {
             Some(place) => {
-                *from = place.saturating_add(1);
+                *walk = walk.behind(place);
                 mark(seen, place);
                 event_signal(self.job, RingOrHalo::Halo, self.job.halo_event(place))
             }
@@ -188,7 +188,7 @@ impl<'a> Borders<'a> {
         owner: &Job,
         event: TimedSignal,
         seen: &mut [bool],
-        from: &mut usize,
+        walk: &mut Walk,
     ) -> Option<BorderFault>
         requires ready { AreReadyBorders self.now }
         requires inside { IsTrue (in_box self.now.whole event.at.cell.x event.at.cell.y) }
@@ -200,7 +200,7 @@ impl<'a> Borders<'a> {
         ensures marked { AreMarked self.now seen.new }
     {
         let _area = owner.area();
-        let own = self.mark_halo(event.at, seen, from);
+        let own = self.mark_halo(event.at, seen, walk);
         if !self.edge_event_differs(owner, event, own) {
             return best;
         }
@@ -245,7 +245,7 @@ impl<'a> Borders<'a> {
         let window = Window::around(self.job.area(), other.area());
         let shape: &Shape = other.shape();
         let events = shape.edges().events();
-        let mut from = 0;
+        let mut walk = Walk::new();
         let mut leaps = Leaps::new();
         let mut least = best;
         // Most events of a long side are far from this module, so this test comes before all others.
@@ -256,7 +256,7 @@ impl<'a> Borders<'a> {
             if !is_less(fault_at(event), least) {
                 return least;
             }
-            least = self.with_edge_event(least, other, event, seen, &mut from);
+            least = self.with_edge_event(least, other, event, seen, &mut walk);
             place = next_near(window, events, place + 1, &mut leaps);
         }
         least

@@ -302,33 +302,69 @@ fn is_event_at(events: &[TimedSignal], place: usize, at: Moment) -> bool
     events[place].at == at
 }
 
-// Returns the place of the event at a moment, or `None` if the search from a place on meets none.
+/// A walk along the events of a list, in their order.
+#[derive(Clone, Copy)]
+pub(crate) struct Walk {
+    // The place behind the last event that was found.
+    next: usize,
+    // How many events the last long step passed over. Most times have the same lines, so the next one probably passes
+    // over as many.
+    passed: usize,
+}
+
+impl Walk {
+    /// Returns the walk before its first step.
+    pub(crate) fn new() -> Walk
+        ensures next { result.next ≡ 0 }
+        ensures passed { result.passed ≡ 0 }
+    {
+        Walk { next: 0, passed: 0 }
+    }
+
+    /// Returns the walk behind the event that was found at a place.
+    #[inline(always)]
+    pub(crate) fn behind(self, place: usize) -> Walk
+        ensures next { place < usize.MAX → result.next ≡ place + 1 }
+        ensures short { place ≤ self.next + 1 → result.passed ≡ self.passed }
+        ensures long { self.next + 1 < place → result.passed ≡ place - self.next }
+    {
+        let next = place.saturating_add(1);
+        let passed = place.saturating_sub(self.next);
+        if passed > 1 {
+            return Walk { next, passed };
+        }
+        Walk { next, ..self }
+    }
+}
+
+// Returns the place of the event at a moment, or `None` if the search along the walk meets none.
 #[inline(never)]
-fn find_event(events: &[TimedSignal], from: usize, at: Moment) -> Option<usize>
+fn find_event(events: &[TimedSignal], walk: Walk, at: Moment) -> Option<usize>
     requires { IsRising moment_cmp moment_of events.now }
     ensures { IfSome result (IsPlaceOf events.now at) }
 {
-    let start = from.min(events.len());
-    let place = place_from(events, start, start, at);
+    let start = walk.next.min(events.len());
+    let guess = start.saturating_add(walk.passed).saturating_sub(1);
+    let place = place_from(events, start, guess, at);
     if is_event_at(events, place, at) {
         return Some(place);
     }
     None
 }
 
-/// Returns the place of the event at a moment, or `None` if the search from a place on meets none.
-// Most often it is the event at that place or the next one, since modules on two sides of a third take turns.
+/// Returns the place of the event at a moment, or `None` if the search along the walk meets none.
+// Most often it is the next event or the one behind it, since modules on two sides of a third take turns.
 #[inline(always)]
-pub(crate) fn place_of(events: &[TimedSignal], from: usize, at: Moment) -> Option<usize>
+pub(crate) fn place_of(events: &[TimedSignal], walk: Walk, at: Moment) -> Option<usize>
     requires { IsRising moment_cmp moment_of events.now }
     ensures { IfSome result (IsPlaceOf events.now at) }
 {
-    if is_event_at(events, from, at) {
-        return Some(from);
+    if is_event_at(events, walk.next, at) {
+        return Some(walk.next);
     }
-    let next = from.saturating_add(1);
-    if is_event_at(events, next, at) {
-        return Some(next);
+    let second = walk.next.saturating_add(1);
+    if is_event_at(events, second, at) {
+        return Some(second);
     }
-    find_event(events, from, at)
+    find_event(events, walk, at)
 }
