@@ -146,7 +146,7 @@ impl<'a> Borders<'a> {
     // Returns the place of the event of the module's halo at this time and cell, or `None` if the search along the walk
     // meets none.
     #[inline(always)]
-    fn halo_event_place(&self, at: Moment, walk: Walk) -> Option<usize>
+    fn halo_event_place(&self, at: Moment, walk: &mut Walk) -> Option<usize>
         requires { IsNear at.cell }
         ensures { IfSome result (IsPlaceOf self.now.job.now.halos.events at) }
     {
@@ -168,9 +168,9 @@ impl<'a> Borders<'a> {
         ensures signal { result ≡ job_signal Halo self.now.job.now at.time at.cell.x at.cell.y }
         ensures marks { AddsMark self.now.job.now.halos.events at seen.old seen.new }
     {
-        match self.halo_event_place(at, *walk) {
+        match self.halo_event_place(at, walk) {
             Some(place) => {
-                *walk = walk.behind(place);
+                walk.pass(place);
                 mark(seen, place);
                 event_signal(self.job, RingOrHalo::Halo, self.job.halo_event(place))
             }
@@ -249,7 +249,7 @@ impl<'a> Borders<'a> {
         let mut leaps = Leaps::new();
         let mut least = best;
         // Most events of a long side are far from this module, so this test comes before all others.
-        let mut place = next_near(window, events, 0, &mut leaps);
+        let mut place = next_near(&window, events, 0, &mut leaps);
         'events: while place < events.len() {
             let event = other.edge_event(place);
             // The events rise, so no fault of the rest is less either.
@@ -257,7 +257,7 @@ impl<'a> Borders<'a> {
                 return least;
             }
             least = self.with_edge_event(least, other, event, seen, &mut walk);
-            place = next_near(window, events, place + 1, &mut leaps);
+            place = next_near(&window, events, place + 1, &mut leaps);
         }
         least
     }

@@ -250,12 +250,12 @@ pub(crate) fn place_from(events: &[TimedSignal], from: usize, guess: usize, at: 
 
 // Returns the place behind a leap over the events that cannot be at a cell of the window.
 #[inline(never)]
-fn leap(window: Window, events: &[TimedSignal], place: usize, leaps: &mut Leaps) -> usize
+fn leap(window: &Window, events: &[TimedSignal], place: usize, leaps: &mut Leaps) -> usize
     requires within { place < length events.now }
     requires rising { IsRising moment_cmp moment_of events.now }
-    requires far { IsFarAt window events.now place }
+    requires far { IsFarAt window.now events.now place }
     ensures after { place < result }
-    ensures far { AreFar window events.now place result }
+    ensures far { AreFar window.now events.now place result }
 {
     let target = window.next_after(events[place].at);
     let next = place_from(events, place + 1, leaps.last_passed(place), target);
@@ -267,14 +267,14 @@ fn leap(window: Window, events: &[TimedSignal], place: usize, leaps: &mut Leaps)
 /// such events at even times.
 #[inline(always)]
 pub(crate) fn next_near(
-    window: Window,
+    window: &Window,
     events: &[TimedSignal],
     from: usize,
     leaps: &mut Leaps,
 ) -> usize
     requires rising { IsRising moment_cmp moment_of events.now }
     ensures after { from ≤ result }
-    ensures far { AreFar window events.now from result }
+    ensures far { AreFar window.now events.now from result }
 {
     let mut place = from;
     'leaps: while place < events.len() {
@@ -321,32 +321,28 @@ impl Walk {
         Walk { next: 0, passed: 0 }
     }
 
-    /// Returns the walk behind the event that was found at a place.
+    /// Goes behind the event at a place.
     #[inline(always)]
-    pub(crate) fn behind(self, place: usize) -> Walk
-        ensures next { place < usize.MAX → result.next ≡ place + 1 }
-        ensures short { place ≤ self.next + 1 → result.passed ≡ self.passed }
-        ensures long { self.next + 1 < place → result.passed ≡ place - self.next }
+    pub(crate) fn pass(&mut self, place: usize)
+        ensures next { place < usize.MAX → self.new.next ≡ place + 1 }
+        ensures passed { self.new.passed ≡ self.old.passed }
     {
-        let next = place.saturating_add(1);
-        let passed = place.saturating_sub(self.next);
-        if passed > 1 {
-            return Walk { next, passed };
-        }
-        Walk { next, ..self }
+        self.next = place.saturating_add(1);
     }
 }
 
 // Returns the place of the event at a moment, or `None` if the search along the walk meets none.
 #[inline(never)]
-fn find_event(events: &[TimedSignal], walk: Walk, at: Moment) -> Option<usize>
+fn find_event(events: &[TimedSignal], walk: &mut Walk, at: Moment) -> Option<usize>
     requires { IsRising moment_cmp moment_of events.now }
-    ensures { IfSome result (IsPlaceOf events.now at) }
+    ensures found { IfSome result (IsPlaceOf events.now at) }
+    ensures passed { IfSome result (λ place. walk.new.passed ≡ place - walk.old.next) }
 {
     let start = walk.next.min(events.len());
     let guess = start.saturating_add(walk.passed).saturating_sub(1);
     let place = place_from(events, start, guess, at);
     if is_event_at(events, place, at) {
+        walk.passed = place.saturating_sub(walk.next);
         return Some(place);
     }
     None
@@ -355,7 +351,7 @@ fn find_event(events: &[TimedSignal], walk: Walk, at: Moment) -> Option<usize>
 /// Returns the place of the event at a moment, or `None` if the search along the walk meets none.
 // Most often it is the next event or the one behind it, since modules on two sides of a third take turns.
 #[inline(always)]
-pub(crate) fn place_of(events: &[TimedSignal], walk: Walk, at: Moment) -> Option<usize>
+pub(crate) fn place_of(events: &[TimedSignal], walk: &mut Walk, at: Moment) -> Option<usize>
     requires { IsRising moment_cmp moment_of events.now }
     ensures { IfSome result (IsPlaceOf events.now at) }
 {
