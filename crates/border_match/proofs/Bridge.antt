@@ -1,32 +1,42 @@
 -- From the jobs of modules to their lines
-use Rattle.std.proofs.Common.{◌≡◌, ℕ, ◌<◌, ◌%◌, List, Option, Some, None, true, sym, ap, ap₂, subst, ◌∙◌, arith}
-use Rattle.std.specs.Prelude.{ℤ, slice_get, IfSome}
+use Rattle.std.proofs.Common.{◌≡◌, ℕ, ◌<◌, ◌%◌, List, [], Option, Some, None, true, sym, ap, ap₂, subst, ◌∙◌, arith}
+use Rattle.std.specs.Prelude.{ℤ, option_map, slice_get, IfSome}
 use Rattle.std.specs.List.{All}
-use Rattle.std.proofs.lemmas.Option.{slice_get_within}
+use Rattle.std.proofs.lemmas.Bool.{and_parts}
+use Rattle.std.proofs.lemmas.List.Elements.{All-cons, All-nil}
+use Rattle.std.proofs.lemmas.Option.{get_or_from_slice_get, slice_get-map, slice_get_within}
+use Rattle.bbm_rule.specs.declared.block.Cell.{Cell}
 use Rattle.circuit.specs.Bridge.{circuit_of}
 use Rattle.circuit.specs.declared.circuit_line.CircuitLine.{CircuitLine}
 use Rattle.pattern.specs.Layout.{Pattern}
-use Rattle.module_box.specs.Boxes.{in_box, in_halo}
+use Rattle.module_box.specs.Boxes.{in_box, in_halo, in_ring}
 use Rattle.module_box.specs.Locals.{circuit_wire}
 use Rattle.module_box.specs.Schedules.{Signals, event_at, signal_at}
 use Rattle.module_box.specs.Tiling.{Owning, AreOwners, rectangle, rectangle_of, owner_of}
 use Rattle.module_box.specs.declared.boxes.Box2.{Box2}
+use Rattle.module_box.specs.declared.schedules.Signal.{Signal}
+use Rattle.module_box.specs.declared.schedules.TimedSignal.{TimedSignal}
 use Rattle.module_box.proofs.BoxCells.{same_some}
 use Rattle.certificate_lines.specs.Entries.{ModuleLines, areas, edges, halos}
 use Rattle.certificate_lines.specs.Settings.{setting_of}
 use Rattle.module_job.specs.Jobs.{JobView}
-use Rattle.certificate.specs.Jobs.{AreJobsOf, IsJobOf, line_signal, line_signals}
+use Rattle.certificate.proofs.NearLines.{flat_all}
+use Rattle.certificate.specs.Jobs.{AreJobsOf, IsJobOf, event_by, line_signal, line_signals}
 use Rattle.certificate_lines.specs.Modules.{AreModules, IsModule}
 use Rattle.certificate_lines.specs.Rules.{whole}
-use Rattle.module_job.specs.Signals.{renumber_signals}
+use Rattle.module_job.specs.Signals.{renumber_event, renumber_signals}
 use Rattle.certificate_lines.specs.declared.certificate_line.BorderLine.{BorderLine}
 use Rattle.border_match.specs.BorderFaults.{halo_signal, edge_signal, IsBorderFault, IsLeastBorderFault}
-use Rattle.border_match.specs.Boards.{job_signal, IsJobFault, IsQuiet, IsBoard}
+use Rattle.border_match.specs.Boards.{job_signal, IsJobFault, IsListed, IsQuiet, IsBoard}
 use Rattle.border_match.specs.declared.signals.RingOrHalo.TheVariants.{Halo, Ring}
 use Rattle.border_match.specs.Candidates.{IsLeast}
 use Rattle.border_match.specs.declared.fault.BorderFault.{BorderFault}
 use Rattle.border_match.proofs.Modules.{there, value_of, area_at}
 use Rattle.border_match.proofs.Renumbered.{signal_renumbered, no_event_back, lines_quiet}
+
+in_ring_box : (b : Box2) (x y : ℤ) → in_ring b x y ≡ true → in_box b x y ≡ true
+unfolding in_ring
+in_ring_box b x y ring = (and_parts (in_box b x y) _ ring).0
 
 module _ (cs : List CircuitLine) (p : Pattern) where
   pub halo_same : (m : ModuleLines) (j : JobView) (t : ℕ) (x y : ℤ) → IsJobOf (circuit_of cs) p m j →
@@ -47,6 +57,26 @@ module _ (cs : List CircuitLine) (p : Pattern) where
       no_event_back (circuit_wire j.locals) s.events 0 x y
       (ap (λ (s : Signals). event_at s.events 0 x y) same
       ∙ lines_quiet p.size.steps (λ e. line_signal (circuit_of cs) e.signal) es x y odd)
+
+  -- what holds of the cells of lines holds of those of their events
+  one_cell : (P : Cell → Type 0) (d : BorderLine) (t : Option ℕ) (s : Signal) → P d.cell →
+      All (λ (h : TimedSignal). P h.at.cell) (event_by d t s)
+  one_cell P d None s here = All-nil _
+  one_cell P d (Some t) s here = All-cons (λ (h : TimedSignal). P h.at.cell) _ [] here (All-nil _)
+
+  listed_cell : (P : Cell → Type 0) (j : JobView) (s : Signals) (es : List BorderLine) (e : TimedSignal) →
+      renumber_signals (circuit_wire j.locals) s ≡ line_signals (circuit_of cs) es → All (λ d. P d.cell) es →
+      IsListed s.events e → P e.at.cell
+  listed_cell P j s es e same all at =
+      let f = renumber_event (circuit_wire j.locals) in
+      let by : List TimedSignal = (line_signals (circuit_of cs) es).events in
+      let Q : TimedSignal → Type 0 = λ h. P h.at.cell in
+      let got : slice_get by at.0 ≡ Some (f e) = ap (λ (r : Signals). slice_get r.events at.0) (sym same)
+      ∙ slice_get-map f s.events at.0 ∙ ap (option_map f) at.1 in
+      subst Q (get_or_from_slice_get by at.0 (f e) (f e) got)
+      (flat_all Q (λ d. event_by d d.time (line_signal (circuit_of cs) d.signal)) (λ d. P d.cell)
+      (λ d here. one_cell P d d.time (line_signal (circuit_of cs) d.signal) here) es all at.0 (f e)
+      (slice_get_within by at.0 (f e) got))
 
   pub quiet : (m : ModuleLines) (j : JobView) → IsModule (setting_of cs p) m → IsJobOf (circuit_of cs) p m j →
       IsQuiet j
@@ -82,6 +112,26 @@ module _ (cs : List CircuitLine) (p : Pattern) where
     pub quiet_job : (k : ℕ) (j : JobView) → slice_get js k ≡ Some j → IsQuiet j
     quiet_job k j e = let m = lines_of k j e in quiet m.0 j (good.each k m.0 m.1) (made.each k m.0 j m.1 e)
 
+    only : (x y : ℤ) (k : ℕ) (j : JobView) → in_box (whole p.size) x y ≡ true → slice_get js k ≡ Some j →
+        in_box j.area x y ≡ true → owner_of o x y ≡ k
+    only x y k j inside got has =
+        let n = holder x y inside in
+        let m = lines_of k j got in
+        let is = made.each k m.0 j m.1 got in
+        owners.tile.once x y (owner_of o x y) k n.lines.area m.0.area (area_at ms _ n.lines n.numbered)
+        (area_at ms k m.0 m.1) n.has (ap (λ (b : Box2). in_box b x y) (sym is.area) ∙ has)
+
+    edge_owned : (k : ℕ) (j : JobView) (e : TimedSignal) → slice_get js k ≡ Some j → IsListed j.edges.events e →
+        (in_box (whole p.size) e.at.cell.x e.at.cell.y ≡ true) × (owner_of o e.at.cell.x e.at.cell.y ≡ k)
+    edge_owned k j e got at =
+        let m = lines_of k j got in
+        let is = made.each k m.0 j m.1 got in
+        let P : Cell → Type 0 = λ c. in_box m.0.area c.x c.y ≡ true in
+        let has : P e.at.cell = listed_cell P j j.edges (edges m.0) e is.edges
+        (λ i d lt. in_ring_box m.0.area _ _ ((good.each k m.0 m.1).edge_lines i d lt).ring) at in
+        let inside = good.tile.inside _ _ k m.0.area (area_at ms k m.0 m.1) has in
+        (inside, only _ _ k j inside got (ap (λ (b : Box2). in_box b e.at.cell.x e.at.cell.y) is.area ∙ has))
+
     pub board : IsBoard (whole p.size) o js
     board = record {
       same = same_rectangle;
@@ -89,12 +139,8 @@ module _ (cs : List CircuitLine) (p : Pattern) where
           let m = holder x y inside in
           let j = job_of (owner_of o x y) m.lines m.numbered in
           (j.0, j.1, ap (λ (b : Box2). in_box b x y) (made.each _ m.lines j.0 m.numbered j.1).area ∙ m.has);
-      only = λ x y k j inside got has.
-          let n = holder x y inside in
-          let m = lines_of k j got in
-          let is = made.each k m.0 j m.1 got in
-          owners.tile.once x y (owner_of o x y) k n.lines.area m.0.area (area_at ms _ n.lines n.numbered)
-          (area_at ms k m.0 m.1) n.has (ap (λ (b : Box2). in_box b x y) (sym is.area) ∙ has);
+      only = only;
+      edges = edge_owned;
       quiet = quiet_job;
     }
 

@@ -13,7 +13,7 @@ use Rattle.module_job.specs.Shapes.{shift_to_origin}
 use Rattle.border_match.specs.Boards.{IsListed}
 
 -- events that rise once they are moved rise before
-events_unmoved : (dx dy ex ey : ℤ) (s : Signals) → dx +ℤ ex ≡ pos 0 → dy +ℤ ey ≡ pos 0 →
+pub events_unmoved : (dx dy ex ey : ℤ) (s : Signals) → dx +ℤ ex ≡ pos 0 → dy +ℤ ey ≡ pos 0 →
     IsRising moment_cmp moment_of (moved_signals dx dy s).events → IsRising moment_cmp moment_of s.events
 events_unmoved dx dy ex ey s p q rising =
     subst (λ (m : Signals). IsRising moment_cmp moment_of m.events) (signals_back dx dy ex ey s p q)

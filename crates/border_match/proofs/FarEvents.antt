@@ -120,6 +120,9 @@ AreFrom events place at = (i : ℕ) (e : TimedSignal) → place ≤ i → slice_
 lower_or_same : (i m : ℕ) → i < m + 1 → (i < m) ⊎ (i ≡ m)
 lower_or_same i m h = grind arith
 
+pub below_or_from : (i m : ℕ) → (i < m) ⊎ (m ≤ i)
+below_or_from i m = grind arith
+
 same_or_higher : (i m : ℕ) → m ≤ i → (m < i) ⊎ (m ≡ i)
 same_or_higher i m h = grind arith
 
@@ -186,11 +189,22 @@ far_to w events place next d moment rising within far between passed i e from lt
           (passed i e (omega (arith, l)) lt got) odd
     ]
 
--- up to the next place there is only that event
-pub far_next : (w : Window) (events : List TimedSignal) (place : ℕ) → IsFarAt w events place →
-    AreFar w events place (place + 1)
-far_next w events place far i e from lt got odd =
-    let same : place ≡ i = omega (arith, from, lt) in far e (ap (slice_get events) same ∙ got)
+pub far_none : (w : Window) (events : List TimedSignal) (place : ℕ) → AreFar w events place place
+far_none w events place i e from lt got odd = absurd (omega (arith, from, lt))
+
+pub far_more : (w : Window) (events : List TimedSignal) (start place : ℕ) → AreFar w events start place →
+    IsFarAt w events place → AreFar w events start (place + 1)
+far_more w events start place far here i e from lt got odd = elim (lower_or_same i place lt) [
+  | inl l ↦ far i e from l got odd
+  | inr same ↦ here e (ap (slice_get events) (sym same) ∙ got)
+]
+
+pub far_joined : (w : Window) (events : List TimedSignal) (start middle last next : ℕ) → last ≤ middle →
+    AreFar w events start middle → AreFar w events last next → AreFar w events start next
+far_joined w events start middle last next le far behind i e from lt got odd = elim (below_or_from i middle) [
+  | inl l ↦ far i e from l got odd
+  | inr g ↦ behind i e (omega (arith, le, g)) lt got odd
+]
 
 pub far_at : (w : Window) (events : List TimedSignal) (place : ℕ) (d : TimedSignal) (r : Bool) → place < length events →
     (IsSeen w (get_or events place d).at.cell → r ≡ true) → r ≡ false → IsFarAt w events place

@@ -40,6 +40,10 @@ lesser_kept o m best is greater h c =
     less_greater : Less ≡ Greater → ⊥
     less_greater e = cc
 
+pub covers_after : (o : Option BorderFault) (m h : BorderFault) → Covers o m → border_cmp m h ≢ Greater → Covers o h
+covers_after None m h c l = c
+covers_after (Some b) m h c l = at_most_trans b m h c l
+
 -- ---- steps of a search
 
 module _ (F : BorderFault → Type 0) where
@@ -66,12 +70,8 @@ module _ (F : BorderFault → Type 0) where
       | inr e ↦ subst (IsSound F) (sym e) f
     ];
     kept = kept;
-    covers = λ h g p. further o' h covered (least h g p);
+    covers = λ h g p. covers_after o' m h covered (least h g p);
   }
-    where
-      further : (o : Option BorderFault) (h : BorderFault) → Covers o m → border_cmp m h ≢ Greater → Covers o h
-      further None h c l = c
-      further (Some b) h c l = at_most_trans b m h c l
 
   pub better_then : (P Q R : BorderFault → Type 0) (a b c : Option BorderFault) → IsBetter F P a b → IsBetter F Q b c →
       ((h : BorderFault) → F h → R h → P h ⊎ Q h) → IsBetter F R a c
@@ -88,6 +88,14 @@ module _ (F : BorderFault → Type 0) where
       ((h : BorderFault) → F h → Q h → P h) → IsBetter F Q a b
   better_for P Q a b better weaker =
       record { sound = better.sound; kept = better.kept; covers = λ h f q. better.covers h f (weaker h f q) }
+
+  pub better_rest : (P Q : BorderFault → Type 0) (a b : Option BorderFault) → IsBetter F P a b →
+      ((h : BorderFault) → Q h → P h ⊎ Covers b h) → IsBetter F Q a b
+  better_rest P Q a b better split = record {
+    sound = better.sound;
+    kept = better.kept;
+    covers = λ h f q. elim (split h q) [ inl p ↦ better.covers h f p | inr c ↦ c ];
+  }
 
   pub least_by_three : (P Q R : BorderFault → Type 0) (a b c : Option BorderFault) → IsBetter F P None a →
       IsBetter F Q a b → IsBetter F R b c →

@@ -2,7 +2,14 @@
 use Rattle.std.proofs.Common.{◌≡◌, ℕ, ◌+◌, ◌≤◌, List, [], ◌∷◌, ◌++◌, length, take, replicate, Bool, true, false}
 use Rattle.std.proofs.Common.{Some}
 use Rattle.std.proofs.Common.{arith, refl, sym, ap, ◌∙◌, inl, inr, ◌⊎◌, zero, suc}
-use Rattle.std.specs.Prelude.{slice_get, slice_set}
+use Rattle.std.proofs.Common.{map, ap₂}
+use Rattle.std.specs.Prelude.{ℤ, pos, slice_get, slice_set}
+use Rattle.std.proofs.lemmas.Int.{ints}
+use Rattle.bbm_rule.specs.declared.block.Cell.{Cell}
+use Rattle.module_box.specs.Moves.{moved_cell, moved_event, moved_signals}
+use Rattle.module_box.specs.Schedules.{Signals}
+use Rattle.module_box.proofs.MovedBoxes.{cell_back}
+use Rattle.module_job.specs.Shapes.{shift_to_origin}
 use Rattle.std.proofs.Math.ListN.{length-set}
 use Rattle.std.proofs.Math.Seq.{take-append_seam}
 use Rattle.std.proofs.lemmas.Bool.{false≢true}
@@ -16,7 +23,7 @@ use Rattle.border_match.specs.Boards.{AddsMark, AreMarked, DiffersAlways, Faults
 use Rattle.border_match.specs.Boards.{IsPlaceOf, AreReadyBorders, IsUnmarked, IsUnmarkedBelow, jobs_of}
 use Rattle.border_match.specs.declared.borders.Borders.{Borders}
 use Rattle.border_match.specs.declared.fault.BorderFault.{BorderFault}
-use Rattle.border_match.proofs.Modules.{there}
+use Rattle.border_match.proofs.Modules.{there, value_of}
 use Rattle.border_match.proofs.Steps.{fault_covered, same_fault}
 use Rattle.border_match.proofs.NearModules.{lower_or_same}
 
@@ -46,12 +53,31 @@ mark_added events at old new place is set = record {
 pub none_added : (events : List TimedSignal) (at : Moment) (old : List Bool) → AddsMark events at old old
 none_added events at old = record { sized = refl; marks = λ p e marked got. inl marked }
 
+-- the place of an event that is counted from the corner of the box
+pub local_place : (x y : ℕ) (dx dy : ℤ) (cell : Cell) (s moved : Signals) (es : List TimedSignal) (at : Moment)
+    (place : ℕ) → dx ≡ shift_to_origin x → dy ≡ shift_to_origin y → cell ≡ moved_cell dx dy at.cell →
+    es ≡ moved.events → moved ≡ moved_signals (shift_to_origin x) (shift_to_origin y) s →
+    IsPlaceOf es (record { time = at.time; cell = cell }) place → IsPlaceOf s.events at place
+local_place x y dx dy cell s moved es at place ex ey by same are is =
+    let sx = shift_to_origin x in let sy = shift_to_origin y in
+    let there : slice_get (map (moved_event sx sy) s.events) place ≡ Some is.event =
+    ap (λ l. slice_get l place) (sym (same ∙ ap (λ (m : Signals). m.events) are)) ∙ is.got in
+    let v = value_of (moved_event sx sy) s.events place is.event there in
+    let here = ap (λ (z : TimedSignal). z.at) v.2 ∙ is.same in
+    let back : (c : Cell) → moved_cell (pos x) (pos y) (moved_cell sx sy c) ≡ c =
+    λ c. cell_back sx sy (pos x) (pos y) c (omega (arith, ints)) (omega (arith, ints)) in
+    let cells : v.0.at.cell ≡ at.cell = sym (back v.0.at.cell)
+    ∙ ap (moved_cell (pos x) (pos y)) (ap (λ (m : Moment). m.cell) here ∙ by
+    ∙ ap₂ (λ p q. moved_cell p q at.cell) ex ey) ∙ back at.cell in
+    let mk : ℕ → Cell → Moment = λ t c. record { time = t; cell = c } in
+    record { event = v.0; got = v.1; same = ap₂ mk (ap (λ (m : Moment). m.time) here) cells }
+
 -- the edge that names what the new mark's event names
-pub still_marked : (b : Borders) (k : ℕ) (other : JobView) (event : TimedSignal) (old new : List Bool) →
-    slice_get (jobs_of b) k ≡ Some other → owner_of b.owners.now event.at.cell.x event.at.cell.y ≡ k →
+pub still_marked : (b : Borders) (other : JobView) (event : TimedSignal) (old new : List Bool) →
+    slice_get (jobs_of b) (owner_of b.owners.now event.at.cell.x event.at.cell.y) ≡ Some other →
     IsListed other.edges.events event → AddsMark b.job.now.halos.events event.at old new → AreMarked b old →
     AreMarked b new
-still_marked b k other event old new numbered owned listed adds marked = record {
+still_marked b other event old new owned listed adds marked = record {
   sized = adds.sized ∙ marked.sized;
   edges = λ p e f mark got at. elim (adds.marks p e mark got) [
     | inl before ↦ marked.edges p e f before got at
@@ -60,8 +86,8 @@ still_marked b k other event old new numbered owned listed adds marked = record 
         sym same ∙ ap (λ (g : BorderFault). record { time = g.time; cell = g.cell }) (sym at) in
         record {
           owner = other;
-          numbered = ap (slice_get (jobs_of b))
-              (ap (λ (m : Moment). owner_of b.owners.now m.cell.x m.cell.y) (sym here) ∙ owned) ∙ numbered;
+          numbered = ap (λ (m : Moment). slice_get (jobs_of b) (owner_of b.owners.now m.cell.x m.cell.y)) (sym here)
+              ∙ owned;
           named = record {
             place = listed.0;
             event = event;

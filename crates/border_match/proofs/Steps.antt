@@ -1,6 +1,6 @@
 -- One more event, module or time
 use Rattle.std.proofs.Common.{◌≡◌, ℕ, suc, ◌+◌, ◌<◌, ◌≤◌, ◌%◌, List, [], ◌∷◌, ◌++◌, length, map, take, get_or, Bool}
-use Rattle.std.proofs.Common.{true}
+use Rattle.std.proofs.Common.{Option, true}
 use Rattle.std.proofs.Common.{false, Some, None, Less, Equal, Greater, refl, sym, ap, ap₂, subst, ◌∙◌, inl, inr, ◌⊎◌}
 use Rattle.std.proofs.Common.{arith}
 use Rattle.std.specs.Prelude.{ℤ, pos, ◌≢◌, option_map, slice_get, unwrap_or}
@@ -14,7 +14,8 @@ use Rattle.std.proofs.lemmas.Int.{ints}
 use Rattle.bbm_rule.specs.declared.block.Cell.{Cell}
 use Rattle.module_box.specs.Locals.{circuit_wire, is_among}
 use Rattle.module_box.specs.Moves.{moved_cell, moved_event}
-use Rattle.module_box.specs.Schedules.{Signals, all_times_at, event_at, signal_at, is_then}
+use Rattle.module_box.specs.Moments.{moment_cmp}
+use Rattle.module_box.specs.Schedules.{IsRising, Signals, all_times_at, event_at, moment_of, signal_at, is_then}
 use Rattle.module_box.specs.Tiling.{owner_of}
 use Rattle.module_box.specs.declared.boxes.Box2.{Box2}
 use Rattle.module_box.specs.declared.schedules.TimedSignal.{TimedSignal}
@@ -31,22 +32,20 @@ use Rattle.border_match.specs.Boards.{AreOwnersNoted, jobs_of, AreReadyBorders, 
 use Rattle.border_match.specs.Boards.{IsEdgeNamed}
 use Rattle.border_match.specs.Boards.{IsEdgeNamedAmong, IsEdgeNamedAt, DiffersAlways}
 use Rattle.border_match.specs.Boards.{IsAround}
-use Rattle.border_match.specs.Boards.{IsAtEventOf}
 use Rattle.border_match.specs.Surroundings.{AreFar, IsWindow}
 use Rattle.border_match.specs.declared.surroundings.Window.{Window}
-use Rattle.border_match.proofs.FarEvents.{seen}
+use Rattle.border_match.proofs.FarEvents.{below_or_from, seen}
 use Rattle.border_match.specs.declared.borders.Borders.{Borders}
 use Rattle.border_match.specs.declared.fault.BorderFault.{BorderFault}
+use Rattle.border_match.specs.Candidates.{Covers}
 use Rattle.border_match.proofs.FaultOrder.{border_total}
+use Rattle.border_match.proofs.Least.{covers_after}
 use Rattle.border_match.proofs.Cells.{fault_around, reached}
 use Rattle.border_match.proofs.NearModules.{among_more, lower_or_same}
 
 pub same_fault : (time : ℕ) (cell : Cell) (f : BorderFault) → f.time ≡ time → f.cell ≡ cell →
     f ≡ record { time = time; cell = cell }
 same_fault time cell f p q = let mk : ℕ → Cell → BorderFault = λ t c. record { time = t; cell = c } in ap₂ mk p q
-
-below_or_from : (i m : ℕ) → (i < m) ⊎ (m ≤ i)
-below_or_from i m = grind arith
 
 before_at_after : (i m : ℕ) → (i < m) ⊎ ((i ≡ m) ⊎ (m < i))
 before_at_after i m = grind arith
@@ -64,13 +63,32 @@ named_step events i e f got h = elim (lower_or_same h.named.place i h.below) [
       (sym h.named.cell ∙ ap (λ (z : TimedSignal). z.at.cell) is))
 ]
 
-pub named_step_of : (b : Borders) (k : ℕ) (events : List TimedSignal) (i : ℕ) (e : TimedSignal) (f : BorderFault) →
-    slice_get events i ≡ Some e → IsNamedBelow (i + 1) events f → owner_of b.owners.now f.cell.x f.cell.y ≡ k →
-    (IsNamedBelow i events f × (owner_of b.owners.now f.cell.x f.cell.y ≡ k)) ⊎ IsAtEventOf b k e f
-named_step_of b k events i e f got h owned = elim (named_step events i e f got h) [
-  | inl before ↦ inl (before, owned)
-  | inr at ↦ inr (at, owned)
-]
+-- a fault and a moment are compared alike
+compared_alike : (a b : Moment) → border_cmp (record { time = a.time; cell = a.cell })
+    (record { time = b.time; cell = b.cell }) ≡ moment_cmp a b
+unfolding border_cmp moment_cmp
+compared_alike a b = refl
+
+-- if the candidate is at most what one event names, it is at most what the events behind it name
+pub rest_covered : (events : List TimedSignal) (i : ℕ) (e : TimedSignal) (o : Option BorderFault) (f : BorderFault) →
+    IsRising moment_cmp moment_of events → slice_get events i ≡ Some e →
+    Covers o (record { time = e.at.time; cell = e.at.cell }) → IsNamed events f →
+    IsNamedBelow i events f ⊎ Covers o f
+rest_covered events i e o f rising got covered h =
+    let at : f ≡ record { time = h.event.at.time; cell = h.event.at.cell } =
+    same_fault h.event.at.time h.event.at.cell f (sym h.time) (sym h.cell) in
+    elim (before_at_after h.place i) [
+      | inl lower ↦ inl (record { named = h; below = lower })
+      | inr rest ↦ inr (subst (Covers o) (sym at) (elim rest [
+        | inl same ↦ subst (λ (z : TimedSignal). Covers o (record { time = z.at.time; cell = z.at.cell }))
+            (same_some (slice_get events i) e h.event got (ap (slice_get events) (sym same) ∙ h.got)) covered
+        | inr after ↦ covers_after o _ _ covered (λ g. less_greater
+            (sym (rising.rises i h.place e h.event after got h.got) ∙ sym (compared_alike e.at h.event.at) ∙ g))
+      ]))
+    ]
+  where
+    less_greater : Less ≡ Greater → ⊥
+    less_greater e = cc
 
 pub named_all : (events : List TimedSignal) (k : ℕ) (f : BorderFault) → length events ≤ k → IsNamed events f →
     IsNamedBelow k events f

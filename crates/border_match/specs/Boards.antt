@@ -51,13 +51,20 @@ pub record IsQuiet (j : JobView) : Type 0 where
   pub halos : (x y : ℤ) → event_at j.halos.events 0 x y ≡ None
   pub edges : (x y : ℤ) → event_at j.edges.events 0 x y ≡ None
 
--- the owner of each cell of the rectangle is the number of the one job whose box has the cell
+-- the event is one of the list
+abbrev pub IsListed : List TimedSignal → TimedSignal → Type 0
+IsListed es e = (k : ℕ) × (slice_get es k ≡ Some e)
+
+-- The owner of each cell of the rectangle is the number of the one job whose box has the cell. The cells of a job's edge
+-- events are in the rectangle, and the job owns them.
 pub record IsBoard (w : Box2) (o : Owning) (jobs : List JobView) : Type 0 where
   pub same : w ≡ rectangle o
   pub holder : (x y : ℤ) → IsTrue (in_box w x y) →
       (j : JobView) × (slice_get jobs (owner_of o x y) ≡ Some j) × IsTrue (in_box j.area x y)
   pub only : (x y : ℤ) (k : ℕ) (j : JobView) → IsTrue (in_box w x y) → slice_get jobs k ≡ Some j →
       IsTrue (in_box j.area x y) → owner_of o x y ≡ k
+  pub edges : (k : ℕ) (j : JobView) (e : TimedSignal) → slice_get jobs k ≡ Some j → IsListed j.edges.events e →
+      IsTrue (in_box w e.at.cell.x e.at.cell.y) × (owner_of o e.at.cell.x e.at.cell.y ≡ k)
   pub quiet : (k : ℕ) (j : JobView) → slice_get jobs k ≡ Some j → IsQuiet j
 
 -- ---- the same of a module among its neighbours
@@ -102,21 +109,9 @@ pub record IsNamed (events : List TimedSignal) (f : BorderFault) : Type 0 where
   pub time : event.at.time ≡ f.time
   pub cell : event.at.cell ≡ f.cell
 
--- the event is one of the list
-abbrev pub IsListed : List TimedSignal → TimedSignal → Type 0
-IsListed es e = (k : ℕ) × (slice_get es k ≡ Some e)
-
 -- f is at the time and cell of the event
 abbrev pub IsAtEvent : TimedSignal → BorderFault → Type 0
 IsAtEvent e f = f ≡ record { time = e.at.time; cell = e.at.cell }
-
--- the same, and the module with the number k has the cell
-abbrev pub IsAtEventOf : Borders → ℕ → TimedSignal → BorderFault → Type 0
-IsAtEventOf b k e f = IsAtEvent e f × (owner_of b.owners.now f.cell.x f.cell.y ≡ k)
-
--- an event of the list is at the time and cell of f, and the module with the number k has the cell
-abbrev pub IsNamedOf : Borders → ℕ → List TimedSignal → BorderFault → Type 0
-IsNamedOf b k events f = IsNamed events f × (owner_of b.owners.now f.cell.x f.cell.y ≡ k)
 
 -- one of the first k events of the list is at the time and cell of f
 pub record IsNamedBelow (k : ℕ) (events : List TimedSignal) (f : BorderFault) : Type 0 where

@@ -4,20 +4,19 @@ ghost use Rattle.std.specs.Prelude.{◌+◌, ◌≡◌, ◌<◌, ◌↔◌, ◌&
 ghost use Rattle.module_box.specs.Boxes.{in_box, in_halo};
 ghost use Rattle.module_box.specs.Moves.{IsNear};
 ghost use Rattle.module_box.specs.Tiling.{owner_of};
-ghost use Rattle.border_match.specs.Boards.{AddsMark, AreMarked, AreNumbers, AreOwnersNoted, Differ, Faults, IsEdgeNamed, IsEdgeNamedAt, IsAtEvent, IsAtEventOf, IsListed, IsNamedOf, IsPlaceOf, IsUnmarked, AreReadyBorders, MayBeFault, job_signal, jobs_of};
+ghost use Rattle.border_match.specs.Boards.{AddsMark, AreMarked, AreNumbers, AreOwnersNoted, Differ, Faults, IsEdgeNamed, IsEdgeNamedAt, IsAtEvent, IsListed, IsNamed, IsPlaceOf, IsUnmarked, AreReadyBorders, MayBeFault, job_signal, jobs_of};
 ghost use Rattle.border_match.specs.Candidates.{IsBetter, IsLeast};
 ghost use Rattle.border_match.specs.declared.fault.BorderFault.{BorderFault};
 ghost use Rattle.border_match.specs.declared.signals.RingOrHalo.TheVariants.{Halo};
 
 use crate::fault::{BorderFault, is_less, lesser};
 use crate::signals::{RingOrHalo, event_signal, signal_at};
-use crate::surroundings::{Leaps, Window, after_far, place_from};
+use crate::surroundings::{Leaps, Walk, Window, next_near, place_of};
 use bbm_rule::Cell;
 use certificate::Job;
 use module_box::{Box2, Moment, Owners, Signal, TimedSignal, moved_cell};
 use module_job::{Shape, shift_to_origin};
 use std::alloc::{AllocError, Global};
-use std::cmp::Ordering;
 use std::sync::Arc;
 
 /// The borders of a module: the layout's rectangle, the number of the module that has each cell of it, the jobs of all
@@ -144,41 +143,34 @@ impl<'a> Borders<'a> {
         best
     }
 
-    // Returns the place of the event of the module's halo at this time and cell, or `None` if the search from a place
-    // on meets none.
-    fn halo_event_place(&self, at: Moment, from: usize) -> Option<usize>
+    // Returns the place of the event of the module's halo at this time and cell, or `None` if the search along the walk
+    // meets none.
+    #[inline(always)]
+    fn halo_event_place(&self, at: Moment, walk: &mut Walk) -> Option<usize>
         requires { IsNear at.cell }
         ensures { IfSome result (IsPlaceOf self.now.job.now.halos.events at) }
     {
         let area = self.job.area();
         let shape: &Shape = self.job.shape();
-        let events = shape.halos().events();
         let local = Moment {
             time: at.time,
             cell: moved_cell(at.cell, shift_to_origin(area.x), shift_to_origin(area.y)),
         };
-        let start = from.min(events.len());
-        let place = place_from(events, start, start, local);
-        if place >= self.job.halo_events() {
-            return None;
-        }
-        match self.job.halo_event(place).at.compare(at) {
-            Ordering::Equal => Some(place),
-            _ => None,
-        }
+        place_of(shape.halos().events(), walk, local)
     }
 
     // Returns what the module says of this time and cell of its halo. If an event says it, that event gets its mark,
-    // and the next search begins behind it.
-    fn mark_halo(&self, at: Moment, seen: &mut [bool], from: &mut usize) -> Signal
+    // and the walk goes on behind it.
+    #[inline(always)]
+    fn mark_halo(&self, at: Moment, seen: &mut [bool], walk: &mut Walk) -> Signal
         requires near { IsNear at.cell }
         requires sized { length seen.old ≡ length self.now.job.now.halos.events }
         ensures signal { result ≡ job_signal Halo self.now.job.now at.time at.cell.x at.cell.y }
         ensures marks { AddsMark self.now.job.now.halos.events at seen.old seen.new }
     {
-        match self.halo_event_place(at, *from) {
+        match self.halo_event_place(at, walk) {
             Some(place) => {
-                *from = place.saturating_add(1);
+                walk.pass(place);
                 mark(seen, place);
                 event_signal(self.job, RingOrHalo::Halo, self.job.halo_event(place))
             }
@@ -186,37 +178,37 @@ impl<'a> Borders<'a> {
         }
     }
 
-    // The lesser of the candidate and the fault that an event of a module's ring names, if that module has the cell.
+    // The lesser of the candidate and the fault that an event of the ring of the module that has the cell names.
+    //
+    // Most often the two modules say the same, so this test comes before all others.
+    #[inline(always)]
     fn with_edge_event(
         &self,
         best: Option<BorderFault>,
-        number: usize,
-        other: &Job,
+        owner: &Job,
         event: TimedSignal,
         seen: &mut [bool],
-        from: &mut usize,
+        walk: &mut Walk,
     ) -> Option<BorderFault>
         requires ready { AreReadyBorders self.now }
-        requires numbered { slice_get (jobs_of self.now) number ≡ Some other.now }
-        requires listed { IsListed other.now.edges.events event }
+        requires inside { IsTrue (in_box self.now.whole event.at.cell.x event.at.cell.y) }
+        requires owner { slice_get (jobs_of self.now)
+            (owner_of self.now.owners.now event.at.cell.x event.at.cell.y) ≡ Some owner.now }
+        requires listed { IsListed owner.now.edges.events event }
         requires marked { AreMarked self.now seen.old }
-        ensures better { IsBetter (Faults self.now) (IsAtEventOf self.now number event) best
-            result }
+        ensures better { IsBetter (Faults self.now) (IsAtEvent event) best result }
         ensures marked { AreMarked self.now seen.new }
     {
+        let _area = owner.area();
+        let own = self.mark_halo(event.at, seen, walk);
+        if !self.edge_event_differs(owner, event, own) {
+            return best;
+        }
         let fault = fault_at(event);
-        if !is_less(fault, best) || !self.may_be_fault(fault) {
+        if !self.may_be_fault(fault) {
             return best;
         }
-        if self.owners.owner(fault.cell) != number {
-            return best;
-        }
-        let _area = other.area();
-        let own = self.mark_halo(event.at, seen, from);
-        if self.edge_event_differs(other, event, own) {
-            return lesser(best, fault);
-        }
-        best
+        lesser(best, fault)
     }
 
     // The least of the candidate and the faults that the events of the module's halo without a mark name.
@@ -236,7 +228,7 @@ impl<'a> Borders<'a> {
         least
     }
 
-    // The least of the candidate and the faults that the events of a module's ring name at cells of that module.
+    // The least of the candidate and the faults that the events of a module's ring name.
     fn with_edge_events(
         &self,
         best: Option<BorderFault>,
@@ -247,33 +239,25 @@ impl<'a> Borders<'a> {
         requires ready { AreReadyBorders self.now }
         requires numbered { slice_get (jobs_of self.now) number ≡ Some other.now }
         requires marked { AreMarked self.now seen.old }
-        ensures better { IsBetter (Faults self.now)
-            (IsNamedOf self.now number other.now.edges.events) best result }
+        ensures better { IsBetter (Faults self.now) (IsNamed other.now.edges.events) best result }
         ensures marked { AreMarked self.now seen.new }
     {
         let window = Window::around(self.job.area(), other.area());
         let shape: &Shape = other.shape();
         let events = shape.edges().events();
-        let mut from = 0;
+        let mut walk = Walk::new();
         let mut leaps = Leaps::new();
         let mut least = best;
-        let mut place = 0;
+        // Most events of a long side are far from this module, so this test comes before all others.
+        let mut place = next_near(&window, events, 0, &mut leaps);
         'events: while place < events.len() {
-            // Most events of a long side are far from this module, so this test comes before all others.
-            if !window.holds(events[place].at.cell) {
-                place = after_far(window, events, place, &mut leaps);
-                continue;
+            let event = other.edge_event(place);
+            // The events rise, so no fault of the rest is less either.
+            if !is_less(fault_at(event), least) {
+                return least;
             }
-            leaps = leaps.after_near(place);
-            least = self.with_edge_event(
-                least,
-                number,
-                other,
-                other.edge_event(place),
-                seen,
-                &mut from,
-            );
-            place += 1;
+            least = self.with_edge_event(least, other, event, seen, &mut walk);
+            place = next_near(&window, events, place + 1, &mut leaps);
         }
         least
     }

@@ -5,6 +5,7 @@ ghost use Rattle.std.specs.Prelude.{pos, ◌+◌, ◌≤◌, ◌+ℤ◌, ◌≤�
 ghost use Rattle.module_box.specs.Moments.{moment_cmp};
 ghost use Rattle.module_box.specs.Moves.{moved_cell};
 ghost use Rattle.module_box.specs.Schedules.{IsRising, moment_of};
+ghost use Rattle.border_match.specs.Boards.{IsPlaceOf};
 ghost use Rattle.border_match.specs.Surroundings.{AreFar, AreFarBetween, IsAroundFrom, IsFarAt, IsFirstFrom, IsSeen, IsWindow};
 
 use bbm_rule::Cell;
@@ -23,52 +24,34 @@ const LONG_LEAP: usize = 8;
 /// A search's plan of leaps over events at far cells. It decides the time of the search and not its result.
 #[derive(Clone, Copy)]
 pub(crate) struct Leaps {
-    // The place of the last event at a near cell, or of the one behind the last leap.
-    last: usize,
     // How many far events in a row the search looks at before a leap.
     wait: usize,
-    // How many places the last leap went. Most times have the same lines, so the next leap probably goes as many.
+    // How many places the last leap went, and the one before it. Most times have the same lines, and one or two leaps
+    // over them, so the next leap probably goes as many as the one before the last.
     length: usize,
+    length_before: usize,
 }
 
 impl Leaps {
     /// Returns the state of a search at the first event.
     pub(crate) fn new() -> Leaps
-        ensures last { result.last ≡ 0 }
         ensures wait { result.wait ≡ SHORT_WAIT }
         ensures length { result.length ≡ 0 }
+        ensures length_before { result.length_before ≡ 0 }
     {
         Leaps {
-            last: 0,
             wait: SHORT_WAIT,
             length: 0,
+            length_before: 0,
         }
     }
 
-    // Returns the last place that a leap from a place passes if it is as long as the last one.
+    // Returns the last place that a leap from a place passes if it is as long as the one before the last.
     fn last_passed(self, place: usize) -> usize
-        ensures { place + self.length < usize.MAX → result ≡ place + self.length - 1 }
+        ensures { place + self.length_before < usize.MAX →
+            result ≡ place + self.length_before - 1 }
     {
-        place.saturating_add(self.length).saturating_sub(1)
-    }
-
-    // Returns whether to look at the event behind one at a far cell, and not to leap.
-    fn waits(self, place: usize) -> bool
-        ensures { IsTrue result ↔ place - self.last ≤ self.wait }
-    {
-        place.saturating_sub(self.last) <= self.wait
-    }
-
-    /// Returns the state behind an event at a near cell.
-    pub(crate) fn after_near(self, place: usize) -> Leaps
-        ensures last { result.last ≡ place }
-        ensures wait { result.wait ≡ self.wait }
-        ensures length { result.length ≡ self.length }
-    {
-        Leaps {
-            last: place,
-            ..self
-        }
+        place.saturating_add(self.length_before).saturating_sub(1)
     }
 
     // Returns how long to wait after a leap of this length.
@@ -86,15 +69,15 @@ impl Leaps {
     // Returns the state behind a leap.
     fn after_leap(self, place: usize, next: usize) -> Leaps
         requires { place ≤ next }
-        ensures last { result.last ≡ next }
         ensures wait { result.wait ≤ LONG_WAIT }
         ensures length { result.length ≡ next - place }
+        ensures length_before { result.length_before ≡ self.length }
     {
         let length = next - place;
         Leaps {
-            last: next,
             wait: self.wait_after(length),
             length,
+            length_before: self.length,
         }
     }
 }
@@ -265,38 +248,119 @@ pub(crate) fn place_from(events: &[TimedSignal], from: usize, guess: usize, at: 
     low
 }
 
-/// Returns a place after that of an event at a far cell. The events between the two are at far cells or even times.
-// Most runs of far events are short, and then a call would take longer than the step to the next event.
-#[inline(always)]
-pub(crate) fn after_far(
-    window: Window,
-    events: &[TimedSignal],
-    place: usize,
-    leaps: &mut Leaps,
-) -> usize
-    requires within { place < length events.now }
-    requires rising { IsRising moment_cmp moment_of events.now }
-    requires far { IsFarAt window events.now place }
-    ensures after { place < result }
-    ensures far { AreFar window events.now place result }
-{
-    if leaps.waits(place) {
-        return place + 1;
-    }
-    leap(window, events, place, leaps)
-}
-
 // Returns the place behind a leap over the events that cannot be at a cell of the window.
 #[inline(never)]
-fn leap(window: Window, events: &[TimedSignal], place: usize, leaps: &mut Leaps) -> usize
+fn leap(window: &Window, events: &[TimedSignal], place: usize, leaps: &mut Leaps) -> usize
     requires within { place < length events.now }
     requires rising { IsRising moment_cmp moment_of events.now }
-    requires far { IsFarAt window events.now place }
+    requires far { IsFarAt window.now events.now place }
     ensures after { place < result }
-    ensures far { AreFar window events.now place result }
+    ensures far { AreFar window.now events.now place result }
 {
     let target = window.next_after(events[place].at);
     let next = place_from(events, place + 1, leaps.last_passed(place), target);
     *leaps = leaps.after_leap(place, next);
     next
+}
+
+/// Returns the first place from `from` on of an event at a cell of the window, or the end of the list. It may pass over
+/// such events at even times.
+#[inline(always)]
+pub(crate) fn next_near(
+    window: &Window,
+    events: &[TimedSignal],
+    from: usize,
+    leaps: &mut Leaps,
+) -> usize
+    requires rising { IsRising moment_cmp moment_of events.now }
+    ensures after { from ≤ result }
+    ensures far { AreFar window.now events.now from result }
+{
+    let mut place = from;
+    'leaps: while place < events.len() {
+        let begin = place;
+        let end = begin + leaps.wait.min(events.len() - begin - 1) + 1;
+        'looks: while place < end {
+            if window.holds(events[place].at.cell) {
+                return place;
+            }
+            place += 1;
+        }
+        place = leap(window, events, place - 1, leaps);
+    }
+    place
+}
+
+// Returns whether the event at a place is at a moment.
+#[inline(always)]
+fn is_event_at(events: &[TimedSignal], place: usize, at: Moment) -> bool
+    ensures { IsTrue result → IsPlaceOf events.now at place }
+{
+    if place >= events.len() {
+        return false;
+    }
+    events[place].at == at
+}
+
+/// A walk along the events of a list, in their order.
+#[derive(Clone, Copy)]
+pub(crate) struct Walk {
+    // The place behind the last event that was found.
+    next: usize,
+    // How many events the last long step passed over. Most times have the same lines, so the next one probably passes
+    // over as many.
+    passed: usize,
+}
+
+impl Walk {
+    /// Returns the walk before its first step.
+    pub(crate) fn new() -> Walk
+        ensures next { result.next ≡ 0 }
+        ensures passed { result.passed ≡ 0 }
+    {
+        Walk { next: 0, passed: 0 }
+    }
+
+    /// Goes behind the event at a place.
+    #[inline(always)]
+    pub(crate) fn pass(&mut self, place: usize)
+        ensures next { place < usize.MAX → self.new.next ≡ place + 1 }
+        ensures passed { self.new.passed ≡ self.old.passed }
+    {
+        self.next = place.saturating_add(1);
+    }
+}
+
+// Returns the place of the event at a moment, or `None` if the search along the walk meets none.
+#[inline(never)]
+fn find_event(events: &[TimedSignal], walk: &mut Walk, at: Moment) -> Option<usize>
+    requires { IsRising moment_cmp moment_of events.now }
+    ensures found { IfSome result (IsPlaceOf events.now at) }
+    ensures passed { IfSome result (λ place. walk.new.passed ≡ place - walk.old.next) }
+{
+    let start = walk.next.min(events.len());
+    let guess = start.saturating_add(walk.passed).saturating_sub(1);
+    let place = place_from(events, start, guess, at);
+    if is_event_at(events, place, at) {
+        walk.passed = place.saturating_sub(walk.next);
+        return Some(place);
+    }
+    None
+}
+
+/// Returns the place of the event at a moment, or `None` if the search along the walk meets none.
+// Most often it is the next event or the one behind it, since modules on two sides of a third take turns.
+#[inline(always)]
+pub(crate) fn place_of(events: &[TimedSignal], walk: &mut Walk, at: Moment) -> Option<usize>
+    requires { IsRising moment_cmp moment_of events.now }
+    ensures { IfSome result (IsPlaceOf events.now at) }
+{
+    if is_event_at(events, walk.next, at) {
+        return Some(walk.next);
+    }
+    let second = walk.next.saturating_add(1);
+    if is_event_at(events, second, at) {
+        return Some(second);
+    }
+    find_event(events, walk, at)
 }

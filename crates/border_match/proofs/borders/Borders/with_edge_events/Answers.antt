@@ -1,36 +1,54 @@
-use Rattle.std.proofs.Common.{ap, ◌∙◌}
-use Rattle.module_job.specs.Shapes.{ShapeView}
-use Rattle.border_match.proofs.FarEvents.{far_at}
-use Rattle.border_match.proofs.Least.{better_then, better_for}
-use Rattle.border_match.proofs.Steps.{cornered, cornered_all, far_step, named_step_of, named_all}
+use Rattle.std.proofs.Common.{◌≡◌, ℕ, ◌+◌, List, Some, ap, subst, ◌∙◌, arith}
+use Rattle.std.specs.Prelude.{pos, slice_get}
+use Rattle.std.proofs.lemmas.Int.{ints}
+use Rattle.module_box.specs.Moments.{moment_cmp}
+use Rattle.module_box.specs.Schedules.{IsRising, Signals, moment_of}
+use Rattle.module_box.specs.Tiling.{owner_of}
+use Rattle.module_box.specs.declared.boxes.Box2.{Box2}
+use Rattle.module_box.specs.declared.schedules.TimedSignal.{TimedSignal}
+use Rattle.module_job.specs.Jobs.{JobView}
+use Rattle.module_job.specs.Shapes.{ShapeView, shape_of, shift_to_origin}
+use Rattle.border_match.specs.Boards.{AreReadyBorders, Faults, IsNamedBelow, jobs_of}
+use Rattle.border_match.specs.Candidates.{Covers}
+use Rattle.border_match.specs.Surroundings.{AreFar, IsWindow}
+use Rattle.border_match.specs.declared.borders.Borders.{Borders}
+use Rattle.border_match.specs.declared.fault.BorderFault.{BorderFault}
+use Rattle.border_match.specs.declared.surroundings.Window.{Window}
+use Rattle.border_match.proofs.EventSignals.{events_unmoved}
+use Rattle.border_match.proofs.Least.{better_for, better_rest, better_same, better_then}
+use Rattle.border_match.proofs.Steps.{cornered, cornered_all, far_step, named_step, named_all, rest_covered, same_fault}
 use Rattle.border_match.proofs.borders.Borders.with_edge_events.Goals as goal
 
-pub after_far-place-requires-clause-far : goal.after_far-place-requires-clause-far
-after_far-place-requires-clause-far c = far_at c.around-window.result c.events-events.result.now c.events.place _
-    c.holds.result c.events-test.true c.holds.ensures.seen c.if-not-holds.true
+-- the events that the search passes over are no faults
+passed : (b : Borders) (other : JobView) (a corner : Box2) (w : Window) (es : List TimedSignal) (s : Signals)
+    (sv : ShapeView) (i next : ℕ) (f : BorderFault) → a ≡ b.job.now.area → corner ≡ other.area → IsWindow a corner w →
+    es ≡ s.events → s ≡ sv.edges → sv ≡ shape_of other → AreFar w es i next → Faults b f →
+    IsNamedBelow next other.edges.events f → IsNamedBelow i other.edges.events f
+passed b other a corner w es s sv i next f ea ec is same are shape far g h =
+    far_step b other a corner w es i next f ea ec is
+    (cornered other es s same (are ∙ ap (λ (s : ShapeView). s.edges) shape)) far g h
 
-pub events-preserved-then-not-holds : goal.events-preserved-then-not-holds
-events-preserved-then-not-holds c =
-    let other = c.args.other.now in
-    let are = cornered other c.events-events.result.now c.edges.result.now c.events-events.ensures.same_list
-    (c.edges.ensures ∙ ap (λ (s : ShapeView). s.edges) (c.deref-shape.ensures ∙ c.shape.ensures)) in
-    let better = better_for _ _ _ _ _ c.events.invariant.better
-    (λ h f r. (
-      far_step c.args.self.now other _ _ c.around-window.result c.events-events.result.now c.events.place
-          c.after_far-place.result h c.area.ensures.area c.area-2.ensures.area c.around-window.ensures are
-          c.after_far-place.ensures.far f r.0,
-      r.1,
-    )) in
-    record { better = better; marked = c.events.invariant.marked }
+pub events-init : goal.events-init
+events-init c = record {
+  better = better_same _ _ _ (λ h f r. let k = passed c.args.self.now c.args.other.now _ _ c.around-window.result
+      c.events-events.result.now c.edges.result.now _ 0 _ h c.area.ensures.area c.area-2.ensures.area
+      c.around-window.ensures c.events-events.ensures.same_list c.edges.ensures (c.deref-shape.ensures ∙ c.shape.ensures)
+      c.next_near-place.ensures.far f r in let lt = k.below in omega (arith, lt));
+  marked = c.requires.marked;
+}
 
 pub with_edge_event-least-requires-clause-listed : goal.with_edge_event-least-requires-clause-listed
-with_edge_event-least-requires-clause-listed c = (c.events.place, c.edge_event.ensures)
+with_edge_event-least-requires-clause-listed c = (c.events.place, c.edge_event-event.ensures)
 
 pub events-preserved : goal.events-preserved
 events-preserved c = record {
   better = better_then _ _ _ _ _ _ _ c.events.invariant.better c.with_edge_event-least.ensures.better
-      (λ h f r. named_step_of c.args.self.now c.args.number c.args.other.now.edges.events c.events.place
-      c.edge_event.result h c.edge_event.ensures r.0 r.1);
+      (λ h f r. named_step c.args.other.now.edges.events c.events.place c.edge_event-event.result h
+      c.edge_event-event.ensures
+      (passed c.args.self.now c.args.other.now _ _ c.around-window.result
+      c.events-events.result.now c.edges.result.now _ (c.events.place + 1) _ h c.area.ensures.area c.area-2.ensures.area
+      c.around-window.ensures c.events-events.ensures.same_list c.edges.ensures (c.deref-shape.ensures ∙ c.shape.ensures)
+      c.next_near-place-in-events.ensures.far f r));
   marked = c.with_edge_event-least.ensures.marked;
 }
 
@@ -39,9 +57,39 @@ returns c =
     let other = c.args.other.now in
     let are = cornered other c.events-events.result.now c.edges.result.now c.events-events.ensures.same_list
     (c.edges.ensures ∙ ap (λ (s : ShapeView). s.edges) (c.deref-shape.ensures ∙ c.shape.ensures)) in
-    let better = better_for _ _ _ _ _ c.events.invariant.better (λ h f r. (
-      named_all other.edges.events c.events.place h
-          (cornered_all _ _ c.events-events.result.now other.edges.events c.events.place are c.events-test.false) r.0,
-      r.1,
-    )) in
+    let better = better_for _ _ _ _ _ c.events.invariant.better (λ h f r. named_all other.edges.events c.events.place h
+    (cornered_all _ _ c.events-events.result.now other.edges.events c.events.place are c.events-test.false) r) in
+    record { better = better; marked = c.events.invariant.marked }
+
+-- the cells of a module's edge events are its own
+owned : (b : Borders) (k : ℕ) (other : JobView) (i : ℕ) (e : TimedSignal) → AreReadyBorders b →
+    slice_get (jobs_of b) k ≡ Some other → slice_get other.edges.events i ≡ Some e →
+    slice_get (jobs_of b) (owner_of b.owners.now e.at.cell.x e.at.cell.y) ≡ Some other
+owned b k other i e ready numbered got =
+    ap (slice_get (jobs_of b)) (ready.0.edges k other e numbered (i, got)).1 ∙ numbered
+
+pub with_edge_event-least-requires-clause-inside : goal.with_edge_event-least-requires-clause-inside
+with_edge_event-least-requires-clause-inside c =
+    (c.requires.ready.0.edges c.args.number c.args.other.now c.edge_event-event.result c.requires.numbered
+    (c.events.place, c.edge_event-event.ensures)).0
+
+pub with_edge_event-least-requires-clause-owner : goal.with_edge_event-least-requires-clause-owner
+with_edge_event-least-requires-clause-owner c =
+    owned c.args.self.now c.args.number c.args.other.now c.events.place c.edge_event-event.result c.requires.ready
+    c.requires.numbered c.edge_event-event.ensures
+
+pub returns-then-not-is_less : goal.returns-then-not-is_less
+returns-then-not-is_less c =
+    let other = c.args.other.now in
+    let are = cornered other c.events-events.result.now c.edges.result.now c.events-events.ensures.same_list
+    (c.edges.ensures ∙ ap (λ (s : ShapeView). s.edges) (c.deref-shape.ensures ∙ c.shape.ensures)) in
+    let R : List TimedSignal → Type 0 = IsRising moment_cmp moment_of in
+    let rising : R other.edges.events =
+    events_unmoved (shift_to_origin other.area.x) (shift_to_origin other.area.y) (pos other.area.x) (pos other.area.y)
+    other.edges (omega (arith, ints)) (omega (arith, ints)) (subst R are c.events-events.ensures.rising) in
+    let covered = subst (Covers c.events.least)
+    (same_fault _ _ c.fault_at.result c.fault_at.ensures.time c.fault_at.ensures.cell)
+    (c.is_less.ensures c.if-not-is_less.true) in
+    let better = better_rest _ _ _ _ _ c.events.invariant.better (λ h r. rest_covered other.edges.events c.events.place
+    c.edge_event-event.result c.events.least h rising c.edge_event-event.ensures covered r) in
     record { better = better; marked = c.events.invariant.marked }

@@ -19,6 +19,6 @@ returns c =
     job_at arc_value b.jobs.now c.args.number _ other c.requires.number c.deref.ensures in
     record {
       better = better_for _ _ _ _ _ c.with_edge_events.ensures.better
-          (λ h f p. (edges_named b c.args.number other h got p, p.1));
+          (λ h f p. edges_named b c.args.number other h got p);
       marked = c.with_edge_events.ensures.marked;
     }
