@@ -15,6 +15,10 @@ pub live_in : (words : List ℕ) (i b : ℕ) → b < 64 →
 live_in words i b l =
     rw (shr_and_one (get_or words i 0) b, cell_in_word words i b l) (sym (bit-is (get_or words i 0) b))
 
+pub cell_is : (words : List ℕ) (p : ℕ) → nat_eq (bit_and (get_or words (p / 64) 0 / 2 ^ (p % 64)) 1) 1 ≡ cell_at words p
+unfolding cell_at
+cell_is words p = rw (shr_and_one (get_or words (p / 64) 0) (p % 64)) (sym (bit-is (get_or words (p / 64) 0) (p % 64)))
+
 word_changed : (words : List ℕ) (p v : ℕ) (value : Bool) → p / 64 < length words → bit v (p % 64) ≡ value →
     ((j : ℕ) → j < 64 → j ≢ p % 64 → bit v j ≡ bit (get_or words (p / 64) 0) j) →
     SetsPlace p value words (set words (p / 64) v)

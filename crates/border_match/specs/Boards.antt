@@ -55,8 +55,8 @@ pub record IsQuiet (j : JobView) : Type 0 where
 abbrev pub IsListed : List TimedSignal → TimedSignal → Type 0
 IsListed es e = (k : ℕ) × (slice_get es k ≡ Some e)
 
--- The owner of each cell of the rectangle is the number of the one job whose box has the cell. The cells of a job's edge
--- events are in the rectangle, and the job owns them.
+-- The owner of each cell of the rectangle is the number of the one job whose box has the cell. The cells of a job's
+-- edge events are in the rectangle, and the job owns them.
 pub record IsBoard (w : Box2) (o : Owning) (jobs : List JobView) : Type 0 where
   pub same : w ≡ rectangle o
   pub holder : (x y : ℤ) → IsTrue (in_box w x y) →

@@ -19,7 +19,8 @@ looks-init c = record {
 
 pub looks-preserved : goal.looks-preserved
 looks-preserved c =
-    let here = far_at c.args.window.now c.args.events.now c.looks.place _ c.holds.result (omega arith) c.holds.ensures.seen
+    let here = far_at c.args.window.now c.args.events.now c.looks.place _ c.holds.result
+    (omega arith) c.holds.ensures.seen
     c.if-holds.false in
     let back : c.looks.place ≡ c.looks.place + 1 - 1 = omega arith in
     record {

@@ -32,7 +32,8 @@ pub events-init : goal.events-init
 events-init c = record {
   better = better_same _ _ _ (λ h f r. let k = passed c.args.self.now c.args.other.now _ _ c.around-window.result
       c.events-events.result.now c.edges.result.now _ 0 _ h c.area.ensures.area c.area-2.ensures.area
-      c.around-window.ensures c.events-events.ensures.same_list c.edges.ensures (c.deref-shape.ensures ∙ c.shape.ensures)
+      c.around-window.ensures c.events-events.ensures.same_list c.edges.ensures
+      (c.deref-shape.ensures ∙ c.shape.ensures)
       c.next_near-place.ensures.far f r in let lt = k.below in omega (arith, lt));
   marked = c.requires.marked;
 }
@@ -47,7 +48,8 @@ events-preserved c = record {
       c.edge_event-event.ensures
       (passed c.args.self.now c.args.other.now _ _ c.around-window.result
       c.events-events.result.now c.edges.result.now _ (c.events.place + 1) _ h c.area.ensures.area c.area-2.ensures.area
-      c.around-window.ensures c.events-events.ensures.same_list c.edges.ensures (c.deref-shape.ensures ∙ c.shape.ensures)
+      c.around-window.ensures c.events-events.ensures.same_list c.edges.ensures
+      (c.deref-shape.ensures ∙ c.shape.ensures)
       c.next_near-place-in-events.ensures.far f r));
   marked = c.with_edge_event-least.ensures.marked;
 }
