@@ -12,6 +12,9 @@ use crate::phases::{WholePlaneSteps, are_many};
 /// as some of these steps. And how often they are looked for again after they were given up.
 pub(crate) const STEPS_TO_SEARCH: u32 = 128;
 
+// So many blocks are few for `are_many`, in boxes of 16 by 16 cells or more. In smaller ones all steps cost little.
+const ALWAYS_FEW: usize = 4;
+
 impl MarkedPlanes {
     ghost use Rattle.local_run.specs.Sweeps.{IsPast, IsPastInside, TurnsEven, TurnsEvenNamed, TurnsOdd, TurnsOddNamed};
     ghost use Rattle.local_run.specs.Lanes.{HasSize, SameInside, lane};
@@ -24,12 +27,14 @@ impl MarkedPlanes {
         ensures { self.new.planes ≡ self.old.planes }
     {
         self.count_lone(changed);
-        if are_many(
-            changed,
-            self.planes.cells() / 4,
-            self.planes.words(),
-            self.planes.columns_and_rows() / 4,
-        ) {
+        if changed > ALWAYS_FEW
+            && are_many(
+                changed,
+                self.planes.cells() / 4,
+                self.planes.words(),
+                self.planes.columns_and_rows() / 4,
+            )
+        {
             self.begin_phase(changed);
         } else {
             self.whole_plane_steps = WholePlaneSteps::NONE;
