@@ -10,7 +10,8 @@ use Rattle.bbm_rule.proofs.BitLemmas.{bit-zero, by_eq_or_not, by_lt_or_le}
 use Rattle.bbm_rule.specs.Plane.{turned}
 use Rattle.bbm_rule.specs.Rows.{mate}
 use Rattle.bbm_rule.specs.Marks.{IsUnmarked}
-use Rattle.local_run.specs.Sweeps.{IsPast, IsPastInside, TurnsEven, TurnsEvenNamed, TurnsNamed, TurnsOdd, TurnsOddNamed}
+use Rattle.local_run.specs.Sweeps.{IsPast, IsPastInside, TurnsEven, TurnsEvenNamed, TurnsNamed, TurnsOdd}
+use Rattle.local_run.specs.Sweeps.{TurnsOddNamed}
 use Rattle.local_run.specs.Turns.{IsCalmBlock, TurnsPart}
 use Rattle.local_run.specs.Calm.{OddCalm, EvenCalm}
 use Rattle.local_run.specs.Live.{AllDead, AreUnmarked}

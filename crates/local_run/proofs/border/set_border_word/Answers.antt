@@ -39,9 +39,11 @@ border-preserved c =
     let at = c.place-column.ensures in
     let u = c.args.first + c.take_first-place.result.0 in
     let taken = c.take_first-place.ensures in
-    let one = one_past c.args.first (c.args.first + 64) c.border.rest c.take_first-place.result.1 c.take_first-place.result.0
+    let one = one_past c.args.first
+    (c.args.first + 64) c.border.rest c.take_first-place.result.1 c.take_first-place.result.0
     (omega arith) (omega arith) taken.first.0 (omega arith) taken.first.1 taken.rest.0 taken.rest.1 in
-    let stride : c.planes-in-border.result.now.stride ≡ j.area.w / 2 + 1 = ap (λ (p : Planes). p.stride) p ∙ m.shows.size.1 in
+    let stride : c.planes-in-border.result.now.stride ≡ j.area.w / 2 + 1 =
+    ap (λ (p : Planes). p.stride) p ∙ m.shows.size.1 in
     let number : (j.area.w / 2 + 1) * c.place-column.result.1 + c.place-column.result.0 ≡ u =
     ap (λ s. s * c.place-column.result.1 + c.place-column.result.0) (sym stride) ∙ at.place_is_exact in
     let here : (x y : ℕ) → x < j.area.w + 2 → number_at j.area x y ≡ u →
@@ -83,9 +85,11 @@ returns-then-u-cells-clause-edges c = λ all x y lx ly after before.
 pub returns-clause-halo : goal.returns-clause-halo
 returns-clause-halo c = λ x y lx ly after before.
     c.border.invariant.halo x y lx ly
-    (past_all c.args.first (c.args.first + 64) c.border.rest (number_at c.args.job.now.area x y) (omega arith) after before)
+    (past_all c.args.first (c.args.first + 64) c.border.rest (number_at c.args.job.now.area x y)
+    (omega arith) after before)
 
 pub returns-clause-edges : goal.returns-clause-edges
 returns-clause-edges c = λ all x y lx ly after before.
     c.border.invariant.right all x y lx ly
-    (past_all c.args.first (c.args.first + 64) c.border.rest (number_at c.args.job.now.area x y) (omega arith) after before)
+    (past_all c.args.first (c.args.first + 64) c.border.rest (number_at c.args.job.now.area x y)
+    (omega arith) after before)

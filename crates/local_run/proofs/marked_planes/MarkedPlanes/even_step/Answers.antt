@@ -25,7 +25,8 @@ words-preserved c =
       count = (omega arith, omega arith);
       turned = even_more c.args.self.now.planes c.words.self.planes c.turn_even_word-changed.new.self.planes c.words.k
           c.min-end.result (c.cells.result - c.stride.result - 1) m.size (omega arith) (omega arith) (omega arith)
-          (by_lt_or_le (64 * c.words.k + 64) (c.cells.result - c.stride.result - 1) (λ l. inl (omega arith)) (λ l. inr (omega arith))) m.turned t.turned;
+          (by_lt_or_le (64 * c.words.k + 64) (c.cells.result - c.stride.result - 1) (λ l. inl (omega arith))
+          (λ l. inr (omega arith))) m.turned t.turned;
     }
 
 pub words-preserved-then-word-eq0 : goal.words-preserved-then-word-eq0
@@ -36,17 +37,21 @@ words-preserved-then-word-eq0 c =
       size = m.size;
       stays = m.stays;
       count = (omega arith, omega arith);
-      turned = even_more_none c.args.self.now.planes c.words.self.planes c.words.k (c.cells.result - c.stride.result - 1) c.even_word-word.result
+      turned = even_more_none c.args.self.now.planes c.words.self.planes c.words.k
+          (c.cells.result - c.stride.result - 1) c.even_word-word.result
           m.size (omega arith) c.if-word-eq0.true
-          (λ end short within. c.even_word-word.ensures.calm end short (omega (arith, within, long, m.size.1))) m.turned;
+          (λ end short within. c.even_word-word.ensures.calm end short (omega (arith, within, long, m.size.1)))
+          m.turned;
     }
 
 pub returns-clause-turned : goal.returns-clause-turned
 returns-clause-turned c =
     let m = c.words.invariant in
     let same : c.finish_step.new.self.planes ≡ c.words.self.planes = c.finish_step.ensures in
-    even_all c.args.self.now.planes c.finish_step.new.self.planes (c.cells.result - c.stride.result - 1) (rw same m.size) (omega arith)
-    (rw same (even_below_all c.args.self.now.planes c.words.self.planes (64 * c.words.k) (c.cells.result - c.stride.result - 1) (omega arith) m.turned))
+    even_all c.args.self.now.planes c.finish_step.new.self.planes (c.cells.result - c.stride.result - 1)
+    (rw same m.size) (omega arith)
+    (rw same (even_below_all c.args.self.now.planes c.words.self.planes (64 * c.words.k)
+    (c.cells.result - c.stride.result - 1) (omega arith) m.turned))
 
 pub returns-clause-stays : goal.returns-clause-stays
 returns-clause-stays c e a x y la lx ly =

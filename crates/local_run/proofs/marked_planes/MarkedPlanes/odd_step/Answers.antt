@@ -23,7 +23,8 @@ words-preserved c =
       count = (omega arith, omega arith);
       turned = odd_more c.args.self.now.planes c.words.self.planes c.turn_odd_word-changed.new.self.planes c.words.k
           c.min-end.result c.cells-cells.result m.size (omega arith) (omega arith) (omega arith)
-          (by_lt_or_le (64 * c.words.k + 64) c.cells-cells.result (λ l. inl (omega arith)) (λ l. inr (omega arith))) m.turned t.turned;
+          (by_lt_or_le (64 * c.words.k + 64) c.cells-cells.result (λ l. inl (omega arith)) (λ l. inr (omega arith)))
+          m.turned t.turned;
     }
 
 pub words-preserved-then-word-eq0 : goal.words-preserved-then-word-eq0
@@ -34,7 +35,8 @@ words-preserved-then-word-eq0 c =
       size = m.size;
       stays = m.stays;
       count = (omega arith, omega arith);
-      turned = odd_more_none c.args.self.now.planes c.words.self.planes c.words.k c.cells-cells.result c.odd_word-word.result
+      turned = odd_more_none c.args.self.now.planes c.words.self.planes c.words.k c.cells-cells.result
+          c.odd_word-word.result
           m.size (omega arith) c.if-word-eq0.true
           (λ end short within. c.odd_word-word.ensures.calm end short (omega (arith, within, long))) m.turned;
     }
@@ -44,7 +46,8 @@ returns-clause-turned c =
     let m = c.words.invariant in
     let same : c.finish_step.new.self.planes ≡ c.words.self.planes = c.finish_step.ensures in
     odd_all c.args.self.now.planes c.finish_step.new.self.planes c.cells-cells.result (rw same m.size) (omega arith)
-    (rw same (odd_below_all c.args.self.now.planes c.words.self.planes (64 * c.words.k) c.cells-cells.result (omega arith) m.turned))
+    (rw same (odd_below_all c.args.self.now.planes c.words.self.planes (64 * c.words.k) c.cells-cells.result
+    (omega arith) m.turned))
 
 pub returns-clause-stays : goal.returns-clause-stays
 returns-clause-stays c e = c.finish_step.ensures ∙ c.words.invariant.stays (none_more c.words.changed e)
