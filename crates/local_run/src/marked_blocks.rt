@@ -21,10 +21,7 @@ impl MarkedPlanes {
     // Counts a block that may have two live cells, and three times if it was turned: all that are turned in a step are
     // taken off twice at its end.
     fn count_full(&mut self, is_turned: bool)
-        ensures planes { self.new.planes ≡ self.old.planes }
-        ensures odd { self.new.odd_marks ≡ self.old.odd_marks }
-        ensures even { self.new.even_marks ≡ self.old.even_marks }
-        ensures live { self.new.live_marks ≡ self.old.live_marks }
+        ensures { self.new.planes ≡ self.old.planes }
     {
         self.crowd = self.crowd.saturating_add(1);
         if is_turned {
@@ -33,10 +30,10 @@ impl MarkedPlanes {
     }
 
     /// Counts the blocks that a step turned: each with one live cell, and the dead one that this cell left in the step
-    /// before. Where most blocks have two live cells, it costs less to read their words at once.
+    /// before. If most blocks have two live cells, it costs less to read their words at once.
     pub(crate) fn count_lone(&mut self, turned: usize)
         requires { turned ≤ 4096 }
-        ensures planes { self.new.planes ≡ self.old.planes }
+        ensures { self.new.planes ≡ self.old.planes }
     {
         self.crowd = self.crowd.saturating_sub(2 * turned as u32);
         if self.crowd > CROWD {
@@ -160,7 +157,7 @@ impl MarkedPlanes {
     // Takes the marks off the dead cells of block u of the odd partition after its words were read, and counts it.
     fn finish_odd(&mut self, u: usize, is_turned: bool)
         requires { u < self.old.planes.stride * self.old.planes.rows }
-        ensures planes { self.new.planes ≡ self.old.planes }
+        ensures { self.new.planes ≡ self.old.planes }
     {
         if self.busy == 0 {
             self.drop_dead(u, u, u, u);
