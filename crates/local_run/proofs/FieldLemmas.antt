@@ -1,6 +1,6 @@
 -- Steps that pass over the blocks that stay
 use Rattle.std.proofs.Common.{◌≡◌, ◌≢◌, ℕ, true, false, ◌<◌, ◌≤◌, ◌+◌, ◌*◌, ◌/◌, ◌%◌, ◌⊎◌, inl, inr, refl, arith, sym}
-use Rattle.std.proofs.Common.{◌∙◌, ap}
+use Rattle.std.proofs.Common.{◌∙◌, ap, ltb}
 use Rattle.std.proofs.Common.{List, get_or, subst}
 use Rattle.std.proofs.lemmas.Bool.{false≢true}
 use Rattle.std.proofs.Math.Nat.{div-add-mod, mod-lt, mul-le-mul_left}
@@ -10,7 +10,8 @@ use Rattle.bbm_rule.proofs.BitLemmas.{bit-zero, by_eq_or_not, by_lt_or_le}
 use Rattle.bbm_rule.specs.Plane.{turned}
 use Rattle.bbm_rule.specs.Rows.{mate}
 use Rattle.bbm_rule.specs.Marks.{IsUnmarked}
-use Rattle.local_run.specs.Sweeps.{TurnsEven, TurnsEvenNamed, TurnsNamed, TurnsOdd, TurnsOddNamed}
+use Rattle.local_run.specs.Sweeps.{IsPast, IsPastInside, TurnsEven, TurnsEvenNamed, TurnsNamed, TurnsOdd}
+use Rattle.local_run.specs.Sweeps.{TurnsOddNamed}
 use Rattle.local_run.specs.Turns.{IsCalmBlock, TurnsPart}
 use Rattle.local_run.specs.Calm.{OddCalm, EvenCalm}
 use Rattle.local_run.specs.Live.{AllDead, AreUnmarked}
@@ -120,9 +121,6 @@ named_join w a b c d P Q R ul ur ll lr ul' ur' ll' lr' ul'' ur'' ll'' lr'' apart
 }
 
 -- ---- blocks whose marks are in one word, and those whose marks are not among the rest of the word
-abbrev pub IsPast : ℕ → ℕ → ℕ → ℕ → Type 0
-IsPast first end rest n = (first ≤ n) × (n < end) × (bit rest (n % 64) ≡ false)
-
 -- where the mark of block u is cleared, this block is one of them too
 pub record OnePast (first end rest rest' u : ℕ) : Type 0 where
   pub free : IsPast first end rest u → ⊥
@@ -152,9 +150,9 @@ past_before first end rest t n aligned short le none l h = (l, h, none (n % 64) 
 pub past_all : (first end rest n : ℕ) → rest ≡ 0 → first ≤ n → n < end → IsPast first end rest n
 past_all first end rest n e l h = (l, h, ap (λ (m : ℕ). bit m (n % 64)) e ∙ bit-zero (n % 64))
 
--- the same, but for the last blocks of the rows
-abbrev pub IsPastInside : ℕ → ℕ → ℕ → ℕ → ℕ → Type 0
-IsPastInside s first end rest n = IsPast first end rest n × ((n + 1) % s ≢ 0)
+-- no block was turned, where their count is not more than none
+pub none_more : (n : ℕ) → ltb 0 n ≡ false → n ≡ 0
+none_more n e = grind arith
 
 -- ---- the odd partition
 self : IsInjective (λ n. n)
@@ -199,6 +197,45 @@ odd_join p q r at end size le s t =
     (λ n. (0 ≤ n) × (n < end)) _ _ _ _ _ _ _ _ _ _ _ _ (λ n l g. absurd (omega (arith, l.1, g.0)))
     (λ n l. by_lt_or_le n at (λ h. inl (l.0, h)) (λ h. inr (h, l.1)))
     (λ n l. (l.0, omega (arith, l.1))) (λ n g. (omega arith, g.1)) s t
+
+-- the blocks below a number are turned, as far as there are some
+abbrev pub TurnsOddBelow : ℕ → ℕ → Planes → Planes → Type 0
+TurnsOddBelow at cells p q = TurnsOddNamed (λ n. (n < at) × (n < cells)) p q
+
+below_end : (k end cells n : ℕ) → (64 * k + 64 ≤ end) ⊎ (cells ≤ end) → n < 64 * (k + 1) → n < cells → n < end
+below_end k end cells n (inl l) below inside = omega arith
+below_end k end cells n (inr l) below inside = omega arith
+
+-- so are those of one more word of marks
+pub odd_more : (p q r : Planes) (k end cells : ℕ) → HasSize p.words p.stride p.rows q → 64 * k < end → end ≤ cells →
+    end ≤ 64 * k + 64 → (64 * k + 64 ≤ end) ⊎ (cells ≤ end) → TurnsOddBelow (64 * k) cells p q →
+    TurnsOdd (64 * k) end q r → TurnsOddBelow (64 * (k + 1)) cells p r
+odd_more p q r k end cells size some within short whole s t =
+    odd_renamed p r (λ n. (0 ≤ n) × (n < end)) (λ n. (n < 64 * (k + 1)) × (n < cells))
+    (λ n is. (omega arith, below_end k end cells n whole is.0 is.1))
+    (λ n is. (omega (arith, is.1), omega (arith, is.1)))
+    (odd_join p q r (64 * k) end size (omega arith)
+    (odd_renamed p q (λ n. (n < 64 * k) × (n < cells)) (λ n. (0 ≤ n) × (n < 64 * k))
+    (λ n is. (is.1, omega (arith, is.1))) (λ n is. (omega arith, is.0)) s) t)
+
+-- and those of a word without marks
+pub odd_more_none : (p q : Planes) (k cells rest : ℕ) → HasSize p.words p.stride p.rows q → 64 * k < cells → rest ≡ 0 →
+    ((end : ℕ) → end ≤ 64 * k + 64 → end ≤ cells → TurnsOddNamed (IsPast (64 * k) end rest) q q) →
+    TurnsOddBelow (64 * k) cells p q → TurnsOddBelow (64 * (k + 1)) cells p q
+odd_more_none p q k cells rest size some none calm s = by_lt_or_le (64 * k + 64) cells
+    (λ l. odd_more p q q k (64 * k + 64) cells size (omega arith) (omega arith) (omega arith) (inl (omega arith)) s
+    (turned (64 * k + 64) (omega arith) (omega arith)))
+    (λ l. odd_more p q q k cells cells size some (omega arith) l (inr (omega arith)) s
+    (turned cells l (omega arith)))
+  where
+    turned : (end : ℕ) → end ≤ 64 * k + 64 → end ≤ cells → TurnsOdd (64 * k) end q q
+    turned end short within = odd_renamed q q (IsPast (64 * k) end rest) (λ n. (64 * k ≤ n) × (n < end))
+        (λ n l. past_all (64 * k) end rest n none l.0 l.1) (λ n is. (is.0, is.1)) (calm end short within)
+
+-- in the end all are
+pub odd_below_all : (p q : Planes) (at cells : ℕ) → cells ≤ at → TurnsOddBelow at cells p q → TurnsOdd 0 cells p q
+odd_below_all p q at cells l t = odd_renamed p q (λ n. (n < at) × (n < cells)) (λ n. (0 ≤ n) × (n < cells))
+    (λ n is. (omega (arith, is.1), is.1)) (λ n is. (omega arith, is.1)) t
 
 pub odd_all : (p q : Planes) (u : ℕ) → HasSize p.words p.stride p.rows q → u ≡ p.stride * p.rows → TurnsOdd 0 u p q →
     (a x y : ℕ) → a < 64 * p.words → x < 2 * p.stride → y < 2 * p.rows →
@@ -269,6 +306,47 @@ even_join p q r at end size le s t =
     _ _ _ _ _ _ _ _ _ _ _ _ (λ n l g. absurd (omega (arith, l.1, g.0)))
     (λ n l. by_lt_or_le n at (λ h. inl (l.0, h, l.2)) (λ h. inr (h, l.1, l.2)))
     (λ n l. (l.0, omega (arith, l.1), l.2)) (λ n g. (omega arith, g.1, g.2)) s t
+
+-- the blocks below a number are turned, as far as there are some
+abbrev pub TurnsEvenBelow : ℕ → ℕ → Planes → Planes → Type 0
+TurnsEvenBelow at cells p q = TurnsEvenNamed (λ n. (n < at) × (n < cells) × ((n + 1) % p.stride ≢ 0)) p q
+
+-- so are those of one more word of marks
+pub even_more : (p q r : Planes) (k end cells : ℕ) → HasSize p.words p.stride p.rows q → 64 * k < end → end ≤ cells →
+    end ≤ 64 * k + 64 → (64 * k + 64 ≤ end) ⊎ (cells ≤ end) → TurnsEvenBelow (64 * k) cells p q →
+    TurnsEven (64 * k) end q r → TurnsEvenBelow (64 * (k + 1)) cells p r
+even_more p q r k end cells size some within short whole s t =
+    even_renamed p r (λ n. (0 ≤ n) × (n < end) × ((n + 1) % p.stride ≢ 0))
+    (λ n. (n < 64 * (k + 1)) × (n < cells) × ((n + 1) % p.stride ≢ 0))
+    (λ n is. (omega arith, below_end k end cells n whole is.0 is.1, is.2))
+    (λ n is. (omega (arith, is.1), omega (arith, is.1), is.2))
+    (even_join p q r (64 * k) end size (omega arith)
+    (even_renamed p q (λ n. (n < 64 * k) × (n < cells) × ((n + 1) % p.stride ≢ 0))
+    (λ n. (0 ≤ n) × (n < 64 * k) × ((n + 1) % p.stride ≢ 0))
+    (λ n is. (is.1, omega (arith, is.1), is.2)) (λ n is. (omega arith, is.0, is.2)) s) t)
+
+-- and those of a word without marks
+pub even_more_none : (p q : Planes) (k cells rest : ℕ) → HasSize p.words p.stride p.rows q → 64 * k < cells →
+    rest ≡ 0 → ((end : ℕ) → end ≤ 64 * k + 64 → end ≤ cells →
+    TurnsEvenNamed (IsPastInside q.stride (64 * k) end rest) q q) →
+    TurnsEvenBelow (64 * k) cells p q → TurnsEvenBelow (64 * (k + 1)) cells p q
+even_more_none p q k cells rest size some none calm s = by_lt_or_le (64 * k + 64) cells
+    (λ l. even_more p q q k (64 * k + 64) cells size (omega arith) (omega arith) (omega arith) (inl (omega arith)) s
+    (turned (64 * k + 64) (omega arith) (omega arith)))
+    (λ l. even_more p q q k cells cells size some (omega arith) l (inr (omega arith)) s
+    (turned cells l (omega arith)))
+  where
+    turned : (end : ℕ) → end ≤ 64 * k + 64 → end ≤ cells → TurnsEven (64 * k) end q q
+    turned end short within = even_renamed q q (IsPastInside q.stride (64 * k) end rest)
+        (λ n. (64 * k ≤ n) × (n < end) × ((n + 1) % q.stride ≢ 0))
+        (λ n l. (past_all (64 * k) end rest n none l.0 l.1, l.2)) (λ n is. (is.0.0, is.0.1, is.1))
+        (calm end short within)
+
+-- in the end all are
+pub even_below_all : (p q : Planes) (at cells : ℕ) → cells ≤ at → TurnsEvenBelow at cells p q → TurnsEven 0 cells p q
+even_below_all p q at cells l t = even_renamed p q (λ n. (n < at) × (n < cells) × ((n + 1) % p.stride ≢ 0))
+    (λ n. (0 ≤ n) × (n < cells) × ((n + 1) % p.stride ≢ 0))
+    (λ n is. (omega (arith, is.1), is.1, is.2)) (λ n is. (omega arith, is.1, is.2)) t
 
 pub even_all : (p q : Planes) (u : ℕ) → HasSize p.words p.stride p.rows q → u + p.stride + 1 ≡ p.stride * p.rows →
     TurnsEven 0 u p q →

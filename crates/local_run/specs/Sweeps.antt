@@ -1,5 +1,6 @@
 -- Blocks of a partition that are turned, by their numbers
-use Rattle.std.specs.Prelude.{◌≡◌, ◌≢◌, ℕ, ◌+◌, ◌*◌, ◌%◌, ◌<◌, ◌≤◌, List, slice_index}
+use Rattle.std.specs.Prelude.{◌≡◌, ◌≢◌, false, ℕ, ◌+◌, ◌*◌, ◌%◌, ◌<◌, ◌≤◌, List, slice_index}
+use Rattle.bbm_rule.specs.Bits.{bit}
 use Rattle.bbm_rule.specs.Words.{AreTurned}
 use Rattle.local_run.specs.declared.planes.Planes.{Planes}
 
@@ -35,3 +36,11 @@ TurnsOdd from end p q = TurnsOddNamed (λ n. (from ≤ n) × (n < end)) p q
 -- those of the even partition are turned, but for the last ones of the rows, which are not in the box
 abbrev pub TurnsEven : ℕ → ℕ → Planes → Planes → Type 0
 TurnsEven from end p q = TurnsEvenNamed (λ n. (from ≤ n) × (n < end) × ((n + 1) % p.stride ≢ 0)) p q
+
+-- the numbers from one to another whose marks, in one word, are not among the rest of that word
+abbrev pub IsPast : ℕ → ℕ → ℕ → ℕ → Type 0
+IsPast first end rest n = (first ≤ n) × (n < end) × (bit rest (n % 64) ≡ false)
+
+-- the same, but for the last blocks of the rows
+abbrev pub IsPastInside : ℕ → ℕ → ℕ → ℕ → ℕ → Type 0
+IsPastInside s first end rest n = IsPast first end rest n × ((n + 1) % s ≢ 0)

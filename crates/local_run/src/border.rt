@@ -1,5 +1,7 @@
 //! The cells of ring and halo at an odd time.
-ghost use Rattle.std.specs.Prelude.{◌≡◌, ◌+◌, ◌*◌, ◌/◌, ◌%◌, ◌<◌, ◌≤◌, true};
+ghost use Rattle.std.specs.Prelude.{ℕ, ◌≡◌, ◌+◌, ◌*◌, ◌/◌, ◌%◌, ◌<◌, ◌≤◌, true, false};
+ghost use Rattle.bbm_rule.specs.Bits.{bit};
+ghost use Rattle.local_run.specs.Borders.{ArePassed};
 ghost use Rattle.circuit.specs.Meaning.{wires};
 ghost use Rattle.module_box.specs.Schedules.{signal_at};
 ghost use Rattle.module_job.specs.Jobs.{IsJob};
@@ -172,38 +174,41 @@ fn set_border_cells(
     first & second & third & fourth
 }
 
-// Sets the cells of the halo with the numbers from `first` on to below `end` to what their signals say, and returns
-// whether the cells of the ring with these numbers carry what their edge signals say. Only `true` is proved to be
-// right.
+// Sets the cells of the halo with the 64 numbers from `first` on to what their signals say, and returns whether the
+// cells of the ring with these numbers carry what their edge signals say. Only `true` is proved to be right.
 //
-// The marks of these numbers are in one word. It is read once: a cell that is set changes live marks of its own number
-// alone.
+// The numbers without a mark in the word need no look. It was read before: a cell that is set changes live marks of its
+// own number alone.
 fn set_border_word(
     marked_planes: &mut MarkedPlanes,
     values: &Values,
     job: &Job,
     time: u32,
     first: usize,
-    end: usize,
+    word: u64,
 ) -> bool
     requires ready { IsReady job.now values.now }
     requires shows { Shows job.now values.now time marked_planes.old.planes }
     requires lines { AreLines job.now time marked_planes.old.line_marks.items }
     requires sought { IsSought job.now time Kind.Edge }
-    requires word { (first % 64 ≡ 0) × (first < end) × (end ≤ first + 64) }
-    requires within { end ≤ (job.now.area.w / 2 + 1) * (job.now.area.h / 2 + 1) }
+    requires first { (first % 64 ≡ 0) × (first < marked_planes.old.planes.stride
+        * marked_planes.old.planes.rows) }
+    requires passed { (u : ℕ) → u / 64 ≡ first / 64 → bit word (u % 64) ≡ false →
+        ArePassed u (u + 1) marked_planes.old.line_marks.items marked_planes.old.planes }
     ensures shows { Shows job.now values.now time marked_planes.new.planes }
     ensures lines { marked_planes.new.line_marks ≡ marked_planes.old.line_marks }
-    ensures halo { HasHaloFrom job.now values.now time first end marked_planes.new.planes }
-    ensures edges { result ≡ true → HasEdgesFrom job.now values.now time first end }
+    ensures halo { HasHaloFrom job.now values.now time first (first + 64)
+        marked_planes.new.planes }
+    ensures edges { result ≡ true → HasEdgesFrom job.now values.now time first (first + 64) }
     ensures rest { SameBefore job.now marked_planes.old.planes marked_planes.new.planes first }
 {
+    let cells = marked_planes.planes().cells();
     let mut is_right = true;
-    let mut rest = marked_planes.border_word(first / 64);
+    let mut rest = word;
     'border: while rest != 0 {
         let (place, others) = take_first(rest);
         let u = first + place;
-        if u >= end {
+        if u >= cells {
             return is_right;
         }
         rest = others;
@@ -227,11 +232,12 @@ pub fn set_border(marked_planes: &mut MarkedPlanes, values: &Values, job: &Job, 
     let _area = job.area();
     let cells = marked_planes.planes().cells();
     let mut is_right = true;
-    let mut at = marked_planes.next_border_word(0);
-    'words: while at < cells {
-        let end = (at + 64).min(cells);
-        is_right &= set_border_word(marked_planes, values, job, time, at, end);
-        at = marked_planes.next_border_word(end);
+    'words: for k in 0..cells.div_ceil(64) {
+        let word = marked_planes.border_word(k);
+        if word == 0 {
+            continue;
+        }
+        is_right &= set_border_word(marked_planes, values, job, time, 64 * k, word);
     }
     is_right
 }

@@ -1,6 +1,6 @@
 //! The turns of single blocks, by their marks.
 
-ghost use Rattle.std.specs.Prelude.{◌≡◌, ◌≢◌, ◌+◌, ◌*◌, ◌/◌, ◌%◌, ◌<◌, true, false};
+ghost use Rattle.std.specs.Prelude.{◌≡◌, ◌≢◌, ◌+◌, ◌*◌, ◌/◌, ◌%◌, ◌<◌, ◌≤◌, true, false};
 
 use crate::marked_planes::MarkedPlanes;
 use crate::marks::{is_marked, mark_around, mark_corners};
@@ -18,34 +18,29 @@ impl MarkedPlanes {
     ghost use Rattle.local_run.specs.Turns.{TurnsPart};
     ghost use Rattle.local_run.specs.Lanes.{HasSize};
 
-    // Counts a block, that may have two live cells or has fewer. Where most have two, it costs less to read their words
-    // at once.
-    fn count_block(&mut self, is_full: bool)
-        ensures planes { self.new.planes ≡ self.old.planes }
-        ensures odd { self.new.odd_marks ≡ self.old.odd_marks }
-        ensures even { self.new.even_marks ≡ self.old.even_marks }
-        ensures live { self.new.live_marks ≡ self.old.live_marks }
+    // Counts a block that may have two live cells, and three times if it was turned: all that are turned in a step are
+    // taken off twice at its end.
+    fn count_full(&mut self, is_turned: bool)
+        ensures { self.new.planes ≡ self.old.planes }
     {
-        if !is_full {
-            self.crowd = self.crowd.saturating_sub(1);
-        } else if self.crowd < CROWD {
-            self.crowd += 1;
-        } else {
+        self.crowd = self.crowd.saturating_add(1);
+        if is_turned {
+            self.crowd = self.crowd.saturating_add(2);
+        }
+    }
+
+    /// Counts the blocks that a step turned: each with one live cell, and the dead one that this cell left in the step
+    /// before. If most blocks have two live cells, it costs less to read their words at once.
+    pub(crate) fn count_lone(&mut self, turned: usize)
+        requires { turned ≤ 4096 }
+        ensures { self.new.planes ≡ self.old.planes }
+    {
+        self.crowd = self.crowd.saturating_sub(2 * turned as u32);
+        if self.crowd > CROWD {
             self.crowd = 0;
             self.busy = BUSY;
             self.is_exact = false;
         }
-    }
-
-    // Counts a block with one live cell, and the dead one that this cell left in the step before. Steps pass over dead
-    // blocks.
-    fn count_lone(&mut self)
-        ensures planes { self.new.planes ≡ self.old.planes }
-        ensures odd { self.new.odd_marks ≡ self.old.odd_marks }
-        ensures even { self.new.even_marks ≡ self.old.even_marks }
-        ensures live { self.new.live_marks ≡ self.old.live_marks }
-    {
-        self.crowd = self.crowd.saturating_sub(2);
     }
 
     // Turns block u of the odd partition, of which no cell is live but one of its main diagonal: they change places.
@@ -159,9 +154,23 @@ impl MarkedPlanes {
         true
     }
 
-    // Turns block u of the odd partition, unless it stays, and tells whether it turned it. Its words are read only if
-    // two of its cells may be live.
-    fn turn_odd_by_marks(&mut self, u: usize) -> bool
+    // Takes the marks off the dead cells of block u of the odd partition after its words were read, and counts it.
+    fn finish_odd(&mut self, u: usize, is_turned: bool)
+        requires { u < self.old.planes.stride * self.old.planes.rows }
+        ensures { self.new.planes ≡ self.old.planes }
+    {
+        if self.busy == 0 {
+            self.drop_dead(u, u, u, u);
+            self.count_full(is_turned);
+        } else if !is_turned && !self.planes.is_live_at_first(u) {
+            self.drop_dead(u, u, u, u);
+        }
+    }
+
+    /// Turns block u of the odd partition, unless it stays, and returns whether it turned it.
+    ///
+    /// Its words are read only if two of its cells may be live.
+    pub(crate) fn turn_odd(&mut self, u: usize) -> bool
         requires { u < self.old.planes.stride * self.old.planes.rows }
         ensures part { let at = self.old.planes.words * u in TurnsPart at at at at
             self.old.planes.words self.old.planes.odd.items self.old.planes.right.items
@@ -174,39 +183,15 @@ impl MarkedPlanes {
         if self.is_exact && self.live_marks.is_lone_main(u, u, u, u) {
             self.move_odd_main(u);
             self.leave_main(u);
-            self.count_lone();
             return true;
         }
         if self.is_exact && self.live_marks.is_lone_anti(u, u, u, u) {
             self.move_odd_anti(u);
             self.leave_anti(u);
-            self.count_lone();
             return true;
         }
         let is_turned = self.turn_odd_words(u);
-        self.drop_dead(u, u, u, u);
-        self.count_block(true);
-        is_turned
-    }
-
-    /// Turns block u of the odd partition, unless it stays, and returns whether it turned it.
-    pub(crate) fn turn_odd(&mut self, u: usize) -> bool
-        requires { u < self.old.planes.stride * self.old.planes.rows }
-        ensures part { let at = self.old.planes.words * u in TurnsPart at at at at
-            self.old.planes.words self.old.planes.odd.items self.old.planes.right.items
-            self.old.planes.down.items self.old.planes.even.items self.new.planes.odd.items
-            self.new.planes.right.items self.new.planes.down.items self.new.planes.even.items }
-        ensures size { HasSize self.old.planes.words self.old.planes.stride self.old.planes.rows
-            self.new.planes }
-        ensures stays { result ≡ false → self.new.planes ≡ self.old.planes }
-    {
-        if self.busy == 0 {
-            return self.turn_odd_by_marks(u);
-        }
-        let is_turned = self.turn_odd_words(u);
-        if !is_turned && !self.planes.is_live_at_first(u) {
-            self.drop_dead(u, u, u, u);
-        }
+        self.finish_odd(u, is_turned);
         is_turned
     }
 
@@ -305,17 +290,17 @@ impl MarkedPlanes {
                 return false;
             }
             self.move_even_main(u);
-            self.count_lone();
             return true;
         }
         if self.is_exact && self.live_marks.is_lone_anti(odd, right, down, u) {
             self.move_even_anti(u);
-            self.count_lone();
             return true;
         }
         let is_turned = self.turn_even_words(u);
-        self.drop_dead(odd, right, down, u);
-        self.count_block(true);
+        if self.busy == 0 {
+            self.drop_dead(odd, right, down, u);
+            self.count_full(is_turned);
+        }
         is_turned
     }
 
@@ -362,9 +347,6 @@ impl MarkedPlanes {
         if self.is_last(u) {
             unmark(&mut self.even_marks, u);
             return false;
-        }
-        if self.busy > 0 {
-            return self.turn_even_words(u);
         }
         self.turn_even_by_marks(u)
     }

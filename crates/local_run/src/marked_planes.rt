@@ -16,7 +16,7 @@ use crate::frozen::FrozenBlocks;
 use crate::lines::{CELL_WORDS, LinePlaces, line_number, mark_lines};
 use crate::live::LiveMarks;
 use crate::marked_steps::STEPS_TO_SEARCH;
-use crate::marks::{is_marked, mark_around, mark_border, next_word_in, word_marked_in};
+use crate::marks::{is_marked, mark_around, mark_border, word_marked_in};
 use crate::phases::WholePlaneSteps;
 use crate::planes::Planes;
 use crate::values::Values;
@@ -145,27 +145,6 @@ impl MarkedPlanes {
         if self.busy == 0 {
             self.drop_all();
         }
-    }
-
-    /// Returns the first number of a word with cells of ring and halo that must be looked at, from `from` on.
-    ///
-    /// If there is no such word, it returns how many numbers there are. A cell must be looked at if it may be live, or
-    /// if a line says something of it at the time that was looked at.
-    pub fn next_border_word(&self, from: usize) -> usize
-        requires within { from ≤ self.now.planes.stride * self.now.planes.rows }
-        requires word { from < self.now.planes.stride * self.now.planes.rows → from % 64 ≡ 0 }
-        ensures range { (from ≤ result) × (result ≤ self.now.planes.stride * self.now.planes.rows) }
-        ensures word { result < self.now.planes.stride * self.now.planes.rows → result % 64 ≡ 0 }
-        ensures passed { ArePassed from result self.now.line_marks.items self.now.planes }
-    {
-        let cells = self.planes.cells();
-        next_word_in(
-            &self.border_marks,
-            &self.live_marks,
-            &self.line_marks,
-            from,
-            cells,
-        )
     }
 
     /// Returns a word of marks on the numbers whose cells of ring and halo must be looked at.

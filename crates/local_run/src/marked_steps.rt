@@ -5,15 +5,18 @@ ghost use Rattle.bbm_rule.specs.Rows.{mate};
 ghost use Rattle.std.specs.Prelude.{ℕ, ◌≡◌, ◌+◌, ◌*◌, ◌/◌, ◌%◌, ◌<◌, ◌≤◌, true, false};
 
 use crate::marked_planes::MarkedPlanes;
-use crate::marks::{next_live_word, next_word, take_first};
+use crate::marks::take_first;
 use crate::phases::{WholePlaneSteps, are_many};
 
 /// In how many steps many blocks must change before those that no step changes are looked for: a search costs as much
 /// as some of these steps. And how often they are looked for again after they were given up.
 pub(crate) const STEPS_TO_SEARCH: u32 = 128;
 
+// So many blocks are few for `are_many`, in boxes of 16 by 16 cells or more. In smaller ones all steps cost little.
+const ALWAYS_FEW: usize = 4;
+
 impl MarkedPlanes {
-    ghost use Rattle.local_run.specs.Sweeps.{TurnsEven, TurnsOdd};
+    ghost use Rattle.local_run.specs.Sweeps.{IsPast, IsPastInside, TurnsEven, TurnsEvenNamed, TurnsOdd, TurnsOddNamed};
     ghost use Rattle.local_run.specs.Lanes.{HasSize, SameInside, lane};
 
     // Looks whether the next steps are to turn whole planes, after a step by marks in which so many blocks changed.
@@ -23,12 +26,15 @@ impl MarkedPlanes {
         requires { changed ≤ 4096 }
         ensures { self.new.planes ≡ self.old.planes }
     {
-        if are_many(
-            changed,
-            self.planes.cells() / 4,
-            self.planes.words(),
-            self.planes.columns_and_rows() / 4,
-        ) {
+        self.count_lone(changed);
+        if changed > ALWAYS_FEW
+            && are_many(
+                changed,
+                self.planes.cells() / 4,
+                self.planes.words(),
+                self.planes.columns_and_rows() / 4,
+            )
+        {
             self.begin_phase(changed);
         } else {
             self.whole_plane_steps = WholePlaneSteps::NONE;
@@ -71,20 +77,33 @@ impl MarkedPlanes {
         self.frozen.find(&self.planes);
     }
 
-    // Turns the blocks of the odd partition from `first` on to below `end`, whose marks are in one word, and returns
-    // how many it turned.
+    // Returns a word of marks on the blocks of the odd partition that may change.
+    #[inline(always)]
+    fn odd_word(&self, k: usize) -> u64
+        requires { 64 * k < self.now.planes.stride * self.now.planes.rows }
+        ensures calm { (end : ℕ) → end ≤ 64 * k + 64 →
+            end ≤ self.now.planes.stride * self.now.planes.rows →
+            TurnsOddNamed (IsPast (64 * k) end result) self.now.planes self.now.planes }
+    {
+        self.odd_marks[k] & self.live_marks.word(k)
+    }
+
+    // Turns the blocks of the odd partition from `first` on to below `end` that have a mark in a word, where the others
+    // stay, and returns how many it turned.
     //
-    // The word is read once: the turn of a block changes marks of its partition and live marks at its own number alone.
-    fn turn_odd_word(&mut self, first: usize, end: usize) -> usize
+    // The word was read before: the turn of a block changes marks of its partition and live marks at its own number
+    // alone.
+    fn turn_odd_word(&mut self, word: u64, first: usize, end: usize) -> usize
         requires word { (first % 64 ≡ 0) × (first < end) × (end ≤ first + 64) }
         requires within { end ≤ self.old.planes.stride * self.old.planes.rows }
+        requires calm { TurnsOddNamed (IsPast first end word) self.old.planes self.old.planes }
         ensures turned { TurnsOdd first end self.old.planes self.new.planes }
         ensures size { HasSize self.old.planes.words self.old.planes.stride self.old.planes.rows
             self.new.planes }
         ensures stays { result ≡ 0 → self.new.planes ≡ self.old.planes }
         ensures count { first + result ≤ end }
     {
-        let mut rest = self.odd_marks[first / 64] & self.live_marks.word(first / 64);
+        let mut rest = word;
         let mut changed = 0;
         'marked: while rest != 0 {
             let (place, others) = take_first(rest);
@@ -100,43 +119,34 @@ impl MarkedPlanes {
         changed
     }
 
-    // Returns the first number, from `from` on, of a word with a block of the odd partition that may change, or `end`
-    // if there is none below it.
-    fn next_odd_word(&self, from: usize, end: usize) -> usize
-        requires within { (from ≤ end) × (end ≤ self.now.planes.stride * self.now.planes.rows) }
-        requires word { from < end → from % 64 ≡ 0 }
-        ensures range { (from ≤ result) × (result ≤ end) }
-        ensures word { result < end → result % 64 ≡ 0 }
-        ensures calm { TurnsOdd from result self.now.planes self.now.planes }
+    // Returns a word of marks on the blocks of the even partition that may change.
+    #[inline(always)]
+    fn even_word(&self, k: usize) -> u64
+        requires { 64 * k + self.now.planes.stride + 1 < self.now.planes.stride
+            * self.now.planes.rows }
+        ensures calm { (end : ℕ) → end ≤ 64 * k + 64 →
+            end + self.now.planes.stride + 1 ≤ self.now.planes.stride * self.now.planes.rows →
+            TurnsEvenNamed (IsPastInside self.now.planes.stride (64 * k) end result)
+            self.now.planes self.now.planes }
     {
-        next_live_word(&self.odd_marks, &self.live_marks, from, end)
+        self.even_marks[k]
     }
 
-    // The same of the even partition.
-    fn next_even_word(&self, from: usize, end: usize) -> usize
-        requires within { (from ≤ end) × (end + self.now.planes.stride + 1 ≤ self.now.planes.stride
-            * self.now.planes.rows) }
-        requires word { from < end → from % 64 ≡ 0 }
-        ensures range { (from ≤ result) × (result ≤ end) }
-        ensures word { result < end → result % 64 ≡ 0 }
-        ensures calm { TurnsEven from result self.now.planes self.now.planes }
-    {
-        next_word(&self.even_marks, from, end)
-    }
-
-    // Turns the blocks of the even partition from `first` on to below `end`, whose marks are in one word, and returns
-    // how many it turned.
-    fn turn_even_word(&mut self, first: usize, end: usize) -> usize
+    // Turns the blocks of the even partition from `first` on to below `end` that have a mark in a word, where the
+    // others stay, and returns how many it turned.
+    fn turn_even_word(&mut self, word: u64, first: usize, end: usize) -> usize
         requires word { (first % 64 ≡ 0) × (first < end) × (end ≤ first + 64) }
         requires within { end + self.old.planes.stride + 1 ≤ self.old.planes.stride
             * self.old.planes.rows }
+        requires calm { TurnsEvenNamed (IsPastInside self.old.planes.stride first end word)
+            self.old.planes self.old.planes }
         ensures turned { TurnsEven first end self.old.planes self.new.planes }
         ensures size { HasSize self.old.planes.words self.old.planes.stride self.old.planes.rows
             self.new.planes }
         ensures stays { result ≡ 0 → self.new.planes ≡ self.old.planes }
         ensures count { first + result ≤ end }
     {
-        let mut rest = self.even_marks[first / 64];
+        let mut rest = word;
         let mut changed = 0;
         'marked: while rest != 0 {
             let (place, others) = take_first(rest);
@@ -175,14 +185,16 @@ impl MarkedPlanes {
         }
         let cells = self.planes.cells();
         let mut changed = 0;
-        let mut at = self.next_odd_word(0, cells);
-        'words: while at < cells {
-            let end = (at + 64).min(cells);
-            changed += self.turn_odd_word(at, end);
-            at = self.next_odd_word(end, cells);
+        'words: for k in 0..cells.div_ceil(64) {
+            let word = self.odd_word(k);
+            if word == 0 {
+                continue;
+            }
+            let end = (64 * k + 64).min(cells);
+            changed += self.turn_odd_word(word, 64 * k, end);
         }
         // Where nothing was known all blocks had marks, and these fill box and halo.
-        self.is_exact = true;
+        self.is_exact = self.busy == 0;
         self.finish_step(changed);
         changed > 0
     }
@@ -213,11 +225,13 @@ impl MarkedPlanes {
         }
         let cells = self.planes.cells() - self.planes.stride() - 1;
         let mut changed = 0;
-        let mut at = self.next_even_word(0, cells);
-        'words: while at < cells {
-            let end = (at + 64).min(cells);
-            changed += self.turn_even_word(at, end);
-            at = self.next_even_word(end, cells);
+        'words: for k in 0..cells.div_ceil(64) {
+            let word = self.even_word(k);
+            if word == 0 {
+                continue;
+            }
+            let end = (64 * k + 64).min(cells);
+            changed += self.turn_even_word(word, 64 * k, end);
         }
         self.finish_step(changed);
         changed > 0

@@ -1,4 +1,4 @@
-use Rattle.std.proofs.Common.{◌≡◌, ℕ, ◌<◌, ◌≤◌, ◌+◌, ◌-◌, ◌%◌, true}
+use Rattle.std.proofs.Common.{◌≡◌, ℕ, ◌<◌, ◌+◌, ◌*◌, true}
 use Rattle.local_run.specs.Quiet.{number_at}
 use Rattle.local_run.specs.Scans.{Shows, HasEdgeAt, HasHaloAt}
 use Rattle.local_run.proofs.border.set_border.Given as goal
@@ -6,15 +6,10 @@ use Rattle.local_run.proofs.border.set_border.Given as goal
 -- the cells of the numbers so far
 abbrev pub invariant-words : goal.invariant-words
 invariant-words l = record {
-  within : l.at ≤ l.cells;
-  aligned : l.at < l.cells → l.at % 64 ≡ 0;
   shows : Shows l.job l.values l.time l.marked_planes.planes;
   lines : l.marked_planes.line_marks ≡ l.fn.marked_planes.line_marks;
-  halo : (x y : ℕ) → x < l.job.area.w + 2 → y < l.job.area.h + 2 → number_at l.job.area x y < l.at →
+  halo : (x y : ℕ) → x < l.job.area.w + 2 → y < l.job.area.h + 2 → number_at l.job.area x y < 64 * l.k →
       HasHaloAt l.job l.values l.time l.marked_planes.planes x y;
   right : l.is_right ≡ true → (x y : ℕ) → x < l.job.area.w + 2 → y < l.job.area.h + 2 →
-      number_at l.job.area x y < l.at → HasEdgeAt l.job l.values l.time x y;
+      number_at l.job.area x y < 64 * l.k → HasEdgeAt l.job l.values l.time x y;
 }
-
-abbrev pub decreases-words : goal.decreases-words
-decreases-words l = l.cells - l.at

@@ -2,7 +2,7 @@ use Rattle.std.proofs.Common.{◌≡◌, ℕ, ◌<◌, ◌+◌, ◌-◌, true, w
 use Rattle.std.specs.Int.{trailing_zeros}
 use Rattle.local_run.specs.Quiet.{number_at}
 use Rattle.local_run.specs.Scans.{HasEdgeAt, HasHaloAt, SameBefore, Shows}
-use Rattle.local_run.proofs.FieldLemmas.{IsPast}
+use Rattle.local_run.specs.Sweeps.{IsPast}
 use Rattle.local_run.proofs.border.set_border_word.Given as goal
 
 -- the cells of the numbers whose marks are not among the rest
@@ -11,10 +11,10 @@ invariant-border l = record {
   shows : Shows l.job l.values l.time l.marked_planes.planes;
   lines : l.marked_planes.line_marks ≡ l.fn.marked_planes.line_marks;
   halo : (x y : ℕ) → x < l.job.area.w + 2 → y < l.job.area.h + 2 →
-      IsPast l.first l.end l.rest (number_at l.job.area x y) →
+      IsPast l.first (l.first + 64) l.rest (number_at l.job.area x y) →
       HasHaloAt l.job l.values l.time l.marked_planes.planes x y;
   right : l.is_right ≡ true → (x y : ℕ) → x < l.job.area.w + 2 → y < l.job.area.h + 2 →
-      IsPast l.first l.end l.rest (number_at l.job.area x y) → HasEdgeAt l.job l.values l.time x y;
+      IsPast l.first (l.first + 64) l.rest (number_at l.job.area x y) → HasEdgeAt l.job l.values l.time x y;
   same : SameBefore l.job l.fn.marked_planes.planes l.marked_planes.planes l.first;
 }
 

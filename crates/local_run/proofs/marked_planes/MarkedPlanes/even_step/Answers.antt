@@ -1,57 +1,62 @@
-use Rattle.std.proofs.Common.{◌≡◌, ◌+◌, List, ℕ, length, ap, subst, false, ltb, refl, arith, sym, ◌∙◌}
-use Rattle.local_run.proofs.FieldLemmas.{even_all, even_join}
+use Rattle.std.proofs.Common.{◌≡◌, ◌+◌, ◌-◌, ◌*◌, inl, inr, List, ℕ, length, ap, ap₂, subst, arith, sym, ◌∙◌}
+use Rattle.local_run.proofs.FieldLemmas.{even_all, even_below_all, even_more, even_more_none, none_more}
 use Rattle.std.proofs.lemmas.List.{with_items_is}
+use Rattle.bbm_rule.proofs.BitLemmas.{by_lt_or_le}
 use Rattle.local_run.specs.Calm.{EvenCalm, OddCalm}
-use Rattle.local_run.specs.Lanes.{HasSize, lane}
+use Rattle.local_run.specs.Lanes.{lane}
 use Rattle.local_run.specs.declared.planes.Planes.{Planes}
 use Rattle.local_run.proofs.marked_planes.MarkedPlanes.even_step.Goals as goal
 
-pub words-init : goal.words-init
-words-init c =
-    let next = c.next_even_word-at.ensures in
-    record {
-      size = (refl, refl, refl);
-      stays = λ e. refl;
-      within = (omega arith, next.range.1);
-      aligned = next.word;
-      turned = next.calm;
-    }
+pub turn_even_word-changed-requires-clause-calm : goal.turn_even_word-changed-requires-clause-calm
+turn_even_word-changed-requires-clause-calm c =
+    let m = c.words.invariant in
+    let long = ap₂ (λ s r. s * r) m.size.1 m.size.2 in
+    c.even_word-word.ensures.calm c.min-end.result (omega arith) (omega (arith, long, m.size.1))
 
 pub words-preserved : goal.words-preserved
 words-preserved c =
     let m = c.words.invariant in
     let t = c.turn_even_word-changed.ensures in
-    let next = c.next_even_word-at-in-words.ensures in
     let none : c.words.changed + c.turn_even_word-changed.result ≡ 0 →
     (c.words.changed ≡ 0) × (c.turn_even_word-changed.result ≡ 0) = λ e. (omega (arith, e), omega (arith, e)) in
-    let size : HasSize c.args.self.now.planes.words c.args.self.now.planes.stride c.args.self.now.planes.rows
-    c.turn_even_word-changed.new.self.planes = (t.size.0 ∙ m.size.0, t.size.1 ∙ m.size.1, t.size.2 ∙ m.size.2) in
     record {
-      size = size;
+      size = (t.size.0 ∙ m.size.0, t.size.1 ∙ m.size.1, t.size.2 ∙ m.size.2);
       stays = λ e. t.stays (none e).1 ∙ m.stays (none e).0;
-      within = (omega arith, omega arith);
-      aligned = next.word;
-      turned = even_join c.args.self.now.planes c.turn_even_word-changed.new.self.planes
-          c.turn_even_word-changed.new.self.planes c.min-end.result c.next_even_word-at-in-words.result size
-          next.range.0
-          (even_join c.args.self.now.planes c.words.self.planes c.turn_even_word-changed.new.self.planes c.words.at
-          c.min-end.result m.size (omega arith) m.turned t.turned) next.calm;
+      count = (omega arith, omega arith);
+      turned = even_more c.args.self.now.planes c.words.self.planes c.turn_even_word-changed.new.self.planes c.words.k
+          c.min-end.result (c.cells.result - c.stride.result - 1) m.size (omega arith) (omega arith) (omega arith)
+          (by_lt_or_le (64 * c.words.k + 64) (c.cells.result - c.stride.result - 1) (λ l. inl (omega arith))
+          (λ l. inr (omega arith))) m.turned t.turned;
+    }
+
+pub words-preserved-then-word-eq0 : goal.words-preserved-then-word-eq0
+words-preserved-then-word-eq0 c =
+    let m = c.words.invariant in
+    let long = ap₂ (λ s r. s * r) m.size.1 m.size.2 in
+    record {
+      size = m.size;
+      stays = m.stays;
+      count = (omega arith, omega arith);
+      turned = even_more_none c.args.self.now.planes c.words.self.planes c.words.k
+          (c.cells.result - c.stride.result - 1) c.even_word-word.result
+          m.size (omega arith) c.if-word-eq0.true
+          (λ end short within. c.even_word-word.ensures.calm end short (omega (arith, within, long, m.size.1)))
+          m.turned;
     }
 
 pub returns-clause-turned : goal.returns-clause-turned
 returns-clause-turned c =
     let m = c.words.invariant in
     let same : c.finish_step.new.self.planes ≡ c.words.self.planes = c.finish_step.ensures in
-    even_all c.args.self.now.planes c.finish_step.new.self.planes c.words.at (rw same m.size) (omega arith)
-    (rw same m.turned)
+    even_all c.args.self.now.planes c.finish_step.new.self.planes (c.cells.result - c.stride.result - 1)
+    (rw same m.size) (omega arith)
+    (rw same (even_below_all c.args.self.now.planes c.words.self.planes (64 * c.words.k)
+    (c.cells.result - c.stride.result - 1) (omega arith) m.turned))
 
 pub returns-clause-stays : goal.returns-clause-stays
 returns-clause-stays c e a x y la lx ly =
     ap (λ (p : Planes). lane p a (1 + x) (1 + y))
     (c.finish_step.ensures ∙ c.words.invariant.stays (none_more c.words.changed e))
-  where
-    none_more : (n : ℕ) → ltb 0 n ≡ false → n ≡ 0
-    none_more n e = grind arith
 
 pub invariant_of-self-clause-odd_calm : goal.invariant_of-self-clause-odd_calm
 invariant_of-self-clause-odd_calm c =

@@ -1,6 +1,6 @@
-use Rattle.std.proofs.Common.{◌≡◌, ◌-◌, ◌<◌, ◌≤◌, ◌%◌}
+use Rattle.std.proofs.Common.{◌≡◌, ◌*◌, ◌≤◌}
 use Rattle.local_run.specs.Lanes.{HasSize}
-use Rattle.local_run.specs.Sweeps.{TurnsOdd}
+use Rattle.local_run.proofs.FieldLemmas.{TurnsOddBelow}
 use Rattle.local_run.proofs.marked_planes.MarkedPlanes.odd_step.Given as goal
 
 -- the blocks so far are turned
@@ -8,10 +8,6 @@ abbrev pub invariant-words : goal.invariant-words
 invariant-words l = record {
   size : HasSize l.fn.self.planes.words l.fn.self.planes.stride l.fn.self.planes.rows l.self.planes;
   stays : l.changed ≡ 0 → l.self.planes ≡ l.fn.self.planes;
-  within : (l.changed ≤ l.at) × (l.at ≤ l.cells);
-  aligned : l.at < l.cells → l.at % 64 ≡ 0;
-  turned : TurnsOdd 0 l.at l.fn.self.planes l.self.planes;
+  count : (l.changed ≤ 64 * l.k) × (l.changed ≤ l.cells);
+  turned : TurnsOddBelow (64 * l.k) l.cells l.fn.self.planes l.self.planes;
 }
-
-abbrev pub decreases-words : goal.decreases-words
-decreases-words l = l.cells - l.at

@@ -1,29 +1,16 @@
-use Rattle.std.proofs.Common.{◌≡◌, ◌≢◌, ◌≤◌, ◌<◌, ◌+◌, ◌/◌, ◌%◌, false, refl, arith, ◌∙◌, subst, get_or}
-use Rattle.std.proofs.lemmas.List.{get_or_read}
-use Rattle.bbm_rule.specs.Bits.{bit}
-use Rattle.local_run.proofs.FieldLemmas.{IsPastInside, even_none, even_past, even_renamed, one_past}
+use Rattle.std.proofs.Common.{◌≢◌, ◌≤◌, ◌<◌, ◌+◌, ◌%◌, refl, arith, ◌∙◌}
+use Rattle.local_run.proofs.FieldLemmas.{even_past, even_renamed, one_past}
+use Rattle.local_run.specs.Sweeps.{IsPastInside}
 use Rattle.local_run.proofs.FieldLemmas.{past_all, past_before}
-use Rattle.local_run.proofs.MarkSearch.{lacks_own}
 use Rattle.local_run.proofs.marked_planes.MarkedPlanes.turn_even_word.Goals as goal
 
 pub marked-init : goal.marked-init
-marked-init c =
-    let f = c.args.self.now in
-    let own : c.index-rest.result.now ≡ get_or f.even_marks.items (c.args.first / 64) 0 =
-    get_or_read f.even_marks.items _ _ (omega (arith, f.even_marks.ok.0)) c.index-rest.ensures 0 in
-    record {
-      size = (refl, refl, refl);
-      stays = λ e. refl;
-      count = (omega arith, omega arith);
-      turned = even_none f.planes f.even_marks.items
-          (IsPastInside f.planes.stride c.args.first c.args.end c.index-rest.result.now) f.even_calm
-          (λ n is. (
-            omega (arith, is.0.1),
-            is.1,
-            lacks_own f.even_marks.items (c.args.first / 64) n (omega (arith, is.0.0, is.0.1))
-                (subst (λ m. bit m (n % 64) ≡ false) own is.0.2),
-          ));
-    }
+marked-init c = record {
+  size = (refl, refl, refl);
+  stays = λ e. refl;
+  count = (omega arith, omega arith);
+  turned = c.requires.calm;
+}
 
 pub returns-then-u-end-clause-turned : goal.returns-then-u-end-clause-turned
 returns-then-u-end-clause-turned c =

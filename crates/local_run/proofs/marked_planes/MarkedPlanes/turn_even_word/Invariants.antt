@@ -1,8 +1,7 @@
 use Rattle.std.proofs.Common.{◌≡◌, ◌+◌, ◌-◌, ◌≤◌, w64}
 use Rattle.std.specs.Int.{trailing_zeros}
 use Rattle.local_run.specs.Lanes.{HasSize}
-use Rattle.local_run.specs.Sweeps.{TurnsEvenNamed}
-use Rattle.local_run.proofs.FieldLemmas.{IsPastInside}
+use Rattle.local_run.specs.Sweeps.{IsPastInside, TurnsEvenNamed}
 use Rattle.local_run.proofs.marked_planes.MarkedPlanes.turn_even_word.Given as goal
 
 -- the blocks are turned whose marks are not among the rest

@@ -1,28 +1,15 @@
-use Rattle.std.proofs.Common.{◌≡◌, ◌≤◌, ◌<◌, ◌+◌, ◌/◌, ◌%◌, false, refl, arith, ◌∙◌, subst, get_or, bit_and}
-use Rattle.std.proofs.lemmas.List.{get_or_read}
-use Rattle.bbm_rule.specs.Bits.{bit}
-use Rattle.local_run.proofs.FieldLemmas.{IsPast, odd_next, odd_none, odd_renamed, one_past, past_all, past_before}
-use Rattle.local_run.proofs.MarkSearch.{lacks_live}
+use Rattle.std.proofs.Common.{◌≤◌, ◌<◌, ◌+◌, refl, arith, ◌∙◌}
+use Rattle.local_run.proofs.FieldLemmas.{odd_next, odd_renamed, one_past, past_all, past_before}
+use Rattle.local_run.specs.Sweeps.{IsPast}
 use Rattle.local_run.proofs.marked_planes.MarkedPlanes.turn_odd_word.Goals as goal
 
 pub marked-init : goal.marked-init
-marked-init c =
-    let f = c.args.self.now in
-    let own : c.index.result.now ≡ get_or f.odd_marks.items (c.args.first / 64) 0 =
-    get_or_read f.odd_marks.items _ _ (omega (arith, f.odd_marks.ok.0)) c.index.ensures 0 in
-    record {
-      size = (refl, refl, refl);
-      stays = λ e. refl;
-      count = (omega arith, omega arith);
-      turned = odd_none f.planes f.odd_marks.items f.live_marks
-          (IsPast c.args.first c.args.end (bit_and c.index.result.now c.word.result)) f.odd_calm f.all_dead
-          (λ n is. (
-            omega (arith, is.1),
-            lacks_live f.odd_marks.items f.live_marks c.word.result (c.args.first / 64) n c.word.ensures
-                (omega (arith, is.0, is.1))
-                (subst (λ m. bit (bit_and m c.word.result) (n % 64) ≡ false) own is.2),
-          ));
-    }
+marked-init c = record {
+  size = (refl, refl, refl);
+  stays = λ e. refl;
+  count = (omega arith, omega arith);
+  turned = c.requires.calm;
+}
 
 pub returns-then-u-end-clause-turned : goal.returns-then-u-end-clause-turned
 returns-then-u-end-clause-turned c =

@@ -1,8 +1,7 @@
 use Rattle.std.proofs.Common.{◌≡◌, ◌+◌, ◌-◌, ◌≤◌, w64}
 use Rattle.std.specs.Int.{trailing_zeros}
 use Rattle.local_run.specs.Lanes.{HasSize}
-use Rattle.local_run.specs.Sweeps.{TurnsOddNamed}
-use Rattle.local_run.proofs.FieldLemmas.{IsPast}
+use Rattle.local_run.specs.Sweeps.{IsPast, TurnsOddNamed}
 use Rattle.local_run.proofs.marked_planes.MarkedPlanes.turn_odd_word.Given as goal
 
 -- the blocks are turned whose marks are not among the rest
