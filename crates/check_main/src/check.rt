@@ -86,6 +86,8 @@ fn verdict_from(
     requires audit { IsAuditOf cert.now state.now }
     ensures { IfOk result (IsVerdictOn cert.now) }
 {
+    // What is known of the modules.
+    let _count = cert.modules();
     conclude_full(alloc, cert, borders, state)
 }
 
