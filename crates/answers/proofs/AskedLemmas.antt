@@ -1,10 +1,10 @@
 -- The result of reading a text of two sections.
 use Rattle.std.proofs.Common.{◌≡◌, ℕ, ◌+◌, List, [], drop, None, Result, Ok, Err, sym, ap, subst, ◌∙◌}
 use Rattle.std.specs.Prelude.{◌≢◌}
-use Rattle.section_text.specs.Words.{lines_of, rest_of}
+use Rattle.section_text.specs.Words.{lines_of, bytes_after_lines}
 use Rattle.section_text.specs.Feeds.{FeedView, ahead}
-use Rattle.section_text.specs.Section.{Grammar, Reads, Fails}
-use Rattle.section_text.specs.Sections.{section_then, finished}
+use Rattle.section_text.specs.Section.{Grammar, Reads, FailsAsReading}
+use Rattle.section_text.specs.Sections.{section_then, value_at_end}
 use Rattle.section_text.specs.Faults.{refusal}
 use Rattle.section_text.specs.declared.fault.Refusal.{Refusal}
 use Rattle.section_text.specs.declared.fault.ReadFault.{ReadFault}
@@ -12,7 +12,7 @@ use Rattle.section_text.specs.declared.fault.ReadFault.TheVariants.{Refused, Mem
 use Rattle.section_text.proofs.Joined.{section_read, section_failed, same_text, still_going, fails_along, at_the_end}
 use Rattle.section_text.proofs.Joined.{more_fails}
 use Rattle.pattern.specs.Assign.{assign_grammar}
-use Rattle.answers.specs.Answers.{names_read, names_asked, with_value}
+use Rattle.answers.specs.Answers.{names_on_of, with_names_on, with_value}
 use Rattle.section_text.specs.declared.code.RefusalCode.TheVariants.{TextCut}
 
 -- ---- the names that are on, and the end
@@ -20,41 +20,43 @@ use Rattle.section_text.specs.declared.code.RefusalCode.TheVariants.{TextCut}
 module _ {A : Type 0} (view : A → Unit {0} × List (List ℕ)) (names : List (List ℕ)) (old mid : FeedView)
     (going : old.stop ≡ None) where
   last : List ℕ → Unit {0} → List (List ℕ) → ℕ → List (List ℕ) → Result (List (List ℕ)) Refusal
-  last text _ on m rest = finished m rest (rest_of text) on
+  last text _ on m rest = value_at_end m rest (bytes_after_lines text) on
 
   pub names_failed : (fault : ReadFault) → Reads (assign_grammar names) view old mid (Err fault) →
-      Fails fault (names_read old.text names old.taken (ahead old))
+      FailsAsReading fault (names_on_of old.text names old.taken (ahead old))
   unfolding last
   names_failed fault reads = section_failed (assign_grammar names) view old mid going (last old.text) fault reads
 
   read_on : (a : A) → Reads (assign_grammar names) view old mid (Ok a) →
-      names_read old.text names old.taken (ahead old) ≡ finished mid.taken (ahead mid) (rest_of mid.text) (view a).1
+      names_on_of old.text names old.taken (ahead old)
+      ≡ value_at_end mid.taken (ahead mid) (bytes_after_lines mid.text) (view a).1
   unfolding last
   read_on a reads =
       section_read (assign_grammar names) view old mid going (last old.text) a reads
-      ∙ ap (λ text. finished mid.taken (ahead mid) (rest_of text) (view a).1)
+      ∙ ap (λ text. value_at_end mid.taken (ahead mid) (bytes_after_lines text) (view a).1)
       (sym (same_text (assign_grammar names) view old mid going (last old.text) a reads))
 
   pub names_leave_going : (a : A) → Reads (assign_grammar names) view old mid (Ok a) → mid.stop ≡ None
   names_leave_going a reads = still_going (assign_grammar names) view old mid going (last old.text) a reads
 
-  pub text_ends : (a : A) → Reads (assign_grammar names) view old mid (Ok a) → ahead mid ≡ [] → rest_of mid.text ≡ [] →
-      names_read old.text names old.taken (ahead old) ≡ Ok ((view a).1)
+  pub text_ends : (a : A) → Reads (assign_grammar names) view old mid (Ok a) → ahead mid ≡ [] →
+      bytes_after_lines mid.text ≡ [] →
+      names_on_of old.text names old.taken (ahead old) ≡ Ok ((view a).1)
   text_ends a reads none nothing =
-      read_on a reads ∙ at_the_end mid.taken (ahead mid) (rest_of mid.text) ((view a).1) none nothing
+      read_on a reads ∙ at_the_end mid.taken (ahead mid) (bytes_after_lines mid.text) ((view a).1) none nothing
 
   pub text_goes_on : (a : A) (fault : ReadFault) → Reads (assign_grammar names) view old mid (Ok a) →
-      (ahead mid ≡ [] → rest_of mid.text ≢ []) → fault ≡ refusal (mid.taken + 1) TextCut →
-      Fails fault (names_read old.text names old.taken (ahead old))
+      (ahead mid ≡ [] → bytes_after_lines mid.text ≢ []) → fault ≡ refusal (mid.taken + 1) TextCut →
+      FailsAsReading fault (names_on_of old.text names old.taken (ahead old))
   text_goes_on a fault reads more is =
-      fails_along fault (names_read old.text names old.taken (ahead old))
-      (finished mid.taken (ahead mid) (rest_of mid.text) ((view a).1)) (read_on a reads)
-      (more_fails mid.taken (ahead mid) (rest_of mid.text) ((view a).1) fault more is)
+      fails_along fault (names_on_of old.text names old.taken (ahead old))
+      (value_at_end mid.taken (ahead mid) (bytes_after_lines mid.text) ((view a).1)) (read_on a reads)
+      (more_fails mid.taken (ahead mid) (bytes_after_lines mid.text) ((view a).1) fault more is)
 
 -- ---- the first section, and then the names
 
-with_fails : {A B : Type 0} (value : A) (fault : ReadFault) (read : Result B Refusal) → Fails fault read →
-    Fails fault (with_value value read)
+with_fails : {A B : Type 0} (value : A) (fault : ReadFault) (read : Result B Refusal) → FailsAsReading fault read →
+    FailsAsReading fault (with_value value read)
 with_fails value Memory read fails = tt
 with_fails value (Refused r) read fails = ap (with_value value) fails
 
@@ -62,40 +64,41 @@ module _ {H I A V : Type 0} (g : Grammar H I) (view : A → H × List I) (value 
     (names : H → List I → List (List ℕ)) (old mid : FeedView) (unread : old.taken ≡ 0) (going : old.stop ≡ None) where
   abbrev asked : List ℕ → Result (V × List (List ℕ)) Refusal
   asked text = section_then g 0 (lines_of text)
-      (λ h items n ahead. names_asked text (value h items) (names h items) n ahead)
+      (λ h items n ahead. with_names_on text (value h items) (names h items) n ahead)
 
   abbrev then_names : List ℕ → H → List I → ℕ → List (List ℕ) → Result (V × List (List ℕ)) Refusal
-  then_names text h items n ahead = names_asked text (value h items) (names h items) n ahead
+  then_names text h items n ahead = with_names_on text (value h items) (names h items) n ahead
 
   from_first : section_then g old.taken (ahead old) (then_names old.text) ≡ asked old.text
   from_first = ap (λ n. section_then g n (drop n (lines_of old.text)) (then_names old.text)) unread
 
-  pub first_failed : (fault : ReadFault) → Reads g view old mid (Err fault) → Fails fault (asked old.text)
-  first_failed fault reads = subst (Fails fault) from_first
+  pub first_failed : (fault : ReadFault) → Reads g view old mid (Err fault) → FailsAsReading fault (asked old.text)
+  first_failed fault reads = subst (FailsAsReading fault) from_first
       (section_failed g view old mid going (then_names old.text) fault reads)
 
   first_read : (a : A) → Reads g view old mid (Ok a) →
-      asked old.text ≡ names_asked mid.text (value (view a).0 (view a).1) (names (view a).0 (view a).1) mid.taken
+      asked old.text ≡ with_names_on mid.text (value (view a).0 (view a).1) (names (view a).0 (view a).1) mid.taken
       (ahead mid)
   first_read a reads =
       sym from_first
       ∙ section_read g view old mid going (then_names old.text) a reads
-      ∙ ap (λ text. names_asked text (value (view a).0 (view a).1) (names (view a).0 (view a).1) mid.taken (ahead mid))
+      ∙ ap (λ text. with_names_on text (value (view a).0 (view a).1) (names (view a).0 (view a).1) mid.taken
+      (ahead mid))
       (sym (same_text g view old mid going (then_names old.text) a reads))
 
   pub then_failed : (a : A) (these : List (List ℕ)) (fault : ReadFault) → Reads g view old mid (Ok a) →
-      these ≡ names (view a).0 (view a).1 → Fails fault (names_read mid.text these mid.taken (ahead mid)) →
-      Fails fault (asked old.text)
+      these ≡ names (view a).0 (view a).1 → FailsAsReading fault (names_on_of mid.text these mid.taken (ahead mid)) →
+      FailsAsReading fault (asked old.text)
   then_failed a these fault reads same fails =
       fails_along fault (asked old.text)
-      (with_value (value (view a).0 (view a).1) (names_read mid.text these mid.taken (ahead mid)))
-      (first_read a reads ∙ ap (λ k. names_asked mid.text (value (view a).0 (view a).1) k mid.taken (ahead mid))
+      (with_value (value (view a).0 (view a).1) (names_on_of mid.text these mid.taken (ahead mid)))
+      (first_read a reads ∙ ap (λ k. with_names_on mid.text (value (view a).0 (view a).1) k mid.taken (ahead mid))
       (sym same))
-      (with_fails (value (view a).0 (view a).1) fault (names_read mid.text these mid.taken (ahead mid)) fails)
+      (with_fails (value (view a).0 (view a).1) fault (names_on_of mid.text these mid.taken (ahead mid)) fails)
 
   pub then_read : (a : A) (these on : List (List ℕ)) → Reads g view old mid (Ok a) →
-      these ≡ names (view a).0 (view a).1 → names_read mid.text these mid.taken (ahead mid) ≡ Ok on →
+      these ≡ names (view a).0 (view a).1 → names_on_of mid.text these mid.taken (ahead mid) ≡ Ok on →
       asked old.text ≡ Ok (value (view a).0 (view a).1, on)
   then_read a these on reads same read =
-      first_read a reads ∙ ap (λ k. names_asked mid.text (value (view a).0 (view a).1) k mid.taken (ahead mid))
+      first_read a reads ∙ ap (λ k. with_names_on mid.text (value (view a).0 (view a).1) k mid.taken (ahead mid))
       (sym same) ∙ ap (with_value (value (view a).0 (view a).1)) read

@@ -2,20 +2,20 @@
 use Rattle.std.proofs.Common.{◌≡◌, ℕ, ◌+◌, List, [], ◌∷◌, ◌++◌, map, drop, Option, Some, None, Result, Ok, Err, refl}
 use Rattle.std.proofs.Common.{sym, ap, ap₂, subst, ◌∙◌, append-nil}
 use Rattle.std.specs.Prelude.{◌≢◌}
-use Rattle.section_text.specs.Words.{lines_of, rest_of}
+use Rattle.section_text.specs.Words.{lines_of, bytes_after_lines}
 use Rattle.section_text.specs.Feeds.{FeedView, ahead}
 use Rattle.section_text.specs.Faults.{refusal}
 use Rattle.section_text.specs.Ports.{Named}
-use Rattle.section_text.specs.Section.{Reads, Fails}
-use Rattle.section_text.specs.Sections.{section_then, finished}
+use Rattle.section_text.specs.Section.{Reads, FailsAsReading}
+use Rattle.section_text.specs.Sections.{section_then, value_at_end}
 use Rattle.section_text.specs.declared.fault.Refusal.{Refusal}
 use Rattle.section_text.specs.declared.fault.ReadFault.{ReadFault}
 use Rattle.section_text.specs.declared.fault.ReadFault.TheVariants.{Refused}
 use Rattle.section_text.proofs.Joined.{section_read, section_failed, same_text, still_going, fails_along, at_the_end}
 use Rattle.section_text.proofs.Joined.{more_fails}
-use Rattle.circuit.specs.Grammars.{circuit_grammar, circuit_value}
+use Rattle.circuit.specs.Grammars.{circuit_grammar, circuit_section}
 use Rattle.circuit.specs.declared.circuit_line.CircuitLine.{CircuitLine}
-use Rattle.pattern.specs.Grammars.{layout_grammar, layout_value}
+use Rattle.pattern.specs.Grammars.{layout_grammar, layout_section}
 use Rattle.pattern.specs.Layout.{Pattern, parts_of}
 use Rattle.pattern.specs.declared.layout_line.LayoutLine.{LayoutLine}
 use Rattle.pattern.specs.declared.layout_line.LayoutLine.TheVariants.{Mirror, Ball, In, Out, Waste}
@@ -24,7 +24,7 @@ use Rattle.pattern.specs.declared.layout_line.Rectangle.{Rectangle}
 use Rattle.bbm_rule.specs.declared.block.Cell.{Cell}
 use Rattle.pattern.specs.declared.layout_line.LayoutHeader.{LayoutHeader}
 use Rattle.certificate_lines.specs.Entries.{Setting}
-use Rattle.certificate.specs.Grammars.{CertView, certificate_grammar, certificate_value}
+use Rattle.certificate.specs.Grammars.{CertView, certificate_grammar, certificate_section}
 use Rattle.certificate_lines.specs.Settings.{setting_of}
 use Rattle.certificate_lines.specs.declared.certificate_line.CertificateLine.{CertificateLine}
 use Rattle.answers.specs.Answers.{Answered}
@@ -92,7 +92,7 @@ module _ (text : List ℕ) where
   ended : List CircuitLine → LayoutHeader → List LayoutLine → ℕ → List CertificateLine → ℕ → List (List ℕ) →
       Result Bundle Refusal
   ended circuit size parts version entries k last =
-      finished k last (rest_of text) (whole circuit size parts version entries)
+      value_at_end k last (bytes_after_lines text) (whole circuit size parts version entries)
 
   after_layout : List CircuitLine → LayoutHeader → List LayoutLine → ℕ → List (List ℕ) → Result Bundle Refusal
   after_layout circuit size parts m later =
@@ -108,48 +108,51 @@ module _ (f0 f1 : FeedView) (unread : f0.taken ≡ 0) (going : f0.stop ≡ None)
   from_start = ap (λ n. section_then circuit_grammar n (drop n (lines_of f0.text)) (after_circuit f0.text)) unread
 
   pub circuit_failed : (fault : ReadFault) →
-      Reads {A = List CircuitLine} circuit_grammar circuit_value f0 f1 (Err fault) → Fails fault (bundle_of f0.text)
-  circuit_failed fault reads = subst (Fails fault) from_start
-      (section_failed circuit_grammar circuit_value f0 f1 going (after_circuit f0.text) fault reads)
+      Reads {A = List CircuitLine} circuit_grammar circuit_section f0 f1 (Err fault) →
+      FailsAsReading fault (bundle_of f0.text)
+  circuit_failed fault reads = subst (FailsAsReading fault) from_start
+      (section_failed circuit_grammar circuit_section f0 f1 going (after_circuit f0.text) fault reads)
 
-  module _ (circuit : List CircuitLine) (read : Reads circuit_grammar circuit_value f0 f1 (Ok circuit)) where
+  module _ (circuit : List CircuitLine) (read : Reads circuit_grammar circuit_section f0 f1 (Ok circuit)) where
     circuit_read : bundle_of f0.text ≡ after_circuit f0.text tt circuit f1.taken (ahead f1)
     circuit_read = sym from_start
-        ∙ section_read circuit_grammar circuit_value f0 f1 going (after_circuit f0.text) circuit read
+        ∙ section_read circuit_grammar circuit_section f0 f1 going (after_circuit f0.text) circuit read
 
     going_1 : f1.stop ≡ None
-    going_1 = still_going circuit_grammar circuit_value f0 f1 going (after_circuit f0.text) circuit read
+    going_1 = still_going circuit_grammar circuit_section f0 f1 going (after_circuit f0.text) circuit read
 
     text_1 : f1.text ≡ f0.text
-    text_1 = same_text circuit_grammar circuit_value f0 f1 going (after_circuit f0.text) circuit read
+    text_1 = same_text circuit_grammar circuit_section f0 f1 going (after_circuit f0.text) circuit read
 
     module _ (named : Option Named) (f2 : FeedView) (are : named ≡ Some (port_names_of circuit)) where
       pub layout_failed : (fault : ReadFault) →
-          Reads {A = Pattern} (layout_grammar named) layout_value f1 f2 (Err fault) → Fails fault (bundle_of f0.text)
+          Reads {A = Pattern} (layout_grammar named) layout_section f1 f2 (Err fault) →
+          FailsAsReading fault (bundle_of f0.text)
       unfolding after_circuit
       layout_failed fault reads =
-          let here : Reads {A = Pattern} (layout_grammar (Some (port_names_of circuit))) layout_value f1 f2
-          (Err fault) = subst (λ n. Reads {A = Pattern} (layout_grammar n) layout_value f1 f2 (Err fault)) are reads in
+          let here : Reads {A = Pattern} (layout_grammar (Some (port_names_of circuit))) layout_section f1 f2
+          (Err fault) = subst (λ n. Reads {A = Pattern} (layout_grammar n) layout_section f1 f2 (Err fault)) are
+          reads in
           fails_along fault (bundle_of f0.text) _ circuit_read
-          (section_failed (layout_grammar (Some (port_names_of circuit))) layout_value f1 f2 going_1
+          (section_failed (layout_grammar (Some (port_names_of circuit))) layout_section f1 f2 going_1
           (after_layout f0.text circuit) fault here)
 
-      module _ (layout : Pattern) (read_2 : Reads (layout_grammar named) layout_value f1 f2 (Ok layout)) where
-        here : Reads (layout_grammar (Some (port_names_of circuit))) layout_value f1 f2 (Ok layout)
-        here = subst (λ n. Reads (layout_grammar n) layout_value f1 f2 (Ok layout)) are read_2
+      module _ (layout : Pattern) (read_2 : Reads (layout_grammar named) layout_section f1 f2 (Ok layout)) where
+        here : Reads (layout_grammar (Some (port_names_of circuit))) layout_section f1 f2 (Ok layout)
+        here = subst (λ n. Reads (layout_grammar n) layout_section f1 f2 (Ok layout)) are read_2
 
         layout_read : bundle_of f0.text ≡ after_layout f0.text circuit layout.size (parts_of layout) f2.taken (ahead f2)
         unfolding after_circuit
         layout_read = circuit_read ∙ section_read
-            (layout_grammar (Some (port_names_of circuit))) layout_value f1 f2 going_1
+            (layout_grammar (Some (port_names_of circuit))) layout_section f1 f2 going_1
             (after_layout f0.text circuit) layout here
 
         going_2 : f2.stop ≡ None
-        going_2 = still_going (layout_grammar (Some (port_names_of circuit))) layout_value f1 f2 going_1
+        going_2 = still_going (layout_grammar (Some (port_names_of circuit))) layout_section f1 f2 going_1
             (after_layout f0.text circuit) layout here
 
         text_2 : f2.text ≡ f0.text
-        text_2 = same_text (layout_grammar (Some (port_names_of circuit))) layout_value f1 f2 going_1
+        text_2 = same_text (layout_grammar (Some (port_names_of circuit))) layout_section f1 f2 going_1
             (after_layout f0.text circuit) layout here ∙ text_1
 
         setting : Setting
@@ -157,66 +160,67 @@ module _ (f0 f1 : FeedView) (unread : f0.taken ≡ 0) (going : f0.stop ≡ None)
 
         module _ (f3 : FeedView) where
           pub certificate_failed : (fault : ReadFault) →
-              Reads {A = CertView} (certificate_grammar (setting_of circuit layout)) certificate_value f2 f3
-              (Err fault) → Fails fault (bundle_of f0.text)
+              Reads {A = CertView} (certificate_grammar (setting_of circuit layout)) certificate_section f2 f3
+              (Err fault) → FailsAsReading fault (bundle_of f0.text)
           unfolding after_layout setting
           certificate_failed fault reads =
-              let right : Reads {A = CertView} (certificate_grammar setting) certificate_value f2 f3 (Err fault) =
-              subst (λ g. Reads {A = CertView} (certificate_grammar g) certificate_value f2 f3 (Err fault))
+              let right : Reads {A = CertView} (certificate_grammar setting) certificate_section f2 f3 (Err fault) =
+              subst (λ g. Reads {A = CertView} (certificate_grammar g) certificate_section f2 f3 (Err fault))
               (sym (same_setting circuit layout)) reads in
               fails_along fault (bundle_of f0.text) _ layout_read
-              (section_failed (certificate_grammar setting) certificate_value f2 f3 going_2
+              (section_failed (certificate_grammar setting) certificate_section f2 f3 going_2
               (ended f0.text circuit layout.size (parts_of layout)) fault right)
 
           module _ (cert : CertView) (read_3 : Reads
-              (certificate_grammar (setting_of circuit layout)) certificate_value f2 f3 (Ok cert)) where
-            right : Reads (certificate_grammar setting) certificate_value f2 f3 (Ok cert)
+              (certificate_grammar (setting_of circuit layout)) certificate_section f2 f3 (Ok cert)) where
+            right : Reads (certificate_grammar setting) certificate_section f2 f3 (Ok cert)
             unfolding setting
-            right = subst (λ g. Reads (certificate_grammar g) certificate_value f2 f3 (Ok cert))
+            right = subst (λ g. Reads (certificate_grammar g) certificate_section f2 f3 (Ok cert))
                 (sym (same_setting circuit layout)) read_3
 
             certificate_read : bundle_of f0.text
                 ≡ ended f0.text circuit layout.size (parts_of layout) cert.version cert.entries f3.taken (ahead f3)
             unfolding after_layout setting
             certificate_read = layout_read
-                ∙ section_read (certificate_grammar setting) certificate_value f2 f3 going_2
+                ∙ section_read (certificate_grammar setting) certificate_section f2 f3 going_2
                 (ended f0.text circuit layout.size (parts_of layout)) cert right
 
             pub going_3 : f3.stop ≡ None
-            going_3 = still_going (certificate_grammar setting) certificate_value f2 f3 going_2
+            going_3 = still_going (certificate_grammar setting) certificate_section f2 f3 going_2
                 (ended f0.text circuit layout.size (parts_of layout)) cert right
 
             text_3 : f3.text ≡ f0.text
-            text_3 = same_text (certificate_grammar setting) certificate_value f2 f3 going_2
+            text_3 = same_text (certificate_grammar setting) certificate_section f2 f3 going_2
                 (ended f0.text circuit layout.size (parts_of layout)) cert right ∙ text_2
 
-            pub bundle_read : cert.circuit ≡ circuit → cert.layout ≡ layout → ahead f3 ≡ [] → rest_of f3.text ≡ [] →
+            pub bundle_read : cert.circuit ≡ circuit → cert.layout ≡ layout → ahead f3 ≡ [] →
+                bytes_after_lines f3.text ≡ [] →
                 bundle_of f0.text ≡ Ok (bundle_by cert)
             unfolding ended whole
             bundle_read same_circuit same_layout none over =
-                certificate_read ∙ at_the_end f3.taken (ahead f3) (rest_of f0.text)
+                certificate_read ∙ at_the_end f3.taken (ahead f3) (bytes_after_lines f0.text)
                 (whole f0.text circuit layout.size (parts_of layout) cert.version cert.entries) none
-                (ap rest_of (sym text_3) ∙ over)
+                (ap bytes_after_lines (sym text_3) ∙ over)
                 ∙ ap₂ (λ cs p. Ok (whole f0.text cs p.size (parts_of p) cert.version cert.entries)) (sym same_circuit)
                 (sym same_layout)
 
-            pub bundle_goes_on : (fault : ReadFault) → (ahead f3 ≡ [] → rest_of f3.text ≢ []) →
-                fault ≡ refusal (f3.taken + 1) TextCut → Fails fault (bundle_of f0.text)
+            pub bundle_goes_on : (fault : ReadFault) → (ahead f3 ≡ [] → bytes_after_lines f3.text ≢ []) →
+                fault ≡ refusal (f3.taken + 1) TextCut → FailsAsReading fault (bundle_of f0.text)
             unfolding ended
             bundle_goes_on fault more is =
                 fails_along fault (bundle_of f0.text) _ certificate_read
-                (more_fails f3.taken (ahead f3) (rest_of f0.text)
+                (more_fails f3.taken (ahead f3) (bytes_after_lines f0.text)
                 (whole f0.text circuit layout.size (parts_of layout) cert.version cert.entries) fault
-                (λ none over. more none (ap rest_of text_3 ∙ over)) is)
+                (λ none over. more none (ap bytes_after_lines text_3 ∙ over)) is)
 
 -- ---- answers
 
 -- the line of a refusal is the answer to what fails so
 pub refusal_answers : {A : Type 0} (says : A → List ℕ → Outcome → Type 0) (read : Result A Refusal) (fault : ReadFault)
-    (output : List ℕ) (outcome : Outcome) → Fails fault read → TellsRefusal fault output outcome →
+    (output : List ℕ) (outcome : Outcome) → FailsAsReading fault read → TellsRefusal fault output outcome →
     Answered says read output outcome
 refusal_answers says read fault output outcome fails told =
-    let fails' : Fails (Refused told.refusal) read = subst (λ f. Fails f read) told.refused fails in
+    let fails' : FailsAsReading (Refused told.refusal) read = subst (λ f. FailsAsReading f read) told.refused fails in
     subst (λ r. Answered says r output outcome) (sym fails') (told.says, told.ends)
 
 pub bundle_answers : (says : Bundle → List ℕ → Outcome → Type 0) (read : Result Bundle Refusal) (cert : CertView)

@@ -1,7 +1,7 @@
 -- The answer of `check` to a text: the report on a bundle's certificate, or the refusal of the text.
 use Rattle.std.specs.Prelude.{◌≡◌, ℕ, List}
 use Rattle.circuit.specs.Bridge.{circuit_of}
-use Rattle.pattern.specs.Grammars.{layout_value}
+use Rattle.pattern.specs.Grammars.{layout_section}
 use Rattle.certificate.specs.Grammars.{CertView, modules_in}
 use Rattle.certificate_lines.specs.Settings.{setting_of}
 use Rattle.module_job.specs.Jobs.{JobView}
@@ -19,7 +19,7 @@ use Rattle.answers.specs.BundleText.{Bundle, bundle_of}
 -- the certificate has the lines of the bundle, and so have its circuit and its layout
 pub record IsCertificateOf (bundle : Bundle) (c : CertView) : Type 0 where
   pub circuit : c.circuit ≡ bundle.circuit
-  pub layout : layout_value c.layout ≡ (bundle.size, bundle.parts)
+  pub layout : layout_section c.layout ≡ (bundle.size, bundle.parts)
   pub version : c.version ≡ bundle.version
   pub entries : c.entries ≡ bundle.entries
 

@@ -8,6 +8,6 @@ use Rattle.answers.specs.MigrateText.{SaysMigration}
 use Rattle.answers.specs.ModulesText.{SaysModules}
 
 -- the output and the outcome are the answer to the question about a bundle that was read
-abbrev pub says_of : Question → Bundle → List ℕ → Outcome → Type 0
-says_of Modules bundle output outcome = SaysModules bundle output outcome
-says_of Migration bundle output outcome = SaysMigration bundle output outcome
+abbrev pub AnswersQuestion : Question → Bundle → List ℕ → Outcome → Type 0
+AnswersQuestion Modules bundle output outcome = SaysModules bundle output outcome
+AnswersQuestion Migration bundle output outcome = SaysMigration bundle output outcome

@@ -13,11 +13,11 @@ use Rattle.pattern.specs.declared.layout_line.LayoutHeader.{LayoutHeader}
 use Rattle.pattern.specs.declared.run.RunEnd.{RunEnd}
 use Rattle.pattern.specs.declared.run.RunEnd.TheVariants.{Cells, LeftAt}
 use Rattle.pattern.specs.Layout.{Pattern}
-use Rattle.pattern.specs.Grammars.{layout_grammar, layout_value}
+use Rattle.pattern.specs.Grammars.{layout_grammar, layout_section}
 use Rattle.pattern.specs.Run.{IsRunEnd}
 use Rattle.answers.specs.declared.outcome.Outcome.{Outcome}
 use Rattle.answers.specs.declared.outcome.Outcome.TheVariants.{Yes, No}
-use Rattle.answers.specs.Answers.{Answered, names_asked}
+use Rattle.answers.specs.Answers.{Answered, with_names_on}
 
 -- ---- what is read
 
@@ -27,14 +27,14 @@ in_name (In p) = p.name ∷ []
 in_name _ = []
 
 -- the lines of a layout, and the names that are on
-abbrev pub RunAsked : Type 0
-RunAsked = (LayoutHeader × List LayoutLine) × List (List ℕ)
+abbrev pub RunSections : Type 0
+RunSections = (LayoutHeader × List LayoutLine) × List (List ℕ)
 
 -- a layout section, an assign section in which the names of its input cells may be on, and nothing more
-unfoldable pub run_asked : List ℕ → Result RunAsked Refusal
-run_asked text =
+unfoldable pub run_sections_of : List ℕ → Result RunSections Refusal
+run_sections_of text =
     section_then (layout_grammar None) 0 (lines_of text)
-    (λ size parts n ahead. names_asked text (size, parts) (flat_map in_name parts) n ahead)
+    (λ size parts n ahead. with_names_on text (size, parts) (flat_map in_name parts) n ahead)
 
 -- ---- what is written
 
@@ -53,14 +53,14 @@ end_outcome (Cells cells) = Yes
 end_outcome (LeftAt k) = No
 
 -- the layout of these lines was run with these names on, and this says how it ended
-pub record SaysRunEnd (asked : RunAsked) (output : List ℕ) (outcome : Outcome) : Type 0 where
+pub record SaysRunEnd (asked : RunSections) (output : List ℕ) (outcome : Outcome) : Type 0 where
   pub layout : Pattern
   pub end : RunEnd
-  pub lines : layout_value layout ≡ asked.0
+  pub lines : layout_section layout ≡ asked.0
   pub run : IsRunEnd layout (has asked.1) end
   pub says : output ≡ end_text end
   pub ends : outcome ≡ end_outcome end
 
 -- what `run` writes for a text, and how it ends
 abbrev pub IsRunOf : List ℕ → List ℕ → Outcome → Type 0
-IsRunOf text output outcome = Answered SaysRunEnd (run_asked text) output outcome
+IsRunOf text output outcome = Answered SaysRunEnd (run_sections_of text) output outcome

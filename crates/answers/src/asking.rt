@@ -2,14 +2,14 @@
 ghost use Rattle.std.specs.Prelude.{◌≡◌, true, None};
 ghost use Rattle.section_text.specs.Feeds.{ahead};
 ghost use Rattle.section_text.specs.Section.{SectionGives};
-ghost use Rattle.answers.specs.Answers.{names_read};
+ghost use Rattle.answers.specs.Answers.{names_on_of};
 
 use pattern::read_assign;
 use section_text::{Feed, Name, ReadFault};
 use std::alloc::Global;
 
 /// Reads which of the names are on, and the end of the text.
-pub(crate) fn read_names(
+pub(crate) fn read_names_on(
     alloc: Global,
     feed: &mut Feed,
     names: &[Name],
@@ -17,7 +17,7 @@ pub(crate) fn read_names(
     requires closed { feed.old.closed ≡ true }
     requires going { feed.old.stop ≡ None }
     ensures { SectionGives (λ on. on.items) result
-        (names_read feed.old.text names.now feed.old.taken (ahead feed.old)) }
+        (names_on_of feed.old.text names.now feed.old.taken (ahead feed.old)) }
 {
     match read_assign(alloc, feed, names) {
         Err(fault) => Err(fault),

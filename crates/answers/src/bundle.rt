@@ -5,7 +5,7 @@ ghost use Rattle.answers.specs.BundleReading.{bundle_by};
 ghost use Rattle.answers.specs.BundleText.{bundle_of};
 ghost use Rattle.answers.specs.MigrateText.{IsMigrationOf};
 ghost use Rattle.answers.specs.ModulesText.{IsModulesOf};
-ghost use Rattle.answers.specs.Questions.{says_of};
+ghost use Rattle.answers.specs.Questions.{AnswersQuestion};
 
 use crate::migration::migrate;
 use crate::modules::list_modules;
@@ -58,8 +58,8 @@ fn answer_of_text(
     requires closed { text.old.closed ≡ true }
     requires unread { text.old.taken ≡ 0 }
     requires going { text.old.stop ≡ None }
-    ensures { IfOk result (λ answered. AnsweredAs (says_of question) (bundle_of text.old.text)
-        answered.output.items answered.outcome) }
+    ensures { IfOk result (λ answered. AnsweredAs (AnswersQuestion question)
+        (bundle_of text.old.text) answered.output.items answered.outcome) }
 {
     let circuit = match read_circuit(alloc, text) {
         Err(fault) => return refused(alloc, fault),
@@ -85,7 +85,7 @@ fn answer_of_text(
 
 // Answers the question for the bundle of a certificate.
 fn answer(alloc: Global, cert: &Cert<'_>, question: Question) -> Result<Answered, AllocError>
-    ensures says { IfOk result (λ answered. says_of question (bundle_by cert.now)
+    ensures says { IfOk result (λ answered. AnswersQuestion question (bundle_by cert.now)
         answered.output.items answered.outcome) }
 {
     match question {

@@ -4,10 +4,10 @@ ghost use Rattle.std.specs.Fmt.{decimal};
 ghost use Rattle.std.specs.List.{flat_map};
 ghost use Rattle.section_text.specs.Section.{SectionGives};
 ghost use Rattle.section_text.specs.Spelling.{line_text};
-ghost use Rattle.pattern.specs.Grammars.{layout_value};
-ghost use Rattle.answers.specs.RunText.{IsRunOf, SaysRunEnd, cell_line, end_outcome, end_text, run_asked};
+ghost use Rattle.pattern.specs.Grammars.{layout_section};
+ghost use Rattle.answers.specs.RunText.{IsRunOf, SaysRunEnd, cell_line, end_outcome, end_text, run_sections_of};
 
-use crate::asking::read_names;
+use crate::asking::read_names_on;
 use crate::outcome::{Answered, Outcome};
 use crate::refusing::refused;
 use bbm_rule::Cell;
@@ -23,12 +23,12 @@ fn in_names(alloc: Global, layout: &Layout) -> Result<Vec<Name>, AllocError>
 }
 
 // Reads a layout, the names that are on, and the end of the text.
-fn read_asked(alloc: Global, feed: &mut Feed) -> Result<(Layout, Vec<Name>), ReadFault>
+fn read_both_sections(alloc: Global, feed: &mut Feed) -> Result<(Layout, Vec<Name>), ReadFault>
     requires closed { feed.old.closed ≡ true }
     requires unread { feed.old.taken ≡ 0 }
     requires going { feed.old.stop ≡ None }
-    ensures { SectionGives (λ asked. (layout_value asked.0, asked.1.items)) result
-        (run_asked feed.old.text) }
+    ensures { SectionGives (λ asked. (layout_section asked.0, asked.1.items)) result
+        (run_sections_of feed.old.text) }
 {
     let layout = match read_layout(alloc, feed, &PortNames::Any) {
         Err(fault) => return Err(fault),
@@ -37,7 +37,7 @@ fn read_asked(alloc: Global, feed: &mut Feed) -> Result<(Layout, Vec<Name>), Rea
     let Ok(ins) = in_names(alloc, &layout) else {
         return Err(ReadFault::Memory);
     };
-    match read_names(alloc, feed, &ins) {
+    match read_names_on(alloc, feed, &ins) {
         Err(fault) => Err(fault),
         Ok(on) => Ok((layout, on)),
     }
@@ -67,7 +67,7 @@ fn left_text(alloc: Global, step: u32) -> Result<Vec<u8>, AllocError>
     Ok(line.into_bytes())
 }
 
-fn count_text(alloc: Global, count: usize) -> Result<Vec<u8>, AllocError>
+fn live_count_text(alloc: Global, count: usize) -> Result<Vec<u8>, AllocError>
     ensures { IfOk result (λ text. text.items ≡ line_text (codes "cells") (decimal count ∷ [])) }
 {
     let line = format!(in alloc; "cells {count}\n")?;
@@ -79,12 +79,12 @@ fn cells_text(alloc: Global, cells: &[Cell]) -> Result<Vec<u8>, AllocError>
         ≡ line_text (codes "cells") (decimal (length cells.now) ∷ [])
         ++ flat_map cell_line cells.now) }
 {
-    let mut text = count_text(alloc, cells.len())?;
+    let mut text = live_count_text(alloc, cells.len())?;
     print_cells(alloc, &mut text, cells)?;
     Ok(text)
 }
 
-fn end_of_run(alloc: Global, end: &RunEnd) -> Result<Vec<u8>, AllocError>
+fn run_end_lines(alloc: Global, end: &RunEnd) -> Result<Vec<u8>, AllocError>
     ensures { IfOk result (λ text. text.items ≡ end_text end.now) }
 {
     match end {
@@ -104,12 +104,12 @@ fn outcome_of(end: &RunEnd) -> Outcome
 
 // Runs a layout with these names on.
 fn answer(alloc: Global, layout: &Layout, on: &[Name]) -> Result<Answered, AllocError>
-    ensures { IfOk result (λ answered. SaysRunEnd (layout_value layout.now, on.now)
+    ensures { IfOk result (λ answered. SaysRunEnd (layout_section layout.now, on.now)
         answered.output.items answered.outcome) }
 {
     let end = run_plain(alloc, layout, on)?;
     let outcome = outcome_of(&end);
-    let output = end_of_run(alloc, &end)?;
+    let output = run_end_lines(alloc, &end)?;
     Ok(Answered { outcome, output })
 }
 
@@ -121,7 +121,7 @@ pub fn run_text(alloc: Global, feed: &mut Feed) -> Result<Answered, AllocError>
     ensures { IfOk result (λ answered. IsRunOf feed.old.text answered.output.items
         answered.outcome) }
 {
-    match read_asked(alloc, feed) {
+    match read_both_sections(alloc, feed) {
         Err(fault) => refused(alloc, fault),
         Ok((layout, on)) => answer(alloc, &layout, &on),
     }

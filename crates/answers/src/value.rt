@@ -7,9 +7,9 @@ ghost use Rattle.circuit.specs.Entries.{defined};
 ghost use Rattle.circuit.specs.Text.{value_lines};
 ghost use Rattle.section_text.specs.Section.{SectionGives};
 ghost use Rattle.circuit.specs.Bridge.{input_names, netlist_of};
-ghost use Rattle.answers.specs.ValueText.{IsValueOf, SaysValues, value_asked};
+ghost use Rattle.answers.specs.ValueText.{IsValueOf, SaysValues, value_sections_of};
 
-use crate::asking::read_names;
+use crate::asking::read_names_on;
 use crate::outcome::{Answered, Outcome};
 use crate::refusing::refused;
 use circuit::{Circuit, ValuesFault, port_names, print_values, read_circuit};
@@ -29,11 +29,12 @@ fn input_list(alloc: Global, circuit: &Circuit) -> Result<Vec<Name>, AllocError>
 }
 
 // Reads a circuit, the names that are on, and the end of the text.
-fn read_asked(alloc: Global, feed: &mut Feed) -> Result<(Circuit, Vec<Name>), ReadFault>
+fn read_both_sections(alloc: Global, feed: &mut Feed) -> Result<(Circuit, Vec<Name>), ReadFault>
     requires closed { feed.old.closed ≡ true }
     requires unread { feed.old.taken ≡ 0 }
     requires going { feed.old.stop ≡ None }
-    ensures { SectionGives (λ asked. (asked.0, asked.1.items)) result (value_asked feed.old.text) }
+    ensures { SectionGives (λ asked. (asked.0, asked.1.items)) result
+        (value_sections_of feed.old.text) }
 {
     let circuit = match read_circuit(alloc, feed) {
         Err(fault) => return Err(fault),
@@ -42,7 +43,7 @@ fn read_asked(alloc: Global, feed: &mut Feed) -> Result<(Circuit, Vec<Name>), Re
     let Ok(ins) = input_list(alloc, &circuit) else {
         return Err(ReadFault::Memory);
     };
-    match read_names(alloc, feed, &ins) {
+    match read_names_on(alloc, feed, &ins) {
         Err(fault) => Err(fault),
         Ok(on) => Ok((circuit, on)),
     }
@@ -102,7 +103,7 @@ pub fn value_text(alloc: Global, feed: &mut Feed) -> Result<Answered, AllocError
     ensures { IfOk result (λ answered. IsValueOf feed.old.text answered.output.items
         answered.outcome) }
 {
-    match read_asked(alloc, feed) {
+    match read_both_sections(alloc, feed) {
         Err(fault) => refused(alloc, fault),
         Ok((circuit, on)) => answer(alloc, &circuit, &on),
     }

@@ -6,7 +6,7 @@ use Rattle.certificate.specs.Grammars.{CertView}
 use Rattle.module_job.specs.Jobs.{JobView}
 use Rattle.certificate.specs.Times.{are_all_obeyed, time_lines}
 use Rattle.core_book.specs.Concluding.{AreOwnJobs, modules, setting}
-use Rattle.core_book.specs.Verdicts.{AreLeastFaults, IsVerdict, lines_from, timing, unkept_lines}
+use Rattle.core_book.specs.Verdicts.{AreLeastFaults, IsVerdict, lines_from, timing_report, unkept_lines}
 use Rattle.core_book.specs.declared.verdict.Reasons.{Reasons}
 use Rattle.core_book.specs.declared.verdict.ReportLine.{ReportLine}
 use Rattle.core_book.specs.declared.verdict.Verdict.TheVariants.{Yes, No}
@@ -39,7 +39,7 @@ verdict-yes s jobs fs bs all none kept =
 pub verdict-no : (s : CertView) (jobs : List JobView) (fs : List Reasons) (bs : List (Option BorderFault))
     (lines : Vec ReportLine Global) → AreAllFaults s jobs fs bs →
     lines.items ≡ lines_from 0 fs bs ++ unkept_lines (setting s) (modules s)
-    ++ map timing (time_lines (setting s).circuit (modules s)) →
+    ++ map timing_report (time_lines (setting s).circuit (modules s)) →
     ¬ ((lines_from 0 fs bs ++ unkept_lines (setting s) (modules s) ≡ [])
     × (are_all_obeyed (time_lines (setting s).circuit (modules s)) ≡ true)) →
     IsVerdict (setting s) (modules s) jobs (No lines)

@@ -10,7 +10,7 @@ ghost use Rattle.certificate.specs.Times.{are_all_obeyed};
 ghost use Rattle.core_book.specs.Concluding.{AreOwnJobs, modules, port_names_of, setting};
 ghost use Rattle.meaning.specs.Implements.{IsCorrect};
 ghost use Rattle.soundness.specs.OnTime.{IsOnTime};
-ghost use Rattle.core_book.specs.Verdicts.{AreHeldBelow, AreLeastFaults, IsFirstMissing, IsToldOf, IsVerdict, border_line, keep_line, lines_from, local_line, timing};
+ghost use Rattle.core_book.specs.Verdicts.{AreHeldBelow, AreLeastFaults, IsFirstMissing, IsToldOf, IsVerdict, border_line, keep_line, lines_from, local_line, timing_report};
 ghost use Rattle.local_run.specs.Shown.{job_of};
 ghost use Rattle.core_book.specs.declared.verdict.ReportLine.TheVariants.{Unkept};
 ghost use Rattle.core_book.specs.declared.verdict.Unfinished.TheVariants.{Missing};
@@ -67,7 +67,7 @@ pub fn conclude(
 /// Concludes the verdict as [`conclude`] does, from a book of the certificate's own jobs that holds a finding for each.
 ///
 /// It compares no jobs: each finding that a book holds is for the book's job of its number.
-pub fn conclude_full(
+pub fn conclude_from_full_book(
     alloc: Global,
     cert: &Cert<'_>,
     borders: &[Option<BorderFault>],
@@ -131,8 +131,8 @@ fn are_all_obeyed(times: &[TimeLine]) -> bool
 }
 
 // What stops say of a gate, as a line of the report.
-fn timing(line: &TimeLine) -> ReportLine
-    ensures { result ≡ timing line.now }
+fn timing_report(line: &TimeLine) -> ReportLine
+    ensures { result ≡ timing_report line.now }
 {
     match *line {
         TimeLine::Delay { gate, wanted, gap } => ReportLine::Delay { gate, wanted, gap },
@@ -142,10 +142,10 @@ fn timing(line: &TimeLine) -> ReportLine
 
 // Adds what stops say of all gates.
 fn push_times(lines: &mut Vec<ReportLine>, times: &[TimeLine]) -> Result<(), AllocError>
-    ensures { OnOk result (lines.new.items ≡ lines.old.items ++ map timing times.now) }
+    ensures { OnOk result (lines.new.items ≡ lines.old.items ++ map timing_report times.now) }
 {
     'times: for line in times {
-        lines.push(timing(line))?;
+        lines.push(timing_report(line))?;
     }
     Ok(())
 }
@@ -166,7 +166,7 @@ fn held_faults(
         let Some(finding) = book.found_for(number, job) else {
             return Err(Unfinished::Missing(number));
         };
-        faults.push(told_of(finding))?;
+        faults.push(reasons_of(finding))?;
     }
     Ok(faults)
 }
@@ -180,7 +180,7 @@ fn own_faults(alloc: Global, book: &BookState) -> Result<Vec<Reasons>, AllocErro
     let mut faults = Vec::with_capacity(alloc, count)?;
     'modules: for number in 0..count {
         match book.found(number) {
-            Some(finding) => faults.push(told_of(finding))?,
+            Some(finding) => faults.push(reasons_of(finding))?,
             None => unreachable!(),
         }
     }
@@ -188,7 +188,7 @@ fn own_faults(alloc: Global, book: &BookState) -> Result<Vec<Reasons>, AllocErro
 }
 
 // What a finding tells of its job.
-fn told_of(finding: &Finding) -> Reasons
+fn reasons_of(finding: &Finding) -> Reasons
     ensures { IsToldOf (job_of finding.now) result }
 {
     let keep = match finding.keep() {

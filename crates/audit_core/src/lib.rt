@@ -15,8 +15,8 @@
 mod concluding;
 pub mod laws;
 
-pub use concluding::{conclude, conclude_full};
+pub use concluding::{conclude, conclude_from_full_book};
 pub use core_book::{
     Answer, BookState, Claim, Core, Event, Filing, LogEntry, Mismatch, NotApplied, NotFiled,
-    Reasons, Reply, ReportLine, Unfinished, Verdict, fill, fill_open,
+    Reasons, Reply, ReportLine, Unfinished, Verdict, fill, fill_open_book,
 };

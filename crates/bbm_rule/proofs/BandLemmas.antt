@@ -3,18 +3,18 @@ use Rattle.std.proofs.Common.{◌≡◌, ◌≢◌, ℕ, Bool, true, false, ◌|
 use Rattle.std.proofs.Common.{zero, suc, refl, arith, ◌∙◌, sym, ap, List, length, length-set, get_or, set, bit_or}
 use Rattle.std.proofs.lemmas.Bool.Decides.{nat_tests}
 use Rattle.std.proofs.Math.Nat.{mul-le-mul_right}
-use Rattle.bbm_rule.specs.Bits.{bit, AreSameBits, IsBlank}
+use Rattle.bbm_rule.specs.Bits.{bit, AreSameBits, HasNoSetBit}
 use Rattle.bbm_rule.specs.Plane.{turned}
 use Rattle.bbm_rule.specs.Rows.{cell_at, mate, AreSameCells, HasWindow, FillsRun, SetsPlace, SetsWindow, TurnsRun}
 use Rattle.bbm_rule.specs.Rows.{TurnsRows}
 use Rattle.bbm_rule.specs.Marks.{IsUnmarked, MarksOne}
-use Rattle.bbm_rule.specs.Bands.{AreCalm}
+use Rattle.bbm_rule.specs.Bands.{AreRowPairsStable}
 use Rattle.bbm_rule.proofs.BitLemmas.{by_lt_or_le, by_eq_or_not, bit-or, bit-zero}
 use Rattle.bbm_rule.proofs.BlockRuns.{mate_lt, rows_join, word_is_window, word_set}
 use Rattle.bbm_rule.proofs.PlaneLemmas.{turned_twice, mate_twice, dead_block}
 
 -- ---- what a turn of two rows changes
-pub blank_from_test : (n : ℕ) → not (nat_eq n 0) ≡ false → IsBlank n
+pub blank_from_test : (n : ℕ) → not (nat_eq n 0) ≡ false → HasNoSetBit n
 blank_from_test n h j =
     let e : n ≡ 0 = grind (arith, nat_tests) in
     ap (λ m. bit m j) e ∙ bit-zero j
@@ -41,9 +41,9 @@ has_same p v old new same has = record { cells = λ j l. has.cells j l ∙ sym (
 
 -- where nothing is noted, no cell changed, also in two more windows
 pub windows_same : (p r changed told a above b below : ℕ) (first second mid third : List ℕ) →
-    (IsBlank changed → AreSameCells first second) → (IsBlank told → AreSameBits above a × AreSameBits below b) →
+    (HasNoSetBit changed → AreSameCells first second) → (HasNoSetBit told → AreSameBits above a × AreSameBits below b) →
     HasWindow second p above → HasWindow second r below → SetsWindow p a second mid → SetsWindow r b mid third →
-    IsBlank (bit_or changed told) → AreSameCells first third
+    HasNoSetBit (bit_or changed told) → AreSameCells first third
 windows_same p r changed told a above b below first second mid third so_far stays has_a has_b set_a set_b none =
     let same = stays (λ j. (noted_bits changed told j (none j)).1) in
     let one = window_same p a above second mid same.0 has_a set_a in
@@ -52,9 +52,9 @@ windows_same p r changed told a above b below first second mid third so_far stay
 
 -- nor in two more words
 pub words_same : (i k changed told a b : ℕ) (first second : List ℕ) → i < length second → k < length second →
-    (IsBlank changed → AreSameCells first second) →
-    (IsBlank told → AreSameBits (get_or second i 0) a × AreSameBits (get_or second k 0) b) →
-    IsBlank (bit_or changed told) → AreSameCells first (set (set second i a) k b)
+    (HasNoSetBit changed → AreSameCells first second) →
+    (HasNoSetBit told → AreSameBits (get_or second i 0) a × AreSameBits (get_or second k 0) b) →
+    HasNoSetBit (bit_or changed told) → AreSameCells first (set (set second i a) k b)
 words_same i k changed told a b first second room room' so_far stays none =
     windows_same (64 * i) (64 * k) changed told a (get_or second i 0) b (get_or second k 0) first second
     (set second i a) _ so_far stays
@@ -101,7 +101,8 @@ after_pair k i s l = let h : (k + 1) * s ≤ i * s = mul-le-mul_right s (omega a
 
 -- the other pairs of a partition stay while pair k is turned
 pub others_kept : (p s r k : ℕ) (marks old new : List ℕ) → s % 2 ≡ 0 → TurnsRun (p + 2 * (k * s)) s s old new →
-    AreCalm p s r marks old → (i : ℕ) → i < r → i ≢ k → IsUnmarked marks i → TurnsRun (p + 2 * (i * s)) s s new new
+    AreRowPairsStable p s r marks old → (i : ℕ) → i < r → i ≢ k → IsUnmarked marks i →
+    TurnsRun (p + 2 * (i * s)) s s new new
 others_kept p s r k marks old new whole run calm i l other free =
     pair_kept (p + 2 * (i * s)) s old new whole same (calm i l free)
   where
@@ -112,20 +113,22 @@ others_kept p s r k marks old new whole run calm i l other free =
 
 -- all of them but pair k, which gets a mark
 pub calm_marked : (p s r k : ℕ) (marks marks' old new : List ℕ) → s % 2 ≡ 0 → TurnsRun (p + 2 * (k * s)) s s old new →
-    MarksOne k marks marks' → AreCalm p s r marks old → AreCalm p s r marks' new
+    MarksOne k marks marks' → AreRowPairsStable p s r marks old → AreRowPairsStable p s r marks' new
 calm_marked p s r k marks marks' old new whole run marked calm i l free =
     let was = marked i free in others_kept p s r k marks old new whole run calm i l was.1 was.0
 
 -- and pair k too, where no cell of it changed
 pub calm_settled : (p s r k : ℕ) (marks marks' old new : List ℕ) → s % 2 ≡ 0 → TurnsRun (p + 2 * (k * s)) s s old new →
-    AreSameCells old new → SetsPlace k false marks marks' → AreCalm p s r marks old → AreCalm p s r marks' new
+    AreSameCells old new → SetsPlace k false marks marks' → AreRowPairsStable p s r marks old →
+    AreRowPairsStable p s r marks' new
 calm_settled p s r k marks marks' old new whole run same sets calm i l free = by_eq_or_not i k
     (λ e. rw e (pair_settled (p + 2 * (k * s)) s old new whole run same))
     (λ other. others_kept p s r k marks old new whole run calm i l other (sym (sets.elsewhere i other) ∙ free))
 
 -- pairs stay where no cell changed
-pub calm_same : (p s r : ℕ) (marks old new : List ℕ) → s % 2 ≡ 0 → AreSameCells old new → AreCalm p s r marks old →
-    AreCalm p s r marks new
+pub calm_same : (p s r : ℕ) (marks old new : List ℕ) → s % 2 ≡ 0 → AreSameCells old new →
+    AreRowPairsStable p s r marks old →
+    AreRowPairsStable p s r marks new
 calm_same p s r marks old new whole same calm i l free =
     pair_kept (p + 2 * (i * s)) s old new whole (λ q low high. same q) (calm i l free)
 
@@ -133,7 +136,7 @@ calm_same p s r marks old new whole same calm i l free =
 -- rows
 pub odd_kept : (s r k : ℕ) (first second third old new : List ℕ) → s % 2 ≡ 0 → 0 < s →
     TurnsRun (s + 1 + 2 * (k * s)) s s old new → MarksOne k first second → MarksOne (k + 1) second third →
-    AreCalm 0 s r first old → AreCalm 0 s r third new
+    AreRowPairsStable 0 s r first old → AreRowPairsStable 0 s r third new
 odd_kept s r k first second third old new whole positive run one two calm i l free =
     let later = two i free in
     let was = one i later.0 in
@@ -148,8 +151,8 @@ odd_kept s r k first second third old new whole positive run one two calm i l fr
 -- and those of the even partition, while pair k of the odd partition is turned
 pub even_kept : (s r k : ℕ) (first second third old new : List ℕ) → s % 2 ≡ 0 → 0 < s →
     TurnsRun (0 + 2 * (k * s)) s s old new → MarksOne k first second →
-    ((i : ℕ) → IsUnmarked third i → IsUnmarked second i × (i + 1 ≢ k)) → AreCalm (s + 1) s r first old →
-    AreCalm (s + 1) s r third new
+    ((i : ℕ) → IsUnmarked third i → IsUnmarked second i × (i + 1 ≢ k)) → AreRowPairsStable (s + 1) s r first old →
+    AreRowPairsStable (s + 1) s r third new
 even_kept s r k first second third old new whole positive run one two calm i l free =
     let later = two i free in
     let was = one i later.0 in
@@ -173,7 +176,7 @@ rows_passed p s a (suc d) old new whole rows calm =
 
 -- up to the next pair that may have a mark
 pub rows_until : (p s r a b : ℕ) (marks old new : List ℕ) → s % 2 ≡ 0 → a ≤ b → b ≤ r → TurnsRows p s a old new →
-    AreCalm p s r marks new → ((u : ℕ) → a ≤ u → u < b → IsUnmarked marks u) → TurnsRows p s b old new
+    AreRowPairsStable p s r marks new → ((u : ℕ) → a ≤ u → u < b → IsUnmarked marks u) → TurnsRows p s b old new
 rows_until p s r a b marks old new whole le within rows calm free =
     let e : a + (b - a) ≡ b = omega arith in
     rw e at (rows_passed p s a (b - a) old new whole rows
@@ -221,8 +224,9 @@ place_before s i v l = let h : v * s ≤ 2 * i * s = mul-le-mul_right s l in ome
 
 -- the pairs of the even partition stay, but for that of the cell's row
 pub even_set : (s r u v : ℕ) (value : Bool) (first second old new : List ℕ) → s % 2 ≡ 0 → u + 1 < s →
-    SetsPlace (s * (v + 1) + (u + 1)) value old new → MarksOne (v / 2) first second → AreCalm (s + 1) s r first old →
-    AreCalm (s + 1) s r second new
+    SetsPlace (s * (v + 1) + (u + 1)) value old new → MarksOne (v / 2) first second →
+    AreRowPairsStable (s + 1) s r first old →
+    AreRowPairsStable (s + 1) s r second new
 even_set s r u v value first second old new whole wide sets marked calm i l free =
     let was = marked i free in
     pair_kept (s + 1 + 2 * (i * s)) s old new whole (λ q low high. sets.elsewhere q (apart was.1 q low high))
@@ -235,8 +239,9 @@ even_set s r u v value first second old new whole wide sets marked calm i l free
 
 -- and so do those of the odd partition
 pub odd_set : (s r u v : ℕ) (value : Bool) (first second old new : List ℕ) → s % 2 ≡ 0 → u + 1 < s →
-    SetsPlace (s * (v + 1) + (u + 1)) value old new → MarksOne ((v + 1) / 2) first second → AreCalm 0 s r first old →
-    AreCalm 0 s r second new
+    SetsPlace (s * (v + 1) + (u + 1)) value old new → MarksOne ((v + 1) / 2) first second →
+    AreRowPairsStable 0 s r first old →
+    AreRowPairsStable 0 s r second new
 odd_set s r u v value first second old new whole wide sets marked calm i l free =
     let was = marked i free in
     pair_kept (0 + 2 * (i * s)) s old new whole (λ q low high. sets.elsewhere q (apart was.1 q low high))
@@ -251,8 +256,9 @@ odd_set s r u v value first second old new whole wide sets marked calm i l free 
 
 -- the pairs of the even partition stay, but for that of the row
 pub even_fill : (s r u v n : ℕ) (first second old new : List ℕ) → s % 2 ≡ 0 → u + 1 + n < s →
-    FillsRun (s * (v + 1) + (u + 1)) n old new → MarksOne (v / 2) first second → AreCalm (s + 1) s r first old →
-    AreCalm (s + 1) s r second new
+    FillsRun (s * (v + 1) + (u + 1)) n old new → MarksOne (v / 2) first second →
+    AreRowPairsStable (s + 1) s r first old →
+    AreRowPairsStable (s + 1) s r second new
 even_fill s r u v n first second old new whole wide fills marked calm i l free =
     let was = marked i free in
     pair_kept (s + 1 + 2 * (i * s)) s old new whole (same was.1) (calm i l was.0)
@@ -265,8 +271,9 @@ even_fill s r u v n first second old new whole wide fills marked calm i l free =
 
 -- and so do those of the odd partition
 pub odd_fill : (s r u v n : ℕ) (first second old new : List ℕ) → s % 2 ≡ 0 → u + 1 + n < s →
-    FillsRun (s * (v + 1) + (u + 1)) n old new → MarksOne ((v + 1) / 2) first second → AreCalm 0 s r first old →
-    AreCalm 0 s r second new
+    FillsRun (s * (v + 1) + (u + 1)) n old new → MarksOne ((v + 1) / 2) first second →
+    AreRowPairsStable 0 s r first old →
+    AreRowPairsStable 0 s r second new
 odd_fill s r u v n first second old new whole wide fills marked calm i l free =
     let was = marked i free in
     pair_kept (0 + 2 * (i * s)) s old new whole (same was.1) (calm i l was.0)
@@ -277,7 +284,8 @@ odd_fill s r u v n first second old new whole wide fills marked calm i l free =
         (λ le. let h = place_before s i (v + 2) (omega (arith, other)) in fills.after q (omega arith))
 
 -- ---- no live cell
-pub none_calm : (p s r : ℕ) (marks words : List ℕ) → ((q : ℕ) → cell_at words q ≡ false) → AreCalm p s r marks words
+pub none_calm : (p s r : ℕ) (marks words : List ℕ) → ((q : ℕ) → cell_at words q ≡ false) →
+    AreRowPairsStable p s r marks words
 none_calm p s r marks words none i l free = record {
   upper = λ j m. none (at + j) ∙ sym (dead (at + j) (at + s + mate j) (at + mate j) (at + s + j));
   lower = λ j m. none (at + s + j) ∙ sym (dead (at + s + j) (at + mate j) (at + s + mate j) (at + j));

@@ -1,10 +1,10 @@
 -- Two balls that meet in a block.
 use Rattle.std.proofs.Common.{refl}
 use Rattle.bbm_rule.specs.Plane.{step, turned}
-use Rattle.bbm_rule.specs.Laws.{TwoBallsTurn}
+use Rattle.bbm_rule.specs.Laws.{TwoBallsLeaveAtRightAngles}
 use Rattle.bbm_rule.proofs.PlaneLemmas.{partner_twice}
 
-pub two_turn : TwoBallsTurn
+pub two_turn : TwoBallsLeaveAtRightAngles
 unfolding step turned
 two_turn t s x y meets = record {
   here = rw (meets.here, meets.opposite, meets.beside, meets.below) refl;

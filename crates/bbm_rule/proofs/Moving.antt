@@ -4,7 +4,7 @@ use Rattle.std.specs.Prelude.{ℤ, pos, negsuc, ◌+ℤ◌, ◌-ℤ◌}
 use Rattle.std.proofs.lemmas.Bool.{cases_Bool, cases_lt, cond-true, cond-false}
 use Rattle.std.proofs.lemmas.Int.{ints}
 use Rattle.bbm_rule.specs.Plane.{parity, partner, turned, step}
-use Rattle.bbm_rule.specs.Moves.{StepMovesAlong}
+use Rattle.bbm_rule.specs.Moves.{StepCommutesWithMoves}
 
 -- what is added is at least, or at most, what is there
 sum_up : (a b c : ℕ) → a ≡ suc b + c → pos a +ℤ negsuc b ≡ pos c
@@ -67,7 +67,7 @@ partner_moved t x d even =
 same_turned : (a a' b b' c c' d d' : Bool) → a ≡ a' → b ≡ b' → c ≡ c' → d ≡ d' → turned a b c d ≡ turned a' b' c' d'
 same_turned a a' b b' c c' d d' p q r s = λ i. turned (p i) (q i) (r i) (s i)
 
-pub step_moved : StepMovesAlong
+pub step_moved : StepCommutesWithMoves
 unfolding step
 step_moved t dx dy s s' even_x even_y moved x y =
     let px : partner t (x +ℤ dx) ≡ partner t x +ℤ dx = partner_moved t x dx even_x in

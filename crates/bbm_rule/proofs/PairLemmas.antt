@@ -7,7 +7,7 @@ use Rattle.std.proofs.Math.Nat.{div-add-mod}
 use Rattle.std.proofs.Math.Dec.{eqb}
 use Rattle.std.proofs.Math.Bool.{or-false}
 use Rattle.bbm_rule.specs.Plane.{turned}
-use Rattle.bbm_rule.specs.Bits.{bit, AreSameBits, IsBlank}
+use Rattle.bbm_rule.specs.Bits.{bit, AreSameBits, HasNoSetBit}
 use Rattle.bbm_rule.specs.Rows.{cell_at, mate, AreFlips, ArePairsTurned, HasWindow}
 use Rattle.bbm_rule.proofs.BitLemmas.{by_lt_or_le, by_eq_or_not, holds_below, below_from_test, bit-or, bit-shr}
 use Rattle.bbm_rule.proofs.BitLemmas.{bit-mod, bit-shl_low, bit-shl_high, bit_above, bit-xor, xor, xor_false}
@@ -143,7 +143,7 @@ pairs_turned a b main anti flips = record {
 }
 
 -- a word stays where nothing flips
-pub flipped_same : (a main anti : ℕ) → IsBlank main → IsBlank anti →
+pub flipped_same : (a main anti : ℕ) → HasNoSetBit main → HasNoSetBit anti →
     AreSameBits a (bit_xor a (bit_or main (anti * 2 % 18446744073709551616)))
 flipped_same a main anti no_main no_anti zero l =
     rw (bit-xor a _ 0, joined_zero main anti, no_main 0) (xor_false (bit a 0))

@@ -7,9 +7,9 @@ use Rattle.std.proofs.lemmas.Nat.{xor_comm}
 use Rattle.std.proofs.lemmas.List.{get_or-set_same, get_or-set_other, set-set, set_comm}
 use Rattle.std.proofs.Math.Bool.{or-false}
 use Rattle.bbm_rule.specs.Plane.{turned}
-use Rattle.bbm_rule.specs.Bits.{bit, IsBlank}
+use Rattle.bbm_rule.specs.Bits.{bit, HasNoSetBit}
 use Rattle.bbm_rule.specs.Rows.{cell_at, mate, AreFlips, ArePairsTurned, AreSameCells, HasWindow, SetsWindow, TurnsRun}
-use Rattle.bbm_rule.specs.Rows.{flip, carry}
+use Rattle.bbm_rule.specs.Rows.{flip, carry_flips}
 use Rattle.bbm_rule.proofs.BitLemmas.{by_lt_or_le, by_eq_or_not, xor, xor_false, bit-or}
 use Rattle.bbm_rule.proofs.BitLemmas.{bit-xor, bit-shr, bit-zero, bit_above}
 use Rattle.bbm_rule.proofs.PairLemmas.{by_place, cell_in_word, cells_turned, flips_below, joined_zero, row_flipped}
@@ -198,17 +198,17 @@ window_set i v a n b m main anti words room flips has = record {
 pub word_shifted : (i s x y main anti m a : ℕ) (words : List ℕ) → 0 < s → i + s + 1 < length words →
     (s ≡ 1 → main ≡ 0) → main < 2 ^ 64 → anti < 2 ^ 64 → HasWindow words (64 * i + 1) x →
     HasWindow words (64 * (i + s) + 1) y → AreFlips second_mask (get_or words i 0) x (get_or words (i + s) 0) y m a →
-    let old = carry i s main anti words in
-    let new = carry (i + 1) s m a (set (set words i
+    let old = carry_flips i s main anti words in
+    let new = carry_flips (i + 1) s m a (set (set words i
     (bit_xor (bit_xor (get_or words i 0) (anti / 9223372036854775808)) (bit_or m (a * 2 % 18446744073709551616))))
     (i + s) (bit_xor (bit_xor (get_or words (i + s) 0) (main / 9223372036854775808))
     (bit_or a (m * 2 % 18446744073709551616)))) in
-    TurnsRun (64 * i + 1) 64 (64 * s) old new × (IsBlank m → IsBlank a → AreSameCells old new)
+    TurnsRun (64 * i + 1) 64 (64 * s) old new × (HasNoSetBit m → HasNoSetBit a → AreSameCells old new)
 word_shifted i s x y main anti m a words positive room alone small small' has_x has_y flips =
     rw same_words (run, stays)
   where
     old : List ℕ
-    old = carry i s main anti words
+    old = carry_flips i s main anti words
 
     mid : List ℕ
     mid = flip_window i m a old
@@ -263,16 +263,16 @@ word_shifted i s x y main anti m a words positive room alone small small' has_x 
         windows_turned (64 * i + 1) (64 * s) x y _ _ old mid new (omega arith) has_above (rw place at has_below) pairs
         sets_above (rw place at sets_below)
 
-    same_bits : (v f g : ℕ) → IsBlank f → IsBlank g → (j : ℕ) → j < 64 →
+    same_bits : (v f g : ℕ) → HasNoSetBit f → HasNoSetBit g → (j : ℕ) → j < 64 →
         bit (bit_xor v (window_flips f g)) j ≡ bit v j
     same_bits v f g no_f no_g j l = rw (window_bit v f g j, no_f (1 + j), no_g j) (xor_false (bit v j))
 
-    stays : IsBlank m → IsBlank a → AreSameCells old new
+    stays : HasNoSetBit m → HasNoSetBit a → AreSameCells old new
     stays no_m no_a q =
         window_same (64 * (i + s) + 1) _ y mid new (same_bits y a m no_a no_m) has_mid sets_below q
         ∙ window_same (64 * i + 1) _ x old mid (same_bits x m a no_m no_a) has_above sets_above q
 
-    same_words : carry (i + 1) s m a (set (set words i
+    same_words : carry_flips (i + 1) s m a (set (set words i
         (bit_xor (bit_xor (get_or words i 0) (anti / 9223372036854775808)) (bit_or m (a * 2 % 18446744073709551616))))
         (i + s) (bit_xor (bit_xor (get_or words (i + s) 0) (main / 9223372036854775808))
         (bit_or a (m * 2 % 18446744073709551616)))) ≡ new

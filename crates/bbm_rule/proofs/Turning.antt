@@ -6,7 +6,7 @@ use Rattle.std.proofs.Math.Bool.{and-false, and-true}
 use Rattle.std.specs.Prelude.{bit_xor}
 use Rattle.bbm_rule.specs.Plane.{turned}
 use Rattle.bbm_rule.specs.Words.{turn_of, AreTurned}
-use Rattle.bbm_rule.specs.Bits.{bit, IsBlank}
+use Rattle.bbm_rule.specs.Bits.{bit, HasNoSetBit}
 use Rattle.bbm_rule.specs.Rows.{AreFlips}
 use Rattle.bbm_rule.proofs.BitLemmas.{holds_below, below_from_test, xor, bit-and, bit-or, bit-xor}
 
@@ -113,8 +113,8 @@ words_turned ul ur ll lr = record {
 flip_none : (changed other j : ℕ) → bit changed j ≡ false → bit (bit_xor changed (bit_and changed other)) j ≡ false
 flip_none changed other j none = rw (bit-xor changed _ j, bit-and changed other j, none) refl
 
-pub no_flips : (changed main anti : ℕ) → IsBlank changed →
-    IsBlank (bit_xor changed (bit_and changed anti)) × IsBlank (bit_xor changed (bit_and changed main))
+pub no_flips : (changed main anti : ℕ) → HasNoSetBit changed →
+    HasNoSetBit (bit_xor changed (bit_and changed anti)) × HasNoSetBit (bit_xor changed (bit_and changed main))
 no_flips changed main anti none = (λ j. flip_none changed anti j (none j), λ j. flip_none changed main j (none j))
 
 -- the flips of some blocks

@@ -4,5 +4,5 @@ use Rattle.bbm_rule.specs.Rows.{TurnsRun}
 use Rattle.bbm_rule.specs.Marks.{IsUnmarked}
 
 -- the pairs of rows without a mark stay when they are turned: r pairs of rows of s cells, the first at place p
-abbrev pub AreCalm : ℕ → ℕ → ℕ → List ℕ → List ℕ → Type 0
-AreCalm p s r marks words = (i : ℕ) → i < r → IsUnmarked marks i → TurnsRun (p + 2 * (i * s)) s s words words
+abbrev pub AreRowPairsStable : ℕ → ℕ → ℕ → List ℕ → List ℕ → Type 0
+AreRowPairsStable p s r marks words = (i : ℕ) → i < r → IsUnmarked marks i → TurnsRun (p + 2 * (i * s)) s s words words

@@ -7,8 +7,8 @@ unfoldable pub bit : ℕ → ℕ → Bool
 bit a i = bit_at a i == 1
 
 -- no bit is set
-abbrev pub IsBlank : ℕ → Type 0
-IsBlank n = (j : ℕ) → bit n j ≡ false
+abbrev pub HasNoSetBit : ℕ → Type 0
+HasNoSetBit n = (j : ℕ) → bit n j ≡ false
 
 -- both words have the same bits
 abbrev pub AreSameBits : ℕ → ℕ → Type 0

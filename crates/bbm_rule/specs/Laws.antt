@@ -25,8 +25,8 @@ pub record LeavesAtRightAngles (t : ℕ) (s : State) (x y : ℤ) : Type 0 where
   pub below : step t s x (partner t y) ≡ true
 
 -- so it is in each block of the plane, at each time
-abbrev pub TwoBallsTurn : Type 0
-TwoBallsTurn = (t : ℕ) (s : State) (x y : ℤ) → MeetsHeadOn t s x y → LeavesAtRightAngles t s x y
+abbrev pub TwoBallsLeaveAtRightAngles : Type 0
+TwoBallsLeaveAtRightAngles = (t : ℕ) (s : State) (x y : ℤ) → MeetsHeadOn t s x y → LeavesAtRightAngles t s x y
 
 -- the live cells are (2, 2) and (5, 5)
 abbrev pub two_balls : State

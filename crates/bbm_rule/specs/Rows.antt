@@ -45,8 +45,8 @@ abbrev pub flip : ℕ → ℕ → List ℕ → List ℕ
 flip i f words = set words i (bit_xor (slice_index words i) f)
 
 -- the first bits of word i and of the word s words behind it flip where anti and main have their last bit
-abbrev pub carry : ℕ → ℕ → ℕ → ℕ → List ℕ → List ℕ
-carry i s main anti words = flip (i + s) (main / 2 ^ 63) (flip i (anti / 2 ^ 63) words)
+abbrev pub carry_flips : ℕ → ℕ → ℕ → ℕ → List ℕ → List ℕ
+carry_flips i s main anti words = flip (i + s) (main / 2 ^ 63) (flip i (anti / 2 ^ 63) words)
 
 -- The blocks of the n cells from place p on and the n cells a row of s cells below are turned, and no other cell
 -- changes.
@@ -112,5 +112,5 @@ HasDeadMargin w h s words = (x y : ℕ) → x < w + 2 → y < h + 2 → is_inner
     cell_at words (s * y + x) ≡ false
 
 -- none of it in row y is
-abbrev pub IsDeadMarginIn : ℕ → ℕ → ℕ → ℕ → List ℕ → Type 0
-IsDeadMarginIn w h s y words = (x : ℕ) → x < w + 2 → is_inner w h x y ≡ false → cell_at words (s * y + x) ≡ false
+abbrev pub HasDeadMarginInRow : ℕ → ℕ → ℕ → ℕ → List ℕ → Type 0
+HasDeadMarginInRow w h s y words = (x : ℕ) → x < w + 2 → is_inner w h x y ≡ false → cell_at words (s * y + x) ≡ false

@@ -3,7 +3,7 @@
 ghost use Rattle.std.specs.Prelude.{◌≡◌, ◌+◌, ◌*◌, ◌/◌, ◌<◌, ◌≤◌, ◌^◌, ◌%◌, ℕ, length, false, ℤ, pos, ◌≤ℤ◌, ◌<ℤ◌};
 ghost use Rattle.std.specs.Bool.{OnTrue};
 ghost use Rattle.bbm_rule.specs.Marks.{IsUnmarked};
-ghost use Rattle.bbm_rule.specs.Rows.{cell_at, FillsRun, SetsPlace, place_in, HasLiveMargin, HasDeadMargin, IsDeadMarginIn};
+ghost use Rattle.bbm_rule.specs.Rows.{cell_at, FillsRun, SetsPlace, place_in, HasLiveMargin, HasDeadMargin, HasDeadMarginInRow};
 
 use crate::block::Cell;
 use crate::marks::next_marked;
@@ -101,7 +101,7 @@ pub(crate) fn has_live_margin(
     requires word_count { length words.now ≡ stride * (height + 2) }
     requires marks { height / 2 + 1 ≤ 64 * length marks.now }
     requires unmarked { (y : ℕ) → y < height + 2 → IsUnmarked marks.now (y / 2) →
-        IsDeadMarginIn width height (64 * stride) y words.now }
+        HasDeadMarginInRow width height (64 * stride) y words.now }
     ensures live { OnTrue result (HasLiveMargin width height (64 * stride) words.now) }
     ensures dead { result ≡ false → HasDeadMargin width height (64 * stride) words.now }
 {
@@ -126,7 +126,7 @@ fn is_margin_live(words: &[u64], stride: usize, width: usize, height: usize, y: 
     requires row { y < height + 2 }
     requires word_count { length words.now ≡ stride * (height + 2) }
     ensures live { OnTrue result (HasLiveMargin width height (64 * stride) words.now) }
-    ensures dead { result ≡ false → IsDeadMarginIn width height (64 * stride) y words.now }
+    ensures dead { result ≡ false → HasDeadMarginInRow width height (64 * stride) y words.now }
 {
     let first = stride * y;
     // The word of the last column is found once for all rows.

@@ -1,7 +1,7 @@
 //! Laws on the definitions alone.
 
-ghost use Rattle.bbm_rule.specs.Laws.{TurnTable, TwoBallsCollide, TwoBallsTurn, StepUndoesItself};
-ghost use Rattle.bbm_rule.specs.Moves.{StepMovesAlong};
+ghost use Rattle.bbm_rule.specs.Laws.{TurnTable, TwoBallsCollide, TwoBallsLeaveAtRightAngles, StepUndoesItself};
+ghost use Rattle.bbm_rule.specs.Moves.{StepCommutesWithMoves};
 
 /// States what each of the sixteen blocks becomes.
 pub fn turn_table()
@@ -13,7 +13,7 @@ pub fn turn_table()
 /// It holds in each block of the plane and at each time (clause `turn`). Clause `collide` is one such meeting, with the
 /// ways to it and from it.
 pub fn two_balls_collide()
-    ensures turn { TwoBallsTurn }
+    ensures turn { TwoBallsLeaveAtRightAngles }
     ensures collide { TwoBallsCollide }
 {}
 
@@ -26,6 +26,6 @@ pub fn step_undoes_itself()
 ///
 /// If a state is another one, moved by an even number of columns and of rows, so are the states after a step at any
 /// time.
-pub fn step_moves_along()
-    ensures { StepMovesAlong }
+pub fn step_commutes_with_moves()
+    ensures { StepCommutesWithMoves }
 {}

@@ -67,7 +67,7 @@ pub fn unmark(marks: &mut [u64], at: usize)
 
 /// Marks the number that is less than `at` by the distance, if there is one.
 #[inline(always)]
-pub fn mark_before(marks: &mut [u64], at: usize, distance: usize)
+pub fn mark_number_before(marks: &mut [u64], at: usize, distance: usize)
     requires { at / 64 < length marks.old }
     ensures { (u : ℕ) → IsUnmarked marks.new u → IsUnmarked marks.old u × (u + distance ≢ at) }
 {

@@ -2,11 +2,11 @@
 //! of word p / 64, and a row is `stride` words.
 
 ghost use Rattle.std.specs.Prelude.{◌≡◌, ◌+◌, ◌*◌, ◌<◌, ◌≤◌, ◌^◌, ◌-◌, length, false};
-ghost use Rattle.bbm_rule.specs.Bands.{AreCalm};
-ghost use Rattle.bbm_rule.specs.Bits.{AreSameBits, IsBlank};
-ghost use Rattle.bbm_rule.specs.Rows.{AreFlips, ArePairsTurned, AreSameCells, HasWindow, TurnsRun, TurnsRows, carry};
+ghost use Rattle.bbm_rule.specs.Bands.{AreRowPairsStable};
+ghost use Rattle.bbm_rule.specs.Bits.{AreSameBits, HasNoSetBit};
+ghost use Rattle.bbm_rule.specs.Rows.{AreFlips, ArePairsTurned, AreSameCells, HasWindow, TurnsRun, TurnsRows, carry_flips};
 
-use crate::marks::{mark, mark_before, next_marked, unmark};
+use crate::marks::{mark, mark_number_before, next_marked, unmark};
 
 // the first cell of each pair
 const FIRST_OF_PAIR: u64 = 0x5555_5555_5555_5555;
@@ -25,7 +25,7 @@ fn block_flips(
     lower_next: u64,
 ) -> (u64, u64, u64)
     ensures flips { AreFlips lefts upper upper_next lower lower_next result.0 result.1 }
-    ensures stays { IsBlank result.2 → IsBlank result.0 × IsBlank result.1 }
+    ensures stays { HasNoSetBit result.2 → HasNoSetBit result.0 × HasNoSetBit result.1 }
 {
     let main = upper ^ lower_next;
     let anti = upper_next ^ lower;
@@ -42,7 +42,7 @@ fn block_flips(
 #[inline(always)]
 fn turn_pairs(upper: u64, lower: u64) -> (u64, u64, u64)
     ensures turned { ArePairsTurned upper lower result.0 result.1 }
-    ensures stays { IsBlank result.2 → AreSameBits upper result.0 × AreSameBits lower result.1 }
+    ensures stays { HasNoSetBit result.2 → AreSameBits upper result.0 × AreSameBits lower result.1 }
 {
     let (main, anti, changed) = block_flips(FIRST_OF_PAIR, upper, upper >> 1, lower, lower >> 1);
     (
@@ -94,10 +94,11 @@ fn turn_words_shifted(
     requires rows_inside { i + stride + 1 < length words.old }
     requires wide { 0 < stride }
     requires alone { stride ≡ 1 → main ≡ 0 }
-    ensures turned { TurnsRun (64 * i + 1) 64 (64 * stride) (carry i stride main anti words.old)
-        (carry (i + 1) stride result.0 result.1 words.new) }
-    ensures stays { IsBlank result.2 → AreSameCells (carry i stride main anti words.old)
-        (carry (i + 1) stride result.0 result.1 words.new) }
+    ensures turned { TurnsRun (64 * i + 1) 64 (64 * stride)
+        (carry_flips i stride main anti words.old)
+        (carry_flips (i + 1) stride result.0 result.1 words.new) }
+    ensures stays { HasNoSetBit result.2 → AreSameCells (carry_flips i stride main anti words.old)
+        (carry_flips (i + 1) stride result.0 result.1 words.new) }
 {
     let (upper, lower) = (words[i], words[i + stride]);
     let (next_main, next_anti, changed) = block_flips(
@@ -153,18 +154,20 @@ pub(crate) fn turn_all_aligned(
     requires wide { 0 < stride }
     requires small { length words.old < 2 ^ 32 }
     requires marks { (pairs ≤ 64 * length own.old) × (pairs ≤ 64 * length others.old) }
-    requires own_calm { AreCalm 0 (64 * stride) pairs own.old words.old }
-    requires others { AreCalm (64 * stride + 1) (64 * stride) (pairs - 1) others.old words.old }
+    requires own_calm { AreRowPairsStable 0 (64 * stride) pairs own.old words.old }
+    requires others { AreRowPairsStable (64 * stride + 1) (64 * stride) (pairs - 1) others.old
+        words.old }
     ensures turned { TurnsRows 0 (64 * stride) pairs words.old words.new }
-    ensures own_calm { AreCalm 0 (64 * stride) pairs own.new words.new }
-    ensures others { AreCalm (64 * stride + 1) (64 * stride) (pairs - 1) others.new words.new }
+    ensures own_calm { AreRowPairsStable 0 (64 * stride) pairs own.new words.new }
+    ensures others { AreRowPairsStable (64 * stride + 1) (64 * stride) (pairs - 1) others.new
+        words.new }
 {
     let mut pair = next_marked(own, 0, pairs);
     'rows: while pair < pairs {
         if turn_aligned(words, 2 * (pair * stride), stride) {
             mark(own, pair);
             mark(others, pair);
-            mark_before(others, pair, 1);
+            mark_number_before(others, pair, 1);
         } else {
             unmark(own, pair);
         }
@@ -184,11 +187,11 @@ pub(crate) fn turn_all_shifted(
     requires wide { 0 < stride }
     requires small { length words.old < 2 ^ 32 }
     requires marks { (pairs ≤ 64 * length own.old) × (pairs + 1 ≤ 64 * length others.old) }
-    requires own_calm { AreCalm (64 * stride + 1) (64 * stride) pairs own.old words.old }
-    requires others { AreCalm 0 (64 * stride) (pairs + 1) others.old words.old }
+    requires own_calm { AreRowPairsStable (64 * stride + 1) (64 * stride) pairs own.old words.old }
+    requires others { AreRowPairsStable 0 (64 * stride) (pairs + 1) others.old words.old }
     ensures turned { TurnsRows (64 * stride + 1) (64 * stride) pairs words.old words.new }
-    ensures own_calm { AreCalm (64 * stride + 1) (64 * stride) pairs own.new words.new }
-    ensures others { AreCalm 0 (64 * stride) (pairs + 1) others.new words.new }
+    ensures own_calm { AreRowPairsStable (64 * stride + 1) (64 * stride) pairs own.new words.new }
+    ensures others { AreRowPairsStable 0 (64 * stride) (pairs + 1) others.new words.new }
 {
     let mut pair = next_marked(own, 0, pairs);
     'rows: while pair < pairs {

@@ -21,7 +21,7 @@ use Rattle.certificate_lines.specs.Entries.{ModuleLines, areas, edges, halos}
 use Rattle.certificate_lines.specs.Settings.{setting_of}
 use Rattle.module_job.specs.Jobs.{JobView}
 use Rattle.certificate.proofs.NearLines.{flat_all}
-use Rattle.certificate.specs.Jobs.{AreJobsOf, IsJobOf, event_by, line_signal, line_signals}
+use Rattle.certificate.specs.Jobs.{AreJobsOf, IsJobOf, events_of_line, line_signal, line_signals}
 use Rattle.certificate_lines.specs.Modules.{AreModules, IsModule}
 use Rattle.certificate_lines.specs.Rules.{whole}
 use Rattle.module_job.specs.Signals.{renumber_event, renumber_signals}
@@ -60,7 +60,7 @@ module _ (cs : List CircuitLine) (p : Pattern) where
 
   -- what holds of the cells of lines holds of those of their events
   one_cell : (P : Cell → Type 0) (d : BorderLine) (t : Option ℕ) (s : Signal) → P d.cell →
-      All (λ (h : TimedSignal). P h.at.cell) (event_by d t s)
+      All (λ (h : TimedSignal). P h.at.cell) (events_of_line d t s)
   one_cell P d None s here = All-nil _
   one_cell P d (Some t) s here = All-cons (λ (h : TimedSignal). P h.at.cell) _ [] here (All-nil _)
 
@@ -74,7 +74,7 @@ module _ (cs : List CircuitLine) (p : Pattern) where
       let got : slice_get by at.0 ≡ Some (f e) = ap (λ (r : Signals). slice_get r.events at.0) (sym same)
       ∙ slice_get-map f s.events at.0 ∙ ap (option_map f) at.1 in
       subst Q (get_or_from_slice_get by at.0 (f e) (f e) got)
-      (flat_all Q (λ d. event_by d d.time (line_signal (circuit_of cs) d.signal)) (λ d. P d.cell)
+      (flat_all Q (λ d. events_of_line d d.time (line_signal (circuit_of cs) d.signal)) (λ d. P d.cell)
       (λ d here. one_cell P d d.time (line_signal (circuit_of cs) d.signal) here) es all at.0 (f e)
       (slice_get_within by at.0 (f e) got))
 

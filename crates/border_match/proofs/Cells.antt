@@ -13,14 +13,14 @@ use Rattle.bbm_rule.specs.Spans.{in_span}
 use Rattle.bbm_rule.proofs.Spans.{span_from, span_parts}
 use Rattle.module_box.specs.Boxes.{in_box, in_halo}
 use Rattle.bbm_rule.specs.declared.block.Cell.{Cell}
-use Rattle.module_box.specs.Moves.{IsNear, IsSmallShift}
+use Rattle.module_box.specs.Moves.{IsInShiftRange, IsSmallShift}
 use Rattle.module_box.specs.Tiling.{owner_of}
 use Rattle.module_box.specs.declared.boxes.Box2.{Box2}
 use Rattle.module_box.specs.declared.schedules.Signal.{Signal}
 use Rattle.module_box.proofs.BoxCells.{in_span_nat, in_box_nats, same_some}
 use Rattle.module_box.proofs.NearBoxes.{near_one, near_parts}
 use Rattle.module_job.specs.Jobs.{JobView, IsJob}
-use Rattle.border_match.specs.Boards.{job_signal, jobs_of, IsAround, AreReadyBorders, Faults}
+use Rattle.border_match.specs.Boards.{job_signal, jobs_of, IsAround, AreReadyBorders, IsSearchedFault}
 use Rattle.border_match.specs.declared.signals.RingOrHalo.TheVariants.{Halo, Ring}
 use Rattle.border_match.specs.Boards.{Differ}
 use Rattle.border_match.specs.declared.borders.Borders.{Borders}
@@ -52,14 +52,14 @@ differ_is b t x y owner halo edge r numbered e f h = (
 
 pub fault_is : (b : Borders) (f : BorderFault) (r : Bool) → f.time % 2 ≡ 1 → f.time < b.job.now.steps →
     (in_box b.whole f.cell.x f.cell.y && in_halo b.job.now.area f.cell.x f.cell.y) ≡ true →
-    IsTrue r ↔ Differ b f.time f.cell.x f.cell.y → IsTrue r ↔ Faults b f
+    IsTrue r ↔ Differ b f.time f.cell.x f.cell.y → IsTrue r ↔ IsSearchedFault b f
 fault_is b f r odd early reached h =
     let both = and_parts (in_box b.whole f.cell.x f.cell.y) (in_halo b.job.now.area f.cell.x f.cell.y) reached in (
       λ yes. record { odd = odd; early = early; inside = both.0; halo = both.1; different = h.0 yes },
       λ g. h.1 g.different,
     )
 
-pub reached : (b : Borders) (f : BorderFault) → Faults b f →
+pub reached : (b : Borders) (f : BorderFault) → IsSearchedFault b f →
     (in_box b.whole f.cell.x f.cell.y && in_halo b.job.now.area f.cell.x f.cell.y) ≡ true
 reached b f g = and_from _ _ g.inside g.halo
 
@@ -70,7 +70,7 @@ small_number z n m w e lt few = (omega (arith, ints, e), omega (arith, ints, e, 
 
 -- a cell of the rectangle is in the box of a job
 pub owned_near : (b : Borders) (c : Cell) (owner : JobView) → AreReadyBorders b → in_box b.whole c.x c.y ≡ true →
-    slice_get (jobs_of b) (owner_of b.owners.now c.x c.y) ≡ Some owner → IsJob owner → IsNear c
+    slice_get (jobs_of b) (owner_of b.owners.now c.x c.y) ≡ Some owner → IsJob owner → IsInShiftRange c
 owned_near b c owner ready inside got is =
     let m = ready.0.holder c.x c.y inside in
     let same : m.0 ≡ owner = same_some (slice_get (jobs_of b) (owner_of b.owners.now c.x c.y)) m.0 owner m.1 got in
@@ -176,11 +176,11 @@ area_from a x y left right top bottom =
     and_from _ _ (span_from a.x a.w x left right) (span_from a.y a.h y top bottom)
 
 -- where a fault is
-pub placed : (b : Borders) (f : BorderFault) → Faults b f → IsPlaced b f.cell.x f.cell.y
+pub placed : (b : Borders) (f : BorderFault) → IsSearchedFault b f → IsPlaced b f.cell.x f.cell.y
 placed b f g = cell_placed b f.cell.x f.cell.y g.inside g.halo
 
 -- a fault is around the module's box
-pub fault_around : (b : Borders) (f : BorderFault) → Faults b f → IsAround b.job.now.area f.cell.x f.cell.y
+pub fault_around : (b : Borders) (f : BorderFault) → IsSearchedFault b f → IsAround b.job.now.area f.cell.x f.cell.y
 fault_around b f g =
     let p = placed b f g in
     let px = p.x in let py = p.y in

@@ -14,7 +14,8 @@ use Rattle.module_box.specs.declared.schedules.TimedSignal.{TimedSignal}
 use Rattle.module_box.specs.declared.schedules.Moment.{Moment}
 use Rattle.module_box.proofs.BoxCells.{same_some}
 use Rattle.module_box.proofs.Rising.{moment_total}
-use Rattle.border_match.specs.Surroundings.{AreFar, AreFarBetween, IsAroundFrom, IsFarAt, IsSeen, IsWindow}
+use Rattle.border_match.specs.Surroundings.{AreEventsFar, AreFarBetween, IsInOrAroundFrom, IsEventFarAt, IsSeen}
+use Rattle.border_match.specs.Surroundings.{IsWindow}
 use Rattle.border_match.specs.declared.surroundings.Window.{Window}
 
 -- ---- the order of moments by their parts
@@ -165,7 +166,7 @@ passed_none events start at i e from lt got = absurd (omega (arith, from, lt))
 -- ---- events at far cells
 
 -- a cell around a box is seen in its window
-pub seen : (area corner : Box2) (w : Window) (c : Cell) → IsWindow area corner w → IsAroundFrom area corner c →
+pub seen : (area corner : Box2) (w : Window) (c : Cell) → IsWindow area corner w → IsInOrAroundFrom area corner c →
     IsSeen w c
 seen area corner w c is g =
     let e = is.left in let f = is.right in let p = is.top in let q = is.bottom in
@@ -179,9 +180,9 @@ seen area corner w c is g =
 -- The events behind one at a far cell are at far cells as long as they are before the next moment that may be at a
 -- cell of the window.
 pub far_to : (w : Window) (events : List TimedSignal) (place next : ℕ) (d : TimedSignal) (moment : Moment) →
-    IsRising moment_cmp moment_of events → place < length events → IsFarAt w events place →
+    IsRising moment_cmp moment_of events → place < length events → IsEventFarAt w events place →
     AreFarBetween w (get_or events place d).at moment → ArePassed events (place + 1) next moment →
-    AreFar w events place next
+    AreEventsFar w events place next
 far_to w events place next d moment rising within far between passed i e from lt got odd =
     elim (same_or_higher i place from) [
       | inr same ↦ far e (ap (slice_get events) same ∙ got)
@@ -189,25 +190,25 @@ far_to w events place next d moment rising within far between passed i e from lt
           (passed i e (omega (arith, l)) lt got) odd
     ]
 
-pub far_none : (w : Window) (events : List TimedSignal) (place : ℕ) → AreFar w events place place
+pub far_none : (w : Window) (events : List TimedSignal) (place : ℕ) → AreEventsFar w events place place
 far_none w events place i e from lt got odd = absurd (omega (arith, from, lt))
 
-pub far_more : (w : Window) (events : List TimedSignal) (start place : ℕ) → AreFar w events start place →
-    IsFarAt w events place → AreFar w events start (place + 1)
+pub far_more : (w : Window) (events : List TimedSignal) (start place : ℕ) → AreEventsFar w events start place →
+    IsEventFarAt w events place → AreEventsFar w events start (place + 1)
 far_more w events start place far here i e from lt got odd = elim (lower_or_same i place lt) [
   | inl l ↦ far i e from l got odd
   | inr same ↦ here e (ap (slice_get events) (sym same) ∙ got)
 ]
 
 pub far_joined : (w : Window) (events : List TimedSignal) (start middle last next : ℕ) → last ≤ middle →
-    AreFar w events start middle → AreFar w events last next → AreFar w events start next
+    AreEventsFar w events start middle → AreEventsFar w events last next → AreEventsFar w events start next
 far_joined w events start middle last next le far behind i e from lt got odd = elim (below_or_from i middle) [
   | inl l ↦ far i e from l got odd
   | inr g ↦ behind i e (omega (arith, le, g)) lt got odd
 ]
 
 pub far_at : (w : Window) (events : List TimedSignal) (place : ℕ) (d : TimedSignal) (r : Bool) → place < length events →
-    (IsSeen w (get_or events place d).at.cell → r ≡ true) → r ≡ false → IsFarAt w events place
+    (IsSeen w (get_or events place d).at.cell → r ≡ true) → r ≡ false → IsEventFarAt w events place
 far_at w events place d r within sees none e got g =
     let is = same_some (slice_get events place) e (get_or events place d) got
     (slice_get-get_or events place d within) in

@@ -19,7 +19,8 @@ use Rattle.module_box.specs.declared.schedules.TimedSignal.{TimedSignal}
 use Rattle.module_box.specs.declared.schedules.Moment.{Moment}
 use Rattle.module_box.proofs.BoxCells.{same_some}
 use Rattle.module_job.specs.Jobs.{JobView}
-use Rattle.border_match.specs.Boards.{AddsMark, AreMarked, DiffersAlways, Faults, IsAtEvent, IsEdgeNamed, IsListed}
+use Rattle.border_match.specs.Boards.{AddsMark, AreMarked, DiffersWithoutEvent, IsSearchedFault, IsAtEvent}
+use Rattle.border_match.specs.Boards.{IsAtEdgeEvent, IsListed}
 use Rattle.border_match.specs.Boards.{IsPlaceOf, AreReadyBorders, IsUnmarked, IsUnmarkedBelow, jobs_of}
 use Rattle.border_match.specs.declared.borders.Borders.{Borders}
 use Rattle.border_match.specs.declared.fault.BorderFault.{BorderFault}
@@ -153,8 +154,8 @@ mark_cases true = inl refl
 mark_cases false = inr refl
 
 pub fault_unmarked : (b : Borders) (seen : List Bool) (f : BorderFault) → AreReadyBorders b → AreMarked b seen →
-    Faults b f →
-    IsEdgeNamed b f ⊎ (IsUnmarked seen b.job.now.halos.events f ⊎ DiffersAlways b f)
+    IsSearchedFault b f →
+    IsAtEdgeEvent b f ⊎ (IsUnmarked seen b.job.now.halos.events f ⊎ DiffersWithoutEvent b f)
 fault_unmarked b seen f ready marked g = elim (fault_covered b f ready g) [
   | inl h ↦
       let within = slice_get_within b.job.now.halos.events h.place h.event h.got in

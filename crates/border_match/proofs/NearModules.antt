@@ -13,8 +13,9 @@ use Rattle.module_box.specs.declared.boxes.Box2.{Box2}
 use Rattle.module_box.proofs.BoxCells.{same_some}
 use Rattle.module_job.specs.Jobs.{JobView}
 use Rattle.border_match.proofs.Cells.{area_at, area_from, cell_placed, halo_out, whole_parts}
-use Rattle.border_match.specs.Boards.{AreColumnsNoted, AreNumbers, AreOwnersNoted, AreRowsNoted, IsAreaNoted}
-use Rattle.border_match.specs.Boards.{IsOwnerNoted, AreReadyBorders, KeepsNumbers, jobs_of, with_number}
+use Rattle.border_match.specs.Boards.{AreColumnOwnersListed, AreModuleNumbers, AreHaloOwnersListed, AreRowOwnersListed}
+use Rattle.border_match.specs.Boards.{AreAreaOwnersListed}
+use Rattle.border_match.specs.Boards.{IsOtherOwnerListed, AreReadyBorders, KeepsNumbers, jobs_of, with_number}
 use Rattle.border_match.specs.declared.borders.Borders.{Borders}
 
 -- ---- one number more
@@ -68,16 +69,16 @@ with_among ks new k is =
     let P : List ℕ → Type 0 = λ l. is_among l k ≡ true in
     subst P (sym is) (with_either P ks k (λ there. there) (last_among ks k))
 
-pub with_below : (b : Borders) (ks new : List ℕ) (k : ℕ) → new ≡ with_number ks k → AreNumbers b ks →
-    k < length b.jobs.now → AreNumbers b new
+pub with_below : (b : Borders) (ks new : List ℕ) (k : ℕ) → new ≡ with_number ks k → AreModuleNumbers b ks →
+    k < length b.jobs.now → AreModuleNumbers b new
 with_below b ks new k is below lt =
-    subst (AreNumbers b) (sym is) (with_either (AreNumbers b) ks k (λ _. below)
+    subst (AreModuleNumbers b) (sym is) (with_either (AreModuleNumbers b) ks k (λ _. below)
     (All-push (λ (k : ℕ). k < length b.jobs.now) ks k below lt))
 
 -- ---- columns and rows
 
-noted_still : (b : Borders) (old new : List ℕ) (x y : ℤ) → KeepsNumbers old new → IsOwnerNoted b old x y →
-    IsOwnerNoted b new x y
+noted_still : (b : Borders) (old new : List ℕ) (x y : ℤ) → KeepsNumbers old new → IsOtherOwnerListed b old x y →
+    IsOtherOwnerListed b new x y
 noted_still b old new x y keeps noted inside out = keeps _ (noted inside out)
 
 pub lower_or_same : (i m : ℕ) → i < m + 1 → (i < m) ⊎ (i ≡ m)
@@ -87,13 +88,13 @@ below_or_from : (i m : ℕ) → (i < m) ⊎ (m ≤ i)
 below_or_from i m = grind arith
 
 -- the cells of the module's box have no owner to be noted
-pub own_noted : (b : Borders) (ks : List ℕ) (a : Box2) → a ≡ b.job.now.area → IsAreaNoted b ks a
+pub own_noted : (b : Borders) (ks : List ℕ) (a : Box2) → a ≡ b.job.now.area → AreAreaOwnersListed b ks a
 own_noted b ks a same x y inside there out =
     absurd (false≢true (sym out ∙ ap (λ (z : Box2). in_box z x y) (sym same) ∙ inside))
 
 -- the cells of a module's box have that module as their owner
 pub owner_noted : (b : Borders) (ks : List ℕ) (k : ℕ) (j : JobView) (a : Box2) → AreReadyBorders b → a ≡ j.area →
-    slice_get (jobs_of b) k ≡ Some j → is_among ks k ≡ true → IsAreaNoted b ks a
+    slice_get (jobs_of b) k ≡ Some j → is_among ks k ≡ true → AreAreaOwnersListed b ks a
 owner_noted b ks k j a ready same got among x y inside there out =
     let P : ℕ → Type 0 = λ n. is_among ks n ≡ true in
     subst P (sym (ready.0.only x y k j there got (ap (λ (z : Box2). in_box z x y) (sym same) ∙ inside))) among
@@ -106,13 +107,13 @@ owner_holds b x y j a ready inside same got =
     ap (λ (z : Box2). in_box z x y) same
     ∙ ap (λ (z : JobView). in_box z.area x y) (same_some (slice_get (jobs_of b) _) j m.0 got m.1) ∙ m.2
 
-pub no_column : (b : Borders) (ks : List ℕ) (y z x : ℕ) → x ≡ b.job.now.area.x - 1 → AreColumnsNoted b ks y z x
+pub no_column : (b : Borders) (ks : List ℕ) (y z x : ℕ) → x ≡ b.job.now.area.x - 1 → AreColumnOwnersListed b ks y z x
 no_column b ks y z x from c r left lt top under = absurd (omega (arith, lt, left, from))
 
 -- the columns up to the last one of an area that has the cell (x, y), as far down as the area
 pub columns_more : (b : Borders) (old new : List ℕ) (y z z' x : ℕ) (a : Box2) (cx cy : ℤ) → cx ≡ pos x → cy ≡ pos y →
-    in_box a cx cy ≡ true → z' ≤ z → z' ≤ a.y + a.h → AreColumnsNoted b old y z x → KeepsNumbers old new →
-    IsAreaNoted b new a → AreColumnsNoted b new y z' (a.x + a.w)
+    in_box a cx cy ≡ true → z' ≤ z → z' ≤ a.y + a.h → AreColumnOwnersListed b old y z x → KeepsNumbers old new →
+    AreAreaOwnersListed b new a → AreColumnOwnersListed b new y z' (a.x + a.w)
 columns_more b old new y z z' x a cx cy ex ey has le within before keeps here c r left lt top under =
     let at = area_at a x y cx cy ex ey has in
     elim (below_or_from c x) [
@@ -123,8 +124,8 @@ columns_more b old new y z z' x a cx cy ex ey has le within before keeps here c 
 
 -- the columns behind x are outside of the rectangle or of the halo
 pub all_columns : (b : Borders) (ks : List ℕ) (y z x : ℕ) → AreReadyBorders b →
-    ((c : ℕ) → x ≤ c → c < b.job.now.area.x + b.job.now.area.w + 1 → b.whole.w ≤ c) → AreColumnsNoted b ks y z x →
-    AreRowsNoted b ks y z
+    ((c : ℕ) → x ≤ c → c < b.job.now.area.x + b.job.now.area.w + 1 → b.whole.w ≤ c) → AreColumnOwnersListed b ks y z x →
+    AreRowOwnersListed b ks y z
 all_columns b ks y z x ready end before c r left lt top under = elim (below_or_from c x) [
   | inl l ↦ before c r left l top under
   | inr from ↦ λ there out.
@@ -132,11 +133,11 @@ all_columns b ks y z x ready end before c r left lt top under = elim (below_or_f
       let inside = (whole_parts b c r ready there).0 in absurd (omega (arith, outside, inside))
 ]
 
-pub no_row : (b : Borders) (ks : List ℕ) (y z : ℕ) → z ≡ y → AreRowsNoted b ks y z
+pub no_row : (b : Borders) (ks : List ℕ) (y z : ℕ) → z ≡ y → AreRowOwnersListed b ks y z
 no_row b ks y z same c r left lt top under = absurd (omega (arith, top, under, same))
 
-pub rows_more : (b : Borders) (old new : List ℕ) (x y z : ℕ) → AreRowsNoted b old x y → KeepsNumbers old new →
-    AreRowsNoted b new y z → AreRowsNoted b new x z
+pub rows_more : (b : Borders) (old new : List ℕ) (x y z : ℕ) → AreRowOwnersListed b old x y → KeepsNumbers old new →
+    AreRowOwnersListed b new y z → AreRowOwnersListed b new x z
 rows_more b old new x y z above keeps here c r left lt top under = elim (below_or_from r y) [
   | inl l ↦ noted_still b old new (pos c) (pos r) keeps (above c r left lt top l)
   | inr from ↦ here c r left lt from under
@@ -145,7 +146,7 @@ rows_more b old new x y z above keeps here c r left lt top under = elim (below_o
 -- the rows behind y are outside of the rectangle or of the halo
 pub all_rows : (b : Borders) (ks : List ℕ) (y : ℕ) → AreReadyBorders b →
     ((r : ℕ) → y ≤ r → r < b.job.now.area.y + b.job.now.area.h + 1 → b.whole.h ≤ r) →
-    AreRowsNoted b ks (b.job.now.area.y - 1) y → AreOwnersNoted b ks
+    AreRowOwnersListed b ks (b.job.now.area.y - 1) y → AreHaloOwnersListed b ks
 all_rows b ks y ready end above x z there =
     let area = b.job.now.area in
     let both = and_parts (in_box b.whole x z) (in_halo area x z) there in

@@ -6,7 +6,7 @@ use Rattle.std.proofs.lemmas.Bool.{cases_Bool}
 use Rattle.std.proofs.lemmas.Option.{slice_get_within, get_or_from_slice_get}
 use Rattle.bbm_rule.specs.Plane.{is_at}
 use Rattle.circuit.specs.Meaning.{wires}
-use Rattle.module_box.specs.Schedules.{Signals, is_then, all_times_at, event_at, signal_at}
+use Rattle.module_box.specs.Schedules.{Signals, is_moment_at, all_times_at, event_at, signal_at}
 use Rattle.module_box.specs.declared.schedules.TimedSignal.{TimedSignal}
 use Rattle.module_box.specs.declared.schedules.AllTimes.{AllTimes}
 use Rattle.module_box.specs.declared.schedules.Signal.{Signal}
@@ -36,7 +36,7 @@ event_below : (n : ℕ) (es : List TimedSignal) (t : ℕ) (x y : ℤ) (d : Signa
     IsBelow n d → IsBelow n (unwrap_or (event_at es t x y) d)
 unfolding event_at
 event_below n [] t x y d all b = b
-event_below n (e ∷ es) t x y d all b = elim (cases_Bool (is_then e.at t x y)) [
+event_below n (e ∷ es) t x y d all b = elim (cases_Bool (is_moment_at e.at t x y)) [
   | inl h ↦ rw h (all_head (λ (g : TimedSignal). IsBelow n g.signal) e es all)
   | inr h ↦ rw h (event_below n es t x y d (all_tail (λ (g : TimedSignal). IsBelow n g.signal) e es all) b)
 ]

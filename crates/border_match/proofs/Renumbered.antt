@@ -6,12 +6,12 @@ use Rattle.std.specs.List.{All, flat_map}
 use Rattle.std.proofs.lemmas.Bool.{cases_Bool, cond-true, cond-false}
 use Rattle.std.proofs.lemmas.Bool.Decides.{nat_tests}
 use Rattle.bbm_rule.specs.Plane.{is_at}
-use Rattle.module_box.specs.Schedules.{Signals, is_then, all_times_at, event_at, signal_at}
+use Rattle.module_box.specs.Schedules.{Signals, is_moment_at, all_times_at, event_at, signal_at}
 use Rattle.module_box.specs.declared.schedules.TimedSignal.{TimedSignal}
 use Rattle.module_box.specs.declared.schedules.AllTimes.{AllTimes}
 use Rattle.module_box.specs.declared.schedules.Signal.{Signal}
 use Rattle.module_box.specs.declared.schedules.Signal.TheVariants.{Zero}
-use Rattle.certificate.specs.Jobs.{event_by}
+use Rattle.certificate.specs.Jobs.{events_of_line}
 use Rattle.module_job.specs.Signals.{renumber_signal, renumber_all_times, renumber_event, renumber_signals}
 use Rattle.certificate_lines.specs.declared.certificate_line.BorderLine.{BorderLine}
 
@@ -30,7 +30,7 @@ module _ (f : ℕ → ℕ) where
       event_at (map (renumber_event f) es) t x y ≡ option_map (renumber_signal f) (event_at es t x y)
   unfolding event_at
   event_renumbered [] t x y = refl
-  event_renumbered (e ∷ es) t x y = elim (cases_Bool (is_then e.at t x y)) [
+  event_renumbered (e ∷ es) t x y = elim (cases_Bool (is_moment_at e.at t x y)) [
     | inl h ↦ cond-true _ _ _ h ∙ ap (option_map (renumber_signal f)) (sym (cond-true _ _ _ h))
     | inr h ↦ cond-false _ _ _ h ∙ event_renumbered es t x y
         ∙ ap (option_map (renumber_signal f)) (sym (cond-false _ _ _ h))
@@ -69,7 +69,7 @@ not_then t b h = ap (λ a. a && b) (not_zero t h)
 
 one_quiet : (n : ℕ) (e : BorderLine) (t : Option ℕ) (s : Signal) (rest : List TimedSignal) (x y : ℤ) →
     IfSome t (λ t. (t % 2 ≡ 1) × (t < n)) → event_at rest 0 x y ≡ None →
-    event_at (event_by e t s ++ rest) 0 x y ≡ None
+    event_at (events_of_line e t s ++ rest) 0 x y ≡ None
 unfolding event_at
 one_quiet n e None s rest x y h r = r
 one_quiet n e (Some t) s rest x y h r = cond-false _ _ _ (not_then t (is_at e.cell x y) h.0) ∙ r
@@ -82,7 +82,7 @@ all_head P x xs all = all 0 x (omega arith)
 
 pub lines_quiet : (n : ℕ) (signal : BorderLine → Signal) (es : List BorderLine) (x y : ℤ) →
     All (λ e. IfSome e.time (λ t. (t % 2 ≡ 1) × (t < n))) es →
-    event_at (flat_map (λ e. event_by e e.time (signal e)) es) 0 x y ≡ None
+    event_at (flat_map (λ e. events_of_line e e.time (signal e)) es) 0 x y ≡ None
 unfolding event_at
 lines_quiet n signal [] x y all = refl
 lines_quiet n signal (e ∷ es) x y all =

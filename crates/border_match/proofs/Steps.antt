@@ -15,7 +15,7 @@ use Rattle.bbm_rule.specs.declared.block.Cell.{Cell}
 use Rattle.module_box.specs.Locals.{circuit_wire, is_among}
 use Rattle.module_box.specs.Moves.{moved_cell, moved_event}
 use Rattle.module_box.specs.Moments.{moment_cmp}
-use Rattle.module_box.specs.Schedules.{IsRising, Signals, all_times_at, event_at, moment_of, signal_at, is_then}
+use Rattle.module_box.specs.Schedules.{IsRising, Signals, all_times_at, event_at, moment_of, signal_at, is_moment_at}
 use Rattle.module_box.specs.Tiling.{owner_of}
 use Rattle.module_box.specs.declared.boxes.Box2.{Box2}
 use Rattle.module_box.specs.declared.schedules.TimedSignal.{TimedSignal}
@@ -28,16 +28,17 @@ use Rattle.module_job.specs.Jobs.{JobView}
 use Rattle.module_job.specs.Shapes.{shape_of, shift_to_origin}
 use Rattle.module_job.specs.Signals.{renumber_signal}
 use Rattle.border_match.specs.BorderFaults.{border_cmp}
-use Rattle.border_match.specs.Boards.{AreOwnersNoted, jobs_of, AreReadyBorders, Faults, IsNamed, IsNamedBelow}
-use Rattle.border_match.specs.Boards.{IsEdgeNamed}
-use Rattle.border_match.specs.Boards.{IsEdgeNamedAmong, IsEdgeNamedAt, DiffersAlways}
+use Rattle.border_match.specs.Boards.{AreHaloOwnersListed, jobs_of, AreReadyBorders, IsSearchedFault, IsNamed}
+use Rattle.border_match.specs.Boards.{IsNamedBelow}
+use Rattle.border_match.specs.Boards.{IsAtEdgeEvent}
+use Rattle.border_match.specs.Boards.{IsAtEdgeEventOfAny, IsAtEdgeEventOf, DiffersWithoutEvent}
 use Rattle.border_match.specs.Boards.{IsAround}
-use Rattle.border_match.specs.Surroundings.{AreFar, IsWindow}
+use Rattle.border_match.specs.Surroundings.{AreEventsFar, IsWindow}
 use Rattle.border_match.specs.declared.surroundings.Window.{Window}
 use Rattle.border_match.proofs.FarEvents.{below_or_from, seen}
 use Rattle.border_match.specs.declared.borders.Borders.{Borders}
 use Rattle.border_match.specs.declared.fault.BorderFault.{BorderFault}
-use Rattle.border_match.specs.Candidates.{Covers}
+use Rattle.border_match.specs.Candidates.{IsCandidateAtMost}
 use Rattle.border_match.proofs.FaultOrder.{border_total}
 use Rattle.border_match.proofs.Least.{covers_after}
 use Rattle.border_match.proofs.Cells.{fault_around, reached}
@@ -72,15 +73,15 @@ compared_alike a b = refl
 -- if the candidate is at most what one event names, it is at most what the events behind it name
 pub rest_covered : (events : List TimedSignal) (i : ℕ) (e : TimedSignal) (o : Option BorderFault) (f : BorderFault) →
     IsRising moment_cmp moment_of events → slice_get events i ≡ Some e →
-    Covers o (record { time = e.at.time; cell = e.at.cell }) → IsNamed events f →
-    IsNamedBelow i events f ⊎ Covers o f
+    IsCandidateAtMost o (record { time = e.at.time; cell = e.at.cell }) → IsNamed events f →
+    IsNamedBelow i events f ⊎ IsCandidateAtMost o f
 rest_covered events i e o f rising got covered h =
     let at : f ≡ record { time = h.event.at.time; cell = h.event.at.cell } =
     same_fault h.event.at.time h.event.at.cell f (sym h.time) (sym h.cell) in
     elim (before_at_after h.place i) [
       | inl lower ↦ inl (record { named = h; below = lower })
-      | inr rest ↦ inr (subst (Covers o) (sym at) (elim rest [
-        | inl same ↦ subst (λ (z : TimedSignal). Covers o (record { time = z.at.time; cell = z.at.cell }))
+      | inr rest ↦ inr (subst (IsCandidateAtMost o) (sym at) (elim rest [
+        | inl same ↦ subst (λ (z : TimedSignal). IsCandidateAtMost o (record { time = z.at.time; cell = z.at.cell }))
             (same_some (slice_get events i) e h.event got (ap (slice_get events) (sym same) ∙ h.got)) covered
         | inr after ↦ covers_after o _ _ covered (λ g. less_greater
             (sym (rising.rises i h.place e h.event after got h.got) ∙ sym (compared_alike e.at h.event.at) ∙ g))
@@ -112,7 +113,8 @@ cornered_all dx dy es events k are le =
 pub far_step : (b : Borders) (other : JobView) (a corner : Box2) (w : Window) (es : List TimedSignal) (i next : ℕ)
     (f : BorderFault) → a ≡ b.job.now.area → corner ≡ other.area → IsWindow a corner w →
     es ≡ map (moved_event (shift_to_origin other.area.x) (shift_to_origin other.area.y)) other.edges.events →
-    AreFar w es i next → Faults b f → IsNamedBelow next other.edges.events f → IsNamedBelow i other.edges.events f
+    AreEventsFar w es i next → IsSearchedFault b f → IsNamedBelow next other.edges.events f →
+    IsNamedBelow i other.edges.events f
 far_step b other a corner w es i next f same_area same_corner is are far g h =
     elim (below_or_from h.named.place i) [
       | inl lower ↦ record { named = h.named; below = lower }
@@ -136,7 +138,7 @@ far_step b other a corner w es i next f same_area same_corner is are far g h =
 -- ---- modules
 
 pub edges_step : (b : Borders) (ks : List ℕ) (i k : ℕ) (d : ℕ) (f : BorderFault) → i < length ks → k ≡ get_or ks i d →
-    IsEdgeNamedAmong (take (i + 1) ks) b f → IsEdgeNamedAmong (take i ks) b f ⊎ IsEdgeNamedAt k b f
+    IsAtEdgeEventOfAny (take (i + 1) ks) b f → IsAtEdgeEventOfAny (take i ks) b f ⊎ IsAtEdgeEventOf k b f
 edges_step b ks i k d f lt is h =
     let own = owner_of b.owners.now f.cell.x f.cell.y in
     elim (among_more (take i ks) k own
@@ -145,8 +147,8 @@ edges_step b ks i k d f lt is h =
       | inr same ↦ inr (h.0, same)
     ]
 
-pub edges_all : (b : Borders) (ks : List ℕ) (i : ℕ) (f : BorderFault) → length ks ≤ i → AreOwnersNoted b ks →
-    Faults b f → IsEdgeNamed b f → IsEdgeNamedAmong (take i ks) b f
+pub edges_all : (b : Borders) (ks : List ℕ) (i : ℕ) (f : BorderFault) → length ks ≤ i → AreHaloOwnersListed b ks →
+    IsSearchedFault b f → IsAtEdgeEvent b f → IsAtEdgeEventOfAny (take i ks) b f
 edges_all b ks i f le noted g h = (
   h,
   ap (λ l. is_among l (owner_of b.owners.now f.cell.x f.cell.y)) (take_all i ks le)
@@ -154,12 +156,12 @@ edges_all b ks i f le noted g h = (
 )
 
 other_is : (b : Borders) (k : ℕ) (other : JobView) (f : BorderFault) → slice_get (jobs_of b) k ≡ Some other →
-    (h : IsEdgeNamedAt k b f) → h.0.owner ≡ other
+    (h : IsAtEdgeEventOf k b f) → h.0.owner ≡ other
 other_is b k other f e h = same_some (slice_get (jobs_of b) k) h.0.owner other
     (ap (slice_get (jobs_of b)) (sym h.1) ∙ h.0.numbered) e
 
 pub edges_named : (b : Borders) (k : ℕ) (other : JobView) (f : BorderFault) → slice_get (jobs_of b) k ≡ Some other →
-    IsEdgeNamedAt k b f → IsNamed other.edges.events f
+    IsAtEdgeEventOf k b f → IsNamed other.edges.events f
 edges_named b k other f e h =
     let P : JobView → Type 0 = λ j. IsNamed j.edges.events f in
     subst P (other_is b k other f e h) h.0.named
@@ -211,7 +213,7 @@ not_true b p q = false≢true (sym p ∙ q)
 event_named : (es : List TimedSignal) (f : BorderFault) → (event_at es f.time f.cell.x f.cell.y ≡ None) ⊎ IsNamed es f
 unfolding event_at
 event_named [] f = inl refl
-event_named (e ∷ es) f = elim (cases_Bool (is_then e.at f.time f.cell.x f.cell.y)) [
+event_named (e ∷ es) f = elim (cases_Bool (is_moment_at e.at f.time f.cell.x f.cell.y)) [
   | inl t ↦
       let here : Moment = record { time = f.time; cell = f.cell } in
       let same : e.at ≡ here = then_moment e.at here t in
@@ -234,8 +236,8 @@ same_without : (s : Signals) (t t' : ℕ) (x y : ℤ) → event_at s.events t x 
 unfolding signal_at
 same_without s t t' x y e e' = ap (λ z. unwrap_or (all_times_at s.all_times x y) (unwrap_or z Zero)) (e ∙ sym e')
 
-pub fault_covered : (b : Borders) (f : BorderFault) → AreReadyBorders b → Faults b f →
-    IsNamed b.job.now.halos.events f ⊎ (IsEdgeNamed b f ⊎ DiffersAlways b f)
+pub fault_covered : (b : Borders) (f : BorderFault) → AreReadyBorders b → IsSearchedFault b f →
+    IsNamed b.job.now.halos.events f ⊎ (IsAtEdgeEvent b f ⊎ DiffersWithoutEvent b f)
 fault_covered b f ready g =
     let x = f.cell.x in
     let y = f.cell.y in

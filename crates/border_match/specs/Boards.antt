@@ -78,8 +78,8 @@ abbrev pub AreReadyBorders : Borders → Type 0
 AreReadyBorders b = IsBoard b.whole b.owners.now (jobs_of b) × IsQuiet b.job.now
 
 -- a border fault of the job that is searched
-abbrev pub Faults : Borders → BorderFault → Type 0
-Faults b f = IsJobFault b.whole b.owners.now (jobs_of b) b.job.now f
+abbrev pub IsSearchedFault : Borders → BorderFault → Type 0
+IsSearchedFault b f = IsJobFault b.whole b.owners.now (jobs_of b) b.job.now f
 
 -- f is at an odd time below the steps, and at a cell of the halo and of the rectangle
 pub record MayBeFault (b : Borders) (f : BorderFault) : Type 0 where
@@ -119,30 +119,30 @@ pub record IsNamedBelow (k : ℕ) (events : List TimedSignal) (f : BorderFault) 
   pub below : named.place < k
 
 -- an event of the edges of the module that has f's cell is at the time and cell of f
-pub record IsEdgeNamed (b : Borders) (f : BorderFault) : Type 0 where
+pub record IsAtEdgeEvent (b : Borders) (f : BorderFault) : Type 0 where
   pub owner : JobView
   pub numbered : slice_get (jobs_of b) (owner_of b.owners.now f.cell.x f.cell.y) ≡ Some owner
   pub named : IsNamed owner.edges.events f
 
 -- the same, and that module's number is one of these
-abbrev pub IsEdgeNamedAmong : List ℕ → Borders → BorderFault → Type 0
-IsEdgeNamedAmong ks b f = IsEdgeNamed b f × IsTrue (is_among ks (owner_of b.owners.now f.cell.x f.cell.y))
+abbrev pub IsAtEdgeEventOfAny : List ℕ → Borders → BorderFault → Type 0
+IsAtEdgeEventOfAny ks b f = IsAtEdgeEvent b f × IsTrue (is_among ks (owner_of b.owners.now f.cell.x f.cell.y))
 
 -- the same, and that module has the number k
-abbrev pub IsEdgeNamedAt : ℕ → Borders → BorderFault → Type 0
-IsEdgeNamedAt k b f = IsEdgeNamed b f × (owner_of b.owners.now f.cell.x f.cell.y ≡ k)
+abbrev pub IsAtEdgeEventOf : ℕ → Borders → BorderFault → Type 0
+IsAtEdgeEventOf k b f = IsAtEdgeEvent b f × (owner_of b.owners.now f.cell.x f.cell.y ≡ k)
 
 -- at time 0, which has no event, the signals of f's cell differ, and so at all times without one
-abbrev pub DiffersAlways : Borders → BorderFault → Type 0
-DiffersAlways b f = Differ b 0 f.cell.x f.cell.y
+abbrev pub DiffersWithoutEvent : Borders → BorderFault → Type 0
+DiffersWithoutEvent b f = Differ b 0 f.cell.x f.cell.y
 
 -- the same, and c is f's cell
-abbrev pub DiffersAlwaysAt : Borders → Cell → BorderFault → Type 0
-DiffersAlwaysAt b c f = DiffersAlways b f × (f.cell ≡ c)
+abbrev pub DiffersWithoutEventAt : Borders → Cell → BorderFault → Type 0
+DiffersWithoutEventAt b c f = DiffersWithoutEvent b f × (f.cell ≡ c)
 
 -- the same, and a line of the list says something of f's cell at all times
 pub record IsStarred (b : Borders) (stars : List AllTimes) (f : BorderFault) : Type 0 where
-  pub differs : DiffersAlways b f
+  pub differs : DiffersWithoutEvent b f
   pub place : ℕ
   pub star : AllTimes
   pub got : slice_get stars place ≡ Some star
@@ -160,8 +160,8 @@ pub record IsEdgeStarred (b : Borders) (f : BorderFault) : Type 0 where
   pub starred : IsStarred b owner.edges.all_times f
 
 -- a halo line of the module does, or an edge line of the module that has f's cell and one of these numbers
-abbrev pub IsStarredAmong : List ℕ → Borders → BorderFault → Type 0
-IsStarredAmong ks b f = IsStarred b b.job.now.halos.all_times f
+abbrev pub HasStarLineAmong : List ℕ → Borders → BorderFault → Type 0
+HasStarLineAmong ks b f = IsStarred b b.job.now.halos.all_times f
     ⊎ (IsEdgeStarred b f × IsTrue (is_among ks (owner_of b.owners.now f.cell.x f.cell.y)))
 
 -- ---- marks of the halo events that edges name
@@ -182,7 +182,7 @@ pub record AddsMark (events : List TimedSignal) (at : Moment) (old new : List Bo
 pub record AreMarked (b : Borders) (seen : List Bool) : Type 0 where
   pub sized : length seen ≡ length b.job.now.halos.events
   pub edges : (p : ℕ) (e : TimedSignal) (f : BorderFault) → slice_get seen p ≡ Some true →
-      slice_get b.job.now.halos.events p ≡ Some e → IsAtEvent e f → IsEdgeNamed b f
+      slice_get b.job.now.halos.events p ≡ Some e → IsAtEvent e f → IsAtEdgeEvent b f
 
 -- an event of the list without a mark is at the time and cell of f
 pub record IsUnmarked (seen : List Bool) (events : List TimedSignal) (f : BorderFault) : Type 0 where
@@ -197,39 +197,39 @@ pub record IsUnmarkedBelow (k : ℕ) (seen : List Bool) (events : List TimedSign
 -- ---- the modules that have cells of a module's halo
 
 -- these are numbers of modules
-abbrev pub AreNumbers : Borders → List ℕ → Type 0
-AreNumbers b ks = All (λ k. k < length b.jobs.now) ks
+abbrev pub AreModuleNumbers : Borders → List ℕ → Type 0
+AreModuleNumbers b ks = All (λ k. k < length b.jobs.now) ks
 
 -- none is lost
 abbrev pub KeepsNumbers : List ℕ → List ℕ → Type 0
 KeepsNumbers old new = (k : ℕ) → IsTrue (is_among old k) → IsTrue (is_among new k)
 
 -- if the cell (x, y) is in the rectangle and in the halo, the number of the module that has it is one of these
-abbrev pub IsNoted : Borders → List ℕ → ℤ → ℤ → Type 0
-IsNoted b ks x y = (in_box b.whole x y && in_halo b.job.now.area x y) ≡ true →
+abbrev pub IsHaloOwnerListed : Borders → List ℕ → ℤ → ℤ → Type 0
+IsHaloOwnerListed b ks x y = (in_box b.whole x y && in_halo b.job.now.area x y) ≡ true →
     IsTrue (is_among ks (owner_of b.owners.now x y))
 
 -- the same of all cells
-abbrev pub AreOwnersNoted : Borders → List ℕ → Type 0
-AreOwnersNoted b ks = (x y : ℤ) → IsNoted b ks x y
+abbrev pub AreHaloOwnersListed : Borders → List ℕ → Type 0
+AreHaloOwnersListed b ks = (x y : ℤ) → IsHaloOwnerListed b ks x y
 
 -- if the cell (x, y) is in the rectangle and not in the box, the number of the module that has it is one of these
-abbrev pub IsOwnerNoted : Borders → List ℕ → ℤ → ℤ → Type 0
-IsOwnerNoted b ks x y = in_box b.whole x y ≡ true → in_box b.job.now.area x y ≡ false →
+abbrev pub IsOtherOwnerListed : Borders → List ℕ → ℤ → ℤ → Type 0
+IsOtherOwnerListed b ks x y = in_box b.whole x y ≡ true → in_box b.job.now.area x y ≡ false →
     IsTrue (is_among ks (owner_of b.owners.now x y))
 
 -- the same of the cells of an area
-abbrev pub IsAreaNoted : Borders → List ℕ → Box2 → Type 0
-IsAreaNoted b ks a = (x y : ℤ) → IsTrue (in_box a x y) → IsOwnerNoted b ks x y
+abbrev pub AreAreaOwnersListed : Borders → List ℕ → Box2 → Type 0
+AreAreaOwnersListed b ks a = (x y : ℤ) → IsTrue (in_box a x y) → IsOtherOwnerListed b ks x y
 
 -- the same of the cells in the rows from y on and before z, and in the columns of the halo before x
-abbrev pub AreColumnsNoted : Borders → List ℕ → ℕ → ℕ → ℕ → Type 0
-AreColumnsNoted b ks y z x =
-    (c r : ℕ) → b.job.now.area.x - 1 ≤ c → c < x → y ≤ r → r < z → IsOwnerNoted b ks (pos c) (pos r)
+abbrev pub AreColumnOwnersListed : Borders → List ℕ → ℕ → ℕ → ℕ → Type 0
+AreColumnOwnersListed b ks y z x =
+    (c r : ℕ) → b.job.now.area.x - 1 ≤ c → c < x → y ≤ r → r < z → IsOtherOwnerListed b ks (pos c) (pos r)
 
 -- the same of the cells in those rows and in all columns of the halo
-abbrev pub AreRowsNoted : Borders → List ℕ → ℕ → ℕ → Type 0
-AreRowsNoted b ks y z = AreColumnsNoted b ks y z (b.job.now.area.x + b.job.now.area.w + 1)
+abbrev pub AreRowOwnersListed : Borders → List ℕ → ℕ → ℕ → Type 0
+AreRowOwnersListed b ks y z = AreColumnOwnersListed b ks y z (b.job.now.area.x + b.job.now.area.w + 1)
 
 -- the numbers with one more behind them, unless it is among them
 abbrev pub with_number : List ℕ → ℕ → List ℕ

@@ -11,8 +11,8 @@ use Rattle.border_match.specs.Boards.{IsAround}
 use Rattle.border_match.specs.declared.surroundings.Window.{Window}
 
 -- the cell, which is counted from the corner of the second box, is around the first box
-abbrev pub IsAroundFrom : Box2 → Box2 → Cell → Type 0
-IsAroundFrom area corner c = IsAround area (c.x +ℤ pos corner.x) (c.y +ℤ pos corner.y)
+abbrev pub IsInOrAroundFrom : Box2 → Box2 → Cell → Type 0
+IsInOrAroundFrom area corner c = IsAround area (c.x +ℤ pos corner.x) (c.y +ℤ pos corner.y)
 
 -- the window's columns and rows are those around the first box, counted from the corner of the second
 pub record IsWindow (area corner : Box2) (w : Window) : Type 0 where
@@ -34,12 +34,12 @@ AreFarBetween w at next =
     (m : Moment) → moment_cmp at m ≡ Less → moment_cmp m next ≡ Less → m.time % 2 ≡ 1 → ¬ IsSeen w m.cell
 
 -- the event at the place is at no cell of the window
-abbrev pub IsFarAt : Window → List TimedSignal → ℕ → Type 0
-IsFarAt w events place = (e : TimedSignal) → slice_get events place ≡ Some e → ¬ IsSeen w e.at.cell
+abbrev pub IsEventFarAt : Window → List TimedSignal → ℕ → Type 0
+IsEventFarAt w events place = (e : TimedSignal) → slice_get events place ≡ Some e → ¬ IsSeen w e.at.cell
 
 -- no event of the list from the first place on and before the second is at an odd time and at a cell of the window
-abbrev pub AreFar : Window → List TimedSignal → ℕ → ℕ → Type 0
-AreFar w events place next = (i : ℕ) (e : TimedSignal) → place ≤ i → i < next → slice_get events i ≡ Some e →
+abbrev pub AreEventsFar : Window → List TimedSignal → ℕ → ℕ → Type 0
+AreEventsFar w events place next = (i : ℕ) (e : TimedSignal) → place ≤ i → i < next → slice_get events i ≡ Some e →
     e.at.time % 2 ≡ 1 → ¬ IsSeen w e.at.cell
 
 -- the place of the first event from a place on that is not before the moment, or the end of the list

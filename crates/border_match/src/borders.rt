@@ -2,16 +2,16 @@
 
 ghost use Rattle.std.specs.Prelude.{◌+◌, ◌≡◌, ◌<◌, ◌↔◌, ◌&&◌, false, length, slice_get, slice_set, true, IsTrue, Some, IfSome, IfOk};
 ghost use Rattle.module_box.specs.Boxes.{in_box, in_halo};
-ghost use Rattle.module_box.specs.Moves.{IsNear};
+ghost use Rattle.module_box.specs.Moves.{IsInShiftRange};
 ghost use Rattle.module_box.specs.Tiling.{owner_of};
-ghost use Rattle.border_match.specs.Boards.{AddsMark, AreMarked, AreNumbers, AreOwnersNoted, Differ, Faults, IsEdgeNamed, IsEdgeNamedAt, IsAtEvent, IsListed, IsNamed, IsPlaceOf, IsUnmarked, AreReadyBorders, MayBeFault, job_signal, jobs_of};
+ghost use Rattle.border_match.specs.Boards.{AddsMark, AreMarked, AreModuleNumbers, AreHaloOwnersListed, Differ, IsSearchedFault, IsAtEdgeEvent, IsAtEdgeEventOf, IsAtEvent, IsListed, IsNamed, IsPlaceOf, IsUnmarked, AreReadyBorders, MayBeFault, job_signal, jobs_of};
 ghost use Rattle.border_match.specs.Candidates.{IsBetter, IsLeast};
 ghost use Rattle.border_match.specs.declared.fault.BorderFault.{BorderFault};
 ghost use Rattle.border_match.specs.declared.signals.RingOrHalo.TheVariants.{Halo};
 
 use crate::fault::{BorderFault, is_less, lesser};
 use crate::signals::{RingOrHalo, event_signal, signal_at};
-use crate::surroundings::{Leaps, Walk, Window, next_near, place_of};
+use crate::surroundings::{LeapPlan, Walk, Window, next_near, place_of};
 use bbm_rule::Cell;
 use certificate::Job;
 use module_box::{Box2, Moment, Owners, Signal, TimedSignal, moved_cell};
@@ -60,7 +60,7 @@ impl<'a> Borders<'a> {
     }
 
     /// Returns whether the cell is in the module's halo and in the rectangle.
-    pub(crate) fn reaches(&self, cell: Cell) -> bool
+    pub(crate) fn is_halo_cell_of_rectangle(&self, cell: Cell) -> bool
         ensures { result
             ≡ (in_box self.now.whole cell.x cell.y && in_halo self.now.job.now.area cell.x cell.y) }
     {
@@ -119,13 +119,13 @@ impl<'a> Borders<'a> {
         if fault.time >= self.job.steps() {
             return false;
         }
-        self.reaches(fault.cell)
+        self.is_halo_cell_of_rectangle(fault.cell)
     }
 
     /// Returns whether this is a border fault of the module.
     pub(crate) fn is_fault(&self, fault: BorderFault) -> bool
         requires { AreReadyBorders self.now }
-        ensures { IsTrue result ↔ Faults self.now fault }
+        ensures { IsTrue result ↔ IsSearchedFault self.now fault }
     {
         self.may_be_fault(fault) && self.differs(fault.time, fault.cell)
     }
@@ -134,7 +134,7 @@ impl<'a> Borders<'a> {
     fn with_halo_event(&self, best: Option<BorderFault>, event: TimedSignal) -> Option<BorderFault>
         requires ready { AreReadyBorders self.now }
         requires listed { IsListed self.now.job.now.halos.events event }
-        ensures { IsBetter (Faults self.now) (IsAtEvent event) best result }
+        ensures { IsBetter (IsSearchedFault self.now) (IsAtEvent event) best result }
     {
         let fault = fault_at(event);
         if is_less(fault, best) && self.may_be_fault(fault) && self.halo_event_differs(event) {
@@ -147,7 +147,7 @@ impl<'a> Borders<'a> {
     // meets none.
     #[inline(always)]
     fn halo_event_place(&self, at: Moment, walk: &mut Walk) -> Option<usize>
-        requires { IsNear at.cell }
+        requires { IsInShiftRange at.cell }
         ensures { IfSome result (IsPlaceOf self.now.job.now.halos.events at) }
     {
         let area = self.job.area();
@@ -162,8 +162,8 @@ impl<'a> Borders<'a> {
     // Returns what the module says of this time and cell of its halo. If an event says it, that event gets its mark,
     // and the walk goes on behind it.
     #[inline(always)]
-    fn mark_halo(&self, at: Moment, seen: &mut [bool], walk: &mut Walk) -> Signal
-        requires near { IsNear at.cell }
+    fn read_and_mark_halo(&self, at: Moment, seen: &mut [bool], walk: &mut Walk) -> Signal
+        requires near { IsInShiftRange at.cell }
         requires sized { length seen.old ≡ length self.now.job.now.halos.events }
         ensures signal { result ≡ job_signal Halo self.now.job.now at.time at.cell.x at.cell.y }
         ensures marks { AddsMark self.now.job.now.halos.events at seen.old seen.new }
@@ -196,11 +196,11 @@ impl<'a> Borders<'a> {
             (owner_of self.now.owners.now event.at.cell.x event.at.cell.y) ≡ Some owner.now }
         requires listed { IsListed owner.now.edges.events event }
         requires marked { AreMarked self.now seen.old }
-        ensures better { IsBetter (Faults self.now) (IsAtEvent event) best result }
+        ensures better { IsBetter (IsSearchedFault self.now) (IsAtEvent event) best result }
         ensures marked { AreMarked self.now seen.new }
     {
         let _area = owner.area();
-        let own = self.mark_halo(event.at, seen, walk);
+        let own = self.read_and_mark_halo(event.at, seen, walk);
         if !self.edge_event_differs(owner, event, own) {
             return best;
         }
@@ -215,8 +215,8 @@ impl<'a> Borders<'a> {
     fn with_halo_events(&self, best: Option<BorderFault>, seen: &[bool]) -> Option<BorderFault>
         requires ready { AreReadyBorders self.now }
         requires sized { length seen.now ≡ length self.now.job.now.halos.events }
-        ensures { IsBetter (Faults self.now) (IsUnmarked seen.now self.now.job.now.halos.events)
-            best result }
+        ensures { IsBetter (IsSearchedFault self.now)
+            (IsUnmarked seen.now self.now.job.now.halos.events) best result }
     {
         let mut least = best;
         'events: for place in 0..self.job.halo_events() {
@@ -239,14 +239,15 @@ impl<'a> Borders<'a> {
         requires ready { AreReadyBorders self.now }
         requires numbered { slice_get (jobs_of self.now) number ≡ Some other.now }
         requires marked { AreMarked self.now seen.old }
-        ensures better { IsBetter (Faults self.now) (IsNamed other.now.edges.events) best result }
+        ensures better { IsBetter (IsSearchedFault self.now) (IsNamed other.now.edges.events) best
+            result }
         ensures marked { AreMarked self.now seen.new }
     {
         let window = Window::around(self.job.area(), other.area());
         let shape: &Shape = other.shape();
         let events = shape.edges().events();
         let mut walk = Walk::new();
-        let mut leaps = Leaps::new();
+        let mut leaps = LeapPlan::new();
         let mut least = best;
         // Most events of a long side are far from this module, so this test comes before all others.
         let mut place = next_near(&window, events, 0, &mut leaps);
@@ -272,7 +273,8 @@ impl<'a> Borders<'a> {
         requires ready { AreReadyBorders self.now }
         requires number { number < length self.now.jobs.now }
         requires marked { AreMarked self.now seen.old }
-        ensures better { IsBetter (Faults self.now) (IsEdgeNamedAt number self.now) best result }
+        ensures better { IsBetter (IsSearchedFault self.now) (IsAtEdgeEventOf number self.now) best
+            result }
         ensures marked { AreMarked self.now seen.new }
     {
         self.with_edge_events(best, number, &self.jobs[number], seen)
@@ -288,10 +290,10 @@ impl<'a> Borders<'a> {
         seen: &mut [bool],
     ) -> Option<BorderFault>
         requires ready { AreReadyBorders self.now }
-        requires noted { AreOwnersNoted self.now near.now }
-        requires below { AreNumbers self.now near.now }
+        requires noted { AreHaloOwnersListed self.now near.now }
+        requires below { AreModuleNumbers self.now near.now }
         requires marked { AreMarked self.now seen.old }
-        ensures better { IsBetter (Faults self.now) (IsEdgeNamed self.now) best result }
+        ensures better { IsBetter (IsSearchedFault self.now) (IsAtEdgeEvent self.now) best result }
         ensures marked { AreMarked self.now seen.new }
     {
         let mut least = best;
@@ -304,12 +306,12 @@ impl<'a> Borders<'a> {
     // The module's least border fault.
     pub(crate) fn least_fault(&self, alloc: Global) -> Result<Option<BorderFault>, AllocError>
         requires { AreReadyBorders self.now }
-        ensures { IfOk result (IsLeast (Faults self.now)) }
+        ensures { IfOk result (IsLeast (IsSearchedFault self.now)) }
     {
         let near = self.near_modules(alloc)?;
         let mut seen = vec![in alloc; false; self.job.halo_events()]?;
         let by_edges = self.with_edges(None, &near, &mut seen);
         let by_halo = self.with_halo_events(by_edges, &seen);
-        Ok(self.with_halo(by_halo, &near))
+        Ok(self.with_star_faults(by_halo, &near))
     }
 }

@@ -1,7 +1,7 @@
 //! The modules that have cells of a module's halo.
 ghost use Rattle.std.specs.Prelude.{◌+◌, ◌≤◌, ◌≡◌, ◌<◌, IsTrue, IfOk, OnOk};
 ghost use Rattle.module_box.specs.Boxes.{in_box};
-ghost use Rattle.border_match.specs.Boards.{AreNumbers, AreOwnersNoted, AreReadyBorders, AreRowsNoted, IsAreaNoted, KeepsNumbers, with_number};
+ghost use Rattle.border_match.specs.Boards.{AreModuleNumbers, AreHaloOwnersListed, AreReadyBorders, AreRowOwnersListed, AreAreaOwnersListed, KeepsNumbers, with_number};
 
 use crate::borders::Borders;
 use bbm_rule::Cell;
@@ -22,15 +22,15 @@ fn add_number(near: &mut Vec<usize>, number: usize) -> Result<(), AllocError>
 impl<'a> Borders<'a> {
     // Adds the number of the module that has the cell, unless it is this one. Returns the box of that module, whose
     // cells all have this owner.
-    fn note_owner(&self, near: &mut Vec<usize>, cell: Cell) -> Result<Box2, AllocError>
+    fn add_owner(&self, near: &mut Vec<usize>, cell: Cell) -> Result<Box2, AllocError>
         requires ready { AreReadyBorders self.now }
         requires inside { IsTrue (in_box self.now.whole cell.x cell.y) }
-        requires below { AreNumbers self.now near.old.items }
-        ensures noted { IfOk result (IsAreaNoted self.now near.new.items) }
+        requires below { AreModuleNumbers self.now near.old.items }
+        ensures noted { IfOk result (AreAreaOwnersListed self.now near.new.items) }
         ensures holds { IfOk result (λ area. IsTrue (in_box area cell.x cell.y)) }
         ensures within { IfOk result (λ area. (area.x + area.w ≤ 512) × (area.y + area.h ≤ 512)) }
         ensures kept { OnOk result (KeepsNumbers near.old.items near.new.items) }
-        ensures below { OnOk result (AreNumbers self.now near.new.items) }
+        ensures below { OnOk result (AreModuleNumbers self.now near.new.items) }
     {
         let area = self.job.area();
         if area.holds(cell) {
@@ -43,15 +43,15 @@ impl<'a> Borders<'a> {
 
     // Adds the numbers of the modules that have cells of row `y` in the columns of the halo. Returns the first row
     // below it in which another module may have such a cell.
-    fn note_row(&self, near: &mut Vec<usize>, y: u32) -> Result<u32, AllocError>
+    fn add_owners_in_row(&self, near: &mut Vec<usize>, y: u32) -> Result<u32, AllocError>
         requires ready { AreReadyBorders self.now }
-        requires below { AreNumbers self.now near.old.items }
+        requires below { AreModuleNumbers self.now near.old.items }
         requires inside { y < self.now.whole.h }
         requires row { y < self.now.job.now.area.y + self.now.job.now.area.h + 1 }
-        ensures noted { IfOk result (AreRowsNoted self.now near.new.items y) }
+        ensures noted { IfOk result (AreRowOwnersListed self.now near.new.items y) }
         ensures after { IfOk result (λ next. y < next) }
         ensures kept { OnOk result (KeepsNumbers near.old.items near.new.items) }
-        ensures below { OnOk result (AreNumbers self.now near.new.items) }
+        ensures below { OnOk result (AreModuleNumbers self.now near.new.items) }
     {
         let area = self.job.area();
         let end = self.whole.w.min(area.x + area.w + 1);
@@ -62,7 +62,7 @@ impl<'a> Borders<'a> {
                 x: x as i32,
                 y: y as i32,
             };
-            let owner = self.note_owner(near, cell)?;
+            let owner = self.add_owner(near, cell)?;
             x = owner.x + owner.w;
             next = next.min(owner.y + owner.h);
         }
@@ -73,15 +73,15 @@ impl<'a> Borders<'a> {
     /// cell to cell, so a module among others of its size takes a dozen looks.
     pub(crate) fn near_modules(&self, alloc: Global) -> Result<Vec<usize>, AllocError>
         requires { AreReadyBorders self.now }
-        ensures noted { IfOk result (λ near. AreOwnersNoted self.now near.items) }
-        ensures below { IfOk result (λ near. AreNumbers self.now near.items) }
+        ensures noted { IfOk result (λ near. AreHaloOwnersListed self.now near.items) }
+        ensures below { IfOk result (λ near. AreModuleNumbers self.now near.items) }
     {
         let area = self.job.area();
         let end = self.whole.h.min(area.y + area.h + 1);
         let mut near = Vec::new(alloc);
         let mut y = area.y.saturating_sub(1);
         'rows: while y < end {
-            y = self.note_row(&mut near, y)?;
+            y = self.add_owners_in_row(&mut near, y)?;
         }
         Ok(near)
     }

@@ -2,7 +2,7 @@
 ghost use Rattle.std.specs.Prelude.{◌≡◌, [], false};
 ghost use Rattle.circuit.specs.Meaning.{wires};
 ghost use Rattle.module_box.specs.Locals.{circuit_wire};
-ghost use Rattle.module_box.specs.Moves.{IsNear, moved_signals};
+ghost use Rattle.module_box.specs.Moves.{IsInShiftRange, moved_signals};
 ghost use Rattle.module_job.specs.Shapes.{shift_to_origin};
 ghost use Rattle.module_job.specs.Signals.{IsBelow, renumber_signal};
 ghost use Rattle.border_match.specs.Boards.{IsListed, job_signal, job_signals};
@@ -49,7 +49,7 @@ pub(crate) fn schedule(job: &Job, border: RingOrHalo) -> &Schedule
 /// Returns what a module says of one of these cells at a time.
 #[inline(always)]
 pub(crate) fn signal_at(job: &Job, border: RingOrHalo, time: u32, cell: Cell) -> Signal
-    requires { IsNear cell }
+    requires { IsInShiftRange cell }
     ensures { result ≡ job_signal border job.now time cell.x cell.y }
 {
     // A job names no wires but its own, as its box tells with it.
@@ -72,7 +72,7 @@ fn has_star(job: &Job, border: RingOrHalo) -> bool
 /// itself says it: no two events are of one cell and time, since they rise.
 #[inline(always)]
 pub(crate) fn event_signal(job: &Job, border: RingOrHalo, event: TimedSignal) -> Signal
-    requires near { IsNear event.at.cell }
+    requires near { IsInShiftRange event.at.cell }
     requires listed { IsListed (job_signals border job.now).events event }
     ensures { result ≡ job_signal border job.now event.at.time event.at.cell.x event.at.cell.y }
 {

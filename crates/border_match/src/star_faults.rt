@@ -2,7 +2,7 @@
 
 ghost use Rattle.std.specs.Prelude.{pos, ◌≤◌, ◌≡◌, ◌<◌, map, Some};
 ghost use Rattle.module_box.specs.Moves.{moved_all_times};
-ghost use Rattle.border_match.specs.Boards.{AreNumbers, AreOwnersNoted, Faults, DiffersAlways, DiffersAlwaysAt, AreReadyBorders, IsStarred, job_signals};
+ghost use Rattle.border_match.specs.Boards.{AreModuleNumbers, AreHaloOwnersListed, IsSearchedFault, DiffersWithoutEvent, DiffersWithoutEventAt, AreReadyBorders, IsStarred, job_signals};
 ghost use Rattle.border_match.specs.Candidates.{IsBetter};
 ghost use Rattle.border_match.specs.declared.fault.BorderFault.{BorderFault};
 ghost use Rattle.border_match.specs.declared.signals.RingOrHalo.TheVariants.{Halo};
@@ -10,16 +10,16 @@ ghost use Rattle.border_match.specs.declared.signals.RingOrHalo.TheVariants.{Hal
 use crate::borders::Borders;
 use crate::fault::{BorderFault, lesser};
 use crate::signals::{RingOrHalo, schedule};
-use crate::surroundings::cell_around;
+use crate::surroundings::plane_cell_if_near;
 use bbm_rule::Cell;
 use certificate::Job;
 use module_box::{AllTimes, Box2};
 
 impl<'a> Borders<'a> {
     // The lesser of the candidate and the first fault of a cell.
-    fn with_first_at(&self, best: Option<BorderFault>, cell: Cell) -> Option<BorderFault>
+    fn with_first_fault_of(&self, best: Option<BorderFault>, cell: Cell) -> Option<BorderFault>
         requires { AreReadyBorders self.now }
-        ensures { IsBetter (Faults self.now) (λ h. h.cell ≡ cell) best result }
+        ensures { IsBetter (IsSearchedFault self.now) (λ h. h.cell ≡ cell) best result }
     {
         'times: for time in 0..self.job.steps() {
             let fault = BorderFault { time, cell };
@@ -33,14 +33,15 @@ impl<'a> Borders<'a> {
     // The lesser of the candidate and the first fault of a cell, if halo and edge signal differ where no line names a
     // time. No line names time 0, so those signals are found there. The first fault is soon met, since only an even
     // time, or an odd one that a line names for the cell, is without one.
-    fn with_cell(&self, best: Option<BorderFault>, cell: Cell) -> Option<BorderFault>
+    fn with_star_fault_at(&self, best: Option<BorderFault>, cell: Cell) -> Option<BorderFault>
         requires { AreReadyBorders self.now }
-        ensures { IsBetter (Faults self.now) (DiffersAlwaysAt self.now cell) best result }
+        ensures { IsBetter (IsSearchedFault self.now) (DiffersWithoutEventAt self.now cell) best
+            result }
     {
-        if !self.reaches(cell) || !self.differs(0, cell) {
+        if !self.is_halo_cell_of_rectangle(cell) || !self.differs(0, cell) {
             return best;
         }
-        self.with_first_at(best, cell)
+        self.with_first_fault_of(best, cell)
     }
 
     // The least of the candidate and the faults of those cells of these lines for which such signals differ. The lines
@@ -53,17 +54,17 @@ impl<'a> Borders<'a> {
     ) -> Option<BorderFault>
         requires ready { AreReadyBorders self.now }
         requires corner { (corner.x ≤ 512) × (corner.y ≤ 512) }
-        ensures { IsBetter (Faults self.now)
+        ensures { IsBetter (IsSearchedFault self.now)
             (IsStarred self.now (map (moved_all_times (pos corner.x) (pos corner.y)) stars.now))
             best result }
     {
         let area = self.job.area();
         let mut least = best;
         'stars: for place in 0..stars.len() {
-            let Some(cell) = cell_around(area, corner, stars[place].cell) else {
+            let Some(cell) = plane_cell_if_near(area, corner, stars[place].cell) else {
                 continue;
             };
-            least = self.with_cell(least, cell);
+            least = self.with_star_fault_at(least, cell);
         }
         least
     }
@@ -76,7 +77,7 @@ impl<'a> Borders<'a> {
         border: RingOrHalo,
     ) -> Option<BorderFault>
         requires ready { AreReadyBorders self.now }
-        ensures { IsBetter (Faults self.now)
+        ensures { IsBetter (IsSearchedFault self.now)
             (IsStarred self.now (job_signals border job.now).all_times) best result }
     {
         let corner = job.area();
@@ -87,11 +88,15 @@ impl<'a> Borders<'a> {
     ///
     /// `near` lists the modules that have cells of the halo. A cell of which no line with a star speaks is `Zero` for
     /// both modules.
-    pub(crate) fn with_halo(&self, best: Option<BorderFault>, near: &[usize]) -> Option<BorderFault>
+    pub(crate) fn with_star_faults(
+        &self,
+        best: Option<BorderFault>,
+        near: &[usize],
+    ) -> Option<BorderFault>
         requires ready { AreReadyBorders self.now }
-        requires noted { AreOwnersNoted self.now near.now }
-        requires below { AreNumbers self.now near.now }
-        ensures { IsBetter (Faults self.now) (DiffersAlways self.now) best result }
+        requires noted { AreHaloOwnersListed self.now near.now }
+        requires below { AreModuleNumbers self.now near.now }
+        ensures { IsBetter (IsSearchedFault self.now) (DiffersWithoutEvent self.now) best result }
     {
         let mut least = self.with_stars_of(best, self.job, RingOrHalo::Halo);
         'modules: for number in near {

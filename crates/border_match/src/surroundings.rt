@@ -6,7 +6,7 @@ ghost use Rattle.module_box.specs.Moments.{moment_cmp};
 ghost use Rattle.module_box.specs.Moves.{moved_cell};
 ghost use Rattle.module_box.specs.Schedules.{IsRising, moment_of};
 ghost use Rattle.border_match.specs.Boards.{IsPlaceOf};
-ghost use Rattle.border_match.specs.Surroundings.{AreFar, AreFarBetween, IsAroundFrom, IsFarAt, IsFirstFrom, IsSeen, IsWindow};
+ghost use Rattle.border_match.specs.Surroundings.{AreEventsFar, AreFarBetween, IsInOrAroundFrom, IsEventFarAt, IsFirstFrom, IsSeen, IsWindow};
 
 use bbm_rule::Cell;
 use module_box::{Box2, Moment, TimedSignal};
@@ -23,7 +23,7 @@ const LONG_LEAP: usize = 8;
 
 /// A search's plan of leaps over events at far cells. It decides the time of the search and not its result.
 #[derive(Clone, Copy)]
-pub(crate) struct Leaps {
+pub(crate) struct LeapPlan {
     // How many far events in a row the search looks at before a leap.
     wait: usize,
     // How many places the last leap went, and the one before it. Most times have the same lines, and one or two leaps
@@ -32,14 +32,14 @@ pub(crate) struct Leaps {
     length_before: usize,
 }
 
-impl Leaps {
+impl LeapPlan {
     /// Returns the state of a search at the first event.
-    pub(crate) fn new() -> Leaps
+    pub(crate) fn new() -> LeapPlan
         ensures wait { result.wait ≡ SHORT_WAIT }
         ensures length { result.length ≡ 0 }
         ensures length_before { result.length_before ≡ 0 }
     {
-        Leaps {
+        LeapPlan {
             wait: SHORT_WAIT,
             length: 0,
             length_before: 0,
@@ -67,14 +67,14 @@ impl Leaps {
     }
 
     // Returns the state behind a leap.
-    fn after_leap(self, place: usize, next: usize) -> Leaps
+    fn after_leap(self, place: usize, next: usize) -> LeapPlan
         requires { place ≤ next }
         ensures wait { result.wait ≤ LONG_WAIT }
         ensures length { result.length ≡ next - place }
         ensures length_before { result.length_before ≡ self.length }
     {
         let length = next - place;
-        Leaps {
+        LeapPlan {
             wait: self.wait_after(length),
             length,
             length_before: self.length,
@@ -171,7 +171,7 @@ impl Window {
 }
 
 // Returns whether `z`, counted from a corner, is one of the `n` numbers from `from` on or next to one of them.
-fn is_beside(from: u32, n: u32, corner: u32, z: i32) -> bool
+fn is_in_or_next_to(from: u32, n: u32, corner: u32, z: i32) -> bool
     ensures beside { let at = z +ℤ pos corner in
         pos from ≤ℤ (at +ℤ pos 1) → at ≤ℤ pos (from + n) → IsTrue result }
     ensures bounds { let at = z +ℤ pos corner in
@@ -189,26 +189,26 @@ fn is_beside(from: u32, n: u32, corner: u32, z: i32) -> bool
 
 // Returns whether a cell, counted from the corner of another box, is in the columns and rows of the area or next to
 // them.
-fn is_around(area: Box2, corner: Box2, cell: Cell) -> bool
-    ensures around { IsAroundFrom area corner cell → IsTrue result }
-    ensures bounds { IsTrue result → IsAroundFrom area corner cell }
+fn is_in_or_around(area: Box2, corner: Box2, cell: Cell) -> bool
+    ensures around { IsInOrAroundFrom area corner cell → IsTrue result }
+    ensures bounds { IsTrue result → IsInOrAroundFrom area corner cell }
 {
-    if !is_beside(area.x, area.w, corner.x, cell.x) {
+    if !is_in_or_next_to(area.x, area.w, corner.x, cell.x) {
         return false;
     }
-    is_beside(area.y, area.h, corner.y, cell.y)
+    is_in_or_next_to(area.y, area.h, corner.y, cell.y)
 }
 
 // Returns a cell that is counted from the corner of another box, counted from that of the plane. It returns `None` if
 // the cell is not in the columns and rows of the area or next to them.
-pub(crate) fn cell_around(area: Box2, corner: Box2, cell: Cell) -> Option<Cell>
+pub(crate) fn plane_cell_if_near(area: Box2, corner: Box2, cell: Cell) -> Option<Cell>
     requires area { (area.x + area.w ≤ 512) × (area.y + area.h ≤ 512) }
     requires corner { (corner.x ≤ 512) × (corner.y ≤ 512) }
     ensures around { IfSome result (λ c. c
         ≡ moved_cell (pos corner.x) (pos corner.y) cell) }
-    ensures far { IfNone result (¬ IsAroundFrom area corner cell) }
+    ensures far { IfNone result (¬ IsInOrAroundFrom area corner cell) }
 {
-    if !is_around(area, corner, cell) {
+    if !is_in_or_around(area, corner, cell) {
         return None;
     }
     Some(Cell {
@@ -220,7 +220,12 @@ pub(crate) fn cell_around(area: Box2, corner: Box2, cell: Cell) -> Option<Cell>
 /// Returns the place of the first event from `from` on that is not before a moment.
 ///
 /// It looks first at the place `guess`, then at places ever further behind, and then between the last two.
-pub(crate) fn place_from(events: &[TimedSignal], from: usize, guess: usize, at: Moment) -> usize
+pub(crate) fn find_first_not_before(
+    events: &[TimedSignal],
+    from: usize,
+    guess: usize,
+    at: Moment,
+) -> usize
     requires within { from ≤ length events.now }
     requires rising { IsRising moment_cmp moment_of events.now }
     ensures { IsFirstFrom events.now from at result }
@@ -250,15 +255,15 @@ pub(crate) fn place_from(events: &[TimedSignal], from: usize, guess: usize, at: 
 
 // Returns the place behind a leap over the events that cannot be at a cell of the window.
 #[inline(never)]
-fn leap(window: &Window, events: &[TimedSignal], place: usize, leaps: &mut Leaps) -> usize
+fn leap(window: &Window, events: &[TimedSignal], place: usize, leaps: &mut LeapPlan) -> usize
     requires within { place < length events.now }
     requires rising { IsRising moment_cmp moment_of events.now }
-    requires far { IsFarAt window.now events.now place }
+    requires far { IsEventFarAt window.now events.now place }
     ensures after { place < result }
-    ensures far { AreFar window.now events.now place result }
+    ensures far { AreEventsFar window.now events.now place result }
 {
     let target = window.next_after(events[place].at);
-    let next = place_from(events, place + 1, leaps.last_passed(place), target);
+    let next = find_first_not_before(events, place + 1, leaps.last_passed(place), target);
     *leaps = leaps.after_leap(place, next);
     next
 }
@@ -270,11 +275,11 @@ pub(crate) fn next_near(
     window: &Window,
     events: &[TimedSignal],
     from: usize,
-    leaps: &mut Leaps,
+    leaps: &mut LeapPlan,
 ) -> usize
     requires rising { IsRising moment_cmp moment_of events.now }
     ensures after { from ≤ result }
-    ensures far { AreFar window.now events.now from result }
+    ensures far { AreEventsFar window.now events.now from result }
 {
     let mut place = from;
     'leaps: while place < events.len() {
@@ -340,7 +345,7 @@ fn find_event(events: &[TimedSignal], walk: &mut Walk, at: Moment) -> Option<usi
 {
     let start = walk.next.min(events.len());
     let guess = start.saturating_add(walk.passed).saturating_sub(1);
-    let place = place_from(events, start, guess, at);
+    let place = find_first_not_before(events, start, guess, at);
     if is_event_at(events, place, at) {
         walk.passed = place.saturating_sub(walk.next);
         return Some(place);

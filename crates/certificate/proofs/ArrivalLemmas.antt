@@ -14,12 +14,14 @@ use Rattle.circuit.specs.declared.circuit_line.GateKind.{GateKind}
 use Rattle.circuit.specs.declared.circuit_line.GateKind.TheVariants.{Source, Fredkin, Cswap, Interact, Switch, Delay}
 use Rattle.circuit.specs.declared.circuit_line.GateKind.TheVariants.{Unswitch, Uninteract}
 use Rattle.circuit.specs.Meaning.{Circuit, Gate}
-use Rattle.certificate.specs.Arrivals.{IsFirstTime, IsLastTime, MeetAt, TakesSteps, Tells, TellsOfDelay}
-use Rattle.certificate.specs.Arrivals.{TellsOfMeeting}
-use Rattle.certificate.specs.Laws.{KeptIsOnTime, LinesTell}
-use Rattle.certificate.specs.Times.{agreed, all_stops, delay_by, delay_line, earlier, first_seen, gap_between}
+use Rattle.certificate.specs.Arrivals.{IsFirstTime, IsLastTime, MeetAt, TakesSteps, IsTimeLineTrue, IsDelayGapTrue}
+use Rattle.certificate.specs.Arrivals.{IsMeetingTimeTrue}
+use Rattle.certificate.specs.Laws.{ObeyedLinesAreOnTime, TimeLinesAreTrue}
+use Rattle.certificate.specs.Times.{common_time, all_stops, delay_line_of_kind, delay_line, earlier, first_seen}
+use Rattle.certificate.specs.Times.{gap_between}
 use Rattle.certificate.specs.Times.{is_obeyed}
-use Rattle.certificate.specs.Times.{last_seen, last_times, later, meet_by, meet_line, numbered, first_wire_time}
+use Rattle.certificate.specs.Times.{last_seen, last_times, later, meet_line_of_times, meet_line, numbered}
+use Rattle.certificate.specs.Times.{first_wire_time}
 use Rattle.certificate.specs.Times.{times_of}
 use Rattle.certificate_lines.specs.declared.certificate_line.StopLine.{StopLine}
 use Rattle.certificate.specs.declared.times.StopGap.{StopGap}
@@ -128,7 +130,7 @@ takes c ss m a b e =
     record { leaves = h.0; last = is_last c ss a h.0 h.1; first = is_first c ss b (h.0 + m) h.2 }
 
 gap_tells : (c : Circuit) (ss : List StopLine) (a b : ℕ) (gap : StopGap) →
-    gap_between (last_seen c ss a) (first_seen c ss b) ≡ gap → TellsOfDelay c ss gap a b
+    gap_between (last_seen c ss a) (first_seen c ss b) ≡ gap → IsDelayGapTrue c ss gap a b
 gap_tells c ss a b (Steps m) e = takes c ss m a b e
 gap_tells c ss a b NoStop e = λ s t last first. gap_missing _ _ s t e (last_is c ss a s last) (first_is c ss b t first)
 gap_tells c ss a b Before e =
@@ -165,7 +167,7 @@ equal_all t (u ∷ ts) h =
     let here : (u == t) ≡ true = is_equal u t (All-head (λ v. v ≡ t) u ts h) in
     rw (here, equal_all t ts (All-tail (λ v. v ≡ t) u ts h)) refl
 
-agreed_all : (ts : List ℕ) (t : ℕ) → agreed ts ≡ Some t → All (λ u. u ≡ t) ts
+agreed_all : (ts : List ℕ) (t : ℕ) → common_time ts ≡ Some t → All (λ u. u ≡ t) ts
 agreed_all [] t e = absurd cc
 agreed_all (a ∷ ts) t e = by_case (list_all (λ u. u == a) ts) refl e
   where
@@ -175,7 +177,7 @@ agreed_all (a ∷ ts) t e = by_case (list_all (λ u. u == a) ts) refl e
         All-cons (λ u. u ≡ t) a ts same (subst (λ (r : ℕ). All (λ u. u ≡ r) ts) same (all_equal a ts all))
     by_case false all e = absurd cc
 
-none_agreed : (ts : List ℕ) (t : ℕ) → 0 < length ts → agreed ts ≡ None → All (λ u. u ≡ t) ts → ⊥
+none_agreed : (ts : List ℕ) (t : ℕ) → 0 < length ts → common_time ts ≡ None → All (λ u. u ≡ t) ts → ⊥
 none_agreed [] t lt e h = omega (arith, lt)
 none_agreed (a ∷ ts) t lt e h =
     let here : a ≡ t = All-head (λ u. u ≡ t) a ts h in
@@ -214,7 +216,8 @@ all_meet : (c : Circuit) (ss : List StopLine) (ws : List ℕ) (t : ℕ) → Meet
 all_meet c ss ws t h = all_times (λ u. u ≡ t) (last_seen c ss) ws (λ w s there e. h w s there (is_last c ss w s e))
 
 meet_tells : (c : Circuit) (ss : List StopLine) (ws : List ℕ) (o : Option ℕ) →
-    0 < length (last_times (last_seen c ss) ws) → agreed (last_times (last_seen c ss) ws) ≡ o → TellsOfMeeting c ss o ws
+    0 < length (last_times (last_seen c ss) ws) → common_time (last_times (last_seen c ss) ws) ≡ o →
+    IsMeetingTimeTrue c ss o ws
 meet_tells c ss ws (Some t) some e = meet_at c ss ws t (agreed_all _ t e)
 meet_tells c ss ws None some e = λ t meet. none_agreed _ t some e (all_meet c ss ws t meet)
 
@@ -222,22 +225,22 @@ meet_tells c ss ws None some e = λ t meet. none_agreed _ t some e (all_meet c s
 
 delay_lines_tell : (c : Circuit) (ss : List StopLine) (k : ℕ) (r : GateKind) (g : Gate) →
     slice_get c.netlist.gates k ≡ Some g → g.kind ≡ r →
-    All (Tells c ss) (delay_by k r
+    All (IsTimeLineTrue c ss) (delay_line_of_kind k r
     (gap_between (first_wire_time (last_seen c ss) g.ins) (first_wire_time (first_seen c ss) g.outs)))
-delay_lines_tell c ss k (Source b) g at is = All-nil (Tells c ss)
-delay_lines_tell c ss k Fredkin g at is = All-nil (Tells c ss)
-delay_lines_tell c ss k Cswap g at is = All-nil (Tells c ss)
-delay_lines_tell c ss k Interact g at is = All-nil (Tells c ss)
-delay_lines_tell c ss k Switch g at is = All-nil (Tells c ss)
+delay_lines_tell c ss k (Source b) g at is = All-nil (IsTimeLineTrue c ss)
+delay_lines_tell c ss k Fredkin g at is = All-nil (IsTimeLineTrue c ss)
+delay_lines_tell c ss k Cswap g at is = All-nil (IsTimeLineTrue c ss)
+delay_lines_tell c ss k Interact g at is = All-nil (IsTimeLineTrue c ss)
+delay_lines_tell c ss k Switch g at is = All-nil (IsTimeLineTrue c ss)
 delay_lines_tell c ss k (Delay n) g at is =
-    All-cons (Tells c ss) _ []
+    All-cons (IsTimeLineTrue c ss) _ []
     (g, at, is, λ a b one_in one_out. gap_tells c ss a b _ (own_gap c ss g.ins g.outs a b _ refl one_in one_out))
-    (All-nil (Tells c ss))
-delay_lines_tell c ss k Unswitch g at is = All-nil (Tells c ss)
-delay_lines_tell c ss k Uninteract g at is = All-nil (Tells c ss)
+    (All-nil (IsTimeLineTrue c ss))
+delay_lines_tell c ss k Unswitch g at is = All-nil (IsTimeLineTrue c ss)
+delay_lines_tell c ss k Uninteract g at is = All-nil (IsTimeLineTrue c ss)
 
 meet_lines_tell : (c : Circuit) (ss : List StopLine) (k : ℕ) (g : Gate) → slice_get c.netlist.gates k ≡ Some g →
-    All (Tells c ss) (meet_line (last_seen c ss) k g)
+    All (IsTimeLineTrue c ss) (meet_line (last_seen c ss) k g)
 meet_lines_tell c ss k g at = by_case (nat_le 2 (length ts)) refl
   where
     ts : List ℕ
@@ -246,9 +249,11 @@ meet_lines_tell c ss k g at = by_case (nat_le 2 (length ts)) refl
     two : nat_le 2 (length ts) ≡ true → 0 < length ts
     two e = grind (arith, nat_tests)
 
-    by_case : (b : Bool) → nat_le 2 (length ts) ≡ b → All (Tells c ss) (if b then line.Meet k (agreed ts) ∷ [] else [])
-    by_case true e = All-cons (Tells c ss) _ [] (g, at, meet_tells c ss g.ins _ (two e) refl) (All-nil (Tells c ss))
-    by_case false e = All-nil (Tells c ss)
+    by_case : (b : Bool) → nat_le 2 (length ts) ≡ b →
+        All (IsTimeLineTrue c ss) (if b then line.Meet k (common_time ts) ∷ [] else [])
+    by_case true e = All-cons (IsTimeLineTrue c ss) _ [] (g, at, meet_tells c ss g.ins _ (two e) refl)
+        (All-nil (IsTimeLineTrue c ss))
+    by_case false e = All-nil (IsTimeLineTrue c ss)
 
 all_numbered : (P : TimeLine → Type 0) (f : ℕ → Gate → List TimeLine) (all : List Gate) →
     ((k : ℕ) (g : Gate) → slice_get all k ≡ Some g → All P (f k g)) →
@@ -263,13 +268,14 @@ all_numbered P f all each j (g ∷ gates) at =
 from_none : (gates : List Gate) (i : ℕ) → slice_get gates i ≡ slice_get gates (0 + i)
 from_none gates i = ap (slice_get gates) (omega arith)
 
-pub lines_tell : LinesTell
+pub lines_tell : TimeLinesAreTrue
 lines_tell c ms =
     let ss = all_stops ms in
-    All-append (Tells c ss) _ _
-    (all_numbered (Tells c ss) (delay_line (first_seen c ss) (last_seen c ss)) c.netlist.gates
+    All-append (IsTimeLineTrue c ss) _ _
+    (all_numbered (IsTimeLineTrue c ss) (delay_line (first_seen c ss) (last_seen c ss)) c.netlist.gates
     (λ k g at. delay_lines_tell c ss k g.kind g at refl) 0 c.netlist.gates (from_none c.netlist.gates))
-    (all_numbered (Tells c ss) (meet_line (last_seen c ss)) c.netlist.gates (meet_lines_tell c ss) 0 c.netlist.gates
+    (all_numbered (IsTimeLineTrue c ss) (meet_line (last_seen c ss)) c.netlist.gates
+    (meet_lines_tell c ss) 0 c.netlist.gates
     (from_none c.netlist.gates))
 
 -- ---- where all are kept
@@ -295,22 +301,23 @@ kept_gap k n (Steps m) e = ap Steps (eqb-true m n (and_parts (m == n) true e).0)
 kept_gap k n NoStop e = absurd cc
 kept_gap k n Before e = absurd cc
 
-meeting_of : (k : ℕ) (ts : List ℕ) → list_all is_obeyed (meet_by k ts) ≡ true → (t : ℕ) × All (λ u. u ≡ t) ts
+meeting_of : (k : ℕ) (ts : List ℕ) → list_all is_obeyed (meet_line_of_times k ts) ≡ true → (t : ℕ) × All (λ u. u ≡ t) ts
 meeting_of k [] e = (0, All-nil (λ u. u ≡ 0))
 meeting_of k (a ∷ []) e = (a, All-cons (λ u. u ≡ a) a [] refl (All-nil (λ u. u ≡ a)))
 meeting_of k (a ∷ b ∷ ts) e =
-    by_case (agreed (a ∷ b ∷ ts)) refl
-    (sym (ap (λ (two : Bool). list_all is_obeyed (if two then line.Meet k (agreed (a ∷ b ∷ ts)) ∷ [] else [])) two) ∙ e)
+    by_case (common_time (a ∷ b ∷ ts)) refl
+    (sym (ap (λ (two : Bool). list_all is_obeyed (if two then line.Meet k (common_time (a ∷ b ∷ ts)) ∷ [] else [])) two)
+    ∙ e)
   where
     two : nat_le 2 (length (a ∷ b ∷ ts)) ≡ true
     two = grind (arith, nat_tests)
 
-    by_case : (o : Option ℕ) → agreed (a ∷ b ∷ ts) ≡ o → list_all is_obeyed (line.Meet k o ∷ []) ≡ true →
+    by_case : (o : Option ℕ) → common_time (a ∷ b ∷ ts) ≡ o → list_all is_obeyed (line.Meet k o ∷ []) ≡ true →
         (t : ℕ) × All (λ u. u ≡ t) (a ∷ b ∷ ts)
     by_case (Some t) is kept = (t, agreed_all (a ∷ b ∷ ts) t is)
     by_case None is kept = absurd cc
 
-pub kept_is_on_time : KeptIsOnTime
+pub kept_is_on_time : ObeyedLinesAreOnTime
 kept_is_on_time c ms kept =
     let ss = all_stops ms in
     let delays = numbered (delay_line (first_seen c ss) (last_seen c ss)) 0 c.netlist.gates in

@@ -2,27 +2,29 @@
 use Rattle.std.proofs.Common.{◌≡◌, ℕ, ◌+◌, ◌<◌, ◌≤◌, Bool, true, false, if◌then◌else◌, List, [], ◌∷◌, ◌++◌, drop}
 use Rattle.std.proofs.Common.{length, map, get_or, Some, inl, inr, refl, sym, ap, subst, ◌∙◌, arith, append_assoc}
 use Rattle.std.specs.Prelude.{slice_get}
-use Rattle.std.specs.List.{filter}
-use Rattle.std.proofs.lemmas.List.{append-nil, drop_all, length-map, length_push, map-append}
+use Rattle.std.specs.List.{filter, flat_map}
+use Rattle.std.proofs.lemmas.List.{append-nil, drop-drop, drop_all, length-map, length_push, map-append}
 use Rattle.std.proofs.lemmas.Option.{slice_get_read, slice_get_within}
 use Rattle.circuit.specs.Meaning.{Circuit}
 use Rattle.pattern.specs.Layout.{Pattern}
 use Rattle.module_box.proofs.Rising.{pushed}
 use Rattle.module_box.specs.declared.boxes.Box2.{Box2}
-use Rattle.certificate_lines.specs.Entries.{ModuleLines, Setting, modules_of}
+use Rattle.certificate_lines.specs.Entries.{ModuleLines, Setting, counts_of, edge_in, halo_in, modules_of}
 use Rattle.certificate.specs.Jobs.{AreJobsOf, IsJobOf}
 use Rattle.module_job.specs.Jobs.{JobView}
 use Rattle.certificate_lines.specs.ModuleParts.{inner, is_module}
-use Rattle.certificate.specs.HaloPlaces.{AreHaloPlaces, edges_at, list_at}
+use Rattle.certificate.specs.HaloPlaces.{AreHaloPlaces, edge_lines_at, list_at}
 use Rattle.certificate.specs.SliceLines.{slice_lines}
 use Rattle.certificate_lines.specs.Modules.{AreModules, HasPorts, IsModule}
 use Rattle.certificate_lines.specs.Versions.{edge_lines_beside, lacks_wire, with_halos}
 use Rattle.certificate.specs.declared.beside.ModuleSlice.{ModuleSlice}
 use Rattle.certificate_lines.specs.declared.certificate_line.CertificateLine.{CertificateLine}
-use Rattle.certificate_lines.specs.declared.certificate_line.CertificateLine.TheVariants.{Module}
+use Rattle.certificate_lines.specs.declared.certificate_line.CertificateLine.TheVariants.{Module, Cut, Use, Keep, Edge}
+use Rattle.certificate_lines.specs.declared.certificate_line.CertificateLine.TheVariants.{Halo, Stop}
+use Rattle.certificate_lines.specs.declared.certificate_line.Counts.{Counts}
 use Rattle.certificate.proofs.FullModules.{full_modules, mapped_at, mapped_from}
 use Rattle.certificate_lines.proofs.Lists.{some_is}
-use Rattle.certificate_lines.proofs.ModuleSplit.{split_module, split_other}
+use Rattle.certificate_lines.proofs.ModuleSplit.{after_inner, split_module, split_other}
 use Rattle.certificate_lines.proofs.LinesLeft.{line_here, nothing_left}
 
 cond_append : {A : Type 0} (b : Bool) (x : A) (xs ys : List A) →
@@ -51,13 +53,14 @@ other_line_on es place e ps lt at other h =
     ap (λ ms. map slice_lines ps ++ ms)
     (sym (split_other e (drop (place + 1) es) other) ∙ sym (ap modules_of (line_here es place e lt at))) ∙ h
 
-pub one_part : (es : List CertificateLine) (place : ℕ) (area : Box2) (part : ModuleSlice) (ps qs : List ModuleSlice) →
+one_module_more : (es : List CertificateLine) (place : ℕ) (area : Box2) (part : ModuleSlice)
+    (ps qs : List ModuleSlice) →
     place < length es →
     Module area ≡ get_or es place (Module area) →
     slice_lines part ≡ record { area = area; lines = inner (drop (place + 1) es) } → qs ≡ ps ++ part ∷ [] →
     map slice_lines ps ++ modules_of (drop place es) ≡ modules_of es →
     map slice_lines qs ++ modules_of (drop (place + 1) es) ≡ modules_of es
-one_part es place area part ps qs lt at is grown h =
+one_module_more es place area part ps qs lt at is grown h =
     ap (λ l. map slice_lines l ++ modules_of (drop (place + 1) es)) grown
     ∙ ap (λ l. l ++ modules_of (drop (place + 1) es)) (map-append slice_lines ps (part ∷ []))
     ∙ append_assoc (map slice_lines ps) (slice_lines part ∷ []) (modules_of (drop (place + 1) es))
@@ -65,6 +68,60 @@ one_part es place area part ps qs lt at is grown h =
     ∙ ap (λ ms. map slice_lines ps ++ ms)
     (sym (split_module area (drop (place + 1) es)) ∙ sym (ap modules_of (line_here es place (Module area) lt at)))
     ∙ h
+
+-- the module that begins at the place, and the lines from the next one on
+pub one_part : (es : List CertificateLine) (place : ℕ) (area : Box2) (part : ModuleSlice) (ps qs : List ModuleSlice)
+    (count next : ℕ) →
+    place < length es →
+    Module area ≡ get_or es place (Module area) →
+    slice_lines part ≡ record { area = area; lines = inner (drop (place + 1) es) } → qs ≡ ps ++ part ∷ [] →
+    count ≡ length (inner (drop (place + 1) es)) → next ≡ place + 1 + count →
+    map slice_lines ps ++ modules_of (drop place es) ≡ modules_of es →
+    map slice_lines qs ++ modules_of (drop next es) ≡ modules_of es
+one_part es place area part ps qs count next lt at is grown long goes h =
+    let behind : modules_of (drop next es) ≡ modules_of (drop (place + 1) es) =
+    ap (λ n. modules_of (drop n es)) goes ∙ ap modules_of (sym (drop-drop count (place + 1) es))
+    ∙ ap (λ n. modules_of (drop n (drop (place + 1) es))) long ∙ after_inner (drop (place + 1) es) in
+    ap (λ ms. map slice_lines qs ++ ms) behind ∙ one_module_more es place area part ps qs lt at is grown h
+
+few_borders : (es : List CertificateLine) → length (flat_map edge_in es) + length (flat_map halo_in es) ≤ length es
+few_borders [] = omega arith
+few_borders (Module b ∷ es) = let h = few_borders es in omega (arith, h)
+few_borders (Cut n ∷ es) = let h = few_borders es in omega (arith, h)
+few_borders (Use k ∷ es) = let h = few_borders es in omega (arith, h)
+few_borders (Keep k ∷ es) = let h = few_borders es in omega (arith, h)
+few_borders (Edge e ∷ es) = let h = few_borders es in omega (arith, h)
+few_borders (Halo e ∷ es) = let h = few_borders es in omega (arith, h)
+few_borders (Stop s ∷ es) = let h = few_borders es in omega (arith, h)
+
+counted_at : (ms : List ModuleLines) (m : ModuleLines) (rest : List ModuleLines) →
+    slice_get (map counts_of (ms ++ m ∷ rest)) (length ms) ≡ Some (counts_of m)
+counted_at [] m rest = refl
+counted_at (n ∷ ms) m rest = counted_at ms m rest
+
+-- what is at most the number of edge and halo lines of the module that begins at the place is at most its lines
+pub within_module : (es : List CertificateLine) (place : ℕ) (area : Box2) (ps : List ModuleSlice)
+    (counts : List Counts) (n : ℕ) →
+    place < length es →
+    Module area ≡ get_or es place (Module area) →
+    counts ≡ map counts_of (modules_of es) →
+    ((k : Counts) → slice_get counts (length ps) ≡ Some k → n ≤ k.edges + k.halos) →
+    map slice_lines ps ++ modules_of (drop place es) ≡ modules_of es →
+    n ≤ length (inner (drop (place + 1) es))
+within_module es place area ps counts n lt at counted few h =
+    let rest = drop (place + 1) es in
+    let m : ModuleLines = record { area = area; lines = inner rest } in
+    let split : modules_of (drop place es) ≡ m ∷ modules_of rest =
+    ap modules_of (line_here es place (Module area) lt at) ∙ split_module area rest in
+    let all : map counts_of (map slice_lines ps ++ m ∷ modules_of rest) ≡ counts =
+    ap (map counts_of) (ap (λ ms. map slice_lines ps ++ ms) (sym split) ∙ h) ∙ sym counted in
+    let here : slice_get counts (length ps) ≡ Some (counts_of m) =
+    subst (λ cs. slice_get cs (length ps) ≡ Some (counts_of m)) all
+    (subst (λ k. slice_get (map counts_of (map slice_lines ps ++ m ∷ modules_of rest)) k ≡ Some (counts_of m))
+    (length-map slice_lines ps) (counted_at (map slice_lines ps) m (modules_of rest))) in
+    let le = few (counts_of m) here in
+    let all_lines = few_borders (inner rest) in
+    omega (arith, le, all_lines)
 
 pub all_parts : (es : List CertificateLine) (place : ℕ) (ps : List ModuleSlice) → length es ≤ place →
     map slice_lines ps ++ modules_of (drop place es) ≡ modules_of es → map slice_lines ps ≡ modules_of es
@@ -83,7 +140,7 @@ part_at parts i part lt is = mapped_at slice_lines parts i part (slice_get_read 
 pub record HaveListsFrom (g : Setting) (es : List CertificateLine) (done : ℕ) (lists : List (List ℕ)) : Type 0 where
   pub count : length lists ≡ length (modules_of es)
   pub each : (i : ℕ) (m : ModuleLines) → done ≤ i → slice_get (modules_of es) i ≡ Some m →
-      edges_at es (list_at lists i) ≡ edge_lines_beside g (modules_of es) m.area
+      edge_lines_at es (list_at lists i) ≡ edge_lines_beside g (modules_of es) m.area
 
 module _ (g : Setting) (es : List CertificateLine) where
   pub all_lists : (lists : List (List ℕ)) → AreHaloPlaces g es lists → HaveListsFrom g es 0 lists
@@ -95,7 +152,7 @@ module _ (g : Setting) (es : List CertificateLine) where
   one_list_less f done old new count others h = record {
     count = length-map new f ∙ count ∙ sym (length-map old f) ∙ h.count;
     each = λ i m le at.
-        ap (edges_at es) (others i (λ e. omega (arith, e, le))) ∙ h.each i m (omega (arith, le)) at;
+        ap (edge_lines_at es) (others i (λ e. omega (arith, e, le))) ∙ h.each i m (omega (arith, le)) at;
   }
 
   module _ (parts : List ModuleSlice) (are : map slice_lines parts ≡ modules_of es) where
@@ -122,7 +179,8 @@ pub full_part : {g : Setting} {es : List CertificateLine} {lists : List (List �
     map slice_lines parts ≡ modules_of es → AreModules g (map slice_lines parts) →
     lacks_wire g (map slice_lines parts) ≡ false → HaveListsFrom g es number lists → number < length parts →
     part ≡ get_or parts number part → list_at lists number ≡ places →
-    ((h : Setting) → AreModules h (modules_of es) → edges_at es places ≡ edge_lines_beside h (modules_of es) part.area →
+    ((h : Setting) → AreModules h (modules_of es) →
+    edge_lines_at es places ≡ edge_lines_beside h (modules_of es) part.area →
     ◌≡◌ {A = ModuleLines} (record { area = part.area; lines = made })
     (with_halos h (modules_of es) (slice_lines part))) →
     lines ≡ made → IsFullPart g (map slice_lines parts) number part lines
@@ -136,7 +194,7 @@ full_part {g} {es} {lists} {number} {part} {places} {made} {lines} parts are goo
     (with_halos g ms (slice_lines part)) =
     ap (λ ls. record { area = part.area; lines = ls }) same
     ∙ full g (subst (AreModules g) are good)
-    (ap (edges_at es) (sym taken)
+    (ap (edge_lines_at es) (sym taken)
     ∙ left.each number (slice_lines part) (omega arith) (ap (λ ns. slice_get ns number) (sym are) ∙ at))
     ∙ ap (λ ns. with_halos g ns (slice_lines part)) (sym are) in
     record {

@@ -10,7 +10,7 @@ use Rattle.module_box.specs.declared.schedules.TimedSignal.{TimedSignal}
 use Rattle.module_box.specs.declared.schedules.AllTimes.{AllTimes}
 use Rattle.module_box.specs.declared.schedules.Signal.{Signal}
 use Rattle.certificate_lines.specs.Entries.{edge_in, halo_in}
-use Rattle.certificate.specs.Jobs.{all_times_by, event_by}
+use Rattle.certificate.specs.Jobs.{all_times_of_line, events_of_line}
 use Rattle.certificate_lines.specs.Orders.{AreInOrder, rank_of, number_of, cell_of, line_cmp, is_cut, may_precede}
 use Rattle.certificate_lines.specs.Orders.{time_rank}
 use Rattle.module_job.specs.Signals.{renumber_all_times, renumber_event}
@@ -152,7 +152,7 @@ both_timed (Some a) None t v c s u h = absurd cc
 module _ (σ : BorderLine → Signal) where
   all_times_first : (d : BorderLine) (t : Option ℕ) → d.time ≡ t → (e : BorderLine) (u : Option ℕ) → e.time ≡ u →
       Before d e →
-      Each (λ a. Each (HeldBefore a) (all_times_by e u (σ e))) (all_times_by d t (σ d))
+      Each (λ a. Each (HeldBefore a) (all_times_of_line e u (σ e))) (all_times_of_line d t (σ d))
   unfolding Each
   all_times_first d None s e None u h = ((both_starred d.time e.time (cell_cmp d.cell e.cell) s u h, tt), tt)
   all_times_first d None s e (Some v) u h = (tt, tt)
@@ -160,54 +160,56 @@ module _ (σ : BorderLine → Signal) where
 
   event_first : (d : BorderLine) (t : Option ℕ) → d.time ≡ t → (e : BorderLine) (u : Option ℕ) → e.time ≡ u →
       Before d e →
-      Each (λ a. Each (EventBefore a) (event_by e u (σ e))) (event_by d t (σ d))
+      Each (λ a. Each (EventBefore a) (events_of_line e u (σ e))) (events_of_line d t (σ d))
   unfolding Each moment_cmp
   event_first d None s e v u h = tt
   event_first d (Some t) s e None u h = (tt, tt)
   event_first d (Some t) s e (Some v) u h = ((both_timed d.time e.time t v (cell_cmp d.cell e.cell) s u h, tt), tt)
 
   all_times_by_time : (d : BorderLine) (t : Option ℕ) → d.time ≡ t →
-      Each (λ a. (e : BorderLine) → Before d e → Each (HeldBefore a) (all_times_by e e.time (σ e)))
-      (all_times_by d t (σ d))
+      Each (λ a. (e : BorderLine) → Before d e → Each (HeldBefore a) (all_times_of_line e e.time (σ e)))
+      (all_times_of_line d t (σ d))
   unfolding Each
   all_times_by_time d None s = ((λ e h. (all_times_first d None s e e.time refl h).0), tt)
   all_times_by_time d (Some t) s = tt
 
   event_by_time : (d : BorderLine) (t : Option ℕ) → d.time ≡ t →
-      Each (λ a. (e : BorderLine) → Before d e → Each (EventBefore a) (event_by e e.time (σ e))) (event_by d t (σ d))
+      Each (λ a. (e : BorderLine) → Before d e → Each (EventBefore a) (events_of_line e e.time (σ e)))
+      (events_of_line d t (σ d))
   unfolding Each
   event_by_time d None s = tt
   event_by_time d (Some t) s = ((λ e h. (event_first d (Some t) s e e.time refl h).0), tt)
 
-  all_times_alone : (d : BorderLine) (t : Option ℕ) → Pairs HeldBefore (all_times_by d t (σ d))
+  all_times_alone : (d : BorderLine) (t : Option ℕ) → Pairs HeldBefore (all_times_of_line d t (σ d))
   unfolding Each Pairs
   all_times_alone d None = (tt, tt)
   all_times_alone d (Some t) = tt
 
-  event_alone : (d : BorderLine) (t : Option ℕ) → Pairs EventBefore (event_by d t (σ d))
+  event_alone : (d : BorderLine) (t : Option ℕ) → Pairs EventBefore (events_of_line d t (σ d))
   unfolding Each Pairs
   event_alone d None = tt
   event_alone d (Some t) = (tt, tt)
 
   all_times_pairs : (es : List BorderLine) → Pairs Before es →
-      Pairs HeldBefore (flat_map (λ e. all_times_by e e.time (σ e)) es)
-  all_times_pairs es p = pairs_flat Before HeldBefore (λ e. all_times_by e e.time (σ e))
+      Pairs HeldBefore (flat_map (λ e. all_times_of_line e e.time (σ e)) es)
+  all_times_pairs es p = pairs_flat Before HeldBefore (λ e. all_times_of_line e e.time (σ e))
       (λ d. all_times_by_time d d.time refl)
       (λ d. all_times_alone d d.time) es p
 
   event_pairs : (es : List BorderLine) → Pairs Before es →
-      Pairs EventBefore (flat_map (λ e. event_by e e.time (σ e)) es)
-  event_pairs es p = pairs_flat Before EventBefore (λ e. event_by e e.time (σ e)) (λ d. event_by_time d d.time refl)
+      Pairs EventBefore (flat_map (λ e. events_of_line e e.time (σ e)) es)
+  event_pairs es p = pairs_flat Before EventBefore (λ e. events_of_line e e.time (σ e))
+      (λ d. event_by_time d d.time refl)
       (λ d. event_alone d d.time) es p
 
   -- also by other numbers of the wires
   pub all_times_rises : (f : ℕ → ℕ) (es : List BorderLine) → Pairs Before es → (hs : List AllTimes) →
-      map (renumber_all_times f) hs ≡ flat_map (λ e. all_times_by e e.time (σ e)) es →
+      map (renumber_all_times f) hs ≡ flat_map (λ e. all_times_of_line e e.time (σ e)) es →
       IsRising cell_cmp all_times_cell hs
   all_times_rises f es p hs e =
       rising_of cell_cmp all_times_cell (renumber_all_times f) (λ a. refl) hs _ e (all_times_pairs es p)
 
   pub events_rise : (f : ℕ → ℕ) (es : List BorderLine) → Pairs Before es → (hs : List TimedSignal) →
-      map (renumber_event f) hs ≡ flat_map (λ e. event_by e e.time (σ e)) es →
+      map (renumber_event f) hs ≡ flat_map (λ e. events_of_line e e.time (σ e)) es →
       IsRising moment_cmp moment_of hs
   events_rise f es p hs e = rising_of moment_cmp moment_of (renumber_event f) (λ a. refl) hs _ e (event_pairs es p)

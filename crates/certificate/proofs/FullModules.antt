@@ -24,9 +24,10 @@ use Rattle.certificate_lines.specs.Modules.{AreModules, AreUnstarred, HasPorts, 
 use Rattle.certificate_lines.specs.Modules.{IsStop}
 use Rattle.certificate_lines.specs.Orders.{AreInOrder, cell_of, line_cmp, may_precede, number_of, rank_of, time_rank}
 use Rattle.certificate_lines.specs.Rules.{is_local, whole}
-use Rattle.certificate_lines.specs.Versions.{edge_lines_beside, in_order, is_early, is_halo, is_haloless, is_strange}
+use Rattle.certificate_lines.specs.Versions.{edge_lines_beside, in_order, precedes_halos, is_halo, is_haloless}
+use Rattle.certificate_lines.specs.Versions.{is_nonlocal_signal}
 use Rattle.certificate_lines.specs.Versions.{lacks_wire}
-use Rattle.certificate_lines.specs.Versions.{line_order, meant, with_halos, without_halos}
+use Rattle.certificate_lines.specs.Versions.{line_order, modules_by_version, with_halos, without_halos}
 use Rattle.certificate_lines.specs.declared.certificate_line.BorderLine.{BorderLine}
 use Rattle.certificate_lines.specs.declared.certificate_line.CertificateLine.{CertificateLine}
 use Rattle.certificate_lines.specs.declared.certificate_line.StopLine.{StopLine}
@@ -113,8 +114,8 @@ pub record IsOfEarly {X : Type 0} (f : CertificateLine → List X) : Type 0 wher
 
 -- finds all that it finds in the early lines
 early_same : {X : Type 0} (f : CertificateLine → List X) → IsOfEarly f → (lines : List CertificateLine) →
-    flat_map f (filter is_early lines) ≡ flat_map f lines
-unfolding is_early
+    flat_map f (filter precedes_halos lines) ≡ flat_map f lines
+unfolding precedes_halos
 early_same f none [] = refl
 early_same f none (Module b ∷ lines) = ap (λ xs. f (Module b) ++ xs) (early_same f none lines)
 early_same f none (Cut n ∷ lines) = ap (λ xs. f (Cut n) ++ xs) (early_same f none lines)
@@ -125,8 +126,8 @@ early_same f none (Halo e ∷ lines) = early_same f none lines ∙ ap (λ xs. xs
 early_same f none (Stop s ∷ lines) = early_same f none lines ∙ ap (λ xs. xs ++ flat_map f lines) (sym (none.stop s))
 
 -- the early lines have neither halo lines nor stops
-early_halos : (lines : List CertificateLine) → flat_map halo_in (filter is_early lines) ≡ []
-unfolding is_early
+early_halos : (lines : List CertificateLine) → flat_map halo_in (filter precedes_halos lines) ≡ []
+unfolding precedes_halos
 early_halos [] = refl
 early_halos (Module b ∷ lines) = early_halos lines
 early_halos (Cut n ∷ lines) = early_halos lines
@@ -136,8 +137,8 @@ early_halos (Edge e ∷ lines) = early_halos lines
 early_halos (Halo e ∷ lines) = early_halos lines
 early_halos (Stop s ∷ lines) = early_halos lines
 
-early_stops : (lines : List CertificateLine) → flat_map stop_in (filter is_early lines) ≡ []
-unfolding is_early
+early_stops : (lines : List CertificateLine) → flat_map stop_in (filter precedes_halos lines) ≡ []
+unfolding precedes_halos
 early_stops [] = refl
 early_stops (Module b ∷ lines) = early_stops lines
 early_stops (Cut n ∷ lines) = early_stops lines
@@ -162,28 +163,31 @@ append_none [] = refl
 append_none (x ∷ xs) = ap (λ l. x ∷ l) (append_none xs)
 
 -- the lines of a module with these halo lines
-abbrev pub full_lines : List CertificateLine → List BorderLine → List CertificateLine
-full_lines lines hs = filter is_early lines ++ map Halo hs ++ map Stop (flat_map stop_in lines)
+abbrev pub lines_with_halos : List CertificateLine → List BorderLine → List CertificateLine
+lines_with_halos lines hs = filter precedes_halos lines ++ map Halo hs ++ map Stop (flat_map stop_in lines)
 
 full_parts : {X : Type 0} (f : CertificateLine → List X) (lines : List CertificateLine) (hs : List BorderLine) →
-    flat_map f (full_lines lines hs)
-    ≡ flat_map f (filter is_early lines) ++ flat_map f (map Halo hs) ++ flat_map f (map Stop (flat_map stop_in lines))
+    flat_map f (lines_with_halos lines hs)
+    ≡ flat_map f (filter precedes_halos lines) ++ flat_map f (map Halo hs)
+    ++ flat_map f (map Stop (flat_map stop_in lines))
 full_parts f lines hs =
-    flat_map-append f (filter is_early lines ++ map Halo hs) (map Stop (flat_map stop_in lines))
+    flat_map-append f (filter precedes_halos lines ++ map Halo hs) (map Stop (flat_map stop_in lines))
     ∙ ap (λ l. l ++ flat_map f (map Stop (flat_map stop_in lines)))
-    (flat_map-append f (filter is_early lines) (map Halo hs))
+    (flat_map-append f (filter precedes_halos lines) (map Halo hs))
 
 pub other_lines : {X : Type 0} (f : CertificateLine → List X) → IsOfEarly f →
     (lines : List CertificateLine) (hs : List BorderLine) →
-    flat_map f (full_lines lines hs) ≡ flat_map f lines
+    flat_map f (lines_with_halos lines hs) ≡ flat_map f lines
 other_lines f none lines hs =
     full_parts f lines hs
-    ∙ ap₂ (λ xs ys. flat_map f (filter is_early lines) ++ xs ++ ys) (nothing_in f Halo none.halo hs)
+    ∙ ap₂ (λ xs ys. flat_map f (filter precedes_halos lines) ++ xs ++ ys) (nothing_in f Halo none.halo hs)
     (nothing_in f Stop none.stop (flat_map stop_in lines))
-    ∙ append_none (flat_map f (filter is_early lines) ++ []) ∙ append_none (flat_map f (filter is_early lines))
+    ∙ append_none (flat_map f (filter precedes_halos lines) ++ [])
+    ∙ append_none (flat_map f (filter precedes_halos lines))
     ∙ early_same f none lines
 
-pub halo_lines : (lines : List CertificateLine) (hs : List BorderLine) → flat_map halo_in (full_lines lines hs) ≡ hs
+pub halo_lines : (lines : List CertificateLine) (hs : List BorderLine) →
+    flat_map halo_in (lines_with_halos lines hs) ≡ hs
 halo_lines lines hs =
     full_parts halo_in lines hs
     ∙ ap₂ (λ xs ys. xs ++ flat_map halo_in (map Halo hs) ++ ys) (early_halos lines)
@@ -191,7 +195,7 @@ halo_lines lines hs =
     ∙ append_none (flat_map halo_in (map Halo hs)) ∙ one_each halo_in Halo (λ e. refl) hs
 
 pub stop_lines : (lines : List CertificateLine) (hs : List BorderLine) →
-    flat_map stop_in (full_lines lines hs) ≡ flat_map stop_in lines
+    flat_map stop_in (lines_with_halos lines hs) ≡ flat_map stop_in lines
 stop_lines lines hs =
     full_parts stop_in lines hs
     ∙ ap₂ (λ xs ys. xs ++ ys ++ flat_map stop_in (map Stop (flat_map stop_in lines))) (early_stops lines)
@@ -220,8 +224,8 @@ halos_follow : (d e : BorderLine) → line_order d e ≡ Less → may_precede (H
 unfolding may_precede line_cmp rank_of number_of cell_of line_order
 halos_follow d e h = less_is _ _ h
 
-before_halo : (i : CertificateLine) (e : BorderLine) → is_early i ≡ true → may_precede i (Halo e) ≡ true
-unfolding may_precede line_cmp rank_of is_early
+before_halo : (i : CertificateLine) (e : BorderLine) → precedes_halos i ≡ true → may_precede i (Halo e) ≡ true
+unfolding may_precede line_cmp rank_of precedes_halos
 before_halo (Module b) e h = refl
 before_halo (Cut n) e h = refl
 before_halo (Use k) e h = refl
@@ -230,8 +234,8 @@ before_halo (Edge d) e h = refl
 before_halo (Halo d) e h = absurd cc
 before_halo (Stop s) e h = absurd cc
 
-before_stop : (i : CertificateLine) (s : StopLine) → is_early i ≡ true → may_precede i (Stop s) ≡ true
-unfolding may_precede line_cmp rank_of is_early
+before_stop : (i : CertificateLine) (s : StopLine) → precedes_halos i ≡ true → may_precede i (Stop s) ≡ true
+unfolding may_precede line_cmp rank_of precedes_halos
 before_stop (Module b) s h = refl
 before_stop (Cut n) s h = refl
 before_stop (Use k) s h = refl
@@ -282,17 +286,17 @@ stops_among (Halo e ∷ lines) = stops_among lines
 stops_among (Stop s ∷ lines) = ap (λ l. Stop s ∷ l) (stops_among lines)
 
 pub full_order : (lines : List CertificateLine) (hs : List BorderLine) → AreInOrder lines → Rises hs →
-    AreInOrder (full_lines lines hs)
+    AreInOrder (lines_with_halos lines hs)
 full_order lines hs o p =
     let may = λ (i j : CertificateLine). may_precede i j ≡ true in
-    let early = filter is_early lines in
+    let early = filter precedes_halos lines in
     let ss = flat_map stop_in lines in
     let pairs = pairs_of_order lines o in
-    let is_early_one = λ (i : CertificateLine) (at : In i early). (in_filter is_early i lines at).1 in
-    order_of_pairs (full_lines lines hs)
+    let is_early_one = λ (i : CertificateLine) (at : In i early). (in_filter precedes_halos i lines at).1 in
+    order_of_pairs (lines_with_halos lines hs)
     (pairs_append may (early ++ map Halo hs) (map Stop ss)
     (pairs_append may early (map Halo hs)
-    (pairs_filter may is_early lines pairs)
+    (pairs_filter may precedes_halos lines pairs)
     (halo_pairs hs p)
     (in_each (λ i. Each (may i) (map Halo hs)) early
     (λ i at. each_mapped (may i) Halo hs (λ e k. before_halo i e (is_early_one i at)))))
@@ -439,7 +443,7 @@ module _ (g : Setting) (ms : List ModuleLines) (good : AreModules g ms) where
     pub full_known : known g.circuit full ≡ known g.circuit m
     full_known = ap₂ (λ cs gs. local_wires g.circuit.netlist cs gs) full_wires full_gates
 
-    local_signal : (s : Option (List ℕ)) → is_strange g.circuit (known g.circuit m) s ≡ false →
+    local_signal : (s : Option (List ℕ)) → is_nonlocal_signal g.circuit (known g.circuit m) s ≡ false →
         IfSome s (λ name. IsTrue (is_local g.circuit (known g.circuit m) name))
     local_signal None h = tt
     local_signal (Some name) h = not_not (is_local g.circuit (known g.circuit m) name) h
@@ -450,7 +454,7 @@ module _ (g : Setting) (ms : List ModuleLines) (good : AreModules g ms) where
 
     -- the edge lines beside it may be its halo lines
     halo_here : (e : BorderLine) → In e (edge_lines_beside g ms m.area) →
-        is_strange g.circuit (known g.circuit m) e.signal ≡ false →
+        is_nonlocal_signal g.circuit (known g.circuit m) e.signal ≡ false →
         IsHalo g m.area (known g.circuit m) e
     halo_here e i known_there =
         let b = in_beside m.area e i in
@@ -465,7 +469,7 @@ module _ (g : Setting) (ms : List ModuleLines) (good : AreModules g ms) where
         }
 
     pub full_good : In m ms → ((e : BorderLine) → In e (edge_lines_beside g ms m.area) →
-        is_strange g.circuit (known g.circuit m) e.signal ≡ false) → IsModule g full
+        is_nonlocal_signal g.circuit (known g.circuit m) e.signal ≡ false) → IsModule g full
     unfolding with_halos
     full_good at known_there =
         let is = module_of m at in
@@ -517,13 +521,14 @@ module _ (g : Setting) (ms : List ModuleLines) (good : AreModules g ms) where
 
   none_strange : lacks_wire g ms ≡ false → (m : ModuleLines) → In m ms → (e : BorderLine) →
       In e (edge_lines_beside g ms m.area) →
-      is_strange g.circuit (known g.circuit m) e.signal ≡ false
+      is_nonlocal_signal g.circuit (known g.circuit m) e.signal ≡ false
   unfolding lacks_wire
   none_strange none m at e i =
-      none_passes (λ (e : BorderLine). is_strange g.circuit (known g.circuit m) e.signal)
+      none_passes (λ (e : BorderLine). is_nonlocal_signal g.circuit (known g.circuit m) e.signal)
       (edge_lines_beside g ms m.area)
       (none_passes (λ (m : ModuleLines).
-      list_any (λ e. is_strange g.circuit (known g.circuit m) e.signal) (edge_lines_beside g ms m.area)) ms none m at) e
+      list_any (λ e. is_nonlocal_signal g.circuit (known g.circuit m) e.signal) (edge_lines_beside g ms m.area)) ms none
+      m at) e
       i
 
   pub full_modules : lacks_wire g ms ≡ false → AreModules g (map (with_halos g ms) ms)
@@ -545,34 +550,36 @@ full_areas_of_all g ms [] = refl
 full_areas_of_all g ms (n ∷ ns) = ap (λ bs. n.area ∷ bs) (full_areas_of_all g ms ns)
 
 -- the modules of either version have the boxes that the lines say
-pub meant_areas : (version : ℕ) (g : Setting) (ms : List ModuleLines) → areas (meant version g ms) ≡ areas ms
-unfolding meant
+pub meant_areas : (version : ℕ) (g : Setting) (ms : List ModuleLines) →
+    areas (modules_by_version version g ms) ≡ areas ms
+unfolding modules_by_version
 meant_areas version g ms = elim (cases_Bool (is_haloless version)) [
   | inl new ↦ ap areas (cond-true _ _ _ new) ∙ full_areas_of_all g ms ms
   | inr old ↦ ap areas (cond-false _ _ _ old)
 ]
 
 -- and there are as many
-pub meant_count : (version : ℕ) (g : Setting) (ms : List ModuleLines) → length (meant version g ms) ≡ length ms
-unfolding meant
+pub meant_count : (version : ℕ) (g : Setting) (ms : List ModuleLines) →
+    length (modules_by_version version g ms) ≡ length ms
+unfolding modules_by_version
 meant_count version g ms = elim (cases_Bool (is_haloless version)) [
   | inl new ↦ ap length (cond-true _ _ _ new) ∙ length-map ms (with_halos g ms)
   | inr old ↦ ap length (cond-false _ _ _ old)
 ]
 
 pub meant_old : (version : ℕ) (g : Setting) (ms : List ModuleLines) → is_haloless version ≡ false →
-    meant version g ms ≡ ms
-unfolding meant
+    modules_by_version version g ms ≡ ms
+unfolding modules_by_version
 meant_old version g ms e = cond-false _ _ _ e
 
 pub meant_new : (version : ℕ) (g : Setting) (ms : List ModuleLines) → is_haloless version ≡ true →
-    meant version g ms ≡ map (with_halos g ms) ms
-unfolding meant
+    modules_by_version version g ms ≡ map (with_halos g ms) ms
+unfolding modules_by_version
 meant_new version g ms e = cond-true _ _ _ e
 
 pub meant_modules : (version : ℕ) (g : Setting) (ms : List ModuleLines) → AreModules g ms →
-    (is_haloless version && lacks_wire g ms) ≡ false → AreModules g (meant version g ms)
-unfolding meant
+    (is_haloless version && lacks_wire g ms) ≡ false → AreModules g (modules_by_version version g ms)
+unfolding modules_by_version
 meant_modules version g ms good none = elim (cases_Bool (is_haloless version)) [
   | inl new ↦ subst (AreModules g) (sym (cond-true _ _ _ new))
       (full_modules g ms good (ap (λ b. b && lacks_wire g ms) (sym new) ∙ none))

@@ -25,7 +25,7 @@ use Rattle.certificate_lines.specs.declared.certificate_line.CertificateLine.{Ce
 use Rattle.certificate_lines.specs.declared.certificate_line.CertificateLine.TheVariants.{Edge}
 use Rattle.certificate_lines.proofs.Lists.{some_is}
 use Rattle.certificate_lines.proofs.OddBlocks.{halo_either}
-use Rattle.certificate.specs.HaloPlaces.{AreReady, HaveEdges, HavePlace, IsInnerCell, edges_at, list_at}
+use Rattle.certificate.specs.HaloPlaces.{AreReady, HaveEdges, HavePlace, IsInnerCell, edge_lines_at, list_at}
 use Rattle.certificate.proofs.BesideLines.{filter-append}
 
 -- ---- one list of several
@@ -236,25 +236,25 @@ inner_block b c inner =
 
 edges_more : (es : List CertificateLine) (l : List ℕ) (t : Bool) (place : ℕ) (e : BorderLine) →
     slice_get es place ≡ Some (Edge e) →
-    edges_at es (l ++ (if t then place ∷ [] else [])) ≡ edges_at es l ++ (if t then e ∷ [] else [])
+    edge_lines_at es (l ++ (if t then place ∷ [] else [])) ≡ edge_lines_at es l ++ (if t then e ∷ [] else [])
 edges_more es l true place e at =
     let line = λ (k : ℕ). flat_map edge_in (option_to_list (slice_get es k)) in
-    let grown : edges_at es (l ++ place ∷ []) ≡ edges_at es l ++ (line place ++ []) =
+    let grown : edge_lines_at es (l ++ place ∷ []) ≡ edge_lines_at es l ++ (line place ++ []) =
     flat_map-append line l (place ∷ []) in
-    grown ∙ ap (λ (m : Option CertificateLine). edges_at es l ++ (flat_map edge_in (option_to_list m) ++ [])) at
-edges_more es l false place e at = ap (edges_at es) (append-nil l) ∙ sym (append-nil (edges_at es l))
+    grown ∙ ap (λ (m : Option CertificateLine). edge_lines_at es l ++ (flat_map edge_in (option_to_list m) ++ [])) at
+edges_more es l false place e at = ap (edge_lines_at es) (append-nil l) ∙ sym (append-nil (edge_lines_at es l))
 
 module _ (es : List CertificateLine) (boxes : List Box2) where
   pub edge_placed : (place : ℕ) (e : BorderLine) (old new : List (List ℕ)) → slice_get es place ≡ Some (Edge e) →
       HavePlace boxes (λ b. in_halo b e.cell.x e.cell.y) place old new → HaveEdges es boxes (e ∷ []) old new
   edge_placed place e old new at h = record {
     count = h.count;
-    each = λ i b box. ap (edges_at es) (h.each i b box)
+    each = λ i b box. ap (edge_lines_at es) (h.each i b box)
         ∙ edges_more es (list_at old i) (in_halo b e.cell.x e.cell.y) place e at;
   }
 
   pub no_edges : (lists : List (List ℕ)) → HaveEdges es boxes [] lists lists
-  no_edges lists = record { count = refl; each = λ i b box. sym (append-nil (edges_at es (list_at lists i))) }
+  no_edges lists = record { count = refl; each = λ i b box. sym (append-nil (edge_lines_at es (list_at lists i))) }
 
   pub edges_then : (more next : List BorderLine) (old l new : List (List ℕ)) → HaveEdges es boxes more old l →
       HaveEdges es boxes next l new → HaveEdges es boxes (more ++ next) old new
@@ -263,8 +263,8 @@ module _ (es : List CertificateLine) (boxes : List Box2) where
     each = λ i b box.
         let keep = λ (e : BorderLine). in_halo b e.cell.x e.cell.y in
         k.each i b box ∙ ap (λ m. m ++ filter keep next) (h.each i b box)
-        ∙ append_assoc (edges_at es (list_at old i)) (filter keep more) (filter keep next)
-        ∙ ap (λ m. edges_at es (list_at old i) ++ m) (sym (filter-append keep more next));
+        ∙ append_assoc (edge_lines_at es (list_at old i)) (filter keep more) (filter keep next)
+        ∙ ap (λ m. edge_lines_at es (list_at old i) ++ m) (sym (filter-append keep more next));
   }
 
 -- ---- tables and lists

@@ -10,14 +10,14 @@ use Rattle.bbm_rule.specs.Plane.{is_at}
 use Rattle.bbm_rule.specs.declared.block.Cell.{Cell}
 use Rattle.circuit.specs.Meaning.{Circuit}
 use Rattle.module_box.specs.Boxes.{in_box, in_halo}
-use Rattle.module_box.specs.Schedules.{event_at, all_times_at, is_then, signal_at}
+use Rattle.module_box.specs.Schedules.{event_at, all_times_at, is_moment_at, signal_at}
 use Rattle.module_box.specs.declared.boxes.Box2.{Box2}
 use Rattle.module_box.specs.declared.schedules.TimedSignal.{TimedSignal}
 use Rattle.module_box.specs.declared.schedules.AllTimes.{AllTimes}
 use Rattle.module_box.specs.declared.schedules.Signal.{Signal}
 use Rattle.module_box.specs.declared.schedules.Signal.TheVariants.{Zero}
 use Rattle.certificate_lines.specs.Entries.{Setting, ModuleLines, edges}
-use Rattle.certificate.specs.Jobs.{event_by, all_times_by, line_signal, line_signals}
+use Rattle.certificate.specs.Jobs.{events_of_line, all_times_of_line, line_signal, line_signals}
 use Rattle.certificate.specs.Laws.{HaloIsEdgeBeside}
 use Rattle.certificate_lines.specs.Modules.{AreModules}
 use Rattle.certificate_lines.specs.Versions.{edge_lines_beside, in_order, line_order}
@@ -41,38 +41,38 @@ both_false false = refl
 
 pub all_times_past : (e : BorderLine) (time : Option ℕ) (s : Signal) (rest : List AllTimes) (x y : ℤ) →
     is_at e.cell x y ≡ false →
-    all_times_at (all_times_by e time s ++ rest) x y ≡ all_times_at rest x y
+    all_times_at (all_times_of_line e time s ++ rest) x y ≡ all_times_at rest x y
 unfolding all_times_at
 all_times_past e None s rest x y h = cond-false _ _ _ h
 all_times_past e (Some t) s rest x y h = refl
 
 pub event_past : (e : BorderLine) (time : Option ℕ) (s : Signal) (rest : List TimedSignal) (t : ℕ) (x y : ℤ) →
-    is_at e.cell x y ≡ false → event_at (event_by e time s ++ rest) t x y ≡ event_at rest t x y
+    is_at e.cell x y ≡ false → event_at (events_of_line e time s ++ rest) t x y ≡ event_at rest t x y
 unfolding event_at
 event_past e None s rest t x y h = refl
 event_past e (Some u) s rest t x y h = cond-false _ _ _ (ap (λ b. (u == t) && b) h ∙ both_false (u == t))
 
 all_times_on : (e : BorderLine) (time : Option ℕ) (s : Signal) (rest other : List AllTimes) (x y : ℤ) →
     all_times_at rest x y ≡ all_times_at other x y →
-    all_times_at (all_times_by e time s ++ rest) x y ≡ all_times_at (all_times_by e time s ++ other) x y
+    all_times_at (all_times_of_line e time s ++ rest) x y ≡ all_times_at (all_times_of_line e time s ++ other) x y
 unfolding all_times_at
 all_times_on e None s rest other x y h = ap (λ o. if is_at e.cell x y then Some s else o) h
 all_times_on e (Some t) s rest other x y h = h
 
 event_on : (e : BorderLine) (time : Option ℕ) (s : Signal) (rest other : List TimedSignal) (t : ℕ) (x y : ℤ) →
     event_at rest t x y ≡ event_at other t x y →
-    event_at (event_by e time s ++ rest) t x y ≡ event_at (event_by e time s ++ other) t x y
+    event_at (events_of_line e time s ++ rest) t x y ≡ event_at (events_of_line e time s ++ other) t x y
 unfolding event_at
 event_on e None s rest other t x y h = h
 event_on e (Some u) s rest other t x y h =
-    ap (λ o. if is_then (record { time = u; cell = e.cell }) t x y then Some s else o) h
+    ap (λ o. if is_moment_at (record { time = u; cell = e.cell }) t x y then Some s else o) h
 
 module _ (c : Circuit) (x y : ℤ) where
   abbrev all_times_of : List BorderLine → List AllTimes
-  all_times_of es = flat_map (λ e. all_times_by e e.time (line_signal c e.signal)) es
+  all_times_of es = flat_map (λ e. all_times_of_line e e.time (line_signal c e.signal)) es
 
   abbrev events_of : List BorderLine → List TimedSignal
-  events_of es = flat_map (λ e. event_by e e.time (line_signal c e.signal)) es
+  events_of es = flat_map (λ e. events_of_line e e.time (line_signal c e.signal)) es
 
   all_times_there : (es : List BorderLine) →
       all_times_at (all_times_of es) x y ≡ all_times_at (all_times_of (at_cell x y es)) x y

@@ -24,7 +24,7 @@ use Rattle.certificate_lines.proofs.LackedWires.{in_rectangle}
 use Rattle.certificate_lines.proofs.LinesLeft.{line_here, nothing_left}
 use Rattle.certificate_lines.proofs.ModuleSplit.{split_module, split_other}
 use Rattle.certificate_lines.proofs.OddBlocks.{area_of, mapped_at}
-use Rattle.certificate.specs.HaloPlaces.{AreHaloPlaces, AreLinesFrom, HaveEdges, IsInnerCell, edges_at}
+use Rattle.certificate.specs.HaloPlaces.{AreHaloPlaces, AreLinesFrom, HaveEdges, IsInnerCell, edge_lines_at}
 use Rattle.certificate.specs.HaloPlaces.{list_at}
 use Rattle.certificate.proofs.NearLines.{flat_all}
 use Rattle.certificate.proofs.TimeLemmas.{inner_within}
@@ -144,7 +144,7 @@ module _ (g : Setting) (es : List CertificateLine) where
   unfolding edge_lines_beside
   none_placed lists few count empty = record {
     count = count;
-    each = λ i m at. ap (edges_at es) (empty i) ∙ sym (cond-false _ _ _ (short g.size.steps few));
+    each = λ i m at. ap (edge_lines_at es) (empty i) ∙ sym (cond-false _ _ _ (short g.size.steps few));
   }
 
   pub all_placed : (boxes : List Box2) (old new : List (List ℕ)) → 1 < g.size.steps → boxes ≡ areas (modules_of es) →
@@ -155,7 +155,7 @@ module _ (g : Setting) (es : List CertificateLine) where
     count = h.count ∙ count;
     each = λ i m at.
         h.each i m.area (ap (λ bs. slice_get bs i) are ∙ area_of (modules_of es) i m at)
-        ∙ ap (λ l. edges_at es l ++ filter (λ (e : BorderLine). in_halo m.area e.cell.x e.cell.y)
+        ∙ ap (λ l. edge_lines_at es l ++ filter (λ (e : BorderLine). in_halo m.area e.cell.x e.cell.y)
         (flat_map edges (modules_of es))) (empty i)
         ∙ sym (cond-true _ _ _ (long g.size.steps many));
   }

@@ -14,7 +14,7 @@ use Rattle.module_box.specs.Locals.{AreLocalLines, LocalNet, is_among, local_wir
 use Rattle.certificate_lines.specs.Entries.{Setting, ModuleLines, cuts, cut_wires, gates, keeps, known, edges, halos}
 use Rattle.certificate_lines.specs.Settings.{setting_of}
 use Rattle.certificate_lines.specs.Modules.{IsModule}
-use Rattle.certificate.specs.Timetables.{IsNamedLocal}
+use Rattle.certificate.specs.Timetables.{HasLocalWire}
 
 -- the numbers of gates are small
 pub small_gates : (n : Netlist) (cw gs : List ℕ) → AreLocalLines n cw gs → length n.gates ≤ 1024 →
@@ -47,15 +47,15 @@ within_layout g m s is limits h =
 
 -- the wires that edge and halo lines name are the module's
 pub edges_named : (g : Setting) (m : ModuleLines) (l : LocalNet) → l.circuit_wires ≡ known g.circuit m → IsModule g m →
-    All (IsNamedLocal g.circuit l) (edges m)
+    All (HasLocalWire g.circuit l) (edges m)
 edges_named g m l is h k d lt =
-    subst (λ ws. IsNamedLocal g.circuit (record l { circuit_wires = ws }) (get_or (edges m) k d)) (sym is)
+    subst (λ ws. HasLocalWire g.circuit (record l { circuit_wires = ws }) (get_or (edges m) k d)) (sym is)
     (h.edge_lines k d lt).border.signal
 
 pub halos_named : (g : Setting) (m : ModuleLines) (l : LocalNet) → l.circuit_wires ≡ known g.circuit m → IsModule g m →
-    All (IsNamedLocal g.circuit l) (halos m)
+    All (HasLocalWire g.circuit l) (halos m)
 halos_named g m l is h k d lt =
-    subst (λ ws. IsNamedLocal g.circuit (record l { circuit_wires = ws }) (get_or (halos m) k d)) (sym is)
+    subst (λ ws. HasLocalWire g.circuit (record l { circuit_wires = ws }) (get_or (halos m) k d)) (sym is)
     (h.halo_lines k d lt).border.signal
 
 -- ---- what was made of the lines, where ls are the lines of the circuit cs

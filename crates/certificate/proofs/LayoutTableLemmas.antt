@@ -25,12 +25,12 @@ use Rattle.module_box.specs.declared.schedules.Signal.TheVariants.{One, Zero}
 use Rattle.certificate_lines.specs.Entries.{ModuleLines, known}
 use Rattle.certificate_lines.specs.Settings.{setting_of}
 use Rattle.certificate_lines.specs.PortTables.{AreOnBoard, port_at}
-use Rattle.certificate.specs.Jobs.{named_wire, signal_of, start_signal, demand_elsewhere, end_demand}
+use Rattle.certificate.specs.Jobs.{named_wire, signal_of, start_signal, demand_outside_mirrors, end_demand}
 use Rattle.module_job.specs.declared.job.Demand.TheVariants as Demanded
 use Rattle.certificate_lines.specs.Modules.{HasPorts}
 use Rattle.bbm_rule.specs.Board.{live}
 use Rattle.certificate.specs.declared.layout_tables.LayoutTables.TheInside.{Inside}
-use Rattle.certificate.specs.LayoutTablesView.{AreLayoutTables, HasMirrorOrNothing, KnowsPorts, cells_of_others}
+use Rattle.certificate.specs.LayoutTablesView.{AreLayoutTables, HasMirrorOrNothing, KnowsPorts, non_mirror_cells}
 use Rattle.certificate_lines.specs.Rules.{is_local}
 use Rattle.certificate_lines.proofs.BoxPlaces.{skipped}
 use Rattle.certificate_lines.proofs.Lists.{kept}
@@ -93,7 +93,8 @@ unfolding end_demand
 end_live c p x y a mirror h = rw (sym mirror, h) refl
 
 pub end_port : (c : Circuit) (p : Pattern) (x y : ℤ) (a : Bool) → a ≡ in_rectangles p.mirrors x y → a ≡ false →
-    (o : Option (List ℕ)) → o ≡ port_at p.outs x y → demand_elsewhere c o (in_cells p.wastes x y) ≡ end_demand c p x y
+    (o : Option (List ℕ)) → o ≡ port_at p.outs x y →
+    demand_outside_mirrors c o (in_cells p.wastes x y) ≡ end_demand c p x y
 unfolding end_demand
 end_port c p x y a mirror h o port = rw (sym mirror, h, sym port) refl
 
@@ -108,7 +109,7 @@ start_nothing c p x y mirror h = start_port c p x y false false (sym mirror) (sy
 pub end_nothing : (c : Circuit) (p : Pattern) (x y : ℤ) → in_rectangles p.mirrors x y ≡ false →
     HasMirrorOrNothing p x y → Demanded.Dead ≡ end_demand c p x y
 end_nothing c p x y mirror h =
-    ap (demand_elsewhere c None) (sym h.wastes) ∙ end_port c p x y false (sym mirror) refl None (sym h.outs)
+    ap (demand_outside_mirrors c None) (sym h.wastes) ∙ end_port c p x y false (sym mirror) refl None (sym h.outs)
 
 -- the cells of a row that no grid has
 pub start_dead : (c : Circuit) (a : Inside) → AreLayoutTables a → (x y : ℤ) → live a.mirrors x y ≡ false →
@@ -159,7 +160,7 @@ IsInLayout s c = in_layout s c.x c.y ≡ true
 
 pub others_inside : (p : Pattern) (s : LayoutHeader) → s ≡ p.size → AreGoodAfter s [] (parts_of p) →
     (cells : List Cell) →
-    cells ≡ cells_of_others p → AllInLayout s cells
+    cells ≡ non_mirror_cells p → AllInLayout s cells
 others_inside p s is good cells are =
     let ports = ports_on_layout p s is good in
     subst (AllInLayout s) (sym are)
@@ -179,7 +180,7 @@ apart : (xs ys : List Cell) (x y : ℤ) → in_cells (xs ++ ys) x y ≡ false �
 apart xs ys x y e = neither (in_cells xs x y) (in_cells ys x y)
     (sym (list_any-append (λ (c : Cell). is_at c x y) xs ys) ∙ e)
 
-pub no_others : (p : Pattern) (x y : ℤ) → in_cells (cells_of_others p) x y ≡ false → HasMirrorOrNothing p x y
+pub no_others : (p : Pattern) (x y : ℤ) → in_cells (non_mirror_cells p) x y ≡ false → HasMirrorOrNothing p x y
 no_others p x y e =
     let outs = apart ((p.balls ++ p.wastes) ++ map (λ (q : Port). q.cell) p.ins)
     (map (λ (q : Port). q.cell) p.outs) x y e in

@@ -15,7 +15,7 @@ use Rattle.module_box.specs.declared.schedules.TimedSignal.{TimedSignal}
 use Rattle.module_box.specs.declared.schedules.AllTimes.{AllTimes}
 use Rattle.module_box.specs.declared.schedules.Signal.{Signal}
 use Rattle.module_box.specs.declared.schedules.Signal.TheVariants.{Zero}
-use Rattle.certificate.specs.Jobs.{event_by, all_times_by, line_signal, line_signals}
+use Rattle.certificate.specs.Jobs.{events_of_line, all_times_of_line, line_signal, line_signals}
 use Rattle.certificate_lines.specs.Modules.{AreUnstarred}
 use Rattle.certificate_lines.specs.Orders.{time_rank}
 use Rattle.certificate_lines.specs.Rules.{is_star, is_starred, same_cell}
@@ -57,22 +57,22 @@ timed_first d e t dt et less =
 
 module _ (c : Circuit) where
   abbrev all_times_of : List BorderLine → List AllTimes
-  all_times_of es = flat_map (λ e. all_times_by e e.time (line_signal c e.signal)) es
+  all_times_of es = flat_map (λ e. all_times_of_line e e.time (line_signal c e.signal)) es
 
   abbrev events_of : List BorderLine → List TimedSignal
-  events_of es = flat_map (λ e. event_by e e.time (line_signal c e.signal)) es
+  events_of es = flat_map (λ e. events_of_line e e.time (line_signal c e.signal)) es
 
   -- ---- a line with a `*`
 
   all_times_first : (e : BorderLine) (time : Option ℕ) (s : Signal) (rest : List AllTimes) → time ≡ None →
-      all_times_at (all_times_by e time s ++ rest) e.cell.x e.cell.y ≡ Some s
+      all_times_at (all_times_of_line e time s ++ rest) e.cell.x e.cell.y ≡ Some s
   unfolding all_times_at
   all_times_first e None s rest none = cond-true _ _ _ (cell_itself e.cell)
   all_times_first e (Some t) s rest none = absurd cc
 
   all_times_skips : (d e : BorderLine) (time : Option ℕ) → d.time ≡ time → e.time ≡ None → line_order d e ≡ Less →
       (s : Signal) (rest : List AllTimes) →
-      all_times_at (all_times_by d time s ++ rest) e.cell.x e.cell.y ≡ all_times_at rest e.cell.x e.cell.y
+      all_times_at (all_times_of_line d time s ++ rest) e.cell.x e.cell.y ≡ all_times_at rest e.cell.x e.cell.y
   all_times_skips d e None dt et less s rest =
       all_times_past d None s rest e.cell.x e.cell.y (other_cell d e (dt ∙ sym et) less)
   all_times_skips d e (Some t) dt et less s rest = refl
@@ -82,7 +82,8 @@ module _ (c : Circuit) where
   unfolding Pairs In
   all_times_there e [] r i none = absurd i
   all_times_there e (d ∷ es) r (inl same) none =
-      subst (λ x. all_times_at (all_times_by x x.time (line_signal c x.signal) ++ all_times_of es) e.cell.x e.cell.y
+      subst (λ x. all_times_at (all_times_of_line x x.time (line_signal c x.signal) ++ all_times_of es) e.cell.x
+      e.cell.y
       ≡ Some (line_signal c e.signal)) (sym same)
       (all_times_first e e.time (line_signal c e.signal) (all_times_of es) none)
   all_times_there e (d ∷ es) r (inr later) none =
@@ -94,7 +95,7 @@ module _ (c : Circuit) where
 
   not_starred : (e d : BorderLine) (time : Option ℕ) → d.time ≡ time → is_starred e.cell d ≡ false →
       (s : Signal) (rest : List AllTimes) →
-      all_times_at (all_times_by d time s ++ rest) e.cell.x e.cell.y ≡ all_times_at rest e.cell.x e.cell.y
+      all_times_at (all_times_of_line d time s ++ rest) e.cell.x e.cell.y ≡ all_times_at rest e.cell.x e.cell.y
   not_starred e d None dt other s rest =
       all_times_past d None s rest e.cell.x e.cell.y
       (sym (turned_cell d.cell e.cell) ∙ ap (λ t. is_star t && same_cell e.cell d.cell) (sym dt) ∙ other)
@@ -159,7 +160,7 @@ module _ (c : Circuit) where
       ∙ none_all_times e t es et r.1 u.1 later
 
   event_first : (e : BorderLine) (time : Option ℕ) (t : ℕ) (s : Signal) (rest : List TimedSignal) → time ≡ Some t →
-      event_at (event_by e time s ++ rest) t e.cell.x e.cell.y ≡ Some s
+      event_at (events_of_line e time s ++ rest) t e.cell.x e.cell.y ≡ Some s
   unfolding event_at
   event_first e None t s rest et = absurd cc
   event_first e (Some u) t s rest et =
@@ -173,7 +174,7 @@ module _ (c : Circuit) where
 
   event_skips : (d e : BorderLine) (time : Option ℕ) (t : ℕ) → d.time ≡ time → e.time ≡ Some t → line_order d e ≡ Less →
       (s : Signal) (rest : List TimedSignal) →
-      event_at (event_by d time s ++ rest) t e.cell.x e.cell.y ≡ event_at rest t e.cell.x e.cell.y
+      event_at (events_of_line d time s ++ rest) t e.cell.x e.cell.y ≡ event_at rest t e.cell.x e.cell.y
   unfolding event_at
   event_skips d e None t dt et less s rest = refl
   event_skips d e (Some u) t dt et less s rest = elim (cases_Bool (u == t)) [
@@ -187,7 +188,7 @@ module _ (c : Circuit) where
   unfolding Pairs In
   event_there e t [] r i et = absurd i
   event_there e t (d ∷ es) r (inl same) et =
-      subst (λ x. event_at (event_by x x.time (line_signal c x.signal) ++ events_of es) t e.cell.x e.cell.y
+      subst (λ x. event_at (events_of_line x x.time (line_signal c x.signal) ++ events_of es) t e.cell.x e.cell.y
       ≡ Some (line_signal c e.signal)) (sym same)
       (event_first e e.time t (line_signal c e.signal) (events_of es) et)
   event_there e t (d ∷ es) r (inr later) et =

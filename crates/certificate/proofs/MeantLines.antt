@@ -7,8 +7,8 @@ use Rattle.circuit.specs.Meaning.{Circuit, Gate}
 use Rattle.module_box.specs.Locals.{is_among}
 use Rattle.certificate_lines.specs.Entries.{Setting, ModuleLines, keep_in, keeps, stops}
 use Rattle.certificate.specs.Keeps.{is_kept, unkept, unkept_from}
-use Rattle.certificate.specs.Times.{all_stops, first_seen, last_seen, lines_by, time_lines}
-use Rattle.certificate_lines.specs.Versions.{edge_lines_beside, in_order, is_haloless, meant, with_halos}
+use Rattle.certificate.specs.Times.{all_stops, first_seen, last_seen, time_lines_of_gates, time_lines}
+use Rattle.certificate_lines.specs.Versions.{edge_lines_beside, in_order, is_haloless, modules_by_version, with_halos}
 use Rattle.certificate.proofs.FullModules.{meant_new, meant_old, other_lines, stop_lines}
 
 module _ (g : Setting) (ms : List ModuleLines) where
@@ -29,19 +29,20 @@ module _ (g : Setting) (ms : List ModuleLines) where
   kept_of_all [] k = refl
   kept_of_all (n ∷ ns) k = ap₂ (λ a b. a || b) (ap (λ ks. is_among ks k) (keeps_full n)) (kept_of_all ns k)
 
-pub stops_meant : (version : ℕ) (g : Setting) (ms : List ModuleLines) → all_stops (meant version g ms) ≡ all_stops ms
+pub stops_meant : (version : ℕ) (g : Setting) (ms : List ModuleLines) →
+    all_stops (modules_by_version version g ms) ≡ all_stops ms
 stops_meant version g ms = elim (cases_Bool (is_haloless version)) [
   | inl new ↦ ap all_stops (meant_new version g ms new) ∙ stops_of_all g ms ms
   | inr old ↦ ap all_stops (meant_old version g ms old)
 ]
 
 pub times_meant : (version : ℕ) (g : Setting) (c : Circuit) (ms : List ModuleLines) →
-    time_lines c (meant version g ms) ≡ time_lines c ms
-times_meant version g c ms = ap (λ ss. lines_by (first_seen c ss) (last_seen c ss) c.netlist.gates)
+    time_lines c (modules_by_version version g ms) ≡ time_lines c ms
+times_meant version g c ms = ap (λ ss. time_lines_of_gates (first_seen c ss) (last_seen c ss) c.netlist.gates)
     (stops_meant version g ms)
 
 pub kept_meant : (version : ℕ) (g : Setting) (ms : List ModuleLines) (k : ℕ) →
-    is_kept (meant version g ms) k ≡ is_kept ms k
+    is_kept (modules_by_version version g ms) k ≡ is_kept ms k
 kept_meant version g ms k = elim (cases_Bool (is_haloless version)) [
   | inl new ↦ ap (λ ns. is_kept ns k) (meant_new version g ms new) ∙ kept_of_all g ms ms k
   | inr old ↦ ap (λ ns. is_kept ns k) (meant_old version g ms old)
@@ -55,5 +56,7 @@ unkept_same ms ns same n (g ∷ gs) =
     ap₂ (λ (b : Bool) (rest : List ℕ). (if is_inverse g.kind && not b then n ∷ [] else []) ++ rest) (same n)
     (unkept_same ms ns same (n + 1) gs)
 
-pub unkept_meant : (version : ℕ) (g : Setting) (ms : List ModuleLines) → unkept g (meant version g ms) ≡ unkept g ms
-unkept_meant version g ms = unkept_same (meant version g ms) ms (kept_meant version g ms) 0 g.circuit.netlist.gates
+pub unkept_meant : (version : ℕ) (g : Setting) (ms : List ModuleLines) →
+    unkept g (modules_by_version version g ms) ≡ unkept g ms
+unkept_meant version g ms = unkept_same (modules_by_version version g ms) ms
+    (kept_meant version g ms) 0 g.circuit.netlist.gates

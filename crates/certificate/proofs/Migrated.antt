@@ -22,12 +22,14 @@ use Rattle.certificate_lines.specs.Modules.{AreModules}
 use Rattle.certificate_lines.specs.Orders.{may_follow, may_precede}
 use Rattle.certificate_lines.specs.Rules.{cut_fault, is_edge_place, is_starred, use_fault, keep_line_code}
 use Rattle.certificate_lines.specs.Rules.{is_stop_place}
-use Rattle.certificate_lines.specs.Rules.{border_count, border_fault, border_limit, end_fault, entry_fault, inner_fault}
+use Rattle.certificate_lines.specs.Rules.{border_count, border_line_code, border_limit, end_fault, entry_fault}
+use Rattle.certificate_lines.specs.Rules.{body_line_code}
 use Rattle.certificate_lines.specs.Rules.{is_incomplete, is_local, lacks_port, leaves_gap, line_fault, module_fault}
-use Rattle.certificate_lines.specs.Rules.{box_fault, is_misplaced, is_wrong_side, overlaps, words_fault}
-use Rattle.certificate_lines.specs.Versions.{AreGoodLines, edge_lines_beside, in_order, is_early, is_halo, is_haloless}
-use Rattle.certificate_lines.specs.Versions.{is_strange}
-use Rattle.certificate_lines.specs.Versions.{lacks_wire, meant, stripped, with_halos, without_halos}
+use Rattle.certificate_lines.specs.Rules.{box_fault, is_misplaced, is_wrong_side, overlaps, content_code}
+use Rattle.certificate_lines.specs.Versions.{AreGoodLines, edge_lines_beside, in_order, precedes_halos, is_halo}
+use Rattle.certificate_lines.specs.Versions.{is_haloless}
+use Rattle.certificate_lines.specs.Versions.{is_nonlocal_signal}
+use Rattle.certificate_lines.specs.Versions.{lacks_wire, modules_by_version, haloless_module, with_halos, without_halos}
 use Rattle.certificate_lines.specs.declared.certificate_line.BorderLine.{BorderLine}
 use Rattle.certificate_lines.specs.declared.certificate_line.CertificateLine.{CertificateLine}
 use Rattle.certificate_lines.specs.declared.certificate_line.CertificateLine.TheVariants.{Module, Cut, Use, Keep, Edge}
@@ -65,31 +67,33 @@ alone (Halo e) o = absurd cc
 alone (Stop s) o = refl
 
 stored_line : (i : CertificateLine) → is_halo i ≡ false → (m : ModuleLines) →
-    stripped (with_line i m) ≡ with_line i (stripped m)
-unfolding stripped without_halos is_halo
+    haloless_module (with_line i m) ≡ with_line i (haloless_module m)
+unfolding haloless_module without_halos is_halo
 stored_line i other m = ap (λ l. record m { lines = l })
     (without_append m.lines (i ∷ []) ∙ ap (λ l. without_halos m.lines ++ l) (alone i other))
 
-dropped_line : (e : BorderLine) (m : ModuleLines) → stripped (with_line (Halo e) m) ≡ stripped m
-unfolding stripped without_halos is_halo
+dropped_line : (e : BorderLine) (m : ModuleLines) → haloless_module (with_line (Halo e) m) ≡ haloless_module m
+unfolding haloless_module without_halos is_halo
 dropped_line e m = ap (λ l. record m { lines = l })
     (without_append m.lines (Halo e ∷ []) ∙ append-nil (without_halos m.lines))
 
 inner_step : (i : CertificateLine) → is_halo i ≡ false → (ms : List ModuleLines) →
-    map stripped (change_last (with_line i) ms) ≡ change_last (with_line i) (map stripped ms)
-inner_step i other ms = map_changed stripped (with_line i) (with_line i) (stored_line i other) ms
+    map haloless_module (change_last (with_line i) ms) ≡ change_last (with_line i) (map haloless_module ms)
+inner_step i other ms = map_changed haloless_module (with_line i) (with_line i) (stored_line i other) ms
 
 halo_step : (e : BorderLine) (ms : List ModuleLines) →
-    map stripped (change_last (with_line (Halo e)) ms) ≡ map stripped ms
-halo_step e ms = map_changed stripped (with_line (Halo e)) (λ m. m) (dropped_line e) ms ∙ unchanged (map stripped ms)
+    map haloless_module (change_last (with_line (Halo e)) ms) ≡ map haloless_module ms
+halo_step e ms = map_changed haloless_module (with_line (Halo e)) (λ m. m) (dropped_line e) ms
+    ∙ unchanged (map haloless_module ms)
 
 module_step : (b : Box2) (ms : List ModuleLines) →
-    map stripped (ms ++ record { area = b; lines = [] } ∷ []) ≡ map stripped ms ++ record { area = b; lines = [] } ∷ []
-unfolding stripped without_halos
-module_step b ms = map-append stripped ms (record { area = b; lines = [] } ∷ [])
+    map haloless_module (ms ++ record { area = b; lines = [] } ∷ [])
+    ≡ map haloless_module ms ++ record { area = b; lines = [] } ∷ []
+unfolding haloless_module without_halos
+module_step b ms = map-append haloless_module ms (record { area = b; lines = [] } ∷ [])
 
 modules_on : (es : List CertificateLine) (ms : List ModuleLines) →
-    fold add_line (map stripped ms) (without_halos es) ≡ map stripped (fold add_line ms es)
+    fold add_line (map haloless_module ms) (without_halos es) ≡ map haloless_module (fold add_line ms es)
 unfolding without_halos is_halo add_line
 modules_on [] ms = refl
 modules_on (Module b ∷ es) ms =
@@ -112,61 +116,62 @@ modules_on (Stop s ∷ es) ms =
     ap (λ l. fold add_line l (without_halos es)) (sym (inner_step (Stop s) refl ms))
     ∙ modules_on es (change_last (with_line (Stop s)) ms)
 
-pub modules_without : (es : List CertificateLine) → modules_of (without_halos es) ≡ map stripped (modules_of es)
+pub modules_without : (es : List CertificateLine) → modules_of (without_halos es) ≡ map haloless_module (modules_of es)
 unfolding modules_of
 modules_without es = modules_on es []
 
-last_stripped : (ms : List ModuleLines) → last_of (map stripped ms) ≡ option_map stripped (last_of ms)
+last_stripped : (ms : List ModuleLines) → last_of (map haloless_module ms) ≡ option_map haloless_module (last_of ms)
 unfolding last_of
 last_stripped [] = refl
 last_stripped (m ∷ []) = refl
 last_stripped (m ∷ n ∷ ms) = last_stripped (n ∷ ms)
 
-areas_stripped : (ms : List ModuleLines) → areas (map stripped ms) ≡ areas ms
-unfolding stripped
+areas_stripped : (ms : List ModuleLines) → areas (map haloless_module ms) ≡ areas ms
+unfolding haloless_module
 areas_stripped [] = refl
 areas_stripped (m ∷ ms) = ap (λ l. m.area ∷ l) (areas_stripped ms)
 
 -- ---- what is said of a module is said of it without halo lines
 
 module _ (g : Setting) (m : ModuleLines) where
-  cuts_kept : cuts (stripped m) ≡ cuts m
-  unfolding stripped
+  cuts_kept : cuts (haloless_module m) ≡ cuts m
+  unfolding haloless_module
   cuts_kept = without_same cut_in (λ e. refl) m.lines
 
-  gates_kept : gates (stripped m) ≡ gates m
-  unfolding stripped
+  gates_kept : gates (haloless_module m) ≡ gates m
+  unfolding haloless_module
   gates_kept = without_same use_in (λ e. refl) m.lines
 
-  pub edges_kept : edges (stripped m) ≡ edges m
-  unfolding stripped
+  pub edges_kept : edges (haloless_module m) ≡ edges m
+  unfolding haloless_module
   edges_kept = without_same edge_in (λ e. refl) m.lines
 
-  stops_kept : stops (stripped m) ≡ stops m
-  unfolding stripped
+  stops_kept : stops (haloless_module m) ≡ stops m
+  unfolding haloless_module
   stops_kept = without_same stop_in (λ e. refl) m.lines
 
-  pub known_kept : known g.circuit (stripped m) ≡ known g.circuit m
+  pub known_kept : known g.circuit (haloless_module m) ≡ known g.circuit m
   known_kept = ap₂ (λ cs gs. local_wires g.circuit.netlist (flat_map (λ n. option_to_list (wire_of g.circuit n)) cs) gs)
       cuts_kept gates_kept
 
-  lacks_kept : lacks_port g (stripped m) ≡ lacks_port g m
-  unfolding lacks_port stripped
+  lacks_kept : lacks_port g (haloless_module m) ≡ lacks_port g m
+  unfolding lacks_port haloless_module
   lacks_kept = ap (λ ws. list_any (λ p. in_box m.area p.cell.x p.cell.y && not (is_local g.circuit ws p.name)) g.ports)
       known_kept
 
-  fewer_halos : length (halos (stripped m)) ≡ 0
-  unfolding stripped
+  fewer_halos : length (halos (haloless_module m)) ≡ 0
+  unfolding haloless_module
   fewer_halos = ap length (no_halo_left m.lines)
 
-  fewer : border_count (stripped m) ≤ border_count m
+  fewer : border_count (haloless_module m) ≤ border_count m
   fewer = let e = ap length edges_kept in let h = fewer_halos in let s = ap length stops_kept in omega (arith, e, h, s)
 
-  area_kept : (stripped m).area ≡ m.area
-  unfolding stripped
+  area_kept : (haloless_module m).area ≡ m.area
+  unfolding haloless_module
   area_kept = refl
 
-incomplete_kept : (g : Setting) (o : Option ModuleLines) → is_incomplete g (option_map stripped o) ≡ is_incomplete g o
+incomplete_kept : (g : Setting) (o : Option ModuleLines) →
+    is_incomplete g (option_map haloless_module o) ≡ is_incomplete g o
 incomplete_kept g None = refl
 incomplete_kept g (Some m) = lacks_kept g m
 
@@ -213,48 +218,50 @@ smaller : (limit n k : ℕ) → n ≤ k → nat_le limit k ≡ false → nat_le 
 smaller limit n k le h = grind (arith, nat_tests)
 
 border_less : (c : Circuit) (n k : ℕ) (local : List ℕ) (placed : Bool) (s : Option (List ℕ)) → n ≤ k →
-    border_fault c k local placed s ≡ None → border_fault c n local placed s ≡ None
-unfolding border_fault
+    border_line_code c k local placed s ≡ None → border_line_code c n local placed s ≡ None
+unfolding border_line_code
 border_less c n k local placed s le h =
     let parts = both_none _ _ h in
     none_both _ _ (coded _ PastLimit (smaller border_limit n k le (no_code _ PastLimit parts.0))) parts.1
 
-words_kept : (g : Setting) (m : ModuleLines) (i : CertificateLine) → is_halo i ≡ false → words_fault g m i ≡ None →
-    words_fault g (stripped m) i ≡ None
-unfolding is_halo stripped
+words_kept : (g : Setting) (m : ModuleLines) (i : CertificateLine) → is_halo i ≡ false → content_code g m i ≡ None →
+    content_code g (haloless_module m) i ≡ None
+unfolding is_halo haloless_module
 words_kept g m (Module b) o h = refl
 words_kept g m (Cut n) o h = ap₂ (λ cs ws. cut_fault g.circuit (length cs) ws n) (cuts_kept g m) (known_kept g m) ∙ h
 words_kept g m (Use k) o h = ap₂ (λ gs ws. use_fault g.circuit (length gs) ws k) (gates_kept g m) (known_kept g m) ∙ h
 words_kept g m (Keep k) o h = ap (λ gs. keep_line_code g.circuit gs k) (gates_kept g m) ∙ h
 words_kept g m (Edge e) o h =
-    border_less g.circuit (border_count (stripped m)) (border_count m) (known g.circuit (stripped m)) _ e.signal
+    border_less g.circuit (border_count (haloless_module m)) (border_count m)
+    (known g.circuit (haloless_module m)) _ e.signal
     (fewer g m)
-    (ap₂ (λ es ws. border_fault g.circuit (border_count m) ws
+    (ap₂ (λ es ws. border_line_code g.circuit (border_count m) ws
     (is_edge_place g.size m.area (list_any (is_starred e.cell) es) e) e.signal) (edges_kept g m) (known_kept g m) ∙ h)
 words_kept g m (Halo e) o h = absurd cc
 words_kept g m (Stop s) o h =
-    border_less g.circuit (border_count (stripped m)) (border_count m) (known g.circuit (stripped m)) _ (Some s.wire)
+    border_less g.circuit (border_count (haloless_module m)) (border_count m) (known g.circuit (haloless_module m)) _
+    (Some s.wire)
     (fewer g m)
-    (ap (λ ws. border_fault g.circuit (border_count m) ws (is_stop_place g.size m.area s) (Some s.wire))
+    (ap (λ ws. border_line_code g.circuit (border_count m) ws (is_stop_place g.size m.area s) (Some s.wire))
     (known_kept g m) ∙ h)
 
 line_kept : (g : Setting) (m : ModuleLines) (i : CertificateLine) → is_halo i ≡ false → line_fault g m i ≡ None →
-    line_fault g (stripped m) i ≡ None
-unfolding stripped
+    line_fault g (haloless_module m) i ≡ None
+unfolding haloless_module
 line_kept g m i o h =
-    let parts = both_none _ (words_fault g m i) h in
-    none_both _ (words_fault g (stripped m) i)
+    let parts = both_none _ (content_code g m i) h in
+    none_both _ (content_code g (haloless_module m) i)
     (ap (λ b. code_where (not b) OutOfOrder) (follow_less m.lines i (true_of _ (no_code _ OutOfOrder parts.0))))
     (words_kept g m i o parts.1)
 
 inner_kept : (g : Setting) (p : Option ModuleLines) (i : CertificateLine) → is_halo i ≡ false →
-    inner_fault g p i ≡ None →
-    inner_fault g (option_map stripped p) i ≡ None
+    body_line_code g p i ≡ None →
+    body_line_code g (option_map haloless_module p) i ≡ None
 inner_kept g None i o h = absurd cc
 inner_kept g (Some m) i o h = line_kept g m i o h
 
 module _ (g : Setting) (before : List CertificateLine) where
-  present_without : last_module (without_halos before) ≡ option_map stripped (last_module before)
+  present_without : last_module (without_halos before) ≡ option_map haloless_module (last_module before)
   present_without = ap last_of (modules_without before) ∙ last_stripped (modules_of before)
 
   module_kept : (b : Box2) → module_fault g (modules_of before) (last_module before) b ≡ None →
@@ -270,13 +277,13 @@ module _ (g : Setting) (before : List CertificateLine) where
       ∙ ap₂ (λ n bs. or_else (or_else (code_where (is_incomplete g (last_module before)) SomethingMissing)
       (or_else (code_where (is_wrong_side b.w || is_wrong_side b.h || nat_le 1024 n) PastLimit)
       (code_where (is_misplaced g.size b) MisplacedBox))) (code_where (overlaps bs b) MisplacedBox))
-      (ap length (modules_without before) ∙ length-map (modules_of before) stripped)
+      (ap length (modules_without before) ∙ length-map (modules_of before) haloless_module)
       (ap areas (modules_without before) ∙ areas_stripped (modules_of before))
       ∙ h
 
-  inner_line : (i : CertificateLine) → is_halo i ≡ false → inner_fault g (last_module before) i ≡ None →
-      inner_fault g (last_module (without_halos before)) i ≡ None
-  inner_line i o h = ap (λ p. inner_fault g p i) present_without ∙ inner_kept g (last_module before) i o h
+  inner_line : (i : CertificateLine) → is_halo i ≡ false → body_line_code g (last_module before) i ≡ None →
+      body_line_code g (last_module (without_halos before)) i ≡ None
+  inner_line i o h = ap (λ p. body_line_code g p i) present_without ∙ inner_kept g (last_module before) i o h
 
   entry_kept : (i : CertificateLine) → is_halo i ≡ false → entry_fault g before i ≡ None →
       entry_fault g (without_halos before) i ≡ None
@@ -350,19 +357,20 @@ good_without_halos g es good = record {
 
 -- ---- the modules of version 2 that the lines without halo lines make
 
-edges_stripped : (g : Setting) (ms : List ModuleLines) → flat_map edges (map stripped ms) ≡ flat_map edges ms
+edges_stripped : (g : Setting) (ms : List ModuleLines) → flat_map edges (map haloless_module ms) ≡ flat_map edges ms
 edges_stripped g [] = refl
 edges_stripped g (m ∷ ms) = ap₂ (λ xs ys. xs ++ ys) (edges_kept g m) (edges_stripped g ms)
 
 beside_stripped : (g : Setting) (ms : List ModuleLines) (area : Box2) →
-    edge_lines_beside g (map stripped ms) area ≡ edge_lines_beside g ms area
+    edge_lines_beside g (map haloless_module ms) area ≡ edge_lines_beside g ms area
 unfolding edge_lines_beside
 beside_stripped g ms area = ap
     (λ es. if nat_lt 1 g.size.steps then filter (λ (e : BorderLine). in_halo area e.cell.x e.cell.y) es else [])
     (edges_stripped g ms)
 
-early_without : (lines : List CertificateLine) → filter is_early (without_halos lines) ≡ filter is_early lines
-unfolding without_halos is_halo is_early
+early_without : (lines : List CertificateLine) →
+    filter precedes_halos (without_halos lines) ≡ filter precedes_halos lines
+unfolding without_halos is_halo precedes_halos
 early_without [] = refl
 early_without (Module b ∷ lines) = ap (λ l. Module b ∷ l) (early_without lines)
 early_without (Cut n ∷ lines) = ap (λ l. Cut n ∷ l) (early_without lines)
@@ -373,39 +381,42 @@ early_without (Halo e ∷ lines) = early_without lines
 early_without (Stop s ∷ lines) = early_without lines
 
 full_same : (g : Setting) (ms : List ModuleLines) (m : ModuleLines) →
-    with_halos g (map stripped ms) (stripped m) ≡ with_halos g ms m
-unfolding with_halos stripped
+    with_halos g (map haloless_module ms) (haloless_module m) ≡ with_halos g ms m
+unfolding with_halos haloless_module
 full_same g ms m =
     ap₂ (λ (lines : List CertificateLine) (hs : List BorderLine).
-    record m { lines = lines ++ map Halo (in_order hs) ++ map Stop (stops (stripped m)) }) (early_without m.lines)
+    record m { lines = lines ++ map Halo (in_order hs) ++ map Stop (stops (haloless_module m)) })
+    (early_without m.lines)
     (beside_stripped g ms m.area)
     ∙ ap
     (λ ss.
-    record m { lines = filter is_early m.lines ++ map Halo (in_order (edge_lines_beside g ms m.area)) ++ map Stop ss })
+    record m
+    { lines = filter precedes_halos m.lines ++ map Halo (in_order (edge_lines_beside g ms m.area)) ++ map Stop ss })
     (stops_kept g m)
 
 fulls_same : (g : Setting) (ms ns : List ModuleLines) →
-    map (with_halos g (map stripped ms)) (map stripped ns) ≡ map (with_halos g ms) ns
+    map (with_halos g (map haloless_module ms)) (map haloless_module ns) ≡ map (with_halos g ms) ns
 fulls_same g ms [] = refl
 fulls_same g ms (n ∷ ns) = ap₂ (λ x xs. x ∷ xs) (full_same g ms n) (fulls_same g ms ns)
 
 pub migrated_modules : (g : Setting) (es : List CertificateLine) →
-    meant 2 g (modules_of (without_halos es)) ≡ map (with_halos g (modules_of es)) (modules_of es)
+    modules_by_version 2 g (modules_of (without_halos es)) ≡ map (with_halos g (modules_of es)) (modules_of es)
 migrated_modules g es = meant_new 2 g (modules_of (without_halos es)) refl
     ∙ ap (λ ms. map (with_halos g ms) ms) (modules_without es) ∙ fulls_same g (modules_of es) (modules_of es)
 
 lacks_one : (g : Setting) (ms : List ModuleLines) (m : ModuleLines) →
-    list_any (λ e. is_strange g.circuit (known g.circuit (stripped m)) e.signal)
-    (edge_lines_beside g (map stripped ms) (stripped m).area)
-    ≡ list_any (λ e. is_strange g.circuit (known g.circuit m) e.signal) (edge_lines_beside g ms m.area)
+    list_any (λ e. is_nonlocal_signal g.circuit (known g.circuit (haloless_module m)) e.signal)
+    (edge_lines_beside g (map haloless_module ms) (haloless_module m).area)
+    ≡ list_any (λ e. is_nonlocal_signal g.circuit (known g.circuit m) e.signal) (edge_lines_beside g ms m.area)
 lacks_one g ms m =
-    ap₂ (λ ws es. list_any (λ (e : BorderLine). is_strange g.circuit ws e.signal) es) (known_kept g m)
-    (ap (edge_lines_beside g (map stripped ms)) (area_kept g m) ∙ beside_stripped g ms m.area)
+    ap₂ (λ ws es. list_any (λ (e : BorderLine). is_nonlocal_signal g.circuit ws e.signal) es) (known_kept g m)
+    (ap (edge_lines_beside g (map haloless_module ms)) (area_kept g m) ∙ beside_stripped g ms m.area)
 
 lacks_all : (g : Setting) (ms ns : List ModuleLines) →
-    list_any (λ m. list_any (λ e. is_strange g.circuit (known g.circuit m) e.signal)
-    (edge_lines_beside g (map stripped ms) m.area)) (map stripped ns)
-    ≡ list_any (λ m. list_any (λ e. is_strange g.circuit (known g.circuit m) e.signal) (edge_lines_beside g ms m.area))
+    list_any (λ m. list_any (λ e. is_nonlocal_signal g.circuit (known g.circuit m) e.signal)
+    (edge_lines_beside g (map haloless_module ms) m.area)) (map haloless_module ns)
+    ≡ list_any (λ m. list_any (λ e. is_nonlocal_signal g.circuit (known g.circuit m) e.signal)
+    (edge_lines_beside g ms m.area))
     ns
 lacks_all g ms [] = refl
 lacks_all g ms (n ∷ ns) = ap₂ (λ a b. a || b) (lacks_one g ms n) (lacks_all g ms ns)

@@ -12,7 +12,7 @@ use Rattle.pattern.specs.declared.layout_line.LayoutHeader.{LayoutHeader}
 use Rattle.pattern.specs.Lines.{size_fault}
 use Rattle.pattern.proofs.TakenLemmas.{is_sized}
 use Rattle.module_box.specs.Boxes.{in_box, in_ring}
-use Rattle.module_box.specs.Moves.{IsNear, IsSmallShift, moved_event}
+use Rattle.module_box.specs.Moves.{IsInShiftRange, IsSmallShift, moved_event}
 use Rattle.module_box.specs.Schedules.{Signals}
 use Rattle.module_box.specs.declared.boxes.Box2.{Box2}
 use Rattle.module_box.specs.declared.schedules.TimedSignal.{TimedSignal}
@@ -20,7 +20,7 @@ use Rattle.module_box.specs.declared.schedules.AllTimes.{AllTimes}
 use Rattle.module_box.specs.declared.schedules.Signal.{Signal}
 use Rattle.module_box.proofs.BoxCells.{in_box_nats}
 use Rattle.certificate_lines.specs.Entries.{Setting, ModuleLines, edges, halos, stops}
-use Rattle.certificate.specs.Jobs.{all_times_by, event_by, line_signal, line_signals}
+use Rattle.certificate.specs.Jobs.{all_times_of_line, events_of_line, line_signal, line_signals}
 use Rattle.certificate_lines.specs.Modules.{IsModule}
 use Rattle.certificate_lines.specs.Rules.{whole}
 use Rattle.module_job.specs.Shapes.{shift_to_origin, moved_stop}
@@ -85,12 +85,12 @@ unmapped P f (x ∷ xs) all = All-cons (λ x. P (f x)) x xs (All-head P (f x) (m
     (unmapped P f xs (All-tail P (f x) (map f xs) all))
 
 all_times_low : (e : BorderLine) (t : Option ℕ) (s : Signal) → IsLow e.cell →
-    All (λ (h : AllTimes). IsLow h.cell) (all_times_by e t s)
+    All (λ (h : AllTimes). IsLow h.cell) (all_times_of_line e t s)
 all_times_low e None s low = All-cons (λ (h : AllTimes). IsLow h.cell) _ [] low (All-nil _)
 all_times_low e (Some t) s low = All-nil _
 
 event_low : (e : BorderLine) (t : Option ℕ) (s : Signal) → IsLow e.cell →
-    All (λ (h : TimedSignal). IsLow h.at.cell) (event_by e t s)
+    All (λ (h : TimedSignal). IsLow h.at.cell) (events_of_line e t s)
 event_low e None s low = All-nil _
 event_low e (Some t) s low = All-cons (λ (h : TimedSignal). IsLow h.at.cell) _ [] low (All-nil _)
 
@@ -101,7 +101,8 @@ low_all_times f c es s same all =
     unmapped (λ (h : AllTimes). IsLow h.cell) (renumber_all_times f) s.all_times
     (subst (λ (hs : List AllTimes). All (λ (h : AllTimes). IsLow h.cell) hs)
     (sym (ap (λ (r : Signals). r.all_times) same))
-    (flat_all (λ (h : AllTimes). IsLow h.cell) (λ e. all_times_by e e.time (line_signal c e.signal)) (λ e. IsLow e.cell)
+    (flat_all (λ (h : AllTimes). IsLow h.cell) (λ e. all_times_of_line e e.time (line_signal c e.signal))
+    (λ e. IsLow e.cell)
     (λ e low. all_times_low e e.time (line_signal c e.signal) low) es all))
 
 pub low_events : (f : ℕ → ℕ) (c : Circuit) (es : List BorderLine) (s : Signals) →
@@ -111,7 +112,7 @@ low_events f c es s same all =
     unmapped (λ (h : TimedSignal). IsLow h.at.cell) (renumber_event f) s.events
     (subst (λ (hs : List TimedSignal). All (λ (h : TimedSignal). IsLow h.at.cell) hs)
     (sym (ap (λ (r : Signals). r.events) same))
-    (flat_all (λ (h : TimedSignal). IsLow h.at.cell) (λ e. event_by e e.time (line_signal c e.signal))
+    (flat_all (λ (h : TimedSignal). IsLow h.at.cell) (λ e. events_of_line e e.time (line_signal c e.signal))
     (λ e. IsLow e.cell)
     (λ e low. event_low e e.time (line_signal c e.signal) low) es all))
 
@@ -122,34 +123,35 @@ small_low z low high = (omega (arith, ints, low), omega (arith, ints, high))
 small_back : (z : ℤ) (n : ℕ) → n ≤ 512 → (pos 0 ≤ℤ z) → (z ≤ℤ pos 511) → IsSmallShift (z +ℤ shift_to_origin n)
 small_back z n few low high = (omega (arith, ints, low, few), omega (arith, ints, high))
 
-near_low : (c : Cell) → IsLow c → IsNear c
+near_low : (c : Cell) → IsLow c → IsInShiftRange c
 near_low c l = (small_low c.x l.column.0 l.column.1, small_low c.y l.row.0 l.row.1)
 
 pub near_all_times : (hs : List AllTimes) → All (λ (h : AllTimes). IsLow h.cell) hs →
-    All (λ (h : AllTimes). IsNear h.cell) hs
+    All (λ (h : AllTimes). IsInShiftRange h.cell) hs
 near_all_times hs all = All-weaker _ _ (λ (h : AllTimes) l. near_low h.cell l) hs all
 
 pub near_events : (es : List TimedSignal) → All (λ (e : TimedSignal). IsLow e.at.cell) es →
-    All (λ (e : TimedSignal). IsNear e.at.cell) es
+    All (λ (e : TimedSignal). IsInShiftRange e.at.cell) es
 near_events es all = All-weaker _ _ (λ (e : TimedSignal) l. near_low e.at.cell l) es all
 
 pub near_moved : (x y : ℕ) (es : List TimedSignal) → x ≤ 512 → y ≤ 512 → All (λ (e : TimedSignal). IsLow e.at.cell) es →
-    All (λ (e : TimedSignal). IsNear e.at.cell) (map (moved_event (shift_to_origin x) (shift_to_origin y)) es)
+    All (λ (e : TimedSignal). IsInShiftRange e.at.cell) (map (moved_event (shift_to_origin x) (shift_to_origin y)) es)
 near_moved x y es few low all =
-    All-map (λ (e : TimedSignal). IsNear e.at.cell) (moved_event (shift_to_origin x) (shift_to_origin y)) es
+    All-map (λ (e : TimedSignal). IsInShiftRange e.at.cell) (moved_event (shift_to_origin x) (shift_to_origin y)) es
     (All-weaker (λ (e : TimedSignal). IsLow e.at.cell)
-    (λ (e : TimedSignal). IsNear (moved_event (shift_to_origin x) (shift_to_origin y) e).at.cell)
+    (λ (e : TimedSignal). IsInShiftRange (moved_event (shift_to_origin x) (shift_to_origin y) e).at.cell)
     (λ (e : TimedSignal) l.
     (small_back e.at.cell.x x few l.column.0 l.column.1, small_back e.at.cell.y y low l.row.0 l.row.1)) es all)
 
-pub near_stops : (ss : List Stop) → All (λ (s : Stop). IsLow s.at.cell) ss → All (λ (s : Stop). IsNear s.at.cell) ss
+pub near_stops : (ss : List Stop) → All (λ (s : Stop). IsLow s.at.cell) ss →
+    All (λ (s : Stop). IsInShiftRange s.at.cell) ss
 near_stops ss all = All-weaker _ _ (λ (s : Stop) l. near_low s.at.cell l) ss all
 
 pub near_moved_stops : (x y : ℕ) (ss : List Stop) → x ≤ 512 → y ≤ 512 → All (λ (s : Stop). IsLow s.at.cell) ss →
-    All (λ (s : Stop). IsNear s.at.cell) (map (moved_stop (shift_to_origin x) (shift_to_origin y)) ss)
+    All (λ (s : Stop). IsInShiftRange s.at.cell) (map (moved_stop (shift_to_origin x) (shift_to_origin y)) ss)
 near_moved_stops x y ss few low all =
-    All-map (λ (s : Stop). IsNear s.at.cell) (moved_stop (shift_to_origin x) (shift_to_origin y)) ss
+    All-map (λ (s : Stop). IsInShiftRange s.at.cell) (moved_stop (shift_to_origin x) (shift_to_origin y)) ss
     (All-weaker (λ (s : Stop). IsLow s.at.cell)
-    (λ (s : Stop). IsNear (moved_stop (shift_to_origin x) (shift_to_origin y) s).at.cell)
+    (λ (s : Stop). IsInShiftRange (moved_stop (shift_to_origin x) (shift_to_origin y) s).at.cell)
     (λ (s : Stop) l. (small_back s.at.cell.x x few l.column.0 l.column.1, small_back s.at.cell.y y low l.row.0 l.row.1))
     ss all)

@@ -4,7 +4,7 @@ use Rattle.std.specs.Prelude.{Contains, min, max}
 use Rattle.std.specs.List.{All, fold}
 use Rattle.std.proofs.lemmas.List.Elements.{All-nil, All-cons}
 use Rattle.std.proofs.lemmas.Option.{same_Some}
-use Rattle.certificate.specs.Laws.{FirstIsLeast, LastIsGreatest}
+use Rattle.certificate.specs.Laws.{FirstSeenIsLeast, LastSeenIsGreatest}
 use Rattle.certificate.specs.Times.{earlier, later, times_of}
 
 there : (u : ℕ) (us : List ℕ) (t : ℕ) → Contains us t → Contains (u ∷ us) t
@@ -45,7 +45,7 @@ least_of (a ∷ ts) t e =
       All-cons (λ u. t ≤ u) a ts h.first h.rest,
     )
 
-pub first_is_least : FirstIsLeast
+pub first_is_least : FirstSeenIsLeast
 first_is_least c ss w t e = least_of (times_of c ss w) t e
 
 record IsGreatestWith (a : ℕ) (ts : List ℕ) (t : ℕ) : Type 0 where
@@ -80,5 +80,5 @@ greatest_of (a ∷ ts) t e =
       All-cons (λ u. u ≤ t) a ts h.first h.rest,
     )
 
-pub last_is_greatest : LastIsGreatest
+pub last_is_greatest : LastSeenIsGreatest
 last_is_greatest c ss w t e = greatest_of (times_of c ss w) t e

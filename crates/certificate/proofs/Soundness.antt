@@ -23,7 +23,7 @@ use Rattle.certificate_lines.specs.Rules.{whole, box_cells, in_boxes, is_local, 
 use Rattle.certificate_lines.specs.Rules.{entry_fault, end_fault}
 use Rattle.certificate.specs.Grammars.{certificate_grammar}
 use Rattle.certificate_lines.specs.Versions.{is_haloless, lacks_wire}
-use Rattle.certificate_lines.specs.Modules.{HasFewLines, HasPorts, AreModules}
+use Rattle.certificate_lines.specs.Modules.{IsWithinLineLimit, HasPorts, AreModules}
 use Rattle.certificate_lines.specs.BuilderView.{AreSound, IsWritten}
 use Rattle.certificate_lines.specs.declared.certificate_line.CertificateLine.{CertificateLine}
 use Rattle.certificate_lines.specs.declared.certificate_line.CertificateLine.TheVariants.{Module, Cut, Use, Keep, Edge}
@@ -200,7 +200,7 @@ faultless_modules g v es good =
 
 -- and each has few lines
 pub faultless_lines : (g : Setting) (v : ℕ) (es : List CertificateLine) → IsFaultless (certificate_grammar g) v es →
-    All HasFewLines (modules_of es)
+    All IsWithinLineLimit (modules_of es)
 faultless_lines g v es good =
     let sound = sound_all g v es [] (none_sound g) good.each in
     λ k d lt. (sound.each k _ (slice_get-get_or (modules_of es) k d lt)).few_borders

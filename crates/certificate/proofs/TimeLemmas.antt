@@ -11,10 +11,10 @@ use Rattle.certificate_lines.specs.Entries.{ModuleLines, Setting, last_of, modul
 use Rattle.certificate.specs.Grammars.{certificate_grammar}
 use Rattle.certificate_lines.specs.Rules.{entry_fault}
 use Rattle.certificate_lines.specs.ModuleParts.{inner, is_module}
-use Rattle.certificate.specs.Times.{all_stops, lines_by, numbered, time_lines}
-use Rattle.certificate.specs.SeenTimes.{IsTable, seen, told_by}
-use Rattle.certificate.specs.declared.times.Choice.{Choice}
-use Rattle.certificate.specs.declared.times.Choice.TheVariants.{First, Last}
+use Rattle.certificate.specs.Times.{all_stops, time_lines_of_gates, numbered, time_lines}
+use Rattle.certificate.specs.SeenTimes.{IsStopTimeTable, seen, time_in_table}
+use Rattle.certificate.specs.declared.times.FirstOrLast.{FirstOrLast}
+use Rattle.certificate.specs.declared.times.FirstOrLast.TheVariants.{First, Last}
 use Rattle.certificate_lines.specs.declared.certificate_line.StopLine.{StopLine}
 use Rattle.certificate_lines.specs.declared.certificate_line.CertificateLine.{CertificateLine}
 use Rattle.certificate_lines.specs.declared.certificate_line.CertificateLine.TheVariants.{Module, Cut, Use, Keep, Edge}
@@ -131,13 +131,13 @@ inner_within (e ∷ es) = length_step e es (inner_within es)
 
 -- ---- tables
 
-told : (choice : Choice) (c : Circuit) (ss all : List StopLine) (table items : List (Option ℕ)) → table ≡ items →
-    ss ≡ all → IsTable choice c ss items → told_by table ≡ seen choice c all
-told choice c ss all table items e s h i = λ w. (ap (λ t. told_by t w) e ∙ h w ∙ ap (λ r. seen choice c r w) s) i
+told : (choice : FirstOrLast) (c : Circuit) (ss all : List StopLine) (table items : List (Option ℕ)) → table ≡ items →
+    ss ≡ all → IsStopTimeTable choice c ss items → time_in_table table ≡ seen choice c all
+told choice c ss all table items e s h i = λ w. (ap (λ t. time_in_table t w) e ∙ h w ∙ ap (λ r. seen choice c r w) s) i
 
 pub lines_told : (c : Circuit) (ms : List ModuleLines) (ss : List StopLine) (firsts lasts f l : List (Option ℕ)) →
-    f ≡ firsts → l ≡ lasts → ss ≡ all_stops ms → IsTable First c ss firsts → IsTable Last c ss lasts →
-    lines_by (told_by f) (told_by l) c.netlist.gates ≡ time_lines c ms
+    f ≡ firsts → l ≡ lasts → ss ≡ all_stops ms → IsStopTimeTable First c ss firsts → IsStopTimeTable Last c ss lasts →
+    time_lines_of_gates (time_in_table f) (time_in_table l) c.netlist.gates ≡ time_lines c ms
 lines_told c ms ss firsts lasts f l ef el es hf hl i =
-    lines_by (told First c ss (all_stops ms) f firsts ef es hf i)
+    time_lines_of_gates (told First c ss (all_stops ms) f firsts ef es hf i)
     (told Last c ss (all_stops ms) l lasts el es hl i) c.netlist.gates

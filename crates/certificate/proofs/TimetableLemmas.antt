@@ -16,7 +16,7 @@ use Rattle.module_box.specs.Schedules.{IsRising, moment_of, cell_of}
 use Rattle.module_box.specs.declared.schedules.TimedSignal.{TimedSignal}
 use Rattle.module_box.specs.declared.schedules.AllTimes.{AllTimes}
 use Rattle.module_box.specs.declared.schedules.Signal.{Signal}
-use Rattle.certificate.specs.Jobs.{all_times_by, event_by, line_signal}
+use Rattle.certificate.specs.Jobs.{all_times_of_line, events_of_line, line_signal}
 use Rattle.certificate_lines.specs.Orders.{AreInOrder}
 use Rattle.module_job.specs.Signals.{IsBelow, renumber_signal, renumber_all_times, renumber_event}
 use Rattle.certificate.specs.NamedWires.{AreNamedWires, IsWireOf}
@@ -40,22 +40,22 @@ one_flat f x = append-nil (f x)
 -- ---- one line
 
 renumbered_all_times : (f : ℕ → ℕ) (e : BorderLine) (t : Option ℕ) (s : Signal) →
-    map (renumber_all_times f) (all_times_by e t s) ≡ all_times_by e t (renumber_signal f s)
+    map (renumber_all_times f) (all_times_of_line e t s) ≡ all_times_of_line e t (renumber_signal f s)
 renumbered_all_times f e None s = refl
 renumbered_all_times f e (Some t) s = refl
 
 renumbered_event : (f : ℕ → ℕ) (e : BorderLine) (t : Option ℕ) (s : Signal) →
-    map (renumber_event f) (event_by e t s) ≡ event_by e t (renumber_signal f s)
+    map (renumber_event f) (events_of_line e t s) ≡ events_of_line e t (renumber_signal f s)
 renumbered_event f e None s = refl
 renumbered_event f e (Some t) s = refl
 
 own_all_times : (n : ℕ) (e : BorderLine) (t : Option ℕ) (s : Signal) → IsBelow n s →
-    All (λ h. IsBelow n h.signal) (all_times_by e t s)
+    All (λ h. IsBelow n h.signal) (all_times_of_line e t s)
 own_all_times n e None s b = All-cons (λ h. IsBelow n h.signal) _ [] b (All-nil (λ h. IsBelow n h.signal))
 own_all_times n e (Some t) s b = All-nil (λ h. IsBelow n h.signal)
 
 own_event : (n : ℕ) (e : BorderLine) (t : Option ℕ) (s : Signal) → IsBelow n s →
-    All (λ h. IsBelow n h.signal) (event_by e t s)
+    All (λ h. IsBelow n h.signal) (events_of_line e t s)
 own_event n e None s b = All-nil (λ h. IsBelow n h.signal)
 own_event n e (Some t) s b = All-cons (λ h. IsBelow n h.signal) _ [] b (All-nil (λ h. IsBelow n h.signal))
 
@@ -66,37 +66,38 @@ next_line f xs i x lt e = flat_map_more f [] (take i xs) x
 
 module _ (c : Circuit) (l : LocalNet) where
   more_all_times : (es : List BorderLine) (e : BorderLine) (s : Signal) (hs ns : List AllTimes) →
-      renumber_signal (circuit_wire l) s ≡ line_signal c e.signal → ns ≡ hs ++ all_times_by e e.time s →
-      map (renumber_all_times (circuit_wire l)) hs ≡ flat_map (λ d. all_times_by d d.time (line_signal c d.signal)) es →
+      renumber_signal (circuit_wire l) s ≡ line_signal c e.signal → ns ≡ hs ++ all_times_of_line e e.time s →
+      map (renumber_all_times (circuit_wire l)) hs
+      ≡ flat_map (λ d. all_times_of_line d d.time (line_signal c d.signal)) es →
       map (renumber_all_times (circuit_wire l)) ns
-      ≡ flat_map (λ d. all_times_by d d.time (line_signal c d.signal)) (es ++ e ∷ [])
+      ≡ flat_map (λ d. all_times_of_line d d.time (line_signal c d.signal)) (es ++ e ∷ [])
   more_all_times es e s hs ns same grown h =
-      let by : BorderLine → List AllTimes = λ d. all_times_by d d.time (line_signal c d.signal) in
+      let by : BorderLine → List AllTimes = λ d. all_times_of_line d d.time (line_signal c d.signal) in
       ap (map (renumber_all_times (circuit_wire l))) grown
-      ∙ map-append (renumber_all_times (circuit_wire l)) hs (all_times_by e e.time s) ∙
-      ap (λ xs. xs ++ map (renumber_all_times (circuit_wire l)) (all_times_by e e.time s)) h ∙
+      ∙ map-append (renumber_all_times (circuit_wire l)) hs (all_times_of_line e e.time s) ∙
+      ap (λ xs. xs ++ map (renumber_all_times (circuit_wire l)) (all_times_of_line e e.time s)) h ∙
       ap (λ xs. flat_map by es ++ xs)
-      (renumbered_all_times (circuit_wire l) e e.time s ∙ ap (all_times_by e e.time) same ∙ sym (one_flat by e)) ∙
+      (renumbered_all_times (circuit_wire l) e e.time s ∙ ap (all_times_of_line e e.time) same ∙ sym (one_flat by e)) ∙
       sym (flat_map-append by es (e ∷ []))
 
   more_events : (es : List BorderLine) (e : BorderLine) (s : Signal) (hs ns : List TimedSignal) →
-      renumber_signal (circuit_wire l) s ≡ line_signal c e.signal → ns ≡ hs ++ event_by e e.time s →
-      map (renumber_event (circuit_wire l)) hs ≡ flat_map (λ d. event_by d d.time (line_signal c d.signal)) es →
+      renumber_signal (circuit_wire l) s ≡ line_signal c e.signal → ns ≡ hs ++ events_of_line e e.time s →
+      map (renumber_event (circuit_wire l)) hs ≡ flat_map (λ d. events_of_line d d.time (line_signal c d.signal)) es →
       map (renumber_event (circuit_wire l)) ns
-      ≡ flat_map (λ d. event_by d d.time (line_signal c d.signal)) (es ++ e ∷ [])
+      ≡ flat_map (λ d. events_of_line d d.time (line_signal c d.signal)) (es ++ e ∷ [])
   more_events es e s hs ns same grown h =
-      let by : BorderLine → List TimedSignal = λ d. event_by d d.time (line_signal c d.signal) in
+      let by : BorderLine → List TimedSignal = λ d. events_of_line d d.time (line_signal c d.signal) in
       ap (map (renumber_event (circuit_wire l))) grown
-      ∙ map-append (renumber_event (circuit_wire l)) hs (event_by e e.time s) ∙
-      ap (λ xs. xs ++ map (renumber_event (circuit_wire l)) (event_by e e.time s)) h ∙
+      ∙ map-append (renumber_event (circuit_wire l)) hs (events_of_line e e.time s) ∙
+      ap (λ xs. xs ++ map (renumber_event (circuit_wire l)) (events_of_line e e.time s)) h ∙
       ap (λ xs. flat_map by es ++ xs)
-      (renumbered_event (circuit_wire l) e e.time s ∙ ap (event_by e e.time) same ∙ sym (one_flat by e)) ∙
+      (renumbered_event (circuit_wire l) e e.time s ∙ ap (events_of_line e e.time) same ∙ sym (one_flat by e)) ∙
       sym (flat_map-append by es (e ∷ []))
 
   pub with_border : (es : List BorderLine) (e : BorderLine) (s : Signal) (old new : SignalLists) →
       renumber_signal (circuit_wire l) s ≡ line_signal c e.signal → IsBelow (wires l.netlist) s →
-      new.all_times.items ≡ old.all_times.items ++ all_times_by e e.time s →
-      new.events.items ≡ old.events.items ++ event_by e e.time s → AreNamedWires c l new.slots →
+      new.all_times.items ≡ old.all_times.items ++ all_times_of_line e e.time s →
+      new.events.items ≡ old.events.items ++ events_of_line e e.time s → AreNamedWires c l new.slots →
       AreSignalLists c l es old → AreSignalLists c l (es ++ e ∷ []) new
   with_border es e s old new same own all_times events slots t = record {
     all_times = more_all_times es e s old.all_times.items new.all_times.items same all_times t.all_times;

@@ -41,19 +41,20 @@ pub record AreOnTime (c : Circuit) (ss : List StopLine) : Type 0 where
 
 -- what is told of a delay by its two wires, the one that it uses and the one that it defines: how many steps it takes,
 -- that one of them has no stop, or that the first time of the second comes before the last of the first
-abbrev pub TellsOfDelay : Circuit → List StopLine → StopGap → (a b : ℕ) → Type 0
-TellsOfDelay c ss (Steps m) a b = TakesSteps c ss m a b
-TellsOfDelay c ss NoStop a b = (s t : ℕ) → IsLastTime c ss a s → ¬ IsFirstTime c ss b t
-TellsOfDelay c ss Before a b = (s : ℕ) × (t : ℕ) × IsLastTime c ss a s × IsFirstTime c ss b t × (t < s)
+abbrev pub IsDelayGapTrue : Circuit → List StopLine → StopGap → (a b : ℕ) → Type 0
+IsDelayGapTrue c ss (Steps m) a b = TakesSteps c ss m a b
+IsDelayGapTrue c ss NoStop a b = (s t : ℕ) → IsLastTime c ss a s → ¬ IsFirstTime c ss b t
+IsDelayGapTrue c ss Before a b = (s : ℕ) × (t : ℕ) × IsLastTime c ss a s × IsFirstTime c ss b t × (t < s)
 
 -- what is told of a gate's inputs: the time at which they meet, or that there is none
-abbrev pub TellsOfMeeting : Circuit → List StopLine → Option ℕ → List ℕ → Type 0
-TellsOfMeeting c ss (Some t) ws = MeetAt c ss ws t
-TellsOfMeeting c ss None ws = (t : ℕ) → ¬ MeetAt c ss ws t
+abbrev pub IsMeetingTimeTrue : Circuit → List StopLine → Option ℕ → List ℕ → Type 0
+IsMeetingTimeTrue c ss (Some t) ws = MeetAt c ss ws t
+IsMeetingTimeTrue c ss None ws = (t : ℕ) → ¬ MeetAt c ss ws t
 
 -- a line names a gate of the circuit, and is right about it
-abbrev pub Tells : Circuit → List StopLine → TimeLine → Type 0
-Tells c ss (line.Delay k n gap) =
+abbrev pub IsTimeLineTrue : Circuit → List StopLine → TimeLine → Type 0
+IsTimeLineTrue c ss (line.Delay k n gap) =
     (g : Gate) × (slice_get c.netlist.gates k ≡ Some g) × (g.kind ≡ Delay n)
-    × ((a b : ℕ) → g.ins ≡ a ∷ [] → g.outs ≡ b ∷ [] → TellsOfDelay c ss gap a b)
-Tells c ss (line.Meet k at) = (g : Gate) × (slice_get c.netlist.gates k ≡ Some g) × TellsOfMeeting c ss at g.ins
+    × ((a b : ℕ) → g.ins ≡ a ∷ [] → g.outs ≡ b ∷ [] → IsDelayGapTrue c ss gap a b)
+IsTimeLineTrue c ss (line.Meet k at) =
+    (g : Gate) × (slice_get c.netlist.gates k ≡ Some g) × IsMeetingTimeTrue c ss at g.ins

@@ -4,7 +4,7 @@ use Rattle.std.specs.List.{All}
 use Rattle.certificate_lines.specs.Entries.{modules_of, counts_of}
 use Rattle.certificate.specs.Grammars.{CertView}
 use Rattle.certificate_lines.specs.Settings.{setting_of}
-use Rattle.certificate_lines.specs.Modules.{AreModules, HasFewLines}
+use Rattle.certificate_lines.specs.Modules.{AreModules, IsWithinLineLimit}
 use Rattle.certificate_lines.specs.Versions.{is_haloless, lacks_wire}
 use Rattle.certificate.specs.declared.cert.Cert.TheInside.{Inside}
 
@@ -16,7 +16,7 @@ cert_view a = record { circuit = a.circuit.now; layout = a.layout.now; version =
 pub record IsCert (a : Inside) : Type 0 where
   pub counted : a.modules.items ≡ map counts_of (modules_of a.entries.items)
   pub good : AreModules (setting_of a.circuit.now a.layout.now) (modules_of a.entries.items)
-  pub few_lines : All HasFewLines (modules_of a.entries.items)
+  pub few_lines : All IsWithinLineLimit (modules_of a.entries.items)
   pub known : (1 ≤ a.version) × (a.version ≤ 2)
   pub complete : (is_haloless a.version
       && lacks_wire (setting_of a.circuit.now a.layout.now) (modules_of a.entries.items)) ≡ false

@@ -6,7 +6,7 @@ use Rattle.pattern.specs.Layout.{Pattern}
 use Rattle.certificate_lines.specs.Entries.{Setting, ModuleLines, modules_of}
 use Rattle.certificate_lines.specs.Forms.{form_of}
 use Rattle.certificate_lines.specs.Rules.{entry_fault, end_fault}
-use Rattle.certificate_lines.specs.Versions.{is_halo, is_haloless, lacks_wire, meant, without_halos}
+use Rattle.certificate_lines.specs.Versions.{is_halo, is_haloless, lacks_wire, modules_by_version, without_halos}
 use Rattle.certificate_lines.specs.declared.certificate_line.CertificateLine.{CertificateLine}
 use Rattle.circuit.specs.declared.circuit_line.CircuitLine.{CircuitLine}
 use Rattle.certificate_lines.specs.Settings.{setting_of}
@@ -34,12 +34,12 @@ pub record CertView : Type 0 where
   pub entries : List CertificateLine
 
 -- what the section gives
-abbrev pub certificate_value : CertView → ℕ × List CertificateLine
-certificate_value c = (c.version, c.entries)
+abbrev pub certificate_section : CertView → ℕ × List CertificateLine
+certificate_section c = (c.version, c.entries)
 
 -- the modules of a certificate, with the halo lines that it has or that its edge lines mean
 abbrev pub modules_in : CertView → List ModuleLines
-modules_in c = meant c.version (setting_of c.circuit c.layout) (modules_of c.entries)
+modules_in c = modules_by_version c.version (setting_of c.circuit c.layout) (modules_of c.entries)
 
 -- a certificate written in version 2: without its halo lines
 abbrev pub migrated : CertView → CertView

@@ -14,8 +14,8 @@ use Rattle.certificate_lines.specs.declared.certificate_line.BorderLine.{BorderL
 use Rattle.certificate_lines.specs.declared.certificate_line.CertificateLine.{CertificateLine}
 
 -- the edge lines at these places
-abbrev pub edges_at : List CertificateLine → List ℕ → List BorderLine
-edges_at es places = flat_map (λ k. flat_map edge_in (option_to_list (slice_get es k))) places
+abbrev pub edge_lines_at : List CertificateLine → List ℕ → List BorderLine
+edge_lines_at es places = flat_map (λ k. flat_map edge_in (option_to_list (slice_get es k))) places
 
 -- the list of this number, or an empty one
 abbrev pub list_at : List (List ℕ) → ℕ → List ℕ
@@ -48,11 +48,11 @@ pub record HaveEdges (es : List CertificateLine) (boxes : List Box2) (more : Lis
     (old new : List (List ℕ)) : Type 0 where
   pub count : length new ≡ length old
   pub each : (i : ℕ) (b : Box2) → slice_get boxes i ≡ Some b →
-      edges_at es (list_at new i)
-      ≡ edges_at es (list_at old i) ++ filter (λ e. in_halo b e.cell.x e.cell.y) more
+      edge_lines_at es (list_at new i)
+      ≡ edge_lines_at es (list_at old i) ++ filter (λ e. in_halo b e.cell.x e.cell.y) more
 
 -- each module has a list, with the places of the edge lines beside it
 pub record AreHaloPlaces (g : Setting) (es : List CertificateLine) (lists : List (List ℕ)) : Type 0 where
   pub count : length lists ≡ length (modules_of es)
   pub each : (i : ℕ) (m : ModuleLines) → slice_get (modules_of es) i ≡ Some m →
-      edges_at es (list_at lists i) ≡ edge_lines_beside g (modules_of es) m.area
+      edge_lines_at es (list_at lists i) ≡ edge_lines_beside g (modules_of es) m.area

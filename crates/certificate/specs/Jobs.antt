@@ -44,15 +44,15 @@ demand_of None = Demanded.Dead
 demand_of (Some w) = Demanded.Wire w
 
 -- the demand on a cell that is in no mirror, by the output at it and by whether it is a waste cell
-abbrev pub demand_elsewhere : Circuit → Option (List ℕ) → Bool → Demand
-demand_elsewhere c (Some n) waste = demand_of (wire_of c n)
-demand_elsewhere c None true = Demanded.Any
-demand_elsewhere c None false = Demanded.Dead
+abbrev pub demand_outside_mirrors : Circuit → Option (List ℕ) → Bool → Demand
+demand_outside_mirrors c (Some n) waste = demand_of (wire_of c n)
+demand_outside_mirrors c None true = Demanded.Any
+demand_outside_mirrors c None false = Demanded.Dead
 
 -- mirrors are to be `Live`, output cells as their wire, waste cells `Any`, all other cells `Dead`
 unfoldable pub end_demand : Circuit → Pattern → ℤ → ℤ → Demand
 end_demand c p x y =
-    if in_rectangles p.mirrors x y then Demanded.Live else demand_elsewhere c (port_at p.outs x y)
+    if in_rectangles p.mirrors x y then Demanded.Live else demand_outside_mirrors c (port_at p.outs x y)
     (in_cells p.wastes x y)
 
 -- the signal of an edge or halo line: a wire's, or the constant `1`
@@ -61,20 +61,20 @@ line_signal c None = One
 line_signal c (Some n) = signal_of (wire_of c n)
 
 -- a line with a `*` holds for all odd times
-abbrev pub all_times_by : BorderLine → Option ℕ → Signal → List AllTimes
-all_times_by e None signal = record { cell = e.cell; signal = signal } ∷ []
-all_times_by e (Some t) signal = []
+abbrev pub all_times_of_line : BorderLine → Option ℕ → Signal → List AllTimes
+all_times_of_line e None signal = record { cell = e.cell; signal = signal } ∷ []
+all_times_of_line e (Some t) signal = []
 
 -- and a line with a time for that time
-abbrev pub event_by : BorderLine → Option ℕ → Signal → List TimedSignal
-event_by e None signal = []
-event_by e (Some t) signal = record { at = record { time = t; cell = e.cell }; signal = signal } ∷ []
+abbrev pub events_of_line : BorderLine → Option ℕ → Signal → List TimedSignal
+events_of_line e None signal = []
+events_of_line e (Some t) signal = record { at = record { time = t; cell = e.cell }; signal = signal } ∷ []
 
 -- what edge or halo lines say, one after the other
 abbrev pub line_signals : Circuit → List BorderLine → Signals
 line_signals c es = record {
-  all_times = flat_map (λ e. all_times_by e e.time (line_signal c e.signal)) es;
-  events = flat_map (λ e. event_by e e.time (line_signal c e.signal)) es;
+  all_times = flat_map (λ e. all_times_of_line e e.time (line_signal c e.signal)) es;
+  events = flat_map (λ e. events_of_line e e.time (line_signal c e.signal)) es;
 }
 
 -- a stop line, if its wire has this number

@@ -7,14 +7,15 @@ use Rattle.section_text.specs.Section.{section_of, ended_line}
 use Rattle.module_box.specs.Boxes.{in_box, in_halo}
 use Rattle.module_box.specs.Schedules.{signal_at}
 use Rattle.certificate_lines.specs.Entries.{ModuleLines, Setting, edges, halos, modules_of}
-use Rattle.certificate.specs.Grammars.{CertView, certificate_grammar, certificate_value}
+use Rattle.certificate.specs.Grammars.{CertView, certificate_grammar, certificate_section}
 use Rattle.certificate.specs.Jobs.{line_signals}
 use Rattle.certificate_lines.specs.Modules.{AreModules}
 use Rattle.certificate_lines.specs.Rules.{end_fault}
-use Rattle.certificate_lines.specs.Versions.{AreGoodLines, is_haloless, lacks_wire, meant, with_halos, without_halos}
+use Rattle.certificate_lines.specs.Versions.{AreGoodLines, is_haloless, lacks_wire, modules_by_version, with_halos}
+use Rattle.certificate_lines.specs.Versions.{without_halos}
 use Rattle.certificate_lines.specs.declared.certificate_line.CertificateLine.{CertificateLine}
 use Rattle.certificate.specs.Text.{certificate_text}
-use Rattle.certificate.specs.Arrivals.{AreOnTime, Tells}
+use Rattle.certificate.specs.Arrivals.{AreOnTime, IsTimeLineTrue}
 use Rattle.certificate.specs.Times.{all_stops, are_all_obeyed, first_seen, last_seen, time_lines, times_of}
 use Rattle.certificate_lines.specs.declared.certificate_line.StopLine.{StopLine}
 use Rattle.circuit.specs.Meaning.{Circuit}
@@ -22,39 +23,39 @@ use Rattle.circuit.specs.Meaning.{Circuit}
 -- the text of a certificate that is read is the text of the lines that it is read from
 abbrev pub PrintsWhatIsRead : Type 0
 PrintsWhatIsRead = (g : Setting) (n : ℕ) (ls : List (List ℕ)) (c : CertView) →
-    section_of (certificate_grammar g) n ls ≡ Ok (certificate_value c) →
+    section_of (certificate_grammar g) n ls ≡ Ok (certificate_section c) →
     flat_map ended_line (take (length c.entries + 2) ls) ≡ certificate_text c
 
 -- and it is read as the same certificate again, wherever it is
 abbrev pub ReadsWhatIsPrinted : Type 0
 ReadsWhatIsPrinted = (g : Setting) (text : List ℕ) (from n m : ℕ) (c : CertView) →
-    section_of (certificate_grammar g) n (drop from (lines_of text)) ≡ Ok (certificate_value c) →
-    section_of (certificate_grammar g) m (lines_of (certificate_text c)) ≡ Ok (certificate_value c)
+    section_of (certificate_grammar g) n (drop from (lines_of text)) ≡ Ok (certificate_section c) →
+    section_of (certificate_grammar g) m (lines_of (certificate_text c)) ≡ Ok (certificate_section c)
 
 -- the first time of a wire is the least of the times of its stops
-abbrev pub FirstIsLeast : Type 0
-FirstIsLeast = (c : Circuit) (ss : List StopLine) (w t : ℕ) → first_seen c ss w ≡ Some t →
+abbrev pub FirstSeenIsLeast : Type 0
+FirstSeenIsLeast = (c : Circuit) (ss : List StopLine) (w t : ℕ) → first_seen c ss w ≡ Some t →
     Contains (times_of c ss w) t × All (λ u. t ≤ u) (times_of c ss w)
 
 -- the last one is the greatest
-abbrev pub LastIsGreatest : Type 0
-LastIsGreatest = (c : Circuit) (ss : List StopLine) (w t : ℕ) → last_seen c ss w ≡ Some t →
+abbrev pub LastSeenIsGreatest : Type 0
+LastSeenIsGreatest = (c : Circuit) (ss : List StopLine) (w t : ℕ) → last_seen c ss w ≡ Some t →
     Contains (times_of c ss w) t × All (λ u. u ≤ t) (times_of c ss w)
 
 -- what each line says of its gate is right
-abbrev pub LinesTell : Type 0
-LinesTell = (c : Circuit) (ms : List ModuleLines) → All (Tells c (all_stops ms)) (time_lines c ms)
+abbrev pub TimeLinesAreTrue : Type 0
+TimeLinesAreTrue = (c : Circuit) (ms : List ModuleLines) → All (IsTimeLineTrue c (all_stops ms)) (time_lines c ms)
 
 -- if all rules are kept, each delay takes as many steps as it says, and for each gate there is a time at which its
 -- inputs meet
-abbrev pub KeptIsOnTime : Type 0
-KeptIsOnTime = (c : Circuit) (ms : List ModuleLines) → IsTrue (are_all_obeyed (time_lines c ms)) →
+abbrev pub ObeyedLinesAreOnTime : Type 0
+ObeyedLinesAreOnTime = (c : Circuit) (ms : List ModuleLines) → IsTrue (are_all_obeyed (time_lines c ms)) →
     AreOnTime c (all_stops ms)
 
 -- if no edge line names a wire that a module beside it lacks, the modules of either version are modules of version 1
-abbrev pub MeantAreModules : Type 0
-MeantAreModules = (version : ℕ) (g : Setting) (ms : List ModuleLines) → AreModules g ms →
-    (is_haloless version && lacks_wire g ms) ≡ false → AreModules g (meant version g ms)
+abbrev pub BothVersionsGiveModules : Type 0
+BothVersionsGiveModules = (version : ℕ) (g : Setting) (ms : List ModuleLines) → AreModules g ms →
+    (is_haloless version && lacks_wire g ms) ≡ false → AreModules g (modules_by_version version g ms)
 
 -- There, at an odd time below the steps, a cell of the halo of a module carries what the edge lines of the module that
 -- has it say.

@@ -4,22 +4,22 @@ use Rattle.std.specs.List.{fold}
 use Rattle.circuit.specs.Meaning.{Circuit}
 use Rattle.certificate.specs.Times.{earlier, later, times_of}
 use Rattle.certificate_lines.specs.declared.certificate_line.StopLine.{StopLine}
-use Rattle.certificate.specs.declared.times.Choice.{Choice}
-use Rattle.certificate.specs.declared.times.Choice.TheVariants.{First, Last}
+use Rattle.certificate.specs.declared.times.FirstOrLast.{FirstOrLast}
+use Rattle.certificate.specs.declared.times.FirstOrLast.TheVariants.{First, Last}
 
 -- the time that is kept: the earlier one for first stops, the later one for last stops
-abbrev pub chosen : Choice → Option ℕ → ℕ → Option ℕ
+abbrev pub chosen : FirstOrLast → Option ℕ → ℕ → Option ℕ
 chosen First before t = earlier before t
 chosen Last before t = later before t
 
 -- the first or the last time of a wire
-abbrev pub seen : Choice → Circuit → List StopLine → ℕ → Option ℕ
+abbrev pub seen : FirstOrLast → Circuit → List StopLine → ℕ → Option ℕ
 seen choice c ss w = fold (chosen choice) None (times_of c ss w)
 
 -- what a table says of a wire
-abbrev pub told_by : List (Option ℕ) → ℕ → Option ℕ
-told_by table w = slice_index_or table w None
+abbrev pub time_in_table : List (Option ℕ) → ℕ → Option ℕ
+time_in_table table w = slice_index_or table w None
 
 -- the table has these times, by the number of the wire
-abbrev pub IsTable : Choice → Circuit → List StopLine → List (Option ℕ) → Type 0
-IsTable choice c ss table = (w : ℕ) → told_by table w ≡ seen choice c ss w
+abbrev pub IsStopTimeTable : FirstOrLast → Circuit → List StopLine → List (Option ℕ) → Type 0
+IsStopTimeTable choice c ss table = (w : ℕ) → time_in_table table w ≡ seen choice c ss w

@@ -20,12 +20,12 @@ all_stops ms = flat_map stops ms
 -- ---- when a wire is seen
 
 -- whether a stop is one of wire w
-abbrev pub is_of : Circuit → ℕ → StopLine → Bool
-is_of c w s = option_eq nat_eq (wire_of c s.wire) (Some w)
+abbrev pub is_stop_of_wire : Circuit → ℕ → StopLine → Bool
+is_stop_of_wire c w s = option_eq nat_eq (wire_of c s.wire) (Some w)
 
 -- the times of the stops of wire w
 abbrev pub times_of : Circuit → List StopLine → ℕ → List ℕ
-times_of c ss w = flat_map (λ s. if is_of c w s then s.time ∷ [] else []) ss
+times_of c ss w = flat_map (λ s. if is_stop_of_wire c w s then s.time ∷ [] else []) ss
 
 -- the lesser of a time and the least before it, and the greater
 abbrev pub earlier : Option ℕ → ℕ → Option ℕ
@@ -59,14 +59,15 @@ first_wire_time seen [] = None
 first_wire_time seen (w ∷ ws) = seen w
 
 -- the line for a gate that is a delay, and none for another gate
-abbrev pub delay_by : ℕ → GateKind → StopGap → List TimeLine
-delay_by k (Delay n) gap = line.Delay k n gap ∷ []
-delay_by k _ gap = []
+abbrev pub delay_line_of_kind : ℕ → GateKind → StopGap → List TimeLine
+delay_line_of_kind k (Delay n) gap = line.Delay k n gap ∷ []
+delay_line_of_kind k _ gap = []
 
 -- the line of gate k, if it is a delay: from the last time of the wire that it uses to the first time of the one that
 -- it defines
 abbrev pub delay_line : (first last : ℕ → Option ℕ) → ℕ → Gate → List TimeLine
-delay_line first last k g = delay_by k g.kind (gap_between (first_wire_time last g.ins) (first_wire_time first g.outs))
+delay_line first last k g = delay_line_of_kind k g.kind
+    (gap_between (first_wire_time last g.ins) (first_wire_time first g.outs))
 
 -- ---- meetings
 
@@ -75,18 +76,18 @@ abbrev pub last_times : (ℕ → Option ℕ) → List ℕ → List ℕ
 last_times last ws = flat_map (λ w. option_to_list (last w)) ws
 
 -- the time that all of them are
-abbrev pub agreed : List ℕ → Option ℕ
-agreed [] = None
-agreed (t ∷ ts) = if list_all (λ u. u == t) ts then Some t else None
+abbrev pub common_time : List ℕ → Option ℕ
+common_time [] = None
+common_time (t ∷ ts) = if list_all (λ u. u == t) ts then Some t else None
 
 -- the line for a gate of which two inputs or more have stops, by their last times
-abbrev pub meet_by : ℕ → List ℕ → List TimeLine
-meet_by k ts = if nat_le 2 (length ts) then line.Meet k (agreed ts) ∷ [] else []
+abbrev pub meet_line_of_times : ℕ → List ℕ → List TimeLine
+meet_line_of_times k ts = if nat_le 2 (length ts) then line.Meet k (common_time ts) ∷ [] else []
 
 -- the line of gate k, if two of the wires that it uses have a last time, or more: the one time at which all of these
 -- are seen last
 abbrev pub meet_line : (ℕ → Option ℕ) → ℕ → Gate → List TimeLine
-meet_line last k g = meet_by k (last_times last g.ins)
+meet_line last k g = meet_line_of_times k (last_times last g.ins)
 
 -- ---- all lines
 
@@ -96,12 +97,12 @@ numbered f k [] = []
 numbered f k (g ∷ gs) = f k g ++ numbered f (k + 1) gs
 
 -- those of all delays, and then those of all meetings
-abbrev pub lines_by : (first last : ℕ → Option ℕ) → List Gate → List TimeLine
-lines_by first last gates = numbered (delay_line first last) 0 gates ++ numbered (meet_line last) 0 gates
+abbrev pub time_lines_of_gates : (first last : ℕ → Option ℕ) → List Gate → List TimeLine
+time_lines_of_gates first last gates = numbered (delay_line first last) 0 gates ++ numbered (meet_line last) 0 gates
 
 -- by the stops of all modules
 abbrev pub time_lines : Circuit → List ModuleLines → List TimeLine
-time_lines c ms = lines_by (first_seen c (all_stops ms)) (last_seen c (all_stops ms)) c.netlist.gates
+time_lines c ms = time_lines_of_gates (first_seen c (all_stops ms)) (last_seen c (all_stops ms)) c.netlist.gates
 
 -- ---- the rules
 

@@ -21,8 +21,8 @@ borders_in Ring i = edge_in i
 borders_in Halo i = halo_in i
 
 -- the wire that the line names, if it names one, is one of the module's
-abbrev pub IsNamedLocal : Circuit → LocalNet → BorderLine → Type 0
-IsNamedLocal c l e = IfSome e.signal (λ name. IsTrue (is_local c l.circuit_wires name))
+abbrev pub HasLocalWire : Circuit → LocalNet → BorderLine → Type 0
+HasLocalWire c l e = IfSome e.signal (λ name. IsTrue (is_local c l.circuit_wires name))
 
 -- the cell lies within 512 columns and rows
 pub record IsLow (c : Cell) : Type 0 where

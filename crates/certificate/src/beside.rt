@@ -1,19 +1,21 @@
 //! The halo lines that the edge lines of version 2 mean.
-ghost use Rattle.std.specs.Prelude.{◌≡◌, ◌++◌, ◌∷◌, [], map, slice_get, IfOk, OnOk};
+ghost use Rattle.std.specs.Prelude.{◌≡◌, ◌≤◌, ◌+◌, ◌++◌, ◌∷◌, [], Some, None, map, slice_get, IfOk, OnOk};
 ghost use Rattle.std.specs.List.{All, filter, flat_map};
 ghost use Rattle.std.specs.Option.{option_to_list};
 ghost use Rattle.module_box.specs.declared.boxes.Box2.{Box2};
-ghost use Rattle.certificate_lines.specs.Entries.{Setting, edge_in, modules_of, stop_in};
+ghost use Rattle.certificate_lines.specs.Entries.{Setting, counts_of, edge_in, modules_of, stop_in};
+ghost use Rattle.certificate_lines.specs.declared.certificate_line.Counts.{Counts};
 ghost use Rattle.certificate_lines.specs.Modules.{AreModules};
 ghost use Rattle.certificate_lines.specs.Orders.{AreInOrder};
-ghost use Rattle.certificate.specs.HaloPlaces.{edges_at};
+ghost use Rattle.certificate.specs.HaloPlaces.{edge_lines_at};
 ghost use Rattle.certificate.specs.SliceLines.{slice_lines};
-ghost use Rattle.certificate_lines.specs.Versions.{edge_lines_beside, in_order, is_early, is_halo, with_halos};
+ghost use Rattle.certificate_lines.specs.Versions.{edge_lines_beside, in_order, precedes_halos, is_halo, with_halos};
 ghost use Rattle.certificate_lines.specs.declared.certificate_line.CertificateLine.TheVariants.{Halo, Stop};
 
 use crate::cert::Cert;
 use certificate_lines::{
-    CertificateLine, StoredBorder, StoredLine, compare_borders, lines_of_module, push_entry,
+    CertificateLine, Counts, StoredBorder, StoredLine, compare_borders, lines_of_module_past,
+    push_entry,
 };
 use module_box::Box2;
 use std::alloc::{AllocError, Global};
@@ -25,21 +27,37 @@ pub(crate) struct ModuleSlice<'b, 'a> {
     pub(crate) lines: &'b [StoredLine<'a>],
 }
 
-/// Returns the modules of lines.
-pub(crate) fn module_slices<'b, 'a>(
+// At most as many as the edge and halo lines of the module of this number, and 0 if there is none.
+fn border_count(modules: &[Counts], number: usize) -> usize
+    ensures some { (k : Counts) → slice_get modules.now number ≡ Some k →
+        result ≤ k.edges + k.halos }
+    ensures none { slice_get modules.now number ≡ None → result ≡ 0 }
+{
+    match modules.get(number) {
+        Some(counts) => counts.edges.saturating_add(counts.halos),
+        None => 0,
+    }
+}
+
+/// Returns the modules of lines. It reads no edge and halo lines, since it has the counts of the modules.
+fn module_slices<'b, 'a>(
     alloc: Global,
     entries: &'b [StoredLine<'a>],
+    modules: &[Counts],
 ) -> Result<Vec<ModuleSlice<'b, 'a>>, AllocError>
+    requires { modules.now ≡ map counts_of (modules_of entries.now) }
     ensures { IfOk result (λ parts. map slice_lines parts.items ≡ modules_of entries.now) }
 {
-    let mut parts = Vec::new(alloc);
-    'lines: for (place, entry) in entries.iter().enumerate() {
-        if let CertificateLine::Module(area) = entry.line() {
-            parts.push(ModuleSlice {
-                area,
-                lines: lines_of_module(&entries[place + 1..]),
-            })?;
+    let mut parts = Vec::with_capacity(alloc, modules.len())?;
+    let mut place = 0;
+    'lines: while place < entries.len() {
+        if let CertificateLine::Module(area) = entries[place].line() {
+            let skipped = border_count(modules, parts.len());
+            let lines = lines_of_module_past(&entries[place + 1..], skipped);
+            parts.push(ModuleSlice { area, lines })?;
+            place += lines.len();
         }
+        place += 1;
     }
     Ok(parts)
 }
@@ -51,7 +69,7 @@ impl<'a> Cert<'a> {
             map slice_lines parts.items ≡ modules_of self.now.entries) }
         ensures order { IfOk result (λ parts. All (λ p. AreInOrder p.lines.now) parts.items) }
     {
-        module_slices(alloc, self.entries.as_slice())
+        module_slices(alloc, self.entries.as_slice(), self.modules.as_slice())
     }
 }
 
@@ -80,12 +98,12 @@ fn push_edge_at<'a>(
     }
 }
 
-fn lines_at<'a>(
+fn edge_lines_at<'a>(
     alloc: Global,
     entries: &[StoredLine<'a>],
     places: &[u32],
 ) -> Result<Vec<StoredBorder<'a>>, AllocError>
-    ensures { IfOk result (λ halos. halos.items ≡ edges_at entries.now places.now) }
+    ensures { IfOk result (λ halos. halos.items ≡ edge_lines_at entries.now places.now) }
 {
     let mut halos = Vec::with_capacity(alloc, places.len())?;
     'places: for place in places {
@@ -95,17 +113,17 @@ fn lines_at<'a>(
 }
 
 // The edge lines at these places, in order, if they are those beside a box.
-fn halos_at<'a>(
+fn halos_from_edges_at<'a>(
     alloc: Global,
     entries: &[StoredLine<'a>],
     places: &[u32],
 ) -> Result<Vec<StoredBorder<'a>>, AllocError>
     ensures { IfOk result (λ halos. (g : Setting) (area : Box2) →
         AreModules g (modules_of entries.now) →
-        edges_at entries.now places.now ≡ edge_lines_beside g (modules_of entries.now) area →
+        edge_lines_at entries.now places.now ≡ edge_lines_beside g (modules_of entries.now) area →
         halos.items ≡ in_order (edge_lines_beside g (modules_of entries.now) area)) }
 {
-    let mut halos = lines_at(alloc, entries, places)?;
+    let mut halos = edge_lines_at(alloc, entries, places)?;
     halos.sort_by(|a, b| compare_borders(a, b))?;
     Ok(halos)
 }
@@ -122,9 +140,9 @@ pub(crate) fn is_halo(line: &CertificateLine) -> bool
 }
 
 // Whether a line stands before the halo lines of its module.
-#[tactic(auto, unfolding(certificate_lines::specs::Versions::is_early))]
-fn is_early(line: &StoredLine) -> bool
-    ensures { result ≡ is_early line.now }
+#[tactic(auto, unfolding(certificate_lines::specs::Versions::precedes_halos))]
+fn precedes_halos(line: &StoredLine) -> bool
+    ensures { result ≡ precedes_halos line.now }
 {
     match line.line() {
         CertificateLine::Halo(_) => false,
@@ -143,14 +161,14 @@ fn push_line_of<'a>(full: &mut Vec<StoredLine<'a>>, line: StoredLine<'a>) -> Res
 }
 
 // Adds the lines that stand before the halo lines.
-fn push_early<'a>(
+fn push_lines_before_halos<'a>(
     full: &mut Vec<StoredLine<'a>>,
     lines: &[StoredLine<'a>],
 ) -> Result<(), AllocError>
-    ensures { OnOk result (full.new.items ≡ full.old.items ++ filter is_early lines.now) }
+    ensures { OnOk result (full.new.items ≡ full.old.items ++ filter precedes_halos lines.now) }
 {
     'lines: for line in lines {
-        if is_early(line) {
+        if precedes_halos(line) {
             push_line_of(full, line.copy())?;
         }
     }
@@ -197,21 +215,21 @@ fn push_stops<'a>(
 ///
 /// Those edge lines have these places among the lines of the certificate.
 #[tactic(auto, unfolding(certificate_lines::specs::Versions::with_halos))]
-pub(crate) fn full_lines<'a>(
+pub(crate) fn lines_with_halos<'a>(
     alloc: Global,
     entries: &[StoredLine<'a>],
     places: &[u32],
     part: &ModuleSlice<'_, 'a>,
 ) -> Result<Vec<StoredLine<'a>>, AllocError>
     ensures { IfOk result (λ lines. (g : Setting) → AreModules g (modules_of entries.now) →
-        edges_at entries.now places.now
+        edge_lines_at entries.now places.now
         ≡ edge_lines_beside g (modules_of entries.now) part.now.area →
         record { area = part.now.area; lines = lines.items }
         ≡ with_halos g (modules_of entries.now) (slice_lines part.now)) }
 {
-    let halos = halos_at(alloc, entries, places)?;
+    let halos = halos_from_edges_at(alloc, entries, places)?;
     let mut full = Vec::with_capacity(alloc, part.lines.len() + halos.len())?;
-    push_early(&mut full, part.lines)?;
+    push_lines_before_halos(&mut full, part.lines)?;
     push_halos(&mut full, halos.as_slice())?;
     push_stops(&mut full, part.lines)?;
     Ok(full)

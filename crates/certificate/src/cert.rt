@@ -9,7 +9,7 @@ ghost use Rattle.pattern.specs.Lines.{AreGoodAfter, size_fault};
 ghost use Rattle.certificate_lines.specs.Entries.{counts_of, modules_of};
 ghost use Rattle.certificate.specs.Grammars.{modules_in};
 ghost use Rattle.certificate_lines.specs.Settings.{setting_of};
-ghost use Rattle.certificate_lines.specs.Modules.{AreModules, HasFewLines};
+ghost use Rattle.certificate_lines.specs.Modules.{AreModules, IsWithinLineLimit};
 
 use certificate_lines::{Counts, StoredLine};
 use circuit::Circuit;
@@ -100,7 +100,7 @@ impl<'a> Cert<'a> {
             (modules_in self.now) }
         ensures written { AreModules (setting_of self.now.circuit self.now.layout)
             (modules_of self.now.entries) }
-        ensures lines { All HasFewLines (modules_of self.now.entries) }
+        ensures lines { All IsWithinLineLimit (modules_of self.now.entries) }
         ensures ordered { AreOrdered (netlist_of self.now.circuit).given
             (netlist_of self.now.circuit).gates }
         ensures inputs { take (netlist_of self.now.circuit).given (defined self.now.circuit)

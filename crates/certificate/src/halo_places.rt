@@ -64,7 +64,7 @@ fn holds_any(area: Box2, cells: &[Cell]) -> bool
 }
 
 // Adds the place to the list of the box that has the cell, if the box has none of the other cells.
-fn push_at(
+fn push_place_for_owner(
     lists: &mut Vec<Vec<u32>>,
     owners: &Owners,
     boxes: &[Box2],
@@ -88,7 +88,7 @@ fn push_at(
 }
 
 // The other cells of a block at odd times: in the cell's row, in its column, and the opposite one.
-fn odd_block(cell: Cell) -> (Cell, Cell, Cell)
+fn odd_block_others(cell: Cell) -> (Cell, Cell, Cell)
     requires column { (pos 0 ≤ℤ cell.x) × (cell.x ≤ℤ pos 1023) }
     requires row { (pos 0 ≤ℤ cell.y) × (cell.y ≤ℤ pos 1023) }
     ensures side { (result.0.x ≡ partner 1 cell.x) × (result.0.y ≡ cell.y) }
@@ -106,7 +106,7 @@ fn odd_block(cell: Cell) -> (Cell, Cell, Cell)
 }
 
 // Adds the place to the list of each box that has the cell in its halo.
-fn push_beside(
+fn push_place_for_halo_boxes(
     lists: &mut Vec<Vec<u32>>,
     owners: &Owners,
     boxes: &[Box2],
@@ -119,15 +119,15 @@ fn push_beside(
         (map (λ l. l.items) lists.old.items) (map (λ l. l.items) lists.new.items)) }
 {
     // Corners and sides are even, so a box with a neighbour of the cell has it or one of these.
-    let (side, above, corner) = odd_block(cell);
-    push_at(lists, owners, boxes, place, side, &[cell])?;
-    push_at(lists, owners, boxes, place, above, &[cell, side])?;
-    push_at(lists, owners, boxes, place, corner, &[cell, side, above])?;
+    let (side, above, corner) = odd_block_others(cell);
+    push_place_for_owner(lists, owners, boxes, place, side, &[cell])?;
+    push_place_for_owner(lists, owners, boxes, place, above, &[cell, side])?;
+    push_place_for_owner(lists, owners, boxes, place, corner, &[cell, side, above])?;
     Ok(())
 }
 
 // Adds the place of an edge line to the list of each box that has its cell in its halo.
-fn push_line(
+fn push_edge_place(
     lists: &mut Vec<Vec<u32>>,
     owners: &Owners,
     boxes: &[Box2],
@@ -142,14 +142,14 @@ fn push_line(
         (map (λ l. l.items) lists.new.items)) }
 {
     if let CertificateLine::Edge(border) = line.line() {
-        push_beside(lists, owners, boxes, place, border.cell)?;
+        push_place_for_halo_boxes(lists, owners, boxes, place, border.cell)?;
         return Ok(());
     }
     Ok(())
 }
 
 // The same of lines, of which the first has the place `from`.
-fn push_lines(
+fn push_edge_places(
     lists: &mut Vec<Vec<u32>>,
     owners: &Owners,
     boxes: &[Box2],
@@ -166,13 +166,13 @@ fn push_lines(
         (map (λ l. l.items) lists.new.items)) }
 {
     'lines: for (number, line) in lines.iter().enumerate() {
-        push_line(lists, owners, boxes, (from + number) as u32, line)?;
+        push_edge_place(lists, owners, boxes, (from + number) as u32, line)?;
     }
     Ok(())
 }
 
 // An empty list for each of so many boxes.
-fn no_places(alloc: Global, count: usize) -> Result<Vec<Vec<u32>>, AllocError>
+fn empty_place_lists(alloc: Global, count: usize) -> Result<Vec<Vec<u32>>, AllocError>
     ensures count { IfOk result (λ lists. length lists.items ≡ count) }
     ensures empty { IfOk result (λ lists. (i : ℕ) →
         list_at (map (λ l. l.items) lists.items) i ≡ []) }
@@ -217,7 +217,7 @@ fn owners_of(
 }
 
 // Adds the places of the edge lines of all modules.
-fn push_modules(
+fn push_all_edge_places(
     lists: &mut Vec<Vec<u32>>,
     owners: &Owners,
     boxes: &[Box2],
@@ -234,7 +234,7 @@ fn push_modules(
     'lines: for (place, entry) in entries.iter().enumerate() {
         if is_module(entry) {
             let lines = lines_of_module(&entries[place + 1..]);
-            push_lines(lists, owners, boxes, place + 1, lines)?;
+            push_edge_places(lists, owners, boxes, place + 1, lines)?;
         }
     }
     Ok(())
@@ -257,7 +257,7 @@ pub(crate) fn halo_places(
         (map (λ l. l.items) lists.items)) }
 {
     let boxes = boxes_of(alloc, parts)?;
-    let mut lists = no_places(alloc, boxes.len())?;
+    let mut lists = empty_place_lists(alloc, boxes.len())?;
     let size = tables.layout().size();
     if size.steps <= 1 {
         return Ok(lists);
@@ -266,6 +266,6 @@ pub(crate) fn halo_places(
         return Err(AllocError);
     }
     let owners = owners_of(alloc, tables, boxes.as_slice(), entries)?;
-    push_modules(&mut lists, &owners, boxes.as_slice(), entries)?;
+    push_all_edge_places(&mut lists, &owners, boxes.as_slice(), entries)?;
     Ok(lists)
 }

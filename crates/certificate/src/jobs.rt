@@ -6,7 +6,7 @@ ghost use Rattle.std.specs.Option.{option_to_list};
 ghost use Rattle.circuit.specs.Bridge.{circuit_of, netlist_of};
 ghost use Rattle.circuit.specs.Meaning.{wire_of, wires};
 ghost use Rattle.module_box.specs.Locals.{AreLocalLines, AreLocalsOf, circuit_wire, is_among, local_wires};
-ghost use Rattle.module_box.specs.Moves.{IsNear};
+ghost use Rattle.module_box.specs.Moves.{IsInShiftRange};
 ghost use Rattle.certificate_lines.specs.Entries.{cut_in, keep_in, modules_of, stop_in, use_in};
 ghost use Rattle.certificate.specs.Grammars.{modules_in};
 ghost use Rattle.certificate_lines.specs.Settings.{setting_of};
@@ -15,17 +15,18 @@ ghost use Rattle.certificate.specs.SliceLines.{slice_lines};
 ghost use Rattle.certificate_lines.specs.Modules.{AreModules, HasPorts, IsModule};
 ghost use Rattle.certificate_lines.specs.Orders.{AreInOrder};
 ghost use Rattle.certificate_lines.specs.Rules.{is_local};
-ghost use Rattle.module_job.specs.Shapes.{from_corner, stops_from_corner};
+ghost use Rattle.module_job.specs.Shapes.{signals_from_corner, stops_from_corner};
 ghost use Rattle.module_job.specs.Signals.{IsBelow, renumber_signals};
 ghost use Rattle.certificate.specs.StopLists.{AreStops};
-ghost use Rattle.certificate.specs.Timetables.{IsLow, IsNamedLocal, borders_in};
-ghost use Rattle.certificate_lines.specs.Versions.{is_haloless, lacks_wire, meant, with_halos};
+ghost use Rattle.certificate.specs.Timetables.{IsLow, HasLocalWire, borders_in};
+ghost use Rattle.certificate_lines.specs.Versions.{is_haloless, lacks_wire, modules_by_version, with_halos};
 
-use crate::beside::{ModuleSlice, full_lines, module_slices};
+use crate::beside::{ModuleSlice, lines_with_halos};
 use crate::cert::Cert;
 use crate::halo_places::{halo_places, take_list};
 use crate::layout_tables::LayoutTables;
 use crate::line_kinds::{side_lines, stop_lines, wiring_lines};
+use crate::reading::is_haloless;
 use crate::stops::stops_of;
 use crate::timetable::{RingOrHalo, signals_of};
 use certificate_lines::{StoredLine, cut_list, kept_places, used_gates};
@@ -103,7 +104,7 @@ fn module_locals(
 }
 
 // The signals of a module's lines about cells of its ring or of its halo, where the corner of its box is at (0, 0).
-fn own_signals(
+fn schedule_from_corner(
     alloc: Global,
     circuit: &Circuit,
     locals: &Locals,
@@ -112,18 +113,18 @@ fn own_signals(
     lines: &[StoredLine],
 ) -> Result<Schedule, AllocError>
     requires order { AreInOrder lines.now }
-    requires local { All (IsNamedLocal (circuit_of circuit.now) locals.now)
+    requires local { All (HasLocalWire (circuit_of circuit.now) locals.now)
         (flat_map (borders_in side) lines.now) }
     requires low { All (λ e. IsLow e.cell) (flat_map (borders_in side) lines.now) }
     requires corner { (area.x ≤ 512) × (area.y ≤ 512) }
     ensures same_signals { IfOk result (λ s. renumber_signals (circuit_wire locals.now)
-        (from_corner area s)
+        (signals_from_corner area s)
         ≡ line_signals (circuit_of circuit.now) (flat_map (borders_in side) lines.now)) }
     ensures all_times { IfOk result (λ s. All (λ h. IsBelow (wires locals.now.netlist) h.signal)
-        (from_corner area s).all_times) }
+        (signals_from_corner area s).all_times) }
     ensures events { IfOk result (λ s. All (λ e. IsBelow (wires locals.now.netlist) e.signal)
-        (from_corner area s).events) }
-    ensures near { IfOk result (λ s. All (λ e. IsNear e.at.cell) s.events) }
+        (signals_from_corner area s).events) }
+    ensures near { IfOk result (λ s. All (λ e. IsInShiftRange e.at.cell) s.events) }
 {
     let signals = signals_of(alloc, circuit, locals, side, side_lines(side, lines))?;
     Ok(signals.moved(shift_to_origin(area.x), shift_to_origin(area.y)))
@@ -138,37 +139,41 @@ fn schedules(
     lines: &[StoredLine],
 ) -> Result<(Schedule, Schedule), AllocError>
     requires order { AreInOrder lines.now }
-    requires edges { All (IsNamedLocal (circuit_of circuit.now) locals.now)
+    requires edges { All (HasLocalWire (circuit_of circuit.now) locals.now)
         (flat_map (borders_in RingOrHalo.Ring) lines.now) }
     requires low_edges { All (λ e. IsLow e.cell) (flat_map (borders_in RingOrHalo.Ring) lines.now) }
-    requires halos { All (IsNamedLocal (circuit_of circuit.now) locals.now)
+    requires halos { All (HasLocalWire (circuit_of circuit.now) locals.now)
         (flat_map (borders_in RingOrHalo.Halo) lines.now) }
     requires low_halos { All (λ e. IsLow e.cell) (flat_map (borders_in RingOrHalo.Halo) lines.now) }
     requires corner { (area.x ≤ 512) × (area.y ≤ 512) }
     ensures edges { IfOk result (λ sides. renumber_signals (circuit_wire locals.now)
-        (from_corner area sides.0)
+        (signals_from_corner area sides.0)
         ≡ line_signals (circuit_of circuit.now) (flat_map (borders_in RingOrHalo.Ring) lines.now)) }
     ensures edges_all_times { IfOk result (λ sides. All
-        (λ h. IsBelow (wires locals.now.netlist) h.signal) (from_corner area sides.0).all_times) }
+        (λ h. IsBelow (wires locals.now.netlist) h.signal)
+        (signals_from_corner area sides.0).all_times) }
     ensures edge_events { IfOk result (λ sides. All
-        (λ e. IsBelow (wires locals.now.netlist) e.signal) (from_corner area sides.0).events) }
-    ensures near_edges { IfOk result (λ sides. All (λ e. IsNear e.at.cell) sides.0.events) }
+        (λ e. IsBelow (wires locals.now.netlist) e.signal)
+        (signals_from_corner area sides.0).events) }
+    ensures near_edges { IfOk result (λ sides. All (λ e. IsInShiftRange e.at.cell) sides.0.events) }
     ensures halos { IfOk result (λ sides. renumber_signals (circuit_wire locals.now)
-        (from_corner area sides.1)
+        (signals_from_corner area sides.1)
         ≡ line_signals (circuit_of circuit.now) (flat_map (borders_in RingOrHalo.Halo) lines.now)) }
     ensures halos_all_times { IfOk result (λ sides. All
-        (λ h. IsBelow (wires locals.now.netlist) h.signal) (from_corner area sides.1).all_times) }
+        (λ h. IsBelow (wires locals.now.netlist) h.signal)
+        (signals_from_corner area sides.1).all_times) }
     ensures halo_events { IfOk result (λ sides. All
-        (λ e. IsBelow (wires locals.now.netlist) e.signal) (from_corner area sides.1).events) }
-    ensures near_halos { IfOk result (λ sides. All (λ e. IsNear e.at.cell) sides.1.events) }
+        (λ e. IsBelow (wires locals.now.netlist) e.signal)
+        (signals_from_corner area sides.1).events) }
+    ensures near_halos { IfOk result (λ sides. All (λ e. IsInShiftRange e.at.cell) sides.1.events) }
 {
-    let edges = own_signals(alloc, circuit, locals, RingOrHalo::Ring, area, lines)?;
-    let halos = own_signals(alloc, circuit, locals, RingOrHalo::Halo, area, lines)?;
+    let edges = schedule_from_corner(alloc, circuit, locals, RingOrHalo::Ring, area, lines)?;
+    let halos = schedule_from_corner(alloc, circuit, locals, RingOrHalo::Halo, area, lines)?;
     Ok((edges, halos))
 }
 
 // The stops of a module's lines, where the corner of its box is at (0, 0).
-fn own_stops(
+fn stops_at_corner_offset(
     alloc: Global,
     circuit: &Circuit,
     locals: &Locals,
@@ -183,7 +188,7 @@ fn own_stops(
     requires corner { (area.x ≤ 512) × (area.y ≤ 512) }
     ensures said { IfOk result (λ stops. AreStops (circuit_of circuit.now) locals.now
         (flat_map stop_in lines.now) (stops_from_corner area stops.items)) }
-    ensures near { IfOk result (λ stops. All (λ s. IsNear s.at.cell) stops.items) }
+    ensures near { IfOk result (λ stops. All (λ s. IsInShiftRange s.at.cell) stops.items) }
 {
     let stops = stops_of(alloc, circuit, locals, stop_lines(lines))?;
     moved_stops(
@@ -213,7 +218,7 @@ fn make_job(
     let (locals, kept) = module_locals(alloc, circuit, lines)?;
     let (starts, demands) = tables.cell_lists(alloc, area, &locals)?;
     let (edges, halos) = schedules(alloc, circuit, &locals, area, lines)?;
-    let stops = own_stops(alloc, circuit, &locals, area, lines)?;
+    let stops = stops_at_corner_offset(alloc, circuit, &locals, area, lines)?;
     let (wiring, wires, gates) = locals.into_parts();
     let shape = Shape {
         width: area.w,
@@ -237,7 +242,7 @@ fn make_job(
 }
 
 // The jobs of modules as they are written.
-fn jobs_of_written(
+fn jobs_as_written(
     alloc: Global,
     tables: &LayoutTables,
     parts: &[ModuleSlice],
@@ -256,7 +261,7 @@ fn jobs_of_written(
 }
 
 // The jobs of modules without halo lines, by the edge lines beside them.
-fn jobs_of_parts<'a>(
+fn jobs_with_implied_halos<'a>(
     alloc: Global,
     tables: &LayoutTables,
     entries: &[StoredLine<'a>],
@@ -277,7 +282,7 @@ fn jobs_of_parts<'a>(
         // The lists of all modules take much memory, so each is freed once its module has its lines.
         let lines = {
             let list = take_list(alloc, &mut places, number);
-            full_lines(alloc, entries, list.as_slice(), part)?
+            lines_with_halos(alloc, entries, list.as_slice(), part)?
         };
         let made = make_job(alloc, tables, part.area, lines.as_slice())?;
         let job = Arc::new(alloc, made)?;
@@ -287,26 +292,27 @@ fn jobs_of_parts<'a>(
 }
 
 // The jobs of a certificate of this version that has these lines.
-fn jobs_of_version(
+fn jobs_of_version<'a>(
     alloc: Global,
     tables: &LayoutTables,
     version: u32,
-    entries: &[StoredLine],
+    entries: &[StoredLine<'a>],
+    parts: &[ModuleSlice<'_, 'a>],
 ) -> Result<Vec<Arc<Job>>, AllocError>
+    requires parts { map slice_lines parts.now ≡ modules_of entries.now }
     requires modules { AreModules (setting_of tables.now.circuit tables.now.layout)
         (modules_of entries.now) }
     requires complete { (is_haloless version
         && lacks_wire (setting_of tables.now.circuit tables.now.layout) (modules_of entries.now))
         ≡ false }
     ensures { IfOk result (λ js. AreJobsOf (circuit_of tables.now.circuit) tables.now.layout
-        (meant version (setting_of tables.now.circuit tables.now.layout) (modules_of entries.now))
-        (map arc_value js.items)) }
+        (modules_by_version version (setting_of tables.now.circuit tables.now.layout)
+        (modules_of entries.now)) (map arc_value js.items)) }
 {
-    let parts = module_slices(alloc, entries)?;
-    if version == 2 {
-        return jobs_of_parts(alloc, tables, entries, parts.as_slice());
+    if is_haloless(version) {
+        return jobs_with_implied_halos(alloc, tables, entries, parts);
     }
-    jobs_of_written(alloc, tables, parts.as_slice())
+    jobs_as_written(alloc, tables, parts)
 }
 
 impl<'a> Cert<'a> {
@@ -319,6 +325,8 @@ impl<'a> Cert<'a> {
             (modules_in self.now) (map arc_value js.items)) }
     {
         let tables = LayoutTables::new(alloc, self.circuit, self.layout)?;
-        jobs_of_version(alloc, &tables, self.version, self.entries.as_slice())
+        let parts = self.slices(alloc)?;
+        let entries = self.entries.as_slice();
+        jobs_of_version(alloc, &tables, self.version, entries, &parts)
     }
 }

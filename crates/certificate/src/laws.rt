@@ -1,21 +1,23 @@
 //! Laws of the definitions, each the contract of a function without a body.
-ghost use Rattle.certificate.specs.Laws.{FirstIsLeast, GoodWithoutHalos, HaloIsEdgeBeside, KeptIsOnTime, LastIsGreatest, LinesTell, MeantAreModules, PrintsWhatIsRead, ReadsWhatIsPrinted, SectionWithoutHalos};
+ghost use Rattle.certificate.specs.Laws.{FirstSeenIsLeast, GoodWithoutHalos, HaloIsEdgeBeside, ObeyedLinesAreOnTime, LastSeenIsGreatest, TimeLinesAreTrue, BothVersionsGiveModules, PrintsWhatIsRead, ReadsWhatIsPrinted, SectionWithoutHalos};
 
-pub use module_job::laws::{equality_is_of_content, shape_bytes_are_injective, shapes_are_parts};
+pub use module_job::laws::{
+    equality_is_of_content, job_is_placed_shape, shape_bytes_are_injective,
+};
 
 /// States that a certificate has one text.
 ///
 /// The text of a certificate that is read is the text of the lines that it is read from. It is read as the same
 /// certificate again.
-pub fn one_text()
+pub fn text_round_trips()
     ensures printed { PrintsWhatIsRead }
     ensures read_again { ReadsWhatIsPrinted }
 {}
 
 /// States that the first time at which stops see a wire is the least of their times, and the last one the greatest.
-pub fn seen_first_and_last()
-    ensures first { FirstIsLeast }
-    ensures last { LastIsGreatest }
+pub fn seen_times_are_extremes()
+    ensures first { FirstSeenIsLeast }
+    ensures last { LastSeenIsGreatest }
 {}
 
 /// States what stops say of gates.
@@ -27,15 +29,15 @@ pub fn seen_first_and_last()
 /// - A meeting at T: the last stops of those inputs that have any are at T.
 ///
 /// So if all rules are kept, each delay takes as many steps as it says, and inputs meet.
-pub fn lines_tell_of_gates()
-    ensures each { LinesTell }
-    ensures obeyed_is_on_time { KeptIsOnTime }
+pub fn time_lines_are_true()
+    ensures each { TimeLinesAreTrue }
+    ensures obeyed_is_on_time { ObeyedLinesAreOnTime }
 {}
 
 /// States that the modules of a certificate of version 2 are modules of version 1, whose halo lines are the edge lines
 /// beside them.
-pub fn versions_have_modules()
-    ensures modules { MeantAreModules }
+pub fn version_2_maps_to_version_1()
+    ensures modules { BothVersionsGiveModules }
     ensures halos { HaloIsEdgeBeside }
     ensures good { GoodWithoutHalos }
     ensures section { SectionWithoutHalos }

@@ -10,7 +10,7 @@ ghost use Rattle.module_box.specs.Boxes.{in_box};
 ghost use Rattle.module_box.specs.Locals.{circuit_wire, is_among};
 ghost use Rattle.certificate.specs.Jobs.{end_demand, start_signal};
 ghost use Rattle.module_box.specs.Places.{place_in};
-ghost use Rattle.certificate.specs.LayoutTablesView.{AddsCells, HasLayoutSize, HasMirrorOrNothing, KnowsPort, KnowsPorts, cells_of_others};
+ghost use Rattle.certificate.specs.LayoutTablesView.{AddsCells, HasLayoutSize, HasMirrorOrNothing, KnowsPort, KnowsPorts, non_mirror_cells};
 ghost use Rattle.certificate_lines.specs.Rules.{is_local};
 ghost use Rattle.module_job.specs.Signals.{IsBelow, IsDemandBelow, renumber_demand, renumber_signal};
 
@@ -128,8 +128,8 @@ fn push_port_cells(cells: &mut Vec<Cell>, ports: &[Port]) -> Result<(), AllocErr
 }
 
 // The cells of balls, the waste cells and the cells of ports.
-fn other_cells(alloc: Global, layout: &Layout) -> Result<Vec<Cell>, AllocError>
-    ensures { IfOk result (λ cells. cells.items ≡ cells_of_others layout.now) }
+fn non_mirror_cells(alloc: Global, layout: &Layout) -> Result<Vec<Cell>, AllocError>
+    ensures { IfOk result (λ cells. cells.items ≡ non_mirror_cells layout.now) }
 {
     let mut cells = Vec::new(alloc);
     cells.extend_from_slice(layout.balls())?;
@@ -146,13 +146,13 @@ fn others_of(alloc: Global, layout: &Layout) -> Result<Grid, AllocError>
     ensures size { IfOk result (HasLayoutSize layout.now) }
 {
     let size = layout.size();
-    let cells = other_cells(alloc, layout)?;
+    let cells = non_mirror_cells(alloc, layout)?;
     let grid = grid_of(alloc, size, &cells)?;
     Ok(grid)
 }
 
 // The grids of a layout's mirrors, of its balls and of its wastes.
-fn grids_of(alloc: Global, layout: &Layout) -> Result<(Grid, Grid, Grid), AllocError>
+fn mirror_ball_waste_grids(alloc: Global, layout: &Layout) -> Result<(Grid, Grid, Grid), AllocError>
     ensures mirrors { IfOk result (λ grids. (x y : ℤ) →
         live grids.0 x y ≡ in_rectangles layout.now.mirrors x y) }
     ensures mirrors_size { IfOk result (λ grids. HasLayoutSize layout.now grids.0) }
@@ -186,7 +186,7 @@ pub(crate) fn local_wire(locals: &Locals, wire: WireNo) -> u16
 }
 
 /// Returns the number among a module's wires of the wire of this name, which the module knows.
-pub(crate) fn local_name(circuit: &Circuit, locals: &Locals, name: &Name) -> u16
+pub(crate) fn local_wire_by_name(circuit: &Circuit, locals: &Locals, name: &Name) -> u16
     requires { IsTrue (is_local (circuit_of circuit.now) locals.now.circuit_wires name.now) }
     ensures same_wire { wire_of (circuit_of circuit.now) name.now
         ≡ Some (circuit_wire locals.now result) }
@@ -209,7 +209,7 @@ impl<'a> LayoutTables<'a> {
             ≡ record { circuit = circuit.now; layout = layout.now }) }
     {
         let (ins, outs) = port_tables(alloc, layout)?;
-        let (mirrors, balls, wastes) = grids_of(alloc, layout)?;
+        let (mirrors, balls, wastes) = mirror_ball_waste_grids(alloc, layout)?;
         let others = others_of(alloc, layout)?;
         Ok(LayoutTables {
             circuit,
@@ -251,7 +251,7 @@ impl<'a> LayoutTables<'a> {
             return Signal::One;
         }
         match self.ins.get(cell) {
-            Some(name) => Signal::Wire(local_name(self.circuit, locals, &name)),
+            Some(name) => Signal::Wire(local_wire_by_name(self.circuit, locals, &name)),
             None => Signal::Zero,
         }
     }
@@ -268,7 +268,7 @@ impl<'a> LayoutTables<'a> {
             return Demand::Live;
         }
         match self.outs.get(cell) {
-            Some(name) => Demand::Wire(local_name(self.circuit, locals, &name)),
+            Some(name) => Demand::Wire(local_wire_by_name(self.circuit, locals, &name)),
             None => {
                 if is_live(&self.wastes, cell) {
                     Demand::Any
@@ -281,7 +281,7 @@ impl<'a> LayoutTables<'a> {
 
     // What a cell carries at time 0, and what it is to be at the last time, where the module knows the wires of ports
     // there.
-    fn cell_at(&self, locals: &Locals, cell: Cell) -> (Signal, Demand)
+    fn start_and_demand_at(&self, locals: &Locals, cell: Cell) -> (Signal, Demand)
         requires ins { KnowsPort (circuit_of self.now.circuit) locals.now.circuit_wires
             self.now.layout.ins cell.x cell.y }
         requires outs { KnowsPort (circuit_of self.now.circuit) locals.now.circuit_wires
@@ -303,7 +303,7 @@ impl<'a> LayoutTables<'a> {
     }
 
     // The first column from `from` on whose cell in row `y` the layout may name, or `end` if it names none before it.
-    fn next_named(&self, y: u32, from: u32, end: u32) -> u32
+    fn next_named_column(&self, y: u32, from: u32, end: u32) -> u32
         requires row { y < self.now.layout.size.h }
         requires columns { (from ≤ end) × (end ≤ self.now.layout.size.w) }
         ensures range { (from ≤ result) × (result ≤ end) }
@@ -339,7 +339,7 @@ impl<'a> LayoutTables<'a> {
         let end = area.x + area.w;
         let mut x = area.x;
         'cells: while x < end {
-            let next = self.next_named(y, x, end);
+            let next = self.next_named_column(y, x, end);
             lists.push_dead(next - x)?;
             if next == end {
                 return Ok(());
@@ -348,7 +348,7 @@ impl<'a> LayoutTables<'a> {
                 x: next as i32,
                 y: y as i32,
             };
-            let (start, demand) = self.cell_at(locals, cell);
+            let (start, demand) = self.start_and_demand_at(locals, cell);
             lists.push(start, demand)?;
             x = next + 1;
         }

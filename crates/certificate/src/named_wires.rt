@@ -4,7 +4,7 @@ ghost use Rattle.circuit.specs.Bridge.{circuit_of};
 ghost use Rattle.certificate_lines.specs.Rules.{is_local};
 ghost use Rattle.certificate.specs.NamedWires.{AreNamedWires, IsWireOf};
 
-use crate::layout_tables::local_name;
+use crate::layout_tables::local_wire_by_name;
 use circuit::Circuit;
 use module_box::Locals;
 use section_text::Name;
@@ -62,7 +62,7 @@ pub(crate) fn slot_wire<'a>(
             return known.wire;
         }
     }
-    let wire = local_name(circuit, locals, name);
+    let wire = local_wire_by_name(circuit, locals, name);
     slots[slot] = Some(NamedWire { name, wire });
     wire
 }

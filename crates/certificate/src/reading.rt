@@ -1,8 +1,9 @@
 //! The reader of the certificate section.
 ghost use Rattle.std.specs.Prelude.{◌≡◌, ◌≤◌, [], true, drop, length, IfOk};
 ghost use Rattle.section_text.specs.Section.{Reads};
-ghost use Rattle.certificate.specs.Grammars.{certificate_grammar, certificate_value};
+ghost use Rattle.certificate.specs.Grammars.{certificate_grammar, certificate_section};
 ghost use Rattle.certificate_lines.specs.Settings.{setting_of};
+ghost use Rattle.certificate_lines.specs.Versions.{is_haloless};
 
 use crate::beside::is_halo;
 use crate::cert::Cert;
@@ -16,6 +17,13 @@ use std::alloc::{AllocError, Global};
 const VERSION_WITH_HALOS: u32 = 1;
 
 const VERSION_WITHOUT_HALOS: u32 = 2;
+
+/// Returns whether certificates of this version have no halo lines of their own.
+pub(crate) fn is_haloless(version: u32) -> bool
+    ensures { result ≡ is_haloless version }
+{
+    version == VERSION_WITHOUT_HALOS
+}
 
 // A certificate that is read: its version, and its lines so far.
 #[derive(Drop)]
@@ -41,7 +49,7 @@ impl<'a> Section for Reading<'a> {
     }
 
     fn begin(&mut self, version: u32) -> Result<(), LineFault> {
-        if (version != VERSION_WITH_HALOS) & (version != VERSION_WITHOUT_HALOS) {
+        if (version != VERSION_WITH_HALOS) & !is_haloless(version) {
             return Err(LineFault::Code(RefusalCode::PastLimit));
         }
         self.version = version;
@@ -49,7 +57,7 @@ impl<'a> Section for Reading<'a> {
     }
 
     fn add(&mut self, entry: CertificateLine) -> Result<(), LineFault> {
-        if (self.version == VERSION_WITHOUT_HALOS) & is_halo(&entry) {
+        if is_haloless(self.version) & is_halo(&entry) {
             return Err(LineFault::Code(RefusalCode::NoForm));
         }
         self.builder.add(self.alloc, entry)
@@ -59,7 +67,7 @@ impl<'a> Section for Reading<'a> {
         if let Some(code) = self.builder.missing() {
             return Some(code);
         }
-        if self.version == VERSION_WITHOUT_HALOS && self.builder.lacks_wire(self.alloc) {
+        if is_haloless(self.version) && self.builder.lacks_wire(self.alloc) {
             return Some(RefusalCode::SomethingMissing);
         }
         None
@@ -112,7 +120,7 @@ pub fn read_certificate<'a>(
 ) -> Result<Cert<'a>, ReadFault>
     requires { feed.old.closed ≡ true }
     ensures reads { Reads (certificate_grammar (setting_of circuit.now layout.now))
-        certificate_value feed.old feed.new result }
+        certificate_section feed.old feed.new result }
     ensures circuit { IfOk result (λ cert. cert.circuit ≡ circuit.now) }
     ensures layout { IfOk result (λ cert. cert.layout ≡ layout.now) }
 {
@@ -121,9 +129,9 @@ pub fn read_certificate<'a>(
     };
     let read = read_section(feed, &mut reading);
     let Reading {
-        alloc: _,
         version,
         builder,
+        ..
     } = reading;
     let (entries, modules) = builder.into_parts();
     match read {

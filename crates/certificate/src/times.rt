@@ -8,8 +8,8 @@ ghost use Rattle.certificate_lines.specs.Entries.{stop_in};
 ghost use Rattle.certificate_lines.specs.Orders.{AreInOrder};
 ghost use Rattle.certificate.specs.SliceLines.{slice_lines};
 ghost use Rattle.certificate.specs.Grammars.{modules_in};
-ghost use Rattle.certificate.specs.Times.{agreed, all_stops, delay_line, gap_between, is_obeyed, last_times, lines_by, meet_line, first_wire_time, time_lines};
-ghost use Rattle.certificate.specs.SeenTimes.{IsTable, chosen, told_by};
+ghost use Rattle.certificate.specs.Times.{common_time, all_stops, delay_line, gap_between, is_obeyed, last_times, time_lines_of_gates, meet_line, first_wire_time, time_lines};
+ghost use Rattle.certificate.specs.SeenTimes.{IsStopTimeTable, chosen, time_in_table};
 ghost use Rattle.certificate_lines.specs.declared.certificate_line.StopLine.{StopLine as Line};
 
 use crate::beside::ModuleSlice;
@@ -66,26 +66,27 @@ impl TimeLine {
 
 // Which time of a wire is kept.
 #[derive(Clone, Copy)]
-pub(crate) enum Choice {
+pub(crate) enum FirstOrLast {
     First,
     Last,
 }
 
-fn chosen(choice: Choice, before: Option<u32>, time: u32) -> Option<u32>
+fn chosen(choice: FirstOrLast, before: Option<u32>, time: u32) -> Option<u32>
     ensures { result ≡ chosen choice before time }
 {
     match (choice, before) {
         (_, None) => Some(time),
-        (Choice::First, Some(least)) => Some(least.min(time)),
-        (Choice::Last, Some(greatest)) => Some(greatest.max(time)),
+        (FirstOrLast::First, Some(least)) => Some(least.min(time)),
+        (FirstOrLast::Last, Some(greatest)) => Some(greatest.max(time)),
     }
 }
 
 // Takes a stop into a table of the wires.
-fn note_stop(table: &mut [Option<u32>], circuit: &Circuit, choice: Choice, stop: &StoredStop)
+fn note_stop(table: &mut [Option<u32>], circuit: &Circuit, choice: FirstOrLast, stop: &StoredStop)
     requires { length table.old ≡ wires (netlist_of circuit.now) }
-    ensures table { (ss : List Line) → IsTable choice (circuit_of circuit.now) ss table.old →
-        IsTable choice (circuit_of circuit.now) (ss ++ stop.now ∷ []) table.new }
+    ensures table { (ss : List Line) →
+        IsStopTimeTable choice (circuit_of circuit.now) ss table.old →
+        IsStopTimeTable choice (circuit_of circuit.now) (ss ++ stop.now ∷ []) table.new }
     ensures long { length table.new ≡ length table.old }
 {
     if let Some(wire) = circuit.wire(stop.wire()) {
@@ -95,10 +96,11 @@ fn note_stop(table: &mut [Option<u32>], circuit: &Circuit, choice: Choice, stop:
 }
 
 // Takes a line into it, if it is a stop.
-fn note_line(table: &mut [Option<u32>], circuit: &Circuit, choice: Choice, line: &StoredLine)
+fn note_line(table: &mut [Option<u32>], circuit: &Circuit, choice: FirstOrLast, line: &StoredLine)
     requires { length table.old ≡ wires (netlist_of circuit.now) }
-    ensures table { (ss : List Line) → IsTable choice (circuit_of circuit.now) ss table.old →
-        IsTable choice (circuit_of circuit.now) (ss ++ stop_in line.now) table.new }
+    ensures table { (ss : List Line) →
+        IsStopTimeTable choice (circuit_of circuit.now) ss table.old →
+        IsStopTimeTable choice (circuit_of circuit.now) (ss ++ stop_in line.now) table.new }
     ensures long { length table.new ≡ length table.old }
 {
     if let Some(stop) = line.stop() {
@@ -107,10 +109,17 @@ fn note_line(table: &mut [Option<u32>], circuit: &Circuit, choice: Choice, line:
 }
 
 // Takes the stops among lines into it.
-fn note_lines(table: &mut [Option<u32>], circuit: &Circuit, choice: Choice, lines: &[StoredLine])
+fn note_lines(
+    table: &mut [Option<u32>],
+    circuit: &Circuit,
+    choice: FirstOrLast,
+    lines: &[StoredLine],
+)
     requires { length table.old ≡ wires (netlist_of circuit.now) }
-    ensures table { (ss : List Line) → IsTable choice (circuit_of circuit.now) ss table.old →
-        IsTable choice (circuit_of circuit.now) (ss ++ flat_map stop_in lines.now) table.new }
+    ensures table { (ss : List Line) →
+        IsStopTimeTable choice (circuit_of circuit.now) ss table.old →
+        IsStopTimeTable choice (circuit_of circuit.now) (ss ++ flat_map stop_in lines.now)
+        table.new }
     ensures long { length table.new ≡ length table.old }
 {
     'lines: for line in lines {
@@ -119,14 +128,14 @@ fn note_lines(table: &mut [Option<u32>], circuit: &Circuit, choice: Choice, line
 }
 
 // The first or the last time of each wire, by the stops of the modules.
-fn table_of(
+fn stop_time_table(
     alloc: Global,
     circuit: &Circuit,
-    choice: Choice,
+    choice: FirstOrLast,
     parts: &[ModuleSlice],
 ) -> Result<Vec<Option<u32>>, AllocError>
     requires { All (λ p. AreInOrder p.lines.now) parts.now }
-    ensures { IfOk result (λ table. IsTable choice (circuit_of circuit.now)
+    ensures { IfOk result (λ table. IsStopTimeTable choice (circuit_of circuit.now)
         (all_stops (map slice_lines parts.now)) table.items) }
 {
     let mut table = vec![in alloc; None; circuit.wires()]?;
@@ -138,14 +147,14 @@ fn table_of(
 
 // The time of a wire, if it has one.
 fn time_of(table: &[Option<u32>], wire: WireNo) -> Option<u32>
-    ensures { result ≡ told_by table.now wire }
+    ensures { result ≡ time_in_table table.now wire }
 {
     table.get(wire.number() as usize).copied().flatten()
 }
 
 // The time of the first of some wires.
-fn time_of_first(table: &[Option<u32>], wires: &[WireNo]) -> Option<u32>
-    ensures { result ≡ first_wire_time (told_by table.now) wires.now }
+fn time_of_first_wire(table: &[Option<u32>], wires: &[WireNo]) -> Option<u32>
+    ensures { result ≡ first_wire_time (time_in_table table.now) wires.now }
 {
     match wires.first() {
         Some(wire) => time_of(table, *wire),
@@ -172,11 +181,11 @@ fn push_delay(
     lasts: &[Option<u32>],
 ) -> Result<(), AllocError>
     ensures { OnOk result (lines.new.items
-        ≡ lines.old.items ++ delay_line (told_by firsts.now) (told_by lasts.now) number
+        ≡ lines.old.items ++ delay_line (time_in_table firsts.now) (time_in_table lasts.now) number
         (gate_of gate.now)) }
 {
-    let last = time_of_first(lasts, gate.ins());
-    let first = time_of_first(firsts, gate.outs());
+    let last = time_of_first_wire(lasts, gate.ins());
+    let first = time_of_first_wire(firsts, gate.outs());
     if let GateKind::Delay(wanted) = gate.kind() {
         lines.push(TimeLine::Delay {
             gate: number,
@@ -193,7 +202,7 @@ fn last_times(
     lasts: &[Option<u32>],
     wires: &[WireNo],
 ) -> Result<Vec<u32>, AllocError>
-    ensures { IfOk result (λ times. times.items ≡ last_times (told_by lasts.now) wires.now) }
+    ensures { IfOk result (λ times. times.items ≡ last_times (time_in_table lasts.now) wires.now) }
 {
     let mut times = Vec::new(alloc);
     'wires: for wire in wires {
@@ -204,18 +213,18 @@ fn last_times(
     Ok(times)
 }
 
-fn are_all(times: &[u32], time: u32) -> bool
+fn are_all_equal_to(times: &[u32], time: u32) -> bool
     ensures { result ≡ list_all (λ u. u == time) times.now }
 {
     times.iter().all(|other| *other == time)
 }
 
 // The time that all of them are.
-fn agreed(times: &[u32]) -> Option<u32>
-    ensures { result ≡ agreed times.now }
+fn common_time(times: &[u32]) -> Option<u32>
+    ensures { result ≡ common_time times.now }
 {
     let (first, others) = times.split_first()?;
-    if are_all(others, *first) {
+    if are_all_equal_to(others, *first) {
         Some(*first)
     } else {
         None
@@ -231,25 +240,26 @@ fn push_meet(
     lasts: &[Option<u32>],
 ) -> Result<(), AllocError>
     ensures { OnOk result (lines.new.items
-        ≡ lines.old.items ++ meet_line (told_by lasts.now) number (gate_of gate.now)) }
+        ≡ lines.old.items ++ meet_line (time_in_table lasts.now) number (gate_of gate.now)) }
 {
     let times = last_times(alloc, lasts, gate.ins())?;
     if times.len() >= 2 {
-        let at = agreed(&times);
+        let at = common_time(&times);
         lines.push(TimeLine::Meet { gate: number, at })?;
     }
     Ok(())
 }
 
 // The lines by tables of the first and the last times.
-fn lines_by(
+fn time_lines_of_gates(
     alloc: Global,
     circuit: &Circuit,
     firsts: &[Option<u32>],
     lasts: &[Option<u32>],
 ) -> Result<Vec<TimeLine>, AllocError>
     ensures { IfOk result (λ lines. lines.items
-        ≡ lines_by (told_by firsts.now) (told_by lasts.now) (netlist_of circuit.now).gates) }
+        ≡ time_lines_of_gates (time_in_table firsts.now) (time_in_table lasts.now)
+        (netlist_of circuit.now).gates) }
 {
     let mut lines = Vec::new(alloc);
     let count = circuit.gates();
@@ -274,9 +284,9 @@ fn lines_of(
     ensures { IfOk result (λ lines. lines.items
         ≡ time_lines (circuit_of circuit.now) (map slice_lines parts.now)) }
 {
-    let firsts = table_of(alloc, circuit, Choice::First, parts)?;
-    let lasts = table_of(alloc, circuit, Choice::Last, parts)?;
-    lines_by(alloc, circuit, &firsts, &lasts)
+    let firsts = stop_time_table(alloc, circuit, FirstOrLast::First, parts)?;
+    let lasts = stop_time_table(alloc, circuit, FirstOrLast::Last, parts)?;
+    time_lines_of_gates(alloc, circuit, &firsts, &lasts)
 }
 
 impl<'a> Cert<'a> {

@@ -5,11 +5,11 @@ ghost use Rattle.std.specs.Option.{option_map};
 ghost use Rattle.circuit.specs.Bridge.{circuit_of};
 ghost use Rattle.circuit.specs.Meaning.{wires};
 ghost use Rattle.module_box.specs.Locals.{circuit_wire};
-ghost use Rattle.certificate.specs.Jobs.{event_by, all_times_by, line_signal, line_signals};
+ghost use Rattle.certificate.specs.Jobs.{events_of_line, all_times_of_line, line_signal, line_signals};
 ghost use Rattle.certificate_lines.specs.Orders.{AreInOrder};
 ghost use Rattle.certificate_lines.specs.Rules.{is_local};
 ghost use Rattle.module_job.specs.Signals.{IsBelow, renumber_signal, renumber_signals};
-ghost use Rattle.certificate.specs.Timetables.{AreSignalLists, borders_in, IsNamedLocal};
+ghost use Rattle.certificate.specs.Timetables.{AreSignalLists, borders_in, HasLocalWire};
 ghost use Rattle.certificate.specs.NamedWires.{AreNamedWires};
 ghost use Rattle.certificate_lines.specs.declared.certificate_line.BorderLine.{BorderLine};
 
@@ -61,9 +61,9 @@ fn local_signal<'a>(
 impl<'a> SignalLists<'a> {
     fn push(&mut self, border: &StoredBorder, signal: Signal) -> Result<(), AllocError>
         ensures all_times { OnOk result (self.new.all_times.items
-            ≡ self.old.all_times.items ++ all_times_by border.now border.now.time signal) }
+            ≡ self.old.all_times.items ++ all_times_of_line border.now border.now.time signal) }
         ensures events { OnOk result (self.new.events.items
-            ≡ self.old.events.items ++ event_by border.now border.now.time signal) }
+            ≡ self.old.events.items ++ events_of_line border.now border.now.time signal) }
         ensures slots { self.new.slots ≡ self.old.slots }
     {
         let cell = border.cell();
@@ -85,7 +85,7 @@ impl<'a> SignalLists<'a> {
         locals: &Locals,
         border: &StoredBorder<'a>,
     ) -> Result<(), AllocError>
-        requires { IsNamedLocal (circuit_of circuit.now) locals.now border.now }
+        requires { HasLocalWire (circuit_of circuit.now) locals.now border.now }
         ensures { OnOk result ((es : List BorderLine) →
             AreSignalLists (circuit_of circuit.now) locals.now es self.old →
             AreSignalLists (circuit_of circuit.now) locals.now (es ++ border.now ∷ []) self.new) }
@@ -102,7 +102,7 @@ impl<'a> SignalLists<'a> {
         side: RingOrHalo,
         line: &StoredLine<'a>,
     ) -> Result<(), AllocError>
-        requires { All (IsNamedLocal (circuit_of circuit.now) locals.now)
+        requires { All (HasLocalWire (circuit_of circuit.now) locals.now)
             (borders_in side line.now) }
         ensures { OnOk result ((es : List BorderLine) →
             AreSignalLists (circuit_of circuit.now) locals.now es self.old →
@@ -129,7 +129,7 @@ pub(crate) fn signals_of(
     lines: &[StoredLine],
 ) -> Result<Schedule, AllocError>
     requires order { AreInOrder lines.now }
-    requires local { All (IsNamedLocal (circuit_of circuit.now) locals.now)
+    requires local { All (HasLocalWire (circuit_of circuit.now) locals.now)
         (flat_map (borders_in side) lines.now) }
     ensures same_signals { IfOk result (λ s. renumber_signals (circuit_wire locals.now) s
         ≡ line_signals (circuit_of circuit.now) (flat_map (borders_in side) lines.now)) }

@@ -6,7 +6,7 @@ use Rattle.std.specs.Str.{bytes_eq}
 use Rattle.std.proofs.lemmas.Bool.{cases_Bool, cond-false, cond-true}
 use Rattle.std.proofs.lemmas.Option.{same_Some}
 use Rattle.std.proofs.lemmas.Slice.Eq.{bytes_eq-Decides}
-use Rattle.section_text.specs.Listed.{listed}
+use Rattle.section_text.specs.Listed.{five_listed}
 use Rattle.section_text.specs.Words.{five, is_word, is_word_at, lone, lone_name, lone_number, ◌>>=◌}
 use Rattle.section_text.specs.declared.words.FiveWords.{FiveWords}
 use Rattle.section_text.specs.declared.section.Form.TheVariants.{Header, Item, End}
@@ -38,12 +38,12 @@ halo_form ws o edge halo is =
 -- a line of five words that begins with no keyword of such lines has no form
 pub no_long_form : (w : FiveWords) → bytes_eq w.first.now (codes "edge") ≡ false →
     bytes_eq w.first.now (codes "halo") ≡ false → bytes_eq w.first.now (codes "stop") ≡ false →
-    bytes_eq w.first.now (codes "module") ≡ false → None ≡ form_of (listed w)
+    bytes_eq w.first.now (codes "module") ≡ false → None ≡ form_of (five_listed w)
 unfolding form_of is_word_at lone lone_name lone_number
 no_long_form w e h s m = sym (
     cond-false _ _ _ e ∙ cond-false _ _ _ h ∙ cond-false _ _ _ s
     ∙ same_none (is (codes "cut")) _ (same_none (is (codes "use")) _ (same_none (is (codes "keep")) _
-    (cond-false _ (area_of (listed w) >>= λ b. Some (Item (Module b))) _ m
+    (cond-false _ (area_of (five_listed w) >>= λ b. Some (Item (Module b))) _ m
     ∙ same_none (is (codes "certificate")) _ (same_none (is (codes "end")) _ refl)))))
   where
     is : List ℕ → Bool
@@ -62,11 +62,12 @@ five_is true x y e = same_Some x y e
 five_is false x y e = absurd cc
 
 -- the words of a line of five
-pub five_words_are : (ws : List (List ℕ)) (w : FiveWords) → Some (listed w) ≡ five ws → ws ≡ listed w
+pub five_words_are : (ws : List (List ℕ)) (w : FiveWords) → Some (five_listed w) ≡ five ws → ws ≡ five_listed w
 unfolding five
-five_words_are ws w e = five_is (length ws == 5) ws (listed w) (sym e)
+five_words_are ws w e = five_is (length ws == 5) ws (five_listed w) (sym e)
 
-pub long_form_is : (ws : List (List ℕ)) (w : FiveWords) → Some (listed w) ≡ five ws → form_of (listed w) ≡ form_of ws
+pub long_form_is : (ws : List (List ℕ)) (w : FiveWords) → Some (five_listed w) ≡ five ws →
+    form_of (five_listed w) ≡ form_of ws
 long_form_is ws w e = ap form_of (sym (five_words_are ws w e))
 
 -- ---- lines of another number of words

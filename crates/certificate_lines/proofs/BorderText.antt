@@ -16,7 +16,7 @@ use Rattle.section_text.specs.Words.{number_at, number_of, words_of, ◌>>=◌}
 use Rattle.section_text.proofs.Splitting.{some_words}
 use Rattle.pattern.specs.Forms.{cell_from}
 use Rattle.pattern.specs.Layout.{cell}
-use Rattle.certificate_lines.specs.BorderWords.{leading_time, lone_signal, signal_by, time_by}
+use Rattle.certificate_lines.specs.BorderWords.{leading_time, lone_signal, signal_from_word, time_from_word}
 use Rattle.section_text.specs.declared.section.Form.TheVariants.{Item}
 use Rattle.certificate_lines.proofs.BorderLines.{edge_form, halo_form, stop_form}
 use Rattle.certificate_lines.specs.Forms.{border_of, form_of, signal_at, stop_of, time_at, timed_cell}
@@ -73,7 +73,7 @@ no_step (Some a) f none = none a
 -- ---- the time
 
 star_leads : (ws : List (List ℕ)) → 0 < length ws → Some (None, ws) ≡ leading_time (codes "*" ∷ ws)
-unfolding leading_time time_by
+unfolding leading_time time_from_word
 star_leads [] some = absurd (omega arith)
 star_leads (v ∷ vs) some = refl
 
@@ -88,7 +88,7 @@ timed r = Some (Some r.0, r.1)
 time_leads : (ws : List (List ℕ)) →
     ((w v : List ℕ) (vs : List (List ℕ)) → ws ≡ w ∷ v ∷ vs → bytes_eq w (codes "*") ≡ false) →
     (leading_number ws >>= timed) ≡ leading_time ws
-unfolding leading_number leading_time time_by
+unfolding leading_number leading_time time_from_word
 time_leads [] other = refl
 time_leads (w ∷ []) other = refl
 time_leads (w ∷ v ∷ vs) other =
@@ -126,22 +126,23 @@ name_word (b ∷ bs) e =
     slice_split-cons_no is_space b bs (small_letter b (both (is_lower b) _ all.0).0)
     ∙ ap (onto_first b) (letters bs all.1)
 
-no_signal : (l : List ℕ) → signal_by l ≡ None → (ws : List (List ℕ)) → words_of l ≡ ws → lone_signal ws ≡ signal_by l
+no_signal : (l : List ℕ) → signal_from_word l ≡ None → (ws : List (List ℕ)) → words_of l ≡ ws →
+    lone_signal ws ≡ signal_from_word l
 unfolding lone_signal
 no_signal l none [] e = sym none
-no_signal l none (w ∷ []) e = ap signal_by (sym (ap (join_with_byte 32) e) ∙ join_with_byte-slice_split 32 l)
+no_signal l none (w ∷ []) e = ap signal_from_word (sym (ap (join_with_byte 32) e) ∙ join_with_byte-slice_split 32 l)
 no_signal l none (w ∷ v ∷ vs) e = sym none
 
-neither : (l : List ℕ) → bytes_eq l (codes "1") ≡ false → is_name l ≡ false → signal_by l ≡ None
-unfolding signal_by name_of
+neither : (l : List ℕ) → bytes_eq l (codes "1") ≡ false → is_name l ≡ false → signal_from_word l ≡ None
+unfolding signal_from_word name_of
 neither l one name = cond-false _ _ _ one ∙ ap (λ o. o >>= λ n. Some (Some n)) (cond-false _ _ _ name)
 
-alone : (l : List ℕ) → words_of l ≡ l ∷ [] → lone_signal (words_of l) ≡ signal_by l
+alone : (l : List ℕ) → words_of l ≡ l ∷ [] → lone_signal (words_of l) ≡ signal_from_word l
 unfolding lone_signal
 alone l e = ap lone_signal e
 
 -- a signal has no space, so what is left of a line is its last word
-pub signal_is : (l : List ℕ) → lone_signal (words_of l) ≡ signal_by l
+pub signal_is : (l : List ℕ) → lone_signal (words_of l) ≡ signal_from_word l
 signal_is l = elim (cases_Bool (bytes_eq l (codes "1"))) [
   | inl one ↦ alone l (subst (λ w. words_of w ≡ w ∷ []) (sym ((bytes_eq-Decides l (codes "1")).0 one)) refl)
   | inr other ↦ elim (cases_Bool (is_name l)) [
@@ -169,24 +170,24 @@ not_five n = grind arith
 
 steps : (k : List ℕ) (ws : List (List ℕ)) → border_of (k ∷ ws) ≡ (leading_time ws >>= after_time)
 unfolding border_of timed_cell time_at signal_at cell_from number_at name_at is_word_at leading_time leading_number
-    lone_signal time_by signal_by after_time after_column after_row after_signal
+    lone_signal time_from_word signal_from_word after_time after_column after_row after_signal
 steps k [] = refl
 steps k (a ∷ []) = refl
-steps k (a ∷ b ∷ []) = sym (step_in_step (time_by a) (λ t. Some (t, b ∷ [])) after_time
-    ∙ no_step (time_by a) _ (λ t. refl))
-steps k (a ∷ b ∷ c ∷ []) = sym (step_in_step (time_by a) (λ t. Some (t, b ∷ c ∷ [])) after_time
-    ∙ no_step (time_by a) _ (λ t. step_in_step (number_of b) (λ n. Some (n, c ∷ [])) (after_column t)
+steps k (a ∷ b ∷ []) = sym (step_in_step (time_from_word a) (λ t. Some (t, b ∷ [])) after_time
+    ∙ no_step (time_from_word a) _ (λ t. refl))
+steps k (a ∷ b ∷ c ∷ []) = sym (step_in_step (time_from_word a) (λ t. Some (t, b ∷ c ∷ [])) after_time
+    ∙ no_step (time_from_word a) _ (λ t. step_in_step (number_of b) (λ n. Some (n, c ∷ [])) (after_column t)
     ∙ no_step (number_of b) _ (λ x. refl)))
 steps k (a ∷ b ∷ c ∷ d ∷ []) =
-    same_steps (time_by a) _ _ (λ t. step_in_step (number_of b) _ _
+    same_steps (time_from_word a) _ _ (λ t. step_in_step (number_of b) _ _
     ∙ same_steps (number_of b) _ _ (λ x. step_in_step (number_of c) _ _))
-    ∙ sym (step_in_step (time_by a) (λ t. Some (t, b ∷ c ∷ d ∷ [])) after_time
-    ∙ same_steps (time_by a) _ _ (λ t. step_in_step (number_of b) (λ n. Some (n, c ∷ d ∷ [])) (after_column t)
+    ∙ sym (step_in_step (time_from_word a) (λ t. Some (t, b ∷ c ∷ d ∷ [])) after_time
+    ∙ same_steps (time_from_word a) _ _ (λ t. step_in_step (number_of b) (λ n. Some (n, c ∷ d ∷ [])) (after_column t)
     ∙ same_steps (number_of b) _ _ (λ x. step_in_step (number_of c) (λ n. Some (n, d ∷ [])) (after_row t x))))
 steps k (a ∷ b ∷ c ∷ d ∷ e ∷ ws) =
     cond-false _ _ _ (not_five (length ws))
-    ∙ sym (step_in_step (time_by a) (λ t. Some (t, b ∷ c ∷ d ∷ e ∷ ws)) after_time
-    ∙ no_step (time_by a) _ (λ t. step_in_step (number_of b) (λ n. Some (n, c ∷ d ∷ e ∷ ws)) (after_column t)
+    ∙ sym (step_in_step (time_from_word a) (λ t. Some (t, b ∷ c ∷ d ∷ e ∷ ws)) after_time
+    ∙ no_step (time_from_word a) _ (λ t. step_in_step (number_of b) (λ n. Some (n, c ∷ d ∷ e ∷ ws)) (after_column t)
     ∙ no_step (number_of b) _ (λ x. step_in_step (number_of c) (λ n. Some (n, d ∷ e ∷ ws)) (after_row t x)
     ∙ no_step (number_of c) _ (λ y. refl))))
 

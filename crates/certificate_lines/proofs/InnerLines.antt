@@ -1,6 +1,7 @@
 -- The lines before the next `module` line.
-use Rattle.std.proofs.Common.{◌≡◌, ℕ, suc, ◌+◌, ◌<◌, ◌≤◌, true, false, List, [], ◌∷◌, ◌++◌, length, take, drop, refl}
-use Rattle.std.proofs.Common.{sym, ap, ◌∙◌, arith, get_or}
+use Rattle.std.proofs.Common.{◌≡◌, ℕ, zero, suc, ◌+◌, ◌<◌, ◌≤◌, Bool, true, false, List, [], ◌∷◌, ◌++◌, length, take}
+use Rattle.std.proofs.Common.{drop}
+use Rattle.std.proofs.Common.{refl, sym, ap, subst, ◌∙◌, arith, get_or}
 use Rattle.std.proofs.Math.Seq.{drop-cons}
 use Rattle.std.proofs.lemmas.List.{append-nil, append_assoc, drop_all, take_all, take_more}
 use Rattle.certificate_lines.specs.ModuleParts.{inner, is_module}
@@ -37,6 +38,10 @@ inner_more es p e lt ge m h =
     h ∙ ap (λ xs. take p es ++ xs) d
     ∙ sym (ap (λ xs. xs ++ inner (drop (p + 1) es)) t ∙ append_assoc (take p es) (e ∷ []) (inner (drop (p + 1) es)))
 
+pub nothing_inner : inner [] ≡ []
+unfolding inner
+nothing_inner = refl
+
 nothing : (xs : List CertificateLine) → xs ++ inner [] ≡ xs
 unfolding inner
 nothing xs = append-nil xs
@@ -46,4 +51,33 @@ pub inner_all : (es : List CertificateLine) (p : ℕ) → length es ≤ p → in
 inner_all es p le h = sym (h ∙ ap (λ xs. take p es ++ inner xs) (drop_all p es le) ∙ nothing (take p es)
     ∙ take_all p es le)
 
--- ---- the modules of lines, one after the other
+prefix_after : (b : Bool) (e : CertificateLine) (es : List CertificateLine) (n : ℕ) → is_module e ≡ b →
+    (n ≤ length (inner es) → inner es ≡ take n es ++ inner (drop n es)) →
+    suc n ≤ length (inner (e ∷ es)) → inner (e ∷ es) ≡ take (suc n) (e ∷ es) ++ inner (drop (suc n) (e ∷ es))
+prefix_after true e es n m h le =
+    let none : suc n ≤ 0 = subst (λ xs. suc n ≤ length xs) (inner_module e es m) le in
+    absurd (omega (arith, none))
+prefix_after false e es n m h le =
+    let more : suc n ≤ suc (length (inner es)) = subst (λ xs. suc n ≤ length xs) (inner_other e es m) le in
+    inner_other e es m ∙ ap (λ xs. e ∷ xs) (h (omega (arith, more)))
+
+-- the first lines of a module, and the others
+pub inner_prefix : (es : List CertificateLine) (n : ℕ) → n ≤ length (inner es) →
+    inner es ≡ take n es ++ inner (drop n es)
+inner_prefix es zero le = refl
+inner_prefix [] (suc n) le =
+    let none : suc n ≤ 0 = subst (λ xs. suc n ≤ length xs) nothing_inner le in
+    absurd (omega (arith, none))
+inner_prefix (e ∷ es) (suc n) le = prefix_after (is_module e) e es n refl (inner_prefix es n) le
+
+shorter_after : (b : Bool) (e : CertificateLine) (es : List CertificateLine) → is_module e ≡ b →
+    length (inner es) ≤ length es → length (inner (e ∷ es)) ≤ suc (length es)
+shorter_after true e es m h =
+    subst (λ xs. length xs ≤ suc (length es)) (sym (inner_module e es m)) (omega arith)
+shorter_after false e es m h =
+    subst (λ xs. length xs ≤ suc (length es)) (sym (inner_other e es m)) (omega (arith, h))
+
+-- a module has at most all lines
+pub inner_shorter : (es : List CertificateLine) → length (inner es) ≤ length es
+inner_shorter [] = subst (λ xs. length xs ≤ 0) (sym nothing_inner) (omega arith)
+inner_shorter (e ∷ es) = shorter_after (is_module e) e es refl (inner_shorter es)

@@ -22,13 +22,14 @@ use Rattle.certificate_lines.specs.Entries.{gates}
 use Rattle.certificate_lines.specs.Entries.{edges, halos, stops, known}
 use Rattle.certificate_lines.specs.Orders.{AreInOrder, may_follow}
 use Rattle.certificate_lines.specs.Rules.{same_cell, is_starred, are_new, is_incomplete, is_local}
-use Rattle.certificate_lines.specs.Rules.{lacks_port, words_fault, line_fault, inner_fault, module_fault}
+use Rattle.certificate_lines.specs.Rules.{lacks_port, content_code, line_fault, body_line_code, module_fault}
 use Rattle.certificate_lines.specs.Modules.{IsModule}
-use Rattle.certificate_lines.specs.BuilderView.{AreBuilt, AreLocalNames, AreWires, IsBorderLine, IsCutWire, IsInner}
+use Rattle.certificate_lines.specs.BuilderView.{AreBuilt, AreLocalNames, AreWires, IsEdgeHaloOrStopLine, IsCutWire}
+use Rattle.certificate_lines.specs.BuilderView.{IsBodyLine}
 use Rattle.certificate_lines.specs.BuilderView.{IsLastModule, IsTracked}
 use Rattle.certificate_lines.specs.BuilderView.{IsTrackedWith}
 use Rattle.certificate_lines.specs.BuilderView.{IsWritten}
-use Rattle.certificate_lines.specs.BuilderView.{counted, AreSmallCounts, last_inner, outs_at, wires_in}
+use Rattle.certificate_lines.specs.BuilderView.{counted, AreSmallCounts, last_body_line, outs_at, wires_made_local}
 use Rattle.certificate_lines.specs.declared.certificate_line.BorderLine.{BorderLine}
 use Rattle.certificate_lines.specs.declared.certificate_line.Counts.{Counts}
 use Rattle.certificate_lines.specs.declared.certificate_line.CertificateLine.{CertificateLine}
@@ -144,27 +145,27 @@ module _ (g : Setting) (es : List CertificateLine) (covered : Board) (counts : L
   follows_by m i b some f = f m.lines (last_good m some).order (kept.last_module m some).final
 
   inner_is : (m : ModuleLines) (i : CertificateLine) → last_module es ≡ Some m →
-      line_fault g m i ≡ inner_fault g (last_module es) i
-  inner_is m i some = ap (λ o. inner_fault g o i) (sym some)
+      line_fault g m i ≡ body_line_code g (last_module es) i
+  inner_is m i some = ap (λ o. body_line_code g o i) (sym some)
 
   pub too_late : (k : Counts) (i : CertificateLine) (b : Bool) → last_of counts ≡ Some k →
       ((lines : List CertificateLine) → AreInOrder lines → last_of lines ≡ last → b ≡ may_follow lines i) → b ≡ false →
-      Some OutOfOrder ≡ inner_fault g (last_module es) i
+      Some OutOfOrder ≡ body_line_code g (last_module es) i
   too_late k i b some f late =
       let l = the_last k some in
       let m = l.module_lines in
       let not_after : may_follow m.lines i ≡ false = sym (follows_by m i b l.last f) ∙ late in
-      ap (λ a. or_else (code_where (not a) OutOfOrder) (words_fault g m i)) (sym not_after) ∙ inner_is m i l.last
+      ap (λ a. or_else (code_where (not a) OutOfOrder) (content_code g m i)) (sym not_after) ∙ inner_is m i l.last
 
   pub in_place : (k : Counts) (i : CertificateLine) (b : Bool) (code : Option RefusalCode) → last_of counts ≡ Some k →
       ((lines : List CertificateLine) → AreInOrder lines → last_of lines ≡ last → b ≡ may_follow lines i) → b ≡ true
-      → ((m : ModuleLines) → last_module es ≡ Some m → k ≡ counts_of m → code ≡ words_fault g m i) →
-      code ≡ inner_fault g (last_module es) i
+      → ((m : ModuleLines) → last_module es ≡ Some m → k ≡ counts_of m → code ≡ content_code g m i) →
+      code ≡ body_line_code g (last_module es) i
   in_place k i b code some f good words =
       let l = the_last k some in
       let m = l.module_lines in
       let after : may_follow m.lines i ≡ true = sym (follows_by m i b l.last f) ∙ good in
-      words m l.last l.counted ∙ ap (λ a. or_else (code_where (not a) OutOfOrder) (words_fault g m i)) (sym after)
+      words m l.last l.counted ∙ ap (λ a. or_else (code_where (not a) OutOfOrder) (content_code g m i)) (sym after)
       ∙ inner_is m i l.last
 
 -- ---- one more line of the last module
@@ -174,18 +175,18 @@ pub record IsGoodLine (g : Setting) (es : List CertificateLine) (i : Certificate
   pub module_lines : ModuleLines
   pub last : last_module es ≡ Some module_lines
   pub follows : may_follow module_lines.lines i ≡ true
-  pub words : words_fault g module_lines i ≡ None
+  pub words : content_code g module_lines i ≡ None
 
 good_by : (g : Setting) (es : List CertificateLine) (i : CertificateLine) (o : Option ModuleLines) →
     last_module es ≡ o →
-    inner_fault g o i ≡ None → IsGoodLine g es i
+    body_line_code g o i ≡ None → IsGoodLine g es i
 good_by g es i None is e = absurd cc
 good_by g es i (Some m) is e =
-    let parts = both_none _ (words_fault g m i) e in
+    let parts = both_none _ (content_code g m i) e in
     record { module_lines = m; last = is; follows = not_false _ (no_code _ OutOfOrder parts.0); words = parts.1 }
 
 pub good_line : (g : Setting) (es : List CertificateLine) (i : CertificateLine) →
-    inner_fault g (last_module es) i ≡ None → IsGoodLine g es i
+    body_line_code g (last_module es) i ≡ None → IsGoodLine g es i
 good_line g es i e = good_by g es i (last_module es) refl e
 
 same_counts : (area : Box2) (c c' u u' e e' h h' s s' : ℕ) → c ≡ c' → u ≡ u' → e ≡ e' → h ≡ h' → s ≡ s'
@@ -293,15 +294,15 @@ module _ (g : Setting) (m : ModuleLines) (last : Option CertificateLine) (names 
       ∙ ap (list_any (is_starred c)) (sym (flat_push f m.lines i))
 
   pub present_line : (i : CertificateLine) →
-      known g.circuit (with_line i m) ≡ known g.circuit m ++ wires_in g.circuit i →
+      known g.circuit (with_line i m) ≡ known g.circuit m ++ wires_made_local g.circuit i →
       (e' h' : List Cell)
       → ((c : Cell) → list_any (same_cell c) e' ≡ (list_any (same_cell c) e || list_any (is_starred c) (edge_in i)))
       → ((c : Cell) → list_any (same_cell c) h' ≡ (list_any (same_cell c) h || list_any (is_starred c) (halo_in i)))
-      → IsLastModule g (with_line i m) (Some i) names (local ++ wires_in g.circuit i) e' h'
+      → IsLastModule g (with_line i m) (Some i) names (local ++ wires_made_local g.circuit i) e' h'
   present_line i wires e' h' stars halo_stars = record {
     final = last_pushed m.lines i;
     ports = p.ports;
-    wires = ap (λ l. l ++ wires_in g.circuit i) p.wires ∙ sym wires;
+    wires = ap (λ l. l ++ wires_made_local g.circuit i) p.wires ∙ sym wires;
     stars = λ c. more_stars c edge_in i e e' (p.stars c) (stars c);
     halo_stars = λ c. more_stars c halo_in i h h' (p.halo_stars c) (halo_stars c);
   }
@@ -313,8 +314,8 @@ pub record DoesLine (g : Setting) (es : List CertificateLine) (i : CertificateLi
   pub line : add_line (modules_of es) i ≡ change_last (with_line i) (modules_of es)
   pub counts : (n : ModuleLines) → counts_of (with_line i n) ≡ counted i (counts_of n)
   pub grows : IsWritten g m → IsWritten g (with_line i m)
-  pub wires : known g.circuit (with_line i m) ≡ known g.circuit m ++ wires_in g.circuit i
-  pub new : are_new (known g.circuit m) (wires_in g.circuit i) ≡ true
+  pub wires : known g.circuit (with_line i m) ≡ known g.circuit m ++ wires_made_local g.circuit i
+  pub new : are_new (known g.circuit m) (wires_made_local g.circuit i) ≡ true
 
 no_wires : (g : Setting) (m : ModuleLines) (i : CertificateLine) → cut_in i ≡ [] → use_in i ≡ [] →
     known g.circuit (with_line i m) ≡ known g.circuit m ++ []
@@ -324,7 +325,7 @@ cut_is_new : (local : List ℕ) (w : ℕ) → is_among local w ≡ false → are
 unfolding are_new
 cut_is_new local w new = rw new refl
 
-pub does_line : (g : Setting) (es : List CertificateLine) (i : CertificateLine) → IsInner i →
+pub does_line : (g : Setting) (es : List CertificateLine) (i : CertificateLine) → IsBodyLine i →
     (good : IsGoodLine g es i) →
     IsModule g good.module_lines → DoesLine g es i good.module_lines
 unfolding add_line
@@ -332,7 +333,7 @@ does_line g es (Module b) inner good is = absurd inner
 does_line g es (Cut n) inner good is =
     let m = good.module_lines in
     let words = new_wire g.circuit (length (cuts m)) (known g.circuit m) n good.words in
-    let one : wires_in g.circuit (Cut n) ≡ words.1.wire ∷ [] = ap option_to_list words.1.named in
+    let one : wires_made_local g.circuit (Cut n) ≡ words.1.wire ∷ [] = ap option_to_list words.1.named in
     record {
       line = refl;
       counts = counted_cut n;
@@ -343,7 +344,7 @@ does_line g es (Cut n) inner good is =
 does_line g es (Use k) inner good is =
     let m = good.module_lines in
     let words = good_use g.circuit (length (gates m)) (known g.circuit m) k good.words in
-    let outs : wires_in g.circuit (Use k) ≡ words.1.gate.outs = ap outs_at words.1.numbered in
+    let outs : wires_made_local g.circuit (Use k) ≡ words.1.gate.outs = ap outs_at words.1.numbered in
     record {
       line = refl;
       counts = counted_use k;
@@ -384,7 +385,7 @@ module _ (g : Setting) (es : List CertificateLine) (covered : Board) (counts : L
     (last : Option CertificateLine)
     (names : List (List ℕ)) (local : List ℕ) (e h : List Cell)
     (kept : IsTracked g es covered counts last names local e h)
-    (i : CertificateLine) (inner : IsInner i) (good : IsGoodLine g es i) where
+    (i : CertificateLine) (inner : IsBodyLine i) (good : IsGoodLine g es i) where
   the_line : DoesLine g es i good.module_lines
   the_line = does_line g es i inner good
       (last_good g es covered counts last names local e h kept good.module_lines good.last)
@@ -392,10 +393,10 @@ module _ (g : Setting) (es : List CertificateLine) (covered : Board) (counts : L
   pub kept_inner : (after : List Counts) → after ≡ change_last (counted i) counts → (e' h' : List Cell)
       → ((c : Cell) → list_any (same_cell c) e' ≡ (list_any (same_cell c) e || list_any (is_starred c) (edge_in i)))
       → ((c : Cell) → list_any (same_cell c) h' ≡ (list_any (same_cell c) h || list_any (is_starred c) (halo_in i)))
-      → IsTracked g (es ++ i ∷ []) covered after (Some i) names (local ++ wires_in g.circuit i) e' h'
+      → IsTracked g (es ++ i ∷ []) covered after (Some i) names (local ++ wires_made_local g.circuit i) e' h'
   kept_inner after now e' h' stars halo_stars =
       stored_line g es covered counts last names local e h kept i good the_line.line the_line.counts after now
-      the_line.grows (local ++ wires_in g.circuit i) e' h'
+      the_line.grows (local ++ wires_made_local g.circuit i) e' h'
       (λ p. present_line g good.module_lines last names local e h p i the_line.wires e' h' stars halo_stars)
 
 -- ---- one more module
@@ -445,7 +446,7 @@ module _ (g : Setting) (es : List CertificateLine) (covered new_covered : Board)
 
 -- ---- edge, halo and stop lines
 
-pub border_is_inner : (i : CertificateLine) → IsBorderLine i → IsInner i
+pub border_is_inner : (i : CertificateLine) → IsEdgeHaloOrStopLine i → IsBodyLine i
 border_is_inner (Module b) border = border
 border_is_inner (Cut n) border = absurd border
 border_is_inner (Use k) border = absurd border
@@ -455,7 +456,8 @@ border_is_inner (Halo e) border = border
 border_is_inner (Stop s) border = border
 
 -- such a line cuts no wire
-pub border_is_uncut : (c : Circuit) (i : CertificateLine) (cut : Option CutWire) → IsBorderLine i → IsCutWire c i cut
+pub border_is_uncut : (c : Circuit) (i : CertificateLine) (cut : Option CutWire) → IsEdgeHaloOrStopLine i →
+    IsCutWire c i cut
 border_is_uncut c (Module b) cut border = absurd border
 border_is_uncut c (Cut n) cut border = absurd border
 border_is_uncut c (Use k) cut border = absurd border
@@ -464,7 +466,7 @@ border_is_uncut c (Edge e) cut border = tt
 border_is_uncut c (Halo e) cut border = tt
 border_is_uncut c (Stop s) cut border = tt
 
-border_wires : (c : Circuit) (i : CertificateLine) → IsBorderLine i → wires_in c i ≡ []
+border_wires : (c : Circuit) (i : CertificateLine) → IsEdgeHaloOrStopLine i → wires_made_local c i ≡ []
 border_wires c (Module b) border = absurd border
 border_wires c (Cut n) border = absurd border
 border_wires c (Use k) border = absurd border
@@ -477,7 +479,7 @@ border_wires c (Stop s) border = refl
 
 pub with_none : (g : Setting) (covered : Board) → covered.width ≡ g.size.w → covered.height ≡ g.size.h →
     ((x y : ℤ) → live covered x y ≡ false) → (e h : List Cell) → (slots : List (Option LocalName)) →
-    slots ≡ replicate 64 None → IsTrackedWith g [] covered [] (last_inner []) [] [] [] e h slots
+    slots ≡ replicate 64 None → IsTrackedWith g [] covered [] (last_body_line []) [] [] [] e h slots
 unfolding modules_of last_of
 with_none g covered w high dead e h slots none = record {
   kept = kept_none g covered w high dead [] e h;
@@ -490,34 +492,36 @@ module _ (g : Setting) (es : List CertificateLine) (covered : Board) (counts : L
     (names : List (List ℕ)) (earlier : List (List ℕ)) (local : List ℕ) (e h : List Cell)
     (slots : List (Option LocalName))
     (was : IsTrackedWith g es covered counts last names earlier local e h slots) where
-  pub with_inner : (i : CertificateLine) → IsInner i → (good : IsGoodLine g es i) → (after : List Counts) →
+  pub with_inner : (i : CertificateLine) → IsBodyLine i → (good : IsGoodLine g es i) → (after : List Counts) →
       after ≡ change_last (counted i) counts → (e' h' : List Cell)
       → ((c : Cell) → list_any (same_cell c) e' ≡ (list_any (same_cell c) e || list_any (is_starred c) (edge_in i)))
       → ((c : Cell) → list_any (same_cell c) h' ≡ (list_any (same_cell c) h || list_any (is_starred c) (halo_in i)))
-      → IsTrackedWith g (es ++ i ∷ []) covered after (last_inner (es ++ i ∷ [])) names earlier
-      (local ++ wires_in g.circuit i) e' h' slots
+      → IsTrackedWith g (es ++ i ∷ []) covered after (last_body_line (es ++ i ∷ [])) names earlier
+      (local ++ wires_made_local g.circuit i) e' h' slots
   with_inner i inner good after now e' h' stars halo_stars =
       let line = does_line g es i inner good
       (last_good g es covered counts last names local e h was.kept good.module_lines good.last) in
       subst (λ l.
-      IsTrackedWith g (es ++ i ∷ []) covered after l names earlier (local ++ wires_in g.circuit i) e' h' slots)
+      IsTrackedWith g (es ++ i ∷ []) covered after l names earlier (local ++ wires_made_local g.circuit i) e' h' slots)
       (sym (inner_pushed es i inner)) (record {
         kept = kept_inner g es covered counts last names local e h was.kept i inner good after now e' h' stars
             halo_stars;
-        wires = subst (λ ms. AreWires g.circuit ms earlier (local ++ wires_in g.circuit i))
+        wires = subst (λ ms. AreWires g.circuit ms earlier (local ++ wires_made_local g.circuit i))
             (sym (modules_push es i ∙ line.line))
             (wires_more g.circuit (with_line i) (modules_of es) good.module_lines earlier local
-            (wires_in g.circuit i) good.last line.wires was.wires);
-        local_names = still_local g.circuit local (wires_in g.circuit i) slots was.local_names;
+            (wires_made_local g.circuit i) good.last line.wires was.wires);
+        local_names = still_local g.circuit local (wires_made_local g.circuit i) slots was.local_names;
       })
 
-  pub with_border : (i : CertificateLine) → IsBorderLine i → (good : IsGoodLine g es i) → (after : List Counts) →
+  pub with_border : (i : CertificateLine) → IsEdgeHaloOrStopLine i → (good : IsGoodLine g es i) →
+      (after : List Counts) →
       after ≡ change_last (counted i) counts → (e' h' : List Cell)
       → ((c : Cell) → list_any (same_cell c) e' ≡ (list_any (same_cell c) e || list_any (is_starred c) (edge_in i)))
       → ((c : Cell) → list_any (same_cell c) h' ≡ (list_any (same_cell c) h || list_any (is_starred c) (halo_in i)))
-      → IsTrackedWith g (es ++ i ∷ []) covered after (last_inner (es ++ i ∷ [])) names earlier local e' h' slots
+      → IsTrackedWith g (es ++ i ∷ []) covered after (last_body_line (es ++ i ∷ [])) names earlier local e' h' slots
   with_border i border good after now e' h' stars halo_stars =
-      subst (λ l. IsTrackedWith g (es ++ i ∷ []) covered after (last_inner (es ++ i ∷ [])) names earlier l e' h' slots)
+      subst (λ l. IsTrackedWith g (es ++ i ∷ []) covered after
+      (last_body_line (es ++ i ∷ [])) names earlier l e' h' slots)
       (ap (λ w. local ++ w) (border_wires g.circuit i border) ∙ append-nil local)
       (with_inner i (border_is_inner i border) good after now e' h' stars halo_stars)
 
@@ -529,7 +533,7 @@ module _ (g : Setting) (es : List CertificateLine) (covered : Board) (counts : L
       → (slots' : List (Option LocalName)) → slots' ≡ replicate 64 None
       → IsTrackedWith g (es ++ Module b ∷ []) new_covered
       (counts ++ record { area = b; cuts = 0; gates = 0; edges = 0; halos = 0; stops = 0 } ∷ [])
-      (last_inner (es ++ Module b ∷ [])) new_names (earlier ++ local ∷ []) [] [] [] slots'
+      (last_body_line (es ++ Module b ∷ [])) new_names (earlier ++ local ∷ []) [] [] [] slots'
   unfolding add_line
   with_module new_covered new_names b good after size ports slots' none =
       subst (λ l. IsTrackedWith g (es ++ Module b ∷ []) new_covered

@@ -14,13 +14,13 @@ use Rattle.module_box.specs.Tiling.{IsInside, rectangle_of}
 use Rattle.module_box.proofs.BoxCells.{in_box_nats}
 use Rattle.bbm_rule.specs.Spans.{in_span}
 use Rattle.bbm_rule.proofs.Spans.{span_from}
-use Rattle.certificate_lines.specs.BuilderView.{AreSound, AreWires, lacks_edge}
+use Rattle.certificate_lines.specs.BuilderView.{AreSound, AreWires, lacks_edge_wire}
 use Rattle.certificate_lines.specs.Entries.{ModuleLines, Setting, change_last, counts_of, edge_in, edges, known}
 use Rattle.certificate_lines.specs.Entries.{last_of, modules_of}
 use Rattle.certificate_lines.specs.ModuleParts.{AreInBox, inner}
 use Rattle.certificate_lines.specs.Modules.{IsModule}
 use Rattle.certificate_lines.specs.Rules.{whole}
-use Rattle.certificate_lines.specs.Versions.{edge_lines_beside, is_strange, lacks_wire}
+use Rattle.certificate_lines.specs.Versions.{edge_lines_beside, is_nonlocal_signal, lacks_wire}
 use Rattle.certificate_lines.specs.declared.certificate_line.BorderLine.{BorderLine}
 use Rattle.certificate_lines.specs.declared.certificate_line.Counts.{Counts}
 use Rattle.certificate_lines.specs.declared.certificate_line.CertificateLine.{CertificateLine}
@@ -83,23 +83,25 @@ module _ (g : Setting) (ms : List ModuleLines) where
   short_beside area short = cond-false _ _ _ short
 
   pub lacked : nat_lt 1 g.size.steps ≡ true →
-      list_any (λ n. list_any (lacks_edge g.circuit (edges n)) ms) ms ≡ lacks_wire g ms
+      list_any (λ n. list_any (lacks_edge_wire g.circuit (edges n)) ms) ms ≡ lacks_wire g ms
   unfolding lacks_wire
   lacked long =
-      any_swap (λ n m. lacks_edge g.circuit (edges n) m) ms ms
-      ∙ any_same (λ m. list_any (λ n. lacks_edge g.circuit (edges n) m) ms)
-      (λ m. list_any (λ e. is_strange g.circuit (known g.circuit m) e.signal) (edge_lines_beside g ms m.area)) ms (λ m.
+      any_swap (λ n m. lacks_edge_wire g.circuit (edges n) m) ms ms
+      ∙ any_same (λ m. list_any (λ n. lacks_edge_wire g.circuit (edges n) m) ms)
+      (λ m. list_any (λ e. is_nonlocal_signal g.circuit (known g.circuit m) e.signal) (edge_lines_beside g ms m.area))
+      ms (λ m.
       any_of_flat (λ e. in_halo m.area e.cell.x e.cell.y)
-      (λ e. is_strange g.circuit (known g.circuit m) e.signal) edges ms
-      ∙ ap (list_any (λ e. is_strange g.circuit (known g.circuit m) e.signal)) (long_beside m.area long))
+      (λ e. is_nonlocal_signal g.circuit (known g.circuit m) e.signal) edges ms
+      ∙ ap (list_any (λ e. is_nonlocal_signal g.circuit (known g.circuit m) e.signal)) (long_beside m.area long))
 
   pub none_lacked : nat_lt 1 g.size.steps ≡ false → false ≡ lacks_wire g ms
   unfolding lacks_wire
   none_lacked short =
-      sym (any_same (λ m. list_any (λ e. is_strange g.circuit (known g.circuit m) e.signal)
+      sym (any_same (λ m. list_any (λ e. is_nonlocal_signal g.circuit (known g.circuit m) e.signal)
       (edge_lines_beside g ms m.area))
       (λ m. false) ms (λ m.
-      ap (list_any (λ e. is_strange g.circuit (known g.circuit m) e.signal)) (short_beside m.area short)) ∙ none_any ms)
+      ap (list_any (λ e. is_nonlocal_signal g.circuit (known g.circuit m) e.signal)) (short_beside m.area short))
+      ∙ none_any ms)
 
 -- ---- the local wires of each module
 

@@ -32,14 +32,14 @@ pub record IsPassed {A : Type 0} (test : A → Bool) (xs : List A) : Type 0 wher
   pub stands : slice_get xs place ≡ Some element
   pub passes : test element ≡ true
 
-one_later : {A : Type 0} (test : A → Bool) (x : A) (xs : List A) → IsPassed test xs → IsPassed test (x ∷ xs)
-one_later test x xs p = record { place = suc p.place; element = p.element; stands = p.stands; passes = p.passes }
+next_port_number : {A : Type 0} (test : A → Bool) (x : A) (xs : List A) → IsPassed test xs → IsPassed test (x ∷ xs)
+next_port_number test x xs p = record { place = suc p.place; element = p.element; stands = p.stands; passes = p.passes }
 
 pub passed : {A : Type 0} (test : A → Bool) (xs : List A) → list_any test xs ≡ true → IsPassed test xs
 passed test [] h = absurd cc
 passed test (x ∷ xs) h = elim (or_parts (test x) (list_any test xs) h) [
   | inl here ↦ record { place = 0; element = x; stands = refl; passes = here }
-  | inr later ↦ one_later test x xs (passed test xs later)
+  | inr later ↦ next_port_number test x xs (passed test xs later)
 ]
 
 pub any_at : {A : Type 0} (test : A → Bool) (xs : List A) (i : ℕ) (a : A) → slice_get xs i ≡ Some a → test a ≡ true →

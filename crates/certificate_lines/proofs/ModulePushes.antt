@@ -18,8 +18,8 @@ use Rattle.certificate_lines.specs.Entries.{stop_in, cuts, gates, keeps, edges, 
 use Rattle.certificate_lines.specs.Orders.{may_follow}
 use Rattle.certificate_lines.specs.Rules.{is_odd, is_local, is_star, are_new, cut_fault, cut_wire_fault, gate_fault}
 use Rattle.certificate_lines.specs.Rules.{use_fault, keep_line_code, is_starred, is_time, is_edge_place, is_halo_place}
-use Rattle.certificate_lines.specs.Rules.{is_stop_place, signal_fault, wire_fault, border_fault, border_count}
-use Rattle.certificate_lines.specs.Rules.{border_limit, edge_fault, halo_fault, stop_fault}
+use Rattle.certificate_lines.specs.Rules.{is_stop_place, signal_fault, wire_fault, border_line_code, border_count}
+use Rattle.certificate_lines.specs.Rules.{border_limit, edge_line_code, halo_line_code, stop_line_code}
 use Rattle.certificate_lines.specs.Modules.{AreUnstarred, IsEdge, IsHalo, IsKeep, IsModule, IsStop}
 use Rattle.certificate_lines.specs.BuilderView.{IsWritten}
 use Rattle.certificate_lines.specs.declared.certificate_line.BorderLine.{BorderLine}
@@ -326,8 +326,8 @@ pub record IsGoodBorder (c : Circuit) (count : ℕ) (local : List ℕ) (placed :
   pub names : signal_fault c local signal ≡ None
 
 pub good_border : (c : Circuit) (count : ℕ) (local : List ℕ) (placed : Bool) (signal : Option (List ℕ)) →
-    border_fault c count local placed signal ≡ None → IsGoodBorder c count local placed signal
-unfolding border_fault
+    border_line_code c count local placed signal ≡ None → IsGoodBorder c count local placed signal
+unfolding border_line_code
 good_border c count local placed signal e =
     let parts = both_none _ _ e in
     let rest = both_none _ _ parts.1 in
@@ -462,7 +462,8 @@ keep_pushed g m written k follows good =
     }
 
 module _ (g : Setting) (m : ModuleLines) (is : IsModule g m) (e : BorderLine) where
-  pub edge_pushed : may_follow m.lines (Edge e) ≡ true → edge_fault g m e ≡ None → IsWritten g (with_line (Edge e) m)
+  pub edge_pushed : may_follow m.lines (Edge e) ≡ true → edge_line_code g m e ≡ None →
+      IsWritten g (with_line (Edge e) m)
   edge_pushed follows good =
       let more = with_line (Edge e) m in
       let b = good_border g.circuit (border_count m) (known g.circuit m)
@@ -500,7 +501,8 @@ module _ (g : Setting) (m : ModuleLines) (is : IsModule g m) (e : BorderLine) wh
         few_borders = let f = b.few in omega (arith, n, k, q, f);
       }
 
-  pub halo_pushed : may_follow m.lines (Halo e) ≡ true → halo_fault g m e ≡ None → IsWritten g (with_line (Halo e) m)
+  pub halo_pushed : may_follow m.lines (Halo e) ≡ true → halo_line_code g m e ≡ None →
+      IsWritten g (with_line (Halo e) m)
   halo_pushed follows good =
       let more = with_line (Halo e) m in
       let b = good_border g.circuit (border_count m) (known g.circuit m)
@@ -537,7 +539,8 @@ module _ (g : Setting) (m : ModuleLines) (is : IsModule g m) (e : BorderLine) wh
       }
 
 module _ (g : Setting) (m : ModuleLines) (is : IsModule g m) (s : StopLine) where
-  pub stop_pushed : may_follow m.lines (Stop s) ≡ true → stop_fault g m s ≡ None → IsWritten g (with_line (Stop s) m)
+  pub stop_pushed : may_follow m.lines (Stop s) ≡ true → stop_line_code g m s ≡ None →
+      IsWritten g (with_line (Stop s) m)
   stop_pushed follows good =
       let more = with_line (Stop s) m in
       let b = good_border g.circuit (border_count m) (known g.circuit m) (is_stop_place g.size m.area s)

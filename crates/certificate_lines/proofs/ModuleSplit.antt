@@ -1,5 +1,5 @@
 -- The modules of lines, one after the other.
-use Rattle.std.proofs.Common.{◌≡◌, false, List, [], ◌∷◌, ◌++◌, refl, sym, ap, ◌∙◌}
+use Rattle.std.proofs.Common.{◌≡◌, Bool, true, false, List, [], ◌∷◌, ◌++◌, drop, length, refl, sym, ap, ◌∙◌}
 use Rattle.std.specs.List.{fold}
 use Rattle.std.proofs.lemmas.List.{append-nil, append_assoc}
 use Rattle.module_box.specs.declared.boxes.Box2.{Box2}
@@ -8,7 +8,7 @@ use Rattle.certificate_lines.specs.ModuleParts.{inner, is_module}
 use Rattle.certificate_lines.specs.declared.certificate_line.CertificateLine.{CertificateLine}
 use Rattle.certificate_lines.specs.declared.certificate_line.CertificateLine.TheVariants.{Module, Cut, Use, Keep, Edge}
 use Rattle.certificate_lines.specs.declared.certificate_line.CertificateLine.TheVariants.{Halo, Stop}
-use Rattle.certificate_lines.proofs.InnerLines.{inner_module, inner_other}
+use Rattle.certificate_lines.proofs.InnerLines.{inner_module, inner_other, nothing_inner}
 
 -- the modules of further lines after some
 abbrev onward : List ModuleLines → List CertificateLine → List ModuleLines
@@ -129,3 +129,15 @@ no_module (Keep k) h = refl
 no_module (Edge b) h = refl
 no_module (Halo b) h = refl
 no_module (Stop s) h = refl
+
+after_first : (b : Bool) (e : CertificateLine) (es : List CertificateLine) → is_module e ≡ b →
+    modules_of (drop (length (inner es)) es) ≡ modules_of es →
+    modules_of (drop (length (inner (e ∷ es))) (e ∷ es)) ≡ modules_of (e ∷ es)
+after_first true e es m h = ap (λ xs. modules_of (drop (length xs) (e ∷ es))) (inner_module e es m)
+after_first false e es m h =
+    ap (λ xs. modules_of (drop (length xs) (e ∷ es))) (inner_other e es m) ∙ h ∙ sym (other_first e es m)
+
+-- the modules behind the lines of a module
+pub after_inner : (es : List CertificateLine) → modules_of (drop (length (inner es)) es) ≡ modules_of es
+after_inner [] = ap (λ xs. modules_of (drop (length xs) [])) nothing_inner
+after_inner (e ∷ es) = after_first (is_module e) e es refl (after_inner es)

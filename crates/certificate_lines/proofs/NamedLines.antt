@@ -4,14 +4,14 @@ use Rattle.std.specs.Prelude.{IsTrue}
 use Rattle.std.specs.Option.{is_some}
 use Rattle.certificate_lines.specs.BuilderView.{NamesWire}
 use Rattle.certificate_lines.specs.Entries.{Setting, ModuleLines, known}
-use Rattle.certificate_lines.specs.Rules.{words_fault}
+use Rattle.certificate_lines.specs.Rules.{content_code}
 use Rattle.certificate_lines.specs.declared.certificate_line.CertificateLine.{CertificateLine}
 use Rattle.certificate_lines.specs.declared.certificate_line.CertificateLine.TheVariants.{Module, Cut, Use, Keep, Edge}
 use Rattle.certificate_lines.specs.declared.certificate_line.CertificateLine.TheVariants.{Halo, Stop}
 use Rattle.certificate_lines.proofs.ModulePushes.{good_border, new_wire, signal_good}
 
 -- the name in a line whose words are good
-pub named_words : (g : Setting) (m : ModuleLines) (i : CertificateLine) → words_fault g m i ≡ None →
+pub named_words : (g : Setting) (m : ModuleLines) (i : CertificateLine) → content_code g m i ≡ None →
     NamesWire g.circuit (known g.circuit m) i
 named_words g m (Module b) e = tt
 named_words g m (Cut n) e = subst (λ o. IsTrue (is_some o)) (sym (new_wire _ _ _ n e).1.named) refl

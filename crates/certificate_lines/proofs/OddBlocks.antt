@@ -18,10 +18,11 @@ use Rattle.module_box.specs.Tiling.{AreOwners, Owning, owner_of, rectangle, rect
 use Rattle.module_box.specs.declared.boxes.Box2.{Box2}
 use Rattle.module_box.proofs.BoxCells.{in_box_nats}
 use Rattle.module_box.proofs.RingTests.{halo_read}
-use Rattle.certificate_lines.specs.BuilderView.{is_lacked, is_strange_outside, is_wire_lacked, lacks_edge}
+use Rattle.certificate_lines.specs.BuilderView.{does_neighbour_lack_wire, is_nonlocal_outside, is_nonlocal_in_neighbour}
+use Rattle.certificate_lines.specs.BuilderView.{lacks_edge_wire}
 use Rattle.certificate_lines.specs.Entries.{ModuleLines, areas, known}
 use Rattle.certificate_lines.specs.Rules.{is_local_wire}
-use Rattle.certificate_lines.specs.Versions.{is_strange}
+use Rattle.certificate_lines.specs.Versions.{is_nonlocal_signal}
 use Rattle.certificate_lines.specs.declared.certificate_line.BorderLine.{BorderLine}
 use Rattle.certificate_lines.proofs.AnyLines.{any_filter}
 use Rattle.certificate_lines.proofs.LackedWires.{any_either, any_same, any_swap, none_any}
@@ -193,14 +194,14 @@ module _ (ms : List ModuleLines) (o : Owning) (good : AreOwners o (areas ms)) (x
 module _ (c : Circuit) (ms : List ModuleLines) where
   pub lacked_beside : (cell : Cell) (wire : Option ℕ) →
       ((k : ℕ) (m : ModuleLines) → slice_get ms k ≡ Some m → IsEven m.area) →
-      (list_any (λ (m : ModuleLines). in_box m.area (partner 1 cell.x) cell.y && is_strange_outside c cell wire m) ms
-      || list_any (λ (m : ModuleLines). in_box m.area cell.x (partner 1 cell.y) && is_strange_outside c cell wire m) ms
+      (list_any (λ (m : ModuleLines). in_box m.area (partner 1 cell.x) cell.y && is_nonlocal_outside c cell wire m) ms
+      || list_any (λ (m : ModuleLines). in_box m.area cell.x (partner 1 cell.y) && is_nonlocal_outside c cell wire m) ms
       || list_any (λ (m : ModuleLines). in_box m.area (partner 1 cell.x) (partner 1 cell.y)
-      && is_strange_outside c cell wire m) ms)
-      ≡ is_wire_lacked c ms cell wire
+      && is_nonlocal_outside c cell wire m) ms)
+      ≡ is_nonlocal_in_neighbour c ms cell wire
   lacked_beside cell wire even =
       let x = cell.x in let y = cell.y in
-      let at : ℤ → ℤ → ModuleLines → Bool = λ u v m. in_box m.area u v && is_strange_outside c cell wire m in
+      let at : ℤ → ℤ → ModuleLines → Bool = λ u v m. in_box m.area u v && is_nonlocal_outside c cell wire m in
       ap (λ b. b || list_any (at (partner 1 x) (partner 1 y)) ms)
       (sym (any_either (at (partner 1 x) y) (at x (partner 1 y)) ms))
       ∙ sym (any_either (λ m. at (partner 1 x) y m || at x (partner 1 y) m) (at (partner 1 x) (partner 1 y)) ms)
@@ -209,23 +210,25 @@ module _ (c : Circuit) (ms : List ModuleLines) where
       (λ k m here. odd_halo m.area x y (not (is_local_wire (known c m) wire)) (even k m here))
 
   -- no module lacks `1`
-  pub lacked_constant : (e : BorderLine) → e.signal ≡ None → false ≡ is_lacked c ms e
+  pub lacked_constant : (e : BorderLine) → e.signal ≡ None → false ≡ does_neighbour_lack_wire c ms e
   lacked_constant e is =
-      sym (ap (λ s. list_any (λ (m : ModuleLines). in_halo m.area e.cell.x e.cell.y && is_strange c (known c m) s) ms)
+      sym (ap (λ s. list_any (λ (m : ModuleLines).
+      in_halo m.area e.cell.x e.cell.y && is_nonlocal_signal c (known c m) s) ms)
       is ∙ any_same (λ (m : ModuleLines). in_halo m.area e.cell.x e.cell.y && false) (λ m. false) ms
       (λ m. and_false (in_halo m.area e.cell.x e.cell.y)) ∙ none_any ms)
 
   -- the same, line by line or module by module
-  pub lacked_by_lines : (es : List BorderLine) → list_any (is_lacked c ms) es ≡ list_any (lacks_edge c es) ms
+  pub lacked_by_lines : (es : List BorderLine) →
+      list_any (does_neighbour_lack_wire c ms) es ≡ list_any (lacks_edge_wire c es) ms
   lacked_by_lines es =
       any_swap (λ (e : BorderLine) (m : ModuleLines).
-      in_halo m.area e.cell.x e.cell.y && is_strange c (known c m) e.signal)
+      in_halo m.area e.cell.x e.cell.y && is_nonlocal_signal c (known c m) e.signal)
       es ms
       ∙ any_same (λ m. list_any
-      (λ (e : BorderLine). in_halo m.area e.cell.x e.cell.y && is_strange c (known c m) e.signal) es)
-      (lacks_edge c es) ms
+      (λ (e : BorderLine). in_halo m.area e.cell.x e.cell.y && is_nonlocal_signal c (known c m) e.signal) es)
+      (lacks_edge_wire c es) ms
       (λ m. sym (any_filter (λ (e : BorderLine). in_halo m.area e.cell.x e.cell.y)
-      (λ (e : BorderLine). is_strange c (known c m) e.signal) es))
+      (λ (e : BorderLine). is_nonlocal_signal c (known c m) e.signal) es))
 
 -- ---- places in the rectangle
 

@@ -19,7 +19,7 @@ use Rattle.certificate_lines.specs.Orders.{may_follow}
 use Rattle.certificate_lines.specs.Versions.{line_order}
 use Rattle.certificate_lines.specs.declared.certificate_line.BorderLine.{BorderLine}
 use Rattle.certificate_lines.specs.declared.certificate_line.StopLine.{StopLine}
-use Rattle.certificate_lines.specs.BuilderView.{IsInner, inner_of, last_inner}
+use Rattle.certificate_lines.specs.BuilderView.{IsBodyLine, body_line_of, last_body_line}
 use Rattle.certificate_lines.proofs.Growing.{last_pushed}
 use Rattle.certificate_lines.proofs.Lists.{or_parts, or_right}
 use Rattle.module_box.specs.declared.boxes.Box2.{Box2}
@@ -205,7 +205,7 @@ follows_none (x ∷ lines) i none = absurd (has_last x lines none)
 -- ---- the last line of all
 
 -- a `module` line comes before every other line
-module_first : (b : Box2) (i : CertificateLine) → IsInner i → may_precede (Module b) i ≡ true
+module_first : (b : Box2) (i : CertificateLine) → IsBodyLine i → may_precede (Module b) i ≡ true
 unfolding may_precede line_cmp rank_of number_of cell_of is_cut
 module_first b (Module b') inner = absurd inner
 module_first b (Cut n) inner = refl
@@ -215,8 +215,8 @@ module_first b (Edge e) inner = refl
 module_first b (Halo e) inner = refl
 module_first b (Stop s) inner = refl
 
-pub follows_inner : (lines : List CertificateLine) (l i : CertificateLine) → IsInner i → AreInOrder lines →
-    last_of lines ≡ inner_of (Some l) → may_precede l i ≡ may_follow lines i
+pub follows_inner : (lines : List CertificateLine) (l i : CertificateLine) → IsBodyLine i → AreInOrder lines →
+    last_of lines ≡ body_line_of (Some l) → may_precede l i ≡ may_follow lines i
 follows_inner lines (Module b) i inner order last = module_first b i inner ∙ follows_none lines i last
 follows_inner lines (Cut n) i inner order last = follows_last lines (Cut n) i order last
 follows_inner lines (Use k) i inner order last = follows_last lines (Use k) i order last
@@ -226,11 +226,11 @@ follows_inner lines (Halo e) i inner order last = follows_last lines (Halo e) i 
 follows_inner lines (Stop s) i inner order last = follows_last lines (Stop s) i order last
 
 -- the last line after one more line
-pub inner_pushed : (entries : List CertificateLine) (i : CertificateLine) → IsInner i →
-    last_inner (entries ++ i ∷ []) ≡ Some i
-inner_pushed entries i inner = ap inner_of (last_pushed entries i) ∙ inner_is i inner
+pub inner_pushed : (entries : List CertificateLine) (i : CertificateLine) → IsBodyLine i →
+    last_body_line (entries ++ i ∷ []) ≡ Some i
+inner_pushed entries i inner = ap body_line_of (last_pushed entries i) ∙ inner_is i inner
   where
-    inner_is : (i : CertificateLine) → IsInner i → inner_of (Some i) ≡ Some i
+    inner_is : (i : CertificateLine) → IsBodyLine i → body_line_of (Some i) ≡ Some i
     inner_is (Module b) inner = absurd inner
     inner_is (Cut n) inner = refl
     inner_is (Use k) inner = refl
@@ -239,5 +239,5 @@ inner_pushed entries i inner = ap inner_of (last_pushed entries i) ∙ inner_is 
     inner_is (Halo e) inner = refl
     inner_is (Stop s) inner = refl
 
-pub module_pushed : (entries : List CertificateLine) (b : Box2) → last_inner (entries ++ Module b ∷ []) ≡ None
-module_pushed entries b = ap inner_of (last_pushed entries (Module b))
+pub module_pushed : (entries : List CertificateLine) (b : Box2) → last_body_line (entries ++ Module b ∷ []) ≡ None
+module_pushed entries b = ap body_line_of (last_pushed entries (Module b))

@@ -23,8 +23,9 @@ use Rattle.pattern.specs.declared.layout_line.LayoutHeader.{LayoutHeader}
 use Rattle.pattern.specs.declared.layout_line.Port.{Port}
 use Rattle.module_box.specs.Boxes.{in_box}
 use Rattle.module_box.specs.declared.boxes.Box2.{Box2}
-use Rattle.certificate_lines.specs.PortTables.{port_at, AreInBox, AreNumberedRows, AreOnBoard, entry_of, entry_place}
-use Rattle.certificate_lines.specs.PortTables.{number_at, one_later}
+use Rattle.certificate_lines.specs.PortTables.{port_at, AreInBox, AreNumberedRows, AreOnBoard, entry_or_zero}
+use Rattle.certificate_lines.specs.PortTables.{entry_place}
+use Rattle.certificate_lines.specs.PortTables.{number_at, next_port_number}
 use Rattle.certificate_lines.specs.Rules.{box_cells, whole}
 use Rattle.certificate_lines.proofs.RowLemmas.{all_zero, entry_few, entry_own, filled, filled_less, filled_more}
 use Rattle.certificate_lines.proofs.RowLemmas.{filled_none}
@@ -131,7 +132,7 @@ ports_pushed p q apart apart' b old mid new f first second =
 
 -- ---- the number of the port at a cell
 
-no_number : (b : Bool) (n : ℕ) → (if b then 1 else one_later n) ≡ 0 → (b ≡ false) × (n ≡ 0)
+no_number : (b : Bool) (n : ℕ) → (if b then 1 else next_port_number n) ≡ 0 → (b ≡ false) × (n ≡ 0)
 no_number true n e = absurd cc
 no_number false zero e = (refl, refl)
 no_number false (suc n) e = absurd cc
@@ -151,7 +152,7 @@ pub record IsNumbered (ports : List Port) (k : ℕ) (x y : ℤ) : Type 0 where
 
 numbered_by : (b : Bool) (n k : ℕ) (p : Port) (ports : List Port) (x y : ℤ) → is_at p.cell x y ≡ b →
     ((j : ℕ) → n ≡ suc j → IsNumbered ports j x y)
-    → (if b then 1 else one_later n) ≡ suc k → IsNumbered (p ∷ ports) k x y
+    → (if b then 1 else next_port_number n) ≡ suc k → IsNumbered (p ∷ ports) k x y
 unfolding port_at
 numbered_by true n zero p ports x y here more e = record { within = omega arith; named = λ d. rw here refl }
 numbered_by true n (suc k) p ports x y here more e = absurd (omega arith)
@@ -233,18 +234,18 @@ pub entry_is : (numbers : List ℕ) (place n : ℕ) → n ≡ get_or numbers pla
 entry_is numbers place n is lt = is ∙ get_or_default numbers place n 0 lt
 
 pub placed : (numbers : List ℕ) (o : Option ℕ) (place : ℕ) → o ≡ Some place →
-    entry_of numbers o ≡ get_or numbers place 0
-unfolding entry_of
-placed numbers o place e = ap (entry_of numbers) e
+    entry_or_zero numbers o ≡ get_or numbers place 0
+unfolding entry_or_zero
+placed numbers o place e = ap (entry_or_zero numbers) e
 
-pub unplaced : (numbers : List ℕ) (o : Option ℕ) → o ≡ None → entry_of numbers o ≡ 0
-unfolding entry_of
-unplaced numbers o e = ap (entry_of numbers) e
+pub unplaced : (numbers : List ℕ) (o : Option ℕ) → o ≡ None → entry_or_zero numbers o ≡ 0
+unfolding entry_or_zero
+unplaced numbers o e = ap (entry_or_zero numbers) e
 
 -- an entry at another place
 kept_entry : (numbers : List ℕ) (place v : ℕ) (o : Option ℕ) → (o ≡ Some place → ⊥) →
-    entry_of (set numbers place v) o ≡ entry_of numbers o
-unfolding entry_of
+    entry_or_zero (set numbers place v) o ≡ entry_or_zero numbers o
+unfolding entry_or_zero
 kept_entry numbers place v None other = refl
 kept_entry numbers place v (Some j) other =
     get_or-set_other numbers place j v 0 (λ same. other (ap (λ (i : ℕ). Some i) same))
@@ -254,11 +255,11 @@ kept_entry numbers place v (Some j) other =
 pub record IsFilling (b : Box2) (ports : List Port) (rows : List ℕ) (count k : ℕ) (numbers : List ℕ) : Type 0 where
   pub sized : length numbers ≡ count * b.w
   pub numbered : (x y : ℤ) → in_box b x y ≡ true →
-      entry_of numbers (entry_place b rows x y) ≡ number_at (take k ports) x y
+      entry_or_zero numbers (entry_place b rows x y) ≡ number_at (take k ports) x y
   pub counted : filled numbers ≡ k
 
-no_entry : (n : ℕ) (o : Option ℕ) → entry_of (replicate n zero) o ≡ 0
-unfolding entry_of
+no_entry : (n : ℕ) (o : Option ℕ) → entry_or_zero (replicate n zero) o ≡ 0
+unfolding entry_or_zero
 no_entry n None = refl
 no_entry n (Some place) = all_zero n place
 
@@ -326,11 +327,11 @@ module _ (b : Box2) (ports : List Port) (apart : HaveOwnCells ports) (inside : A
   so_many = length-take-le k ports (omega (arith, within))
 
   numbered_after : (c : Cell) → in_box b c.x c.y ≡ true → (on : Bool) → is_at p.cell c.x c.y ≡ on
-      → entry_of (set numbers place (k + 1)) (entry_place b rows c.x c.y)
+      → entry_or_zero (set numbers place (k + 1)) (entry_place b rows c.x c.y)
       ≡ number_at (take k ports ++ p ∷ []) c.x c.y
   numbered_after c h true on =
       let same : p.cell ≡ c = cell_same p.cell c on in
-      subst (λ (d : Cell). entry_of (set numbers place (k + 1)) (entry_place b rows d.x d.y)
+      subst (λ (d : Cell). entry_or_zero (set numbers place (k + 1)) (entry_place b rows d.x d.y)
       ≡ number_at (take k ports ++ p ∷ []) d.x d.y) same
       (placed (set numbers place (k + 1)) (entry_place b rows p.cell.x p.cell.y) place there
       ∙ get_or-set_same numbers place (k + 1) 0 entry_there

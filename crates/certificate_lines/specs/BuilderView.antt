@@ -15,8 +15,8 @@ use Rattle.module_box.specs.declared.boxes.Box2.{Box2}
 use Rattle.certificate_lines.specs.Entries.{Setting, ModuleLines, modules_of, last_of, areas, counts_of, known, edges}
 use Rattle.certificate_lines.specs.Entries.{halos}
 use Rattle.certificate_lines.specs.Rules.{in_boxes, is_local, is_local_wire, is_star, is_starred, same_cell, lacks_port}
-use Rattle.certificate_lines.specs.Modules.{HasFewLines, IsModule}
-use Rattle.certificate_lines.specs.Versions.{is_strange}
+use Rattle.certificate_lines.specs.Modules.{IsWithinLineLimit, IsModule}
+use Rattle.certificate_lines.specs.Versions.{is_nonlocal_signal}
 use Rattle.certificate_lines.specs.declared.certificate_line.BorderLine.{BorderLine}
 use Rattle.certificate_lines.specs.declared.certificate_line.Counts.{Counts}
 use Rattle.certificate_lines.specs.declared.certificate_line.CertificateLine.{CertificateLine}
@@ -53,7 +53,7 @@ pub record AreApart (boxes : List Box2) : Type 0 where
 -- a good module within the limit on its edge, halo and stop lines
 pub record IsWritten (g : Setting) (m : ModuleLines) : Type 0 where
   pub good : IsModule g m
-  pub few_borders : HasFewLines m
+  pub few_borders : IsWithinLineLimit m
 
 -- the modules so far are good
 pub record AreSound (g : Setting) (ms : List ModuleLines) : Type 0 where
@@ -80,22 +80,23 @@ pub record IsTracked (g : Setting) (es : List CertificateLine) (covered : Board)
   pub last_module : (m : ModuleLines) → last_of (modules_of es) ≡ Some m → IsLastModule g m last names local e h
 
 -- one of these edge lines is for a cell in the halo of the module, and names a wire that is not local there
-abbrev pub lacks_edge : Circuit → List BorderLine → ModuleLines → Bool
-lacks_edge c es m = list_any (λ e. is_strange c (known c m) e.signal)
+abbrev pub lacks_edge_wire : Circuit → List BorderLine → ModuleLines → Bool
+lacks_edge_wire c es m = list_any (λ e. is_nonlocal_signal c (known c m) e.signal)
     (filter (λ e. in_halo m.area e.cell.x e.cell.y) es)
 
 -- the cell is outside the module, and there is no such wire or it is not local there
-abbrev pub is_strange_outside : Circuit → Cell → Option ℕ → ModuleLines → Bool
-is_strange_outside c cell wire m = not (in_box m.area cell.x cell.y) && not (is_local_wire (known c m) wire)
+abbrev pub is_nonlocal_outside : Circuit → Cell → Option ℕ → ModuleLines → Bool
+is_nonlocal_outside c cell wire m = not (in_box m.area cell.x cell.y) && not (is_local_wire (known c m) wire)
 
 -- some module has the cell in its halo, and there is no such wire or it is not local there
-abbrev pub is_wire_lacked : Circuit → List ModuleLines → Cell → Option ℕ → Bool
-is_wire_lacked c ms cell wire =
+abbrev pub is_nonlocal_in_neighbour : Circuit → List ModuleLines → Cell → Option ℕ → Bool
+is_nonlocal_in_neighbour c ms cell wire =
     list_any (λ m. in_halo m.area cell.x cell.y && not (is_local_wire (known c m) wire)) ms
 
 -- some module has the cell of an edge line in its halo, and its wire is not local there
-abbrev pub is_lacked : Circuit → List ModuleLines → BorderLine → Bool
-is_lacked c ms e = list_any (λ m. in_halo m.area e.cell.x e.cell.y && is_strange c (known c m) e.signal) ms
+abbrev pub does_neighbour_lack_wire : Circuit → List ModuleLines → BorderLine → Bool
+does_neighbour_lack_wire c ms e =
+    list_any (λ m. in_halo m.area e.cell.x e.cell.y && is_nonlocal_signal c (known c m) e.signal) ms
 
 -- the table is of the whole rectangle, its numbers are those of the modules that have the cells, and the boxes are even
 pub record AreModuleOwners (b : BuilderView) (o : Owning) : Type 0 where
@@ -123,23 +124,23 @@ pub record IsTrackedWith (g : Setting) (es : List CertificateLine) (covered : Bo
   pub local_names : AreLocalNames g.circuit local slots
 
 -- the line, if it is no `module` line
-abbrev pub inner_of : Option CertificateLine → Option CertificateLine
-inner_of None = None
-inner_of (Some (Module b)) = None
-inner_of (Some (Cut n)) = Some (Cut n)
-inner_of (Some (Use k)) = Some (Use k)
-inner_of (Some (Keep k)) = Some (Keep k)
-inner_of (Some (Edge e)) = Some (Edge e)
-inner_of (Some (Halo e)) = Some (Halo e)
-inner_of (Some (Stop s)) = Some (Stop s)
+abbrev pub body_line_of : Option CertificateLine → Option CertificateLine
+body_line_of None = None
+body_line_of (Some (Module b)) = None
+body_line_of (Some (Cut n)) = Some (Cut n)
+body_line_of (Some (Use k)) = Some (Use k)
+body_line_of (Some (Keep k)) = Some (Keep k)
+body_line_of (Some (Edge e)) = Some (Edge e)
+body_line_of (Some (Halo e)) = Some (Halo e)
+body_line_of (Some (Stop s)) = Some (Stop s)
 
 -- the last line of the last module, if it has one, by all lines
-abbrev pub last_inner : List CertificateLine → Option CertificateLine
-last_inner entries = inner_of (last_of entries)
+abbrev pub last_body_line : List CertificateLine → Option CertificateLine
+last_body_line entries = body_line_of (last_of entries)
 
 -- the fields of every builder: its tables are those of its lines
 abbrev pub IsBuilder : Inside → Type 0
-IsBuilder a = IsTrackedWith a.tables a.entries.items a.covered a.modules.items (last_inner a.entries.items)
+IsBuilder a = IsTrackedWith a.tables a.entries.items a.covered a.modules.items (last_body_line a.entries.items)
     a.names.items
     (map (λ s. s.wires) a.earlier.items) a.known.wires a.edges.keys a.halos.keys a.local_names.slots
 
@@ -180,16 +181,16 @@ IsCutWire c (Cut n) cut = (option_map (λ w. w.wire) cut ≡ wire_of c n)
 IsCutWire c _ cut = Unit {0}
 
 -- the line is no `module` line
-abbrev pub IsInner : CertificateLine → Type 0
-IsInner (Module b) = ⊥
-IsInner _ = Unit {0}
+abbrev pub IsBodyLine : CertificateLine → Type 0
+IsBodyLine (Module b) = ⊥
+IsBodyLine _ = Unit {0}
 
 -- the line is an edge, halo or stop line
-abbrev pub IsBorderLine : CertificateLine → Type 0
-IsBorderLine (Edge e) = Unit {0}
-IsBorderLine (Halo e) = Unit {0}
-IsBorderLine (Stop s) = Unit {0}
-IsBorderLine _ = ⊥
+abbrev pub IsEdgeHaloOrStopLine : CertificateLine → Type 0
+IsEdgeHaloOrStopLine (Edge e) = Unit {0}
+IsEdgeHaloOrStopLine (Halo e) = Unit {0}
+IsEdgeHaloOrStopLine (Stop s) = Unit {0}
+IsEdgeHaloOrStopLine _ = ⊥
 
 -- ---- what a line of a module makes local
 
@@ -199,7 +200,7 @@ outs_at None = []
 outs_at (Some gate) = gate.outs
 
 -- the wire that is cut, or what the gate that is used defines
-abbrev pub wires_in : Circuit → CertificateLine → List ℕ
-wires_in c (Cut n) = option_to_list (wire_of c n)
-wires_in c (Use k) = outs_at (slice_get c.netlist.gates k)
-wires_in c _ = []
+abbrev pub wires_made_local : Circuit → CertificateLine → List ℕ
+wires_made_local c (Cut n) = option_to_list (wire_of c n)
+wires_made_local c (Use k) = outs_at (slice_get c.netlist.gates k)
+wires_made_local c _ = []

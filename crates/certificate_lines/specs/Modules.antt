@@ -80,5 +80,5 @@ pub record AreModules (g : Setting) (ms : List ModuleLines) : Type 0 where
   pub tile : Tile (whole g.size) (areas ms)
 
 -- a module has at most 65,536 edge, halo and stop lines of its own
-abbrev pub HasFewLines : ModuleLines → Type 0
-HasFewLines m = border_count m ≤ border_limit
+abbrev pub IsWithinLineLimit : ModuleLines → Type 0
+IsWithinLineLimit m = border_count m ≤ border_limit

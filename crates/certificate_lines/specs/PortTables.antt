@@ -20,14 +20,14 @@ abbrev pub AreOnBoard : LayoutHeader → List Port → Type 0
 AreOnBoard s ports = (i : ℕ) (p : Port) → slice_get ports i ≡ Some p → in_layout s p.cell.x p.cell.y ≡ true
 
 -- the number of a port in a list with one port more in front, and 0 for no port
-abbrev pub one_later : ℕ → ℕ
-one_later zero = zero
-one_later (suc n) = suc (suc n)
+abbrev pub next_port_number : ℕ → ℕ
+next_port_number zero = zero
+next_port_number (suc n) = suc (suc n)
 
 -- the number of the first port at the cell (x, y), counted from 1, or 0 if there is none
 unfoldable pub number_at : List Port → ℤ → ℤ → ℕ
 number_at [] x y = 0
-number_at (p ∷ ports) x y = if is_at p.cell x y then 1 else one_later (number_at ports x y)
+number_at (p ∷ ports) x y = if is_at p.cell x y then 1 else next_port_number (number_at ports x y)
 
 -- the ports are inside the box
 abbrev pub AreInBox : Box2 → List Port → Type 0
@@ -35,18 +35,18 @@ AreInBox b ports = (i : ℕ) (p : Port) → slice_get ports i ≡ Some p → in_
 
 -- the place of a column's entry among the entries of the numbered rows, which have `width` entries each; a row of the
 -- number 0 has no entries
-unfoldable pub place_after : ℕ → ℕ → ℕ → Option ℕ
-place_after width zero column = None
-place_after width (suc row) column = Some (row * width + column)
+unfoldable pub entry_place_in_rows : ℕ → ℕ → ℕ → Option ℕ
+entry_place_in_rows width zero column = None
+entry_place_in_rows width (suc row) column = Some (row * width + column)
 
 -- the place of the entry of the cell (x, y), from the numbers of the box's rows
 abbrev pub entry_place : Box2 → List ℕ → ℤ → ℤ → Option ℕ
-entry_place b rows x y = place_after b.w (get_or rows (unsigned_abs y - b.y) 0) (unsigned_abs x - b.x)
+entry_place b rows x y = entry_place_in_rows b.w (get_or rows (unsigned_abs y - b.y) 0) (unsigned_abs x - b.x)
 
 -- the entry at a place, and 0 for no place
-unfoldable pub entry_of : List ℕ → Option ℕ → ℕ
-entry_of numbers None = 0
-entry_of numbers (Some place) = get_or numbers place 0
+unfoldable pub entry_or_zero : List ℕ → Option ℕ → ℕ
+entry_or_zero numbers None = 0
+entry_or_zero numbers (Some place) = get_or numbers place 0
 
 -- each row of the box with a port has a number from 1 to `count` that no other row has
 pub record AreNumberedRows (b : Box2) (ports : List Port) (rows : List ℕ) (count : ℕ) : Type 0 where
@@ -68,5 +68,5 @@ pub record IsPortTable (a : Inside) : Type 0 where
   pub within : (x y : ℤ) (place : ℕ) → in_box a.area x y ≡ true → entry_place a.area a.rows.items x y ≡ Some place →
       place < length a.numbers.items
   pub numbered : (x y : ℤ) → in_box a.area x y ≡ true →
-      entry_of a.numbers.items (entry_place a.area a.rows.items x y) ≡ number_at a.ports.now x y
+      entry_or_zero a.numbers.items (entry_place a.area a.rows.items x y) ≡ number_at a.ports.now x y
   pub elsewhere : (x y : ℤ) → in_box a.area x y ≡ false → port_at a.ports.now x y ≡ None

@@ -183,8 +183,8 @@ abbrev pub border_limit : ℕ
 border_limit = 65536
 
 -- the code of such a line after `count` of these lines; `placed` says whether it may have its cell and time
-unfoldable pub border_fault : Circuit → ℕ → List ℕ → Bool → Option (List ℕ) → Option RefusalCode
-border_fault c count local placed signal =
+unfoldable pub border_line_code : Circuit → ℕ → List ℕ → Bool → Option (List ℕ) → Option RefusalCode
+border_line_code c count local placed signal =
     or_else (code_where (nat_le border_limit count) PastLimit)
     (or_else (code_where (not placed) NoPlace) (signal_fault c local signal))
 
@@ -195,48 +195,48 @@ abbrev pub border_count : ModuleLines → ℕ
 border_count m = length (edges m) + length (halos m) + length (stops m)
 
 -- the code of an edge line of a module
-abbrev pub edge_fault : Setting → ModuleLines → BorderLine → Option RefusalCode
-edge_fault g m e = border_fault g.circuit (border_count m) (known g.circuit m)
+abbrev pub edge_line_code : Setting → ModuleLines → BorderLine → Option RefusalCode
+edge_line_code g m e = border_line_code g.circuit (border_count m) (known g.circuit m)
     (is_edge_place g.size m.area (list_any (is_starred e.cell) (edges m)) e) e.signal
 
 -- the code of a halo line of a module
-abbrev pub halo_fault : Setting → ModuleLines → BorderLine → Option RefusalCode
-halo_fault g m e = border_fault g.circuit (border_count m) (known g.circuit m)
+abbrev pub halo_line_code : Setting → ModuleLines → BorderLine → Option RefusalCode
+halo_line_code g m e = border_line_code g.circuit (border_count m) (known g.circuit m)
     (is_halo_place g.size m.area (list_any (is_starred e.cell) (halos m)) e) e.signal
 
 -- the code of a stop line of a module
-abbrev pub stop_fault : Setting → ModuleLines → StopLine → Option RefusalCode
-stop_fault g m s = border_fault g.circuit (border_count m) (known g.circuit m) (is_stop_place g.size m.area s)
+abbrev pub stop_line_code : Setting → ModuleLines → StopLine → Option RefusalCode
+stop_line_code g m s = border_line_code g.circuit (border_count m) (known g.circuit m) (is_stop_place g.size m.area s)
     (Some s.wire)
 
 -- the code of a line of a module, but for its order
-abbrev pub words_fault : Setting → ModuleLines → CertificateLine → Option RefusalCode
-words_fault g m (Module b) = None
-words_fault g m (Cut n) = cut_fault g.circuit (length (cuts m)) (known g.circuit m) n
-words_fault g m (Use k) = use_fault g.circuit (length (gates m)) (known g.circuit m) k
-words_fault g m (Keep k) = keep_line_code g.circuit (gates m) k
-words_fault g m (Edge e) = edge_fault g m e
-words_fault g m (Halo e) = halo_fault g m e
-words_fault g m (Stop s) = stop_fault g m s
+abbrev pub content_code : Setting → ModuleLines → CertificateLine → Option RefusalCode
+content_code g m (Module b) = None
+content_code g m (Cut n) = cut_fault g.circuit (length (cuts m)) (known g.circuit m) n
+content_code g m (Use k) = use_fault g.circuit (length (gates m)) (known g.circuit m) k
+content_code g m (Keep k) = keep_line_code g.circuit (gates m) k
+content_code g m (Edge e) = edge_line_code g m e
+content_code g m (Halo e) = halo_line_code g m e
+content_code g m (Stop s) = stop_line_code g m s
 
 -- a line of a module after those before it: its order first, 6
 abbrev pub line_fault : Setting → ModuleLines → CertificateLine → Option RefusalCode
-line_fault g m i = or_else (code_where (not (may_follow m.lines i)) OutOfOrder) (words_fault g m i)
+line_fault g m i = or_else (code_where (not (may_follow m.lines i)) OutOfOrder) (content_code g m i)
 
 -- a line that is no `module` line belongs to a module
-abbrev pub inner_fault : Setting → Option ModuleLines → CertificateLine → Option RefusalCode
-inner_fault g None i = Some OutOfOrder
-inner_fault g (Some m) i = line_fault g m i
+abbrev pub body_line_code : Setting → Option ModuleLines → CertificateLine → Option RefusalCode
+body_line_code g None i = Some OutOfOrder
+body_line_code g (Some m) i = line_fault g m i
 
 -- the code of the first test that a line fails
 unfoldable pub entry_fault : Setting → List CertificateLine → CertificateLine → Option RefusalCode
 entry_fault g before (Module b) = module_fault g (modules_of before) (last_module before) b
-entry_fault g before (Cut n) = inner_fault g (last_module before) (Cut n)
-entry_fault g before (Use k) = inner_fault g (last_module before) (Use k)
-entry_fault g before (Keep k) = inner_fault g (last_module before) (Keep k)
-entry_fault g before (Edge e) = inner_fault g (last_module before) (Edge e)
-entry_fault g before (Halo e) = inner_fault g (last_module before) (Halo e)
-entry_fault g before (Stop s) = inner_fault g (last_module before) (Stop s)
+entry_fault g before (Cut n) = body_line_code g (last_module before) (Cut n)
+entry_fault g before (Use k) = body_line_code g (last_module before) (Use k)
+entry_fault g before (Keep k) = body_line_code g (last_module before) (Keep k)
+entry_fault g before (Edge e) = body_line_code g (last_module before) (Edge e)
+entry_fault g before (Halo e) = body_line_code g (last_module before) (Halo e)
+entry_fault g before (Stop s) = body_line_code g (last_module before) (Stop s)
 
 -- ---- the end
 

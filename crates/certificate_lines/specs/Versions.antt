@@ -51,40 +51,41 @@ unfoldable pub without_halos : List CertificateLine → List CertificateLine
 without_halos lines = filter (λ i. not (is_halo i)) lines
 
 -- a module without them
-unfoldable pub stripped : ModuleLines → ModuleLines
-stripped m = record m { lines = without_halos m.lines }
+unfoldable pub haloless_module : ModuleLines → ModuleLines
+haloless_module m = record m { lines = without_halos m.lines }
 
 -- whether a line is before the halo lines of its module
-unfoldable pub is_early : CertificateLine → Bool
-is_early (Halo e) = false
-is_early (Stop s) = false
-is_early _ = true
+unfoldable pub precedes_halos : CertificateLine → Bool
+precedes_halos (Halo e) = false
+precedes_halos (Stop s) = false
+precedes_halos _ = true
 
 -- a module of version 2 as one of version 1, if these are all modules; its stops come after the halo lines
 unfoldable pub with_halos : Setting → List ModuleLines → ModuleLines → ModuleLines
 with_halos g ms m =
     record m
-    { lines = filter is_early m.lines ++ map Halo (in_order (edge_lines_beside g ms m.area)) ++ map Stop (stops m) }
+    { lines = filter precedes_halos m.lines ++ map Halo (in_order (edge_lines_beside g ms m.area))
+    ++ map Stop (stops m) }
 
 -- the version whose certificates have no halo lines
 abbrev pub is_haloless : ℕ → Bool
 is_haloless version = version == 2
 
 -- the modules of a certificate of this version whose lines make these
-unfoldable pub meant : ℕ → Setting → List ModuleLines → List ModuleLines
-meant version g ms = if is_haloless version then map (with_halos g ms) ms else ms
+unfoldable pub modules_by_version : ℕ → Setting → List ModuleLines → List ModuleLines
+modules_by_version version g ms = if is_haloless version then map (with_halos g ms) ms else ms
 
 -- ---- the wires of such lines
 
 -- a signal is neither `1` nor a wire that is local
-abbrev pub is_strange : Circuit → List ℕ → Option (List ℕ) → Bool
-is_strange c local None = false
-is_strange c local (Some name) = not (is_local c local name)
+abbrev pub is_nonlocal_signal : Circuit → List ℕ → Option (List ℕ) → Bool
+is_nonlocal_signal c local None = false
+is_nonlocal_signal c local (Some name) = not (is_local c local name)
 
 -- an edge line for a cell in the halo of another module names a wire that is not local there
 unfoldable pub lacks_wire : Setting → List ModuleLines → Bool
 lacks_wire g ms = list_any (λ m.
-    list_any (λ e. is_strange g.circuit (known g.circuit m) e.signal) (edge_lines_beside g ms m.area))
+    list_any (λ e. is_nonlocal_signal g.circuit (known g.circuit m) e.signal) (edge_lines_beside g ms m.area))
     ms
 
 -- ---- good lines

@@ -1,22 +1,21 @@
 //! A certificate that is read, line by line.
-ghost use Rattle.std.specs.Prelude.{◌≡◌, ◌+◌, ◌≤◌, ◌<◌, ◌++◌, ◌∷◌, [], not, map, ◌&&◌, Bool, None, Some, List, ℕ, length, IsTrue, OnOk, IfOk, IfErr, IfSome};
-ghost use Rattle.std.specs.Option.{option_map};
-ghost use Rattle.section_text.specs.Adding.{FaultIs};
+ghost use Rattle.std.specs.Prelude.{◌≡◌, ◌+◌, ◌≤◌, ◌<◌, ◌++◌, ◌∷◌, [], not, map, ◌&&◌, Bool, None, Some, List, ℕ, length, OnOk, IfOk, IfErr};
+ghost use Rattle.section_text.specs.Adding.{HasRefusalCode};
 ghost use Rattle.std.specs.List.{list_any};
-ghost use Rattle.certificate_lines.specs.Entries.{ModuleLines, counts_of, known, modules_of, last_module, name_in};
-ghost use Rattle.certificate_lines.specs.Rules.{border_fault, entry_fault, end_fault, box_fault, module_fault, inner_fault, words_fault, is_incomplete, is_local};
+ghost use Rattle.certificate_lines.specs.Entries.{ModuleLines, counts_of, known, modules_of, last_module};
+ghost use Rattle.certificate_lines.specs.Rules.{border_line_code, entry_fault, end_fault, box_fault, module_fault, body_line_code, content_code, is_incomplete};
 ghost use Rattle.module_box.specs.Boxes.{in_box};
-ghost use Rattle.certificate_lines.specs.BuilderView.{BuilderView, IsBorderLine, IsCutWire, IsInner, AreSmallCounts, NamesWire};
+ghost use Rattle.certificate_lines.specs.BuilderView.{BuilderView, IsEdgeHaloOrStopLine, IsCutWire, IsBodyLine, AreSmallCounts};
 ghost use Rattle.certificate_lines.specs.declared.certificate_line.CertificateLine.TheVariants.{Module};
 
 use crate::certificate_line::{CertificateLine, Counts};
 use crate::counts::{count_in_last, last_counts, pop_module, push_entry, push_module};
-use crate::known::{learn_line, make_room_for_wires, put_away};
+use crate::known::{learn_line, make_room_for_wires, move_wires_to_earlier};
 use crate::line_tables::LineTables;
-use crate::local_names::{CutWire, LocalNames, cut_wire};
+use crate::local_names::{CutWire, LocalNames, circuit_name, cut_wire};
 use crate::order::may_follow;
 use crate::rules::{
-    border_code, cut_code, is_bad_place, is_bad_side, is_local_name, keep_code, may_be_edge,
+    border_code, cut_code, has_nonlocal_name, is_bad_place, is_bad_side, keep_code, may_be_edge,
     may_be_halo, may_be_stop, stop_code, use_code,
 };
 use crate::stars::{has_star, make_room_for_stars, note_stars};
@@ -68,56 +67,6 @@ impl<'a> Model for Builder<'a> {
     ghost invariant = { IsBuilder };
 }
 
-// Whether some of the names is not that of a local wire.
-fn lacks_some(tables: &LineTables, known: &WireList, names: &[Name]) -> bool
-    ensures { result
-        ≡ list_any (λ n. not (is_local tables.now.circuit known.now.wires n)) names.now }
-{
-    names.iter().any(|name| !is_local_name(tables, known, name))
-}
-
-// The name in a line as the circuit has it, if the line has one.
-#[inline(always)]
-fn own_name<'a>(
-    tables: &LineTables<'a>,
-    known: &WireList,
-    names: &LocalNames<'a>,
-    line: &CertificateLine,
-    cut: Option<CutWire<'a>>,
-) -> Option<&'a Name>
-    requires wire { NamesWire tables.now.circuit known.now.wires line.now }
-    requires cut { IsCutWire tables.now.circuit line.now cut }
-    ensures { option_map (λ n. n.now) result ≡ name_in line.now }
-{
-    match line {
-        CertificateLine::Cut(_) => match cut {
-            Some(cut) => Some(cut.name),
-            None => unreachable!(),
-        },
-        CertificateLine::Edge(border) => own_signal(tables, known, names, &border.signal),
-        CertificateLine::Halo(border) => own_signal(tables, known, names, &border.signal),
-        CertificateLine::Stop(stop) => Some(names.own_name(tables, &stop.wire)),
-        _ => None,
-    }
-}
-
-// The name of a signal as the circuit has it, if the signal is a wire.
-#[inline(always)]
-fn own_signal<'a>(
-    tables: &LineTables<'a>,
-    known: &WireList,
-    names: &LocalNames<'a>,
-    signal: &Option<Name>,
-) -> Option<&'a Name>
-    requires { IfSome signal.now (λ n. IsTrue (is_local tables.now.circuit known.now.wires n)) }
-    ensures { option_map (λ n. n.now) result ≡ signal.now }
-{
-    match signal {
-        Some(name) => Some(names.own_name(tables, name)),
-        None => None,
-    }
-}
-
 impl<'a> Builder<'a> {
     /// Creates a builder without lines.
     pub fn new(alloc: Global, tables: LineTables<'a>) -> Result<Builder<'a>, AllocError>
@@ -143,7 +92,7 @@ impl<'a> Builder<'a> {
     fn lacks_port(&self) -> bool
         ensures { result ≡ is_incomplete self.now.setting (last_module self.now.entries) }
     {
-        lacks_some(&self.tables, &self.known, &self.names)
+        has_nonlocal_name(&self.tables, &self.known, &self.names)
     }
 
     // The code of an edge or halo line, by `border_code` with the names of the last module's wires.
@@ -155,7 +104,7 @@ impl<'a> Builder<'a> {
         signal: &Option<Name>,
     ) -> Option<RefusalCode>
         ensures code { (m : ModuleLines) → last_module self.old.entries ≡ Some m →
-            result ≡ border_fault self.old.setting.circuit count
+            result ≡ border_line_code self.old.setting.circuit count
             (known self.old.setting.circuit m) placed signal.now }
         ensures same_lines { self.new ≡ self.old }
     {
@@ -167,7 +116,7 @@ impl<'a> Builder<'a> {
     #[inline(always)]
     fn stop_code(&mut self, count: usize, placed: bool, wire: &Name) -> Option<RefusalCode>
         ensures code { (m : ModuleLines) → last_module self.old.entries ≡ Some m →
-            result ≡ border_fault self.old.setting.circuit count
+            result ≡ border_line_code self.old.setting.circuit count
             (known self.old.setting.circuit m) placed (Some wire.now) }
         ensures same_lines { self.new ≡ self.old }
     {
@@ -177,7 +126,7 @@ impl<'a> Builder<'a> {
 
     // The code of the tests that come after that of the order, where these are the counts of the last module.
     #[inline(always)]
-    fn words_code(
+    fn content_code(
         &mut self,
         counts: Counts,
         entry: &CertificateLine,
@@ -186,7 +135,7 @@ impl<'a> Builder<'a> {
         requires counts { AreSmallCounts counts }
         requires cut { IsCutWire self.old.setting.circuit entry.now cut }
         ensures code { (m : ModuleLines) → last_module self.old.entries ≡ Some m →
-            counts ≡ counts_of m → result ≡ words_fault self.old.setting m entry.now }
+            counts ≡ counts_of m → result ≡ content_code self.old.setting m entry.now }
         ensures same_lines { self.new ≡ self.old }
     {
         let size = self.tables.size();
@@ -226,15 +175,15 @@ impl<'a> Builder<'a> {
 
     // The code of a line of a module. `cut` is the wire that the line cuts, if it cuts one.
     #[inline(always)]
-    fn inner_code(
+    fn body_line_code(
         &mut self,
         entry: &CertificateLine,
         cut: Option<CutWire<'a>>,
     ) -> Option<RefusalCode>
-        requires inner { IsInner entry.now }
+        requires inner { IsBodyLine entry.now }
         requires cut { IsCutWire self.old.setting.circuit entry.now cut }
         ensures code { result
-            ≡ inner_fault self.old.setting (last_module self.old.entries) entry.now }
+            ≡ body_line_code self.old.setting (last_module self.old.entries) entry.now }
         ensures same_lines { self.new ≡ self.old }
     {
         let Some(counts) = last_counts(&self.modules) else {
@@ -243,7 +192,7 @@ impl<'a> Builder<'a> {
         if !may_follow(self.entries.as_slice(), entry) {
             return Some(RefusalCode::OutOfOrder);
         }
-        self.words_code(counts, entry, cut)
+        self.content_code(counts, entry, cut)
     }
 }
 
@@ -253,19 +202,20 @@ impl<'a> Builder<'a> {
     // It is inlined where the kind of line is known, so that no test asks for the kind.
     #[inline(always)]
     fn add_border(&mut self, entry: CertificateLine) -> Result<(), LineFault>
-        requires { IsBorderLine entry }
-        ensures ok { OnOk result ((inner_fault self.old.setting (last_module self.old.entries) entry
-            ≡ None) × (self.new ≡ record self.old { entries = self.old.entries ++ entry ∷ [] })) }
-        ensures fault { IfErr result (λ e. FaultIs e
-            (inner_fault self.old.setting (last_module self.old.entries) entry)) }
+        requires { IsEdgeHaloOrStopLine entry }
+        ensures ok { OnOk result ((body_line_code self.old.setting (last_module self.old.entries)
+            entry ≡ None) × (self.new
+            ≡ record self.old { entries = self.old.entries ++ entry ∷ [] })) }
+        ensures fault { IfErr result (λ e. HasRefusalCode e
+            (body_line_code self.old.setting (last_module self.old.entries) entry)) }
     {
-        if let Some(code) = self.inner_code(&entry, None) {
+        if let Some(code) = self.body_line_code(&entry, None) {
             return Err(LineFault::Code(code));
         }
         if make_room_for_stars(&mut self.edges, &mut self.halos, &entry).is_err() {
             return Err(LineFault::Memory);
         }
-        let name = own_name(&self.tables, &self.known, &self.local_names, &entry, None);
+        let name = circuit_name(&self.tables, &self.known, &self.local_names, &entry, None);
         push_entry(&mut self.entries, StoredLine::of(&entry, name))?;
         note_stars(&mut self.edges, &mut self.halos, &entry);
         count_in_last(&mut self.modules, &entry);
@@ -274,15 +224,16 @@ impl<'a> Builder<'a> {
 
     // Adds a line of a module, or answers the code of the first test that it fails.
     #[inline(never)]
-    fn add_inner(&mut self, entry: CertificateLine) -> Result<(), LineFault>
-        requires { IsInner entry }
-        ensures ok { OnOk result ((inner_fault self.old.setting (last_module self.old.entries) entry
-            ≡ None) × (self.new ≡ record self.old { entries = self.old.entries ++ entry ∷ [] })) }
-        ensures fault { IfErr result (λ e. FaultIs e
-            (inner_fault self.old.setting (last_module self.old.entries) entry)) }
+    fn add_body_line(&mut self, entry: CertificateLine) -> Result<(), LineFault>
+        requires { IsBodyLine entry }
+        ensures ok { OnOk result ((body_line_code self.old.setting (last_module self.old.entries)
+            entry ≡ None) × (self.new
+            ≡ record self.old { entries = self.old.entries ++ entry ∷ [] })) }
+        ensures fault { IfErr result (λ e. HasRefusalCode e
+            (body_line_code self.old.setting (last_module self.old.entries) entry)) }
     {
         let cut = cut_wire(&self.tables, &entry);
-        if let Some(code) = self.inner_code(&entry, cut) {
+        if let Some(code) = self.body_line_code(&entry, cut) {
             return Err(LineFault::Code(code));
         }
         if make_room_for_wires(&mut self.known, &self.tables, &entry).is_err() {
@@ -291,7 +242,7 @@ impl<'a> Builder<'a> {
         if make_room_for_stars(&mut self.edges, &mut self.halos, &entry).is_err() {
             return Err(LineFault::Memory);
         }
-        let name = own_name(&self.tables, &self.known, &self.local_names, &entry, cut);
+        let name = circuit_name(&self.tables, &self.known, &self.local_names, &entry, cut);
         push_entry(&mut self.entries, StoredLine::of(&entry, name))?;
         learn_line(&mut self.known, &self.tables, &entry, cut);
         self.local_names
@@ -311,7 +262,7 @@ impl<'a> Builder<'a> {
             ≡ list_any (λ p. in_box area p.cell.x p.cell.y && f p.name) self.now.setting.ports) }
     {
         let mut names = Vec::new(alloc);
-        self.tables.push_ports(&mut names, area)?;
+        self.tables.push_port_names_in(&mut names, area)?;
         Ok(names)
     }
 
@@ -371,7 +322,7 @@ impl<'a> Builder<'a> {
         ensures ok { OnOk result ((module_fault self.old.setting (modules_of self.old.entries)
             (last_module self.old.entries) area ≡ None)
             × (self.new ≡ record self.old { entries = self.old.entries ++ Module area ∷ [] })) }
-        ensures fault { IfErr result (λ e. FaultIs e
+        ensures fault { IfErr result (λ e. HasRefusalCode e
             (module_fault self.old.setting (modules_of self.old.entries)
             (last_module self.old.entries) area)) }
     {
@@ -382,7 +333,7 @@ impl<'a> Builder<'a> {
             return Err(LineFault::Memory);
         };
         push_module(&mut self.entries, &mut self.modules, area)?;
-        let Ok(()) = put_away(alloc, &mut self.earlier, &mut self.known) else {
+        let Ok(()) = move_wires_to_earlier(alloc, &mut self.earlier, &mut self.known) else {
             pop_module(&mut self.entries, &mut self.modules);
             return Err(LineFault::Memory);
         };
@@ -407,7 +358,7 @@ impl<'a> Builder<'a> {
     pub fn add(&mut self, alloc: Global, entry: CertificateLine) -> Result<(), LineFault>
         ensures ok { OnOk result ((entry_fault self.old.setting self.old.entries entry ≡ None)
             × (self.new ≡ record self.old { entries = self.old.entries ++ entry ∷ [] })) }
-        ensures fault { IfErr result (λ e. FaultIs e
+        ensures fault { IfErr result (λ e. HasRefusalCode e
             (entry_fault self.old.setting self.old.entries entry)) }
     {
         match entry {
@@ -415,7 +366,7 @@ impl<'a> Builder<'a> {
             CertificateLine::Edge(_) => self.add_border(entry),
             CertificateLine::Halo(_) => self.add_border(entry),
             CertificateLine::Stop(_) => self.add_border(entry),
-            _ => self.add_inner(entry),
+            _ => self.add_body_line(entry),
         }
     }
 
@@ -439,16 +390,9 @@ impl<'a> Builder<'a> {
         ensures counts { result.1.items ≡ map counts_of (modules_of self.entry.entries) }
     {
         let Builder {
-            tables: _,
             entries,
             modules,
-            covered: _,
-            earlier: _,
-            names: _,
-            known: _,
-            edges: _,
-            halos: _,
-            local_names: _,
+            ..
         } = self;
         (entries, modules)
     }

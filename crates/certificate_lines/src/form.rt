@@ -2,11 +2,11 @@
 ghost use Rattle.std.specs.Prelude.{◌≡◌, ℕ, List, ◌∷◌, take, codes, false};
 ghost use Rattle.std.specs.Option.{option_map};
 ghost use Rattle.std.specs.Str.{bytes_eq};
-ghost use Rattle.section_text.specs.Listed.{listed};
+ghost use Rattle.section_text.specs.Listed.{five_listed};
 ghost use Rattle.section_text.specs.Words.{words_of, lone};
 ghost use Rattle.section_text.specs.Feeds.{IsLine, line_bytes};
 ghost use Rattle.certificate_lines.specs.Forms.{Line as FormLine, area_of, border_of, form_of, short_form_of, stop_of};
-ghost use Rattle.certificate_lines.specs.BorderWords.{leading_time, signal_by};
+ghost use Rattle.certificate_lines.specs.BorderWords.{leading_time, signal_from_word};
 
 use crate::certificate_line::{BorderLine, CertificateLine, StopLine};
 use bbm_rule::Cell;
@@ -16,7 +16,7 @@ use section_text::{Feed, FiveWords, Form, Line, Name, is_keyword, read_number, t
 
 #[tactic(auto, unfolding(crate::specs::Forms::area_of, crate::specs::Forms::corner_and_sides, section_text::specs::Words::number_at))]
 fn area_of_words(words: &FiveWords) -> Option<Box2>
-    ensures { result ≡ area_of (listed words.now) }
+    ensures { result ≡ area_of (five_listed words.now) }
 {
     let x = read_number(words.second)?;
     let y = read_number(words.third)?;
@@ -47,9 +47,9 @@ fn take_time(line: &[u8]) -> Option<(Option<u32>, &[u8])>
     Some((Some(time), rest))
 }
 
-#[tactic(auto, unfolding(crate::specs::BorderWords::signal_by))]
+#[tactic(auto, unfolding(crate::specs::BorderWords::signal_from_word))]
 fn signal_of(word: &[u8]) -> Option<Option<Name>>
-    ensures { result ≡ signal_by word.now }
+    ensures { result ≡ signal_from_word word.now }
 {
     if word == b"1".as_slice() {
         return Some(None);
@@ -59,7 +59,7 @@ fn signal_of(word: &[u8]) -> Option<Option<Name>>
 
 // The content of an edge or halo line, by what stands behind its keyword and a space.
 #[inline(always)]
-fn border_behind(line: &[u8]) -> Option<BorderLine>
+fn border_after_keyword(line: &[u8]) -> Option<BorderLine>
     ensures { (keyword : List ℕ) → result ≡ border_of (keyword ∷ words_of line.now) }
 {
     let (time, line) = take_time(line)?;
@@ -75,7 +75,7 @@ fn border_behind(line: &[u8]) -> Option<BorderLine>
 
 #[tactic(auto, unfolding(crate::specs::Forms::stop_of, crate::specs::Forms::timed_wire, pattern::specs::Forms::cell_from, section_text::specs::Words::number_at, section_text::specs::Words::name_at, pattern::specs::PortWords::cell_from_words))]
 fn stop_of_words(words: &FiveWords) -> Option<StopLine>
-    ensures { result ≡ stop_of (listed words.now) }
+    ensures { result ≡ stop_of (five_listed words.now) }
 {
     let time = read_number(words.second)?;
     let wire = Name::of(words.third)?;
@@ -84,7 +84,7 @@ fn stop_of_words(words: &FiveWords) -> Option<StopLine>
 }
 
 #[tactic(auto, unfolding(section_text::specs::Words::lone))]
-fn end_in(feed: &Feed, line: &Line) -> Option<Form<u32, CertificateLine>>
+fn end_form(feed: &Feed, line: &Line) -> Option<Form<u32, CertificateLine>>
     requires { IsLine feed.now line.now }
     ensures { result ≡ lone {A = FormLine} (words_of (line_bytes feed.now line.now)) Form.End }
 {
@@ -127,11 +127,11 @@ fn is_stop_line(line: &[u8]) -> bool
 
 // The form of a line of five words that is no edge, halo or stop line.
 #[tactic(auto, unfolding(crate::specs::Forms::form_of, section_text::specs::Words::is_word_at))]
-fn other_form(words: FiveWords) -> Option<Form<u32, CertificateLine>>
+fn five_word_line_form(words: FiveWords) -> Option<Form<u32, CertificateLine>>
     requires no_edge { bytes_eq words.first.now (codes "edge") ≡ false }
     requires no_halo { bytes_eq words.first.now (codes "halo") ≡ false }
     requires no_stop { bytes_eq words.first.now (codes "stop") ≡ false }
-    ensures { result ≡ form_of (listed words.entry) }
+    ensures { result ≡ form_of (five_listed words.entry) }
 {
     if is_keyword(words.first, b"module") {
         Some(Form::Item(CertificateLine::Module(area_of_words(&words)?)))
@@ -156,7 +156,7 @@ fn short_form(feed: &Feed, line: &Line) -> Option<Form<u32, CertificateLine>>
     } else if is_keyword(keyword, b"certificate") {
         Some(Form::Header(feed.lone_number(line)?))
     } else if is_keyword(keyword, b"end") {
-        end_in(feed, line)
+        end_form(feed, line)
     } else {
         None
     }
@@ -164,7 +164,7 @@ fn short_form(feed: &Feed, line: &Line) -> Option<Form<u32, CertificateLine>>
 
 // The form of a line that begins with no `edge `, no `halo ` and no `stop `.
 #[inline(never)]
-fn form_of_other(feed: &Feed, line: &Line) -> Option<Form<u32, CertificateLine>>
+fn other_line_form(feed: &Feed, line: &Line) -> Option<Form<u32, CertificateLine>>
     requires line { IsLine feed.now line.now }
     requires no_edge { bytes_eq (take 5 (line_bytes feed.now line.now)) (codes "edge ") ≡ false }
     requires no_halo { bytes_eq (take 5 (line_bytes feed.now line.now)) (codes "halo ") ≡ false }
@@ -172,7 +172,7 @@ fn form_of_other(feed: &Feed, line: &Line) -> Option<Form<u32, CertificateLine>>
     ensures { result ≡ form_of (words_of (line_bytes feed.now line.now)) }
 {
     match feed.five_words(line) {
-        Some(words) => other_form(words),
+        Some(words) => five_word_line_form(words),
         None => short_form(feed, line),
     }
 }
@@ -196,7 +196,7 @@ fn stop_or_other(feed: &Feed, line: &Line) -> Option<Form<u32, CertificateLine>>
     ensures { result ≡ form_of (words_of (line_bytes feed.now line.now)) }
 {
     if !is_stop_line(feed.line(line)) {
-        return form_of_other(feed, line);
+        return other_line_form(feed, line);
     }
     let stop = stop_in(feed, line)?;
     Some(Form::Item(CertificateLine::Stop(stop)))
@@ -215,7 +215,7 @@ pub fn line_form(feed: &Feed, line: &Line) -> Option<Form<u32, CertificateLine>>
     if !is_edge && !is_halo_line(bytes) {
         return stop_or_other(feed, line);
     }
-    let border = border_behind(&bytes[5..])?;
+    let border = border_after_keyword(&bytes[5..])?;
     if is_edge {
         Some(Form::Item(CertificateLine::Edge(border)))
     } else {

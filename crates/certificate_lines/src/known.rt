@@ -2,7 +2,7 @@
 ghost use Rattle.std.specs.Prelude.{◌≡◌, ◌≤◌, ◌<◌, ◌++◌, ◌∷◌, [], length, map, OnErr, OnOk};
 ghost use Rattle.std.specs.List.{All, list_all};
 ghost use Rattle.module_box.specs.Locals.{is_among};
-ghost use Rattle.certificate_lines.specs.BuilderView.{IsCutWire, wires_in};
+ghost use Rattle.certificate_lines.specs.BuilderView.{IsCutWire, wires_made_local};
 ghost use Rattle.certificate_lines.specs.Rules.{are_new};
 
 use crate::certificate_line::CertificateLine;
@@ -25,7 +25,7 @@ pub(crate) fn knows_all(known: &WireList, wires: &[WireNo]) -> bool
     true
 }
 
-fn stands_before(wires: &[WireNo], wire: WireNo) -> bool
+fn is_among_earlier(wires: &[WireNo], wire: WireNo) -> bool
     ensures { result ≡ is_among wires.now wire }
 {
     wires.iter().any(|w| w.number() == wire.number())
@@ -38,7 +38,7 @@ pub(crate) fn are_all_new(known: &WireList, wires: &[WireNo]) -> bool
     for at in 0..wires.len() {
         let wire = wires[at];
         let is_known = known.contains(wire.number());
-        let stands_twice = stands_before(&wires[..at], wire);
+        let stands_twice = is_among_earlier(&wires[..at], wire);
         if is_known | stands_twice {
             return false;
         }
@@ -65,7 +65,7 @@ pub(crate) fn make_room_for_wires(
 ) -> Result<(), AllocError>
     ensures wires { known.new.wires ≡ known.old.wires }
     ensures room_for_wires { OnOk result
-        (length (wires_in tables.now.circuit entry.now) ≤ known.new.spare) }
+        (length (wires_made_local tables.now.circuit entry.now) ≤ known.new.spare) }
 {
     match entry {
         CertificateLine::Cut(_) => known.reserve(1),
@@ -87,8 +87,9 @@ pub(crate) fn learn_line(
     cut: Option<CutWire>,
 )
     requires cut { IsCutWire tables.now.circuit entry.now cut }
-    requires room_for_wires { length (wires_in tables.now.circuit entry.now) ≤ known.old.spare }
-    ensures { known.new.wires ≡ known.old.wires ++ wires_in tables.now.circuit entry.now }
+    requires room_for_wires { length (wires_made_local tables.now.circuit entry.now) ≤
+        known.old.spare }
+    ensures { known.new.wires ≡ known.old.wires ++ wires_made_local tables.now.circuit entry.now }
 {
     match entry {
         CertificateLine::Cut(_) => {
@@ -106,7 +107,7 @@ pub(crate) fn learn_line(
 }
 
 /// Puts the local wires of a module that has ended behind those of the earlier ones. The next module has none.
-pub(crate) fn put_away(
+pub(crate) fn move_wires_to_earlier(
     alloc: Global,
     earlier: &mut Vec<WireList>,
     known: &mut WireList,

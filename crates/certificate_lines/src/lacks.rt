@@ -7,9 +7,9 @@ ghost use Rattle.certificate_lines.specs.Rules.{whole};
 ghost use Rattle.module_box.specs.Boxes.{in_box, in_halo};
 ghost use Rattle.module_box.specs.Locals.{is_among};
 ghost use Rattle.circuit.specs.Meaning.{wire_of};
-ghost use Rattle.certificate_lines.specs.BuilderView.{AreModuleOwners, is_lacked, is_strange_outside, is_wire_lacked, lacks_edge};
+ghost use Rattle.certificate_lines.specs.BuilderView.{AreModuleOwners, does_neighbour_lack_wire, is_nonlocal_outside, is_nonlocal_in_neighbour, lacks_edge_wire};
 ghost use Rattle.certificate_lines.specs.LastNames.{AreKnownWires, IsLastName};
-ghost use Rattle.certificate_lines.specs.Versions.{is_strange, lacks_wire};
+ghost use Rattle.certificate_lines.specs.Versions.{is_nonlocal_signal, lacks_wire};
 
 use crate::blocks::odd_partner;
 use crate::builder::Builder;
@@ -26,8 +26,8 @@ use section_text::Name;
 use std::alloc::{AllocError, Global};
 
 // Whether a signal is neither `1` nor one of the local wires.
-fn is_unknown(tables: &LineTables, known: &WireList, border: &StoredBorder) -> bool
-    ensures { result ≡ is_strange tables.now.circuit known.now.wires border.now.signal }
+fn is_nonlocal_signal(tables: &LineTables, known: &WireList, border: &StoredBorder) -> bool
+    ensures { result ≡ is_nonlocal_signal tables.now.circuit known.now.wires border.now.signal }
 {
     match border.signal() {
         None => false,
@@ -36,25 +36,35 @@ fn is_unknown(tables: &LineTables, known: &WireList, border: &StoredBorder) -> b
 }
 
 // Whether the signal of an edge line is such, and the line is for a cell of the halo.
-fn is_unknown_line(tables: &LineTables, known: &WireList, area: Box2, line: &StoredLine) -> bool
+fn is_nonlocal_halo_edge(
+    tables: &LineTables,
+    known: &WireList,
+    area: Box2,
+    line: &StoredLine,
+) -> bool
     ensures { result
-        ≡ list_any (λ e. is_strange tables.now.circuit known.now.wires e.signal)
+        ≡ list_any (λ e. is_nonlocal_signal tables.now.circuit known.now.wires e.signal)
         (filter (λ e. in_halo area e.cell.x e.cell.y) (edge_in line.now)) }
 {
     match line.edge() {
-        Some(border) if area.in_halo(border.cell()) => is_unknown(tables, known, &border),
+        Some(border) if area.in_halo(border.cell()) => is_nonlocal_signal(tables, known, &border),
         _ => false,
     }
 }
 
 // Whether one of these lines is an edge line for a cell in the halo of the box, of a wire that is not local.
-fn has_unknown(tables: &LineTables, known: &WireList, area: Box2, lines: &[StoredLine]) -> bool
+fn has_nonlocal_halo_edge(
+    tables: &LineTables,
+    known: &WireList,
+    area: Box2,
+    lines: &[StoredLine],
+) -> bool
     ensures { result
-        ≡ list_any (λ e. is_strange tables.now.circuit known.now.wires e.signal)
+        ≡ list_any (λ e. is_nonlocal_signal tables.now.circuit known.now.wires e.signal)
         (filter (λ e. in_halo area e.cell.x e.cell.y) (flat_map edge_in lines.now)) }
 {
     'lines: for line in lines {
-        if is_unknown_line(tables, known, area, line) {
+        if is_nonlocal_halo_edge(tables, known, area, line) {
             return true;
         }
     }
@@ -120,20 +130,20 @@ impl<'a> Builder<'a> {
         requires number { number < length (modules_of self.now.entries) }
         requires inside { AreInBox area (flat_map edge_in lines.now) }
         ensures { (m : ModuleLines) → slice_get (modules_of self.now.entries) number ≡ Some m →
-            result ≡ lacks_edge self.now.setting.circuit (flat_map edge_in lines.now) m }
+            result ≡ lacks_edge_wire self.now.setting.circuit (flat_map edge_in lines.now) m }
     {
         let own = self.modules[number].area;
         if !own.is_near(area) {
             return false;
         }
-        has_unknown(&self.tables, self.wires_of(number), own, lines)
+        has_nonlocal_halo_edge(&self.tables, self.wires_of(number), own, lines)
     }
 
     // The same of some module. It asks each module, and takes no memory.
-    fn does_any_lack(&self, area: Box2, lines: &[StoredLine]) -> bool
+    fn does_any_module_lack_wire(&self, area: Box2, lines: &[StoredLine]) -> bool
         requires inside { AreInBox area (flat_map edge_in lines.now) }
         ensures { result
-            ≡ list_any (lacks_edge self.now.setting.circuit (flat_map edge_in lines.now))
+            ≡ list_any (lacks_edge_wire self.now.setting.circuit (flat_map edge_in lines.now))
             (modules_of self.now.entries) }
     {
         'modules: for number in 0..self.modules.len() {
@@ -203,7 +213,7 @@ impl<'a> Builder<'a> {
     }
 
     // Whether the cell is outside the module of this number, and there is no such wire or it is not local there.
-    fn is_unknown_in(
+    fn is_nonlocal_outside(
         &self,
         number: usize,
         cell: Cell,
@@ -214,7 +224,7 @@ impl<'a> Builder<'a> {
         requires found { AreKnownWires self.now found.old }
         ensures lacked { (m : ModuleLines) →
             slice_get (modules_of self.now.entries) number ≡ Some m →
-            result ≡ is_strange_outside self.now.setting.circuit cell wire m }
+            result ≡ is_nonlocal_outside self.now.setting.circuit cell wire m }
         ensures found { AreKnownWires self.now found.new }
     {
         if self.modules[number].area.holds(cell) {
@@ -229,7 +239,7 @@ impl<'a> Builder<'a> {
     // The same of the module that has the cell `beside`, if one has it. Inlined, since it runs three times for each
     // edge line.
     #[inline(always)]
-    fn is_unknown_at(
+    fn is_nonlocal_at_owner(
         &self,
         owners: &Owners,
         cell: Cell,
@@ -241,18 +251,18 @@ impl<'a> Builder<'a> {
         requires found { AreKnownWires self.now found.old }
         ensures lacked { result
             ≡ list_any (λ m. in_box m.area beside.x beside.y
-            && is_strange_outside self.now.setting.circuit cell wire m)
+            && is_nonlocal_outside self.now.setting.circuit cell wire m)
             (modules_of self.now.entries) }
         ensures found { AreKnownWires self.now found.new }
     {
         if !whole_of(self.tables.size()).holds(beside) {
             return false;
         }
-        self.is_unknown_in(owners.owner(beside), cell, wire, found)
+        self.is_nonlocal_outside(owners.owner(beside), cell, wire, found)
     }
 
     // Whether some module has the cell in its halo, and there is no such wire or it is not local there.
-    fn is_unknown_beside(
+    fn is_nonlocal_in_neighbour(
         &self,
         owners: &Owners,
         cell: Cell,
@@ -263,21 +273,28 @@ impl<'a> Builder<'a> {
         requires found { AreKnownWires self.now found.old }
         requires inside { IsTrue (in_box (whole self.now.setting.size) cell.x cell.y) }
         ensures lacked { result
-            ≡ is_wire_lacked self.now.setting.circuit (modules_of self.now.entries) cell wire }
+            ≡ is_nonlocal_in_neighbour self.now.setting.circuit (modules_of self.now.entries) cell
+            wire }
         ensures found { AreKnownWires self.now found.new }
     {
         let Cell { x, y } = cell;
         // Corners and sides are even, so a box with a neighbour of the cell has it or one of these.
         let column = odd_partner(x);
         let row = odd_partner(y);
-        let beside = self.is_unknown_at(owners, cell, wire, Cell { x: column, y }, found);
-        let above = self.is_unknown_at(owners, cell, wire, Cell { x, y: row }, found);
-        let corner = self.is_unknown_at(owners, cell, wire, Cell { x: column, y: row }, found);
+        let beside = self.is_nonlocal_at_owner(owners, cell, wire, Cell { x: column, y }, found);
+        let above = self.is_nonlocal_at_owner(owners, cell, wire, Cell { x, y: row }, found);
+        let corner = self.is_nonlocal_at_owner(
+            owners,
+            cell,
+            wire,
+            Cell { x: column, y: row },
+            found,
+        );
         beside | above | corner
     }
 
     // Whether some module has the cell of an edge line in its halo, and lacks its wire.
-    fn is_lacked<'b>(
+    fn does_neighbour_lack_wire<'b>(
         &self,
         owners: &Owners,
         last: &mut Option<LastName<'b>>,
@@ -290,7 +307,8 @@ impl<'a> Builder<'a> {
         requires inside { IsTrue
             (in_box (whole self.now.setting.size) border.now.cell.x border.now.cell.y) }
         ensures lacked { result
-            ≡ is_lacked self.now.setting.circuit (modules_of self.now.entries) border.now }
+            ≡ does_neighbour_lack_wire self.now.setting.circuit (modules_of self.now.entries)
+            border.now }
         ensures last { IsLastName self.now.setting.circuit last.new }
         ensures found { AreKnownWires self.now found.new }
     {
@@ -299,7 +317,7 @@ impl<'a> Builder<'a> {
             Some(name) => {
                 // The name is looked up once for all modules beside the cell.
                 let wire = wire_by_last(&self.tables, last, name);
-                self.is_unknown_beside(owners, border.cell(), wire, found)
+                self.is_nonlocal_in_neighbour(owners, border.cell(), wire, found)
             }
         }
     }
@@ -307,7 +325,7 @@ impl<'a> Builder<'a> {
 
 impl<'a> Builder<'a> {
     // The same of a line, if it is an edge line.
-    fn is_unknown_line_beside<'b>(
+    fn does_neighbour_lack_line_wire<'b>(
         &self,
         owners: &Owners,
         last: &mut Option<LastName<'b>>,
@@ -319,29 +337,29 @@ impl<'a> Builder<'a> {
         requires found { AreKnownWires self.now found.old }
         requires inside { AreInBox (whole self.now.setting.size) (edge_in line.now) }
         ensures lacked { result
-            ≡ list_any (is_lacked self.now.setting.circuit (modules_of self.now.entries))
-            (edge_in line.now) }
+            ≡ list_any (does_neighbour_lack_wire self.now.setting.circuit
+            (modules_of self.now.entries)) (edge_in line.now) }
         ensures last { IsLastName self.now.setting.circuit last.new }
         ensures found { AreKnownWires self.now found.new }
     {
         match line.edge() {
-            Some(border) => self.is_lacked(owners, last, found, &border),
+            Some(border) => self.does_neighbour_lack_wire(owners, last, found, &border),
             None => false,
         }
     }
 
     // Whether some module lacks the wire of one of the edge lines, by the modules beside each of them.
-    fn lacks_some_beside(&self, owners: &Owners, lines: &[StoredLine]) -> bool
+    fn do_neighbours_lack_a_wire(&self, owners: &Owners, lines: &[StoredLine]) -> bool
         requires owners { AreModuleOwners self.now owners.now }
         requires inside { AreInBox (whole self.now.setting.size) (flat_map edge_in lines.now) }
         ensures { result
-            ≡ list_any (lacks_edge self.now.setting.circuit (flat_map edge_in lines.now))
+            ≡ list_any (lacks_edge_wire self.now.setting.circuit (flat_map edge_in lines.now))
             (modules_of self.now.entries) }
     {
         let mut last = None;
         let mut found = [None; SLOT_COUNT];
         'lines: for line in lines {
-            if self.is_unknown_line_beside(owners, &mut last, &mut found, line) {
+            if self.does_neighbour_lack_line_wire(owners, &mut last, &mut found, line) {
                 return true;
             }
         }
@@ -354,12 +372,12 @@ impl<'a> Builder<'a> {
         requires inside { AreInBox area (flat_map edge_in lines.now) }
         requires on_layout { AreInBox (whole self.now.setting.size) (flat_map edge_in lines.now) }
         ensures { result
-            ≡ list_any (lacks_edge self.now.setting.circuit (flat_map edge_in lines.now))
+            ≡ list_any (lacks_edge_wire self.now.setting.circuit (flat_map edge_in lines.now))
             (modules_of self.now.entries) }
     {
         match owners {
-            Some(owners) => self.lacks_some_beside(owners, lines),
-            None => self.does_any_lack(area, lines),
+            Some(owners) => self.do_neighbours_lack_a_wire(owners, lines),
+            None => self.does_any_module_lack_wire(area, lines),
         }
     }
 

@@ -28,7 +28,9 @@ pub use certificate_line::{BorderLine, CertificateLine, Counts, StopLine};
 pub use counts::push_entry;
 pub use form::line_form;
 pub use line_tables::LineTables;
-pub use lines::{cut_list, is_module, kept_places, lines_of_module, used_gates};
+pub use lines::{
+    cut_list, is_module, kept_places, lines_of_module, lines_of_module_past, used_gates,
+};
 pub use order::compare_borders;
 pub use ports::{PortTable, port_tables};
 pub use stored_line::{StoredBorder, StoredLine, StoredStop};

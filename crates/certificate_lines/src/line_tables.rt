@@ -143,7 +143,7 @@ impl<'a> LineTables<'a> {
         let _wire_count = self.circuit.wires();
         match self.circuit.named_wire(name) {
             None => None,
-            Some((wire, own_name)) => Some((wire.number(), own_name)),
+            Some((wire, circuit_name)) => Some((wire.number(), circuit_name)),
         }
     }
 
@@ -172,7 +172,11 @@ impl<'a> LineTables<'a> {
     }
 
     /// Appends the names of the ports in a box.
-    pub(crate) fn push_ports(&self, names: &mut Vec<Name>, area: Box2) -> Result<(), AllocError>
+    pub(crate) fn push_port_names_in(
+        &self,
+        names: &mut Vec<Name>,
+        area: Box2,
+    ) -> Result<(), AllocError>
         requires { (area.x + area.w ≤ 512) × (area.y + area.h ≤ 512) }
         ensures { OnOk result ((f : List ℕ → Bool) →
             list_any f names.new.items

@@ -23,16 +23,27 @@ pub fn is_module(entry: &StoredLine) -> bool
     }
 }
 
-/// Returns the lines before the next `module` line.
-pub fn lines_of_module<'b, 'a>(entries: &'b [StoredLine<'a>]) -> &'b [StoredLine<'a>]
+/// Returns the lines before the next `module` line. It does not read the first `skipped` lines, which come before it.
+pub fn lines_of_module_past<'b, 'a>(
+    entries: &'b [StoredLine<'a>],
+    skipped: usize,
+) -> &'b [StoredLine<'a>]
+    requires { skipped ≤ length (inner entries.now) }
     ensures { result.now ≡ inner entries.now }
 {
-    for (place, entry) in entries.iter().enumerate() {
-        if is_module(entry) {
+    for place in skipped..entries.len() {
+        if is_module(&entries[place]) {
             return &entries[..place];
         }
     }
     entries
+}
+
+/// Returns the lines before the next `module` line.
+pub fn lines_of_module<'b, 'a>(entries: &'b [StoredLine<'a>]) -> &'b [StoredLine<'a>]
+    ensures { result.now ≡ inner entries.now }
+{
+    lines_of_module_past(entries, 0)
 }
 
 // Whether the line uses the gate of this number.

@@ -1,8 +1,9 @@
 //! Names of wires that are local in the last module, with references to the circuit's names.
 ghost use Rattle.std.specs.Prelude.{◌≡◌, ◌<◌, None, Some, replicate, IfSome, IsTrue};
 ghost use Rattle.circuit.specs.Meaning.{wire_of};
-ghost use Rattle.std.specs.Option.{is_some};
-ghost use Rattle.certificate_lines.specs.BuilderView.{AreLocalNames, IsCutWire};
+ghost use Rattle.std.specs.Option.{is_some, option_map};
+ghost use Rattle.certificate_lines.specs.BuilderView.{AreLocalNames, IsCutWire, NamesWire};
+ghost use Rattle.certificate_lines.specs.Entries.{name_in};
 ghost use Rattle.certificate_lines.specs.Rules.{is_local};
 
 use crate::certificate_line::CertificateLine;
@@ -71,12 +72,12 @@ fn look_up<'a>(
     ensures same_name { IfSome result (λ own. own.now ≡ name.now) }
     ensures names { AreLocalNames tables.now.circuit known.now.wires slots.new }
 {
-    let (wire, own_name) = tables.named_wire(name)?;
+    let (wire, circuit_name) = tables.named_wire(name)?;
     if !known.contains(wire) {
         return None;
     }
-    slots[slot] = Some(LocalName { name: own_name });
-    Some(own_name)
+    slots[slot] = Some(LocalName { name: circuit_name });
+    Some(circuit_name)
 }
 
 // The same. The name is looked up only if its slot does not hold it.
@@ -172,7 +173,7 @@ impl<'a> LocalNames<'a> {
     ///
     /// The name is looked up only if its slot does not hold it.
     #[inline(always)]
-    pub(crate) fn own_name(&self, tables: &LineTables<'a>, name: &Name) -> &'a Name
+    pub(crate) fn circuit_name(&self, tables: &LineTables<'a>, name: &Name) -> &'a Name
         requires { IsTrue (is_some (wire_of tables.now.circuit name.now)) }
         ensures { result.now ≡ name.now }
     {
@@ -183,8 +184,50 @@ impl<'a> LocalNames<'a> {
             }
         }
         match tables.named_wire(name) {
-            Some((_, own_name)) => own_name,
+            Some((_, circuit_name)) => circuit_name,
             None => unreachable!(),
         }
+    }
+}
+
+/// Returns the name in a line as the circuit has it, if the line has one.
+#[inline(always)]
+pub(crate) fn circuit_name<'a>(
+    tables: &LineTables<'a>,
+    known: &WireList,
+    names: &LocalNames<'a>,
+    line: &CertificateLine,
+    cut: Option<CutWire<'a>>,
+) -> Option<&'a Name>
+    requires wire { NamesWire tables.now.circuit known.now.wires line.now }
+    requires cut { IsCutWire tables.now.circuit line.now cut }
+    ensures { option_map (λ n. n.now) result ≡ name_in line.now }
+{
+    match line {
+        CertificateLine::Cut(_) => match cut {
+            Some(cut) => Some(cut.name),
+            None => unreachable!(),
+        },
+        CertificateLine::Edge(border) => circuit_signal_name(tables, known, names, &border.signal),
+        CertificateLine::Halo(border) => circuit_signal_name(tables, known, names, &border.signal),
+        CertificateLine::Stop(stop) => Some(names.circuit_name(tables, &stop.wire)),
+        _ => None,
+    }
+}
+
+// The name of a signal as the circuit has it, if the signal is a wire.
+#[inline(always)]
+fn circuit_signal_name<'a>(
+    tables: &LineTables<'a>,
+    known: &WireList,
+    names: &LocalNames<'a>,
+    signal: &Option<Name>,
+) -> Option<&'a Name>
+    requires { IfSome signal.now (λ n. IsTrue (is_local tables.now.circuit known.now.wires n)) }
+    ensures { option_map (λ n. n.now) result ≡ signal.now }
+{
+    match signal {
+        Some(name) => Some(names.circuit_name(tables, name)),
+        None => None,
     }
 }

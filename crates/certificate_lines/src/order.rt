@@ -4,7 +4,7 @@ ghost use Rattle.std.specs.Ordering.{is_lt};
 ghost use Rattle.certificate_lines.specs.Entries.{last_of};
 ghost use Rattle.certificate_lines.specs.Orders.{AreInOrder, rank_of, time_rank, number_of, cell_of, line_cmp, is_cut, may_precede, may_follow};
 ghost use Rattle.certificate_lines.specs.Versions.{line_order};
-ghost use Rattle.certificate_lines.specs.BuilderView.{IsInner, last_inner};
+ghost use Rattle.certificate_lines.specs.BuilderView.{IsBodyLine, last_body_line};
 ghost use Rattle.certificate_lines.specs.declared.certificate_line.CertificateLine.{CertificateLine};
 ghost use Rattle.certificate_lines.specs.declared.certificate_line.CertificateLine.TheVariants.{Cut, Use, Stop};
 
@@ -196,9 +196,9 @@ fn does_precede(first: &StoredLine, second: &CertificateLine) -> bool
 /// A `module` line comes before all lines of its module.
 #[inline(always)]
 pub(crate) fn may_follow(entries: &[StoredLine], entry: &CertificateLine) -> bool
-    requires { IsInner entry.now }
+    requires { IsBodyLine entry.now }
     ensures { (lines : List CertificateLine) → AreInOrder lines →
-        last_of lines ≡ last_inner entries.now →
+        last_of lines ≡ last_body_line entries.now →
         result ≡ may_follow lines entry.now }
 {
     match entries.last() {

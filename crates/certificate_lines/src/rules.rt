@@ -1,9 +1,10 @@
 //! The tests of a line of a module, after its order.
-ghost use Rattle.std.specs.Prelude.{◌≡◌, ◌+◌, ℕ, List, Some};
+ghost use Rattle.std.specs.Prelude.{◌≡◌, ◌+◌, ℕ, List, Some, not};
+ghost use Rattle.std.specs.List.{list_any};
 ghost use Rattle.circuit.specs.Meaning.{Circuit, wire_of};
 ghost use Rattle.certificate_lines.specs.BuilderView.{AreLocalNames};
 ghost use Rattle.certificate_lines.specs.Entries.{ModuleLines, gates, last_module};
-ghost use Rattle.certificate_lines.specs.Rules.{is_wrong_side, is_misplaced, is_odd, is_local, is_local_wire, cut_fault, gate_fault, use_fault, keep_line_code, is_time, is_edge_place, is_halo_place, is_stop_place, signal_fault, wire_fault, border_fault};
+ghost use Rattle.certificate_lines.specs.Rules.{is_wrong_side, is_misplaced, is_odd, is_local, is_local_wire, cut_fault, gate_fault, use_fault, keep_line_code, is_time, is_edge_place, is_halo_place, is_stop_place, signal_fault, wire_fault, border_line_code};
 
 use crate::certificate_line::{BorderLine, StopLine};
 use crate::known::{are_all_new, knows_all};
@@ -64,6 +65,14 @@ pub(crate) fn is_local_name(tables: &LineTables, known: &WireList, name: &Name) 
     ensures { result ≡ is_local tables.now.circuit known.now.wires name.now }
 {
     is_local_wire(known, tables.wire(name))
+}
+
+/// Returns whether some of the names is not that of a local wire.
+pub(crate) fn has_nonlocal_name(tables: &LineTables, known: &WireList, names: &[Name]) -> bool
+    ensures { result
+        ≡ list_any (λ n. not (is_local tables.now.circuit known.now.wires n)) names.now }
+{
+    names.iter().any(|name| !is_local_name(tables, known, name))
 }
 
 /// Returns the code of a cut of this wire, if `count` wires are cut already. The circuit has no such wire if it is
@@ -181,7 +190,7 @@ fn signal_code<'a>(
 /// `placed` says whether the line may have its cell and time. The signal is passed by reference, since a copy of its 34
 /// bytes costs more than the tests.
 #[inline(always)]
-#[tactic(auto, unfolding(crate::specs::Rules::border_fault))]
+#[tactic(auto, unfolding(crate::specs::Rules::border_line_code))]
 pub(crate) fn border_code<'a>(
     tables: &LineTables<'a>,
     count: usize,
@@ -192,7 +201,7 @@ pub(crate) fn border_code<'a>(
 ) -> Option<RefusalCode>
     requires { AreLocalNames tables.now.circuit known.now.wires names.old.slots }
     ensures code { result
-        ≡ border_fault tables.now.circuit count known.now.wires placed signal.now }
+        ≡ border_line_code tables.now.circuit count known.now.wires placed signal.now }
     ensures names { AreLocalNames tables.now.circuit known.now.wires names.new.slots }
 {
     if count >= MAX_TIMED_LINES {
@@ -208,7 +217,7 @@ pub(crate) fn border_code<'a>(
 ///
 /// `placed` says whether the line may have its cell and time.
 #[inline(always)]
-#[tactic(auto, unfolding(crate::specs::Rules::border_fault, crate::specs::Rules::signal_fault))]
+#[tactic(auto, unfolding(crate::specs::Rules::border_line_code, crate::specs::Rules::signal_fault))]
 pub(crate) fn stop_code<'a>(
     tables: &LineTables<'a>,
     count: usize,
@@ -219,7 +228,7 @@ pub(crate) fn stop_code<'a>(
 ) -> Option<RefusalCode>
     requires { AreLocalNames tables.now.circuit known.now.wires names.old.slots }
     ensures code { result
-        ≡ border_fault tables.now.circuit count known.now.wires placed (Some wire.now) }
+        ≡ border_line_code tables.now.circuit count known.now.wires placed (Some wire.now) }
     ensures names { AreLocalNames tables.now.circuit known.now.wires names.new.slots }
 {
     if count >= MAX_TIMED_LINES {

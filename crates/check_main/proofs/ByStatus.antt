@@ -5,7 +5,7 @@ use Rattle.clap.specs.Walk.{Text}
 use Rattle.clap.specs.Words.{Kinds, fault_of}
 use Rattle.streams.specs.declared.streams.Source.{Ghosts as Source}
 use Rattle.streams.specs.declared.streams.Sink.{Ghosts as Sink}
-use Rattle.command_line.specs.CommandLine.{AsksForHelp, IsAccepted, IsHelpAlone, asked_by, bbmcheck}
+use Rattle.command_line.specs.CommandLine.{AsksForHelp, IsAccepted, AsksOnlyForHelp, asked_by, bbmcheck}
 use Rattle.command_line.specs.declared.Request.TheVariants.{Check}
 use Rattle.answers.specs.declared.outcome.Outcome.{Outcome}
 use Rattle.answers.specs.declared.outcome.Outcome.TheVariants.{Yes, No, Refused}
@@ -15,7 +15,7 @@ use Rattle.headline.specs.RightInFull.{IsRightInFull}
 use Rattle.headline.specs.Stops.{HasRightStops}
 use Rattle.headline.specs.Plain.{IsWrongIfPlain}
 use Rattle.headline.specs.SmallDesigns.{IsNoSmallDesign}
-use Rattle.headline.specs.ReportLines.{LinesTell, Relates}
+use Rattle.headline.specs.ReportLines.{LinesHaveMeaning, RelatesReadToWritten}
 use Rattle.check_main.specs.declared.fault.CheckFault.{CheckFault}
 use Rattle.check_main.specs.declared.fault.CheckFault.TheVariants.{Read, Write, TooLong, Memory}
 use Rattle.check_main.specs.declared.front.Streams.{Streams}
@@ -92,7 +92,7 @@ module _ {R W E : Type 0} {source : Source R} {sink : Sink W} {messages : Sink E
   ]
 
   -- words that ask for help alone are not refused
-  pub told : IsHelpAlone words → status ≢ 2
+  pub told : AsksOnlyForHelp words → status ≢ 2
   told alone two = either (λ r. (status_known r.ended).1 (sym r.status_of_end ∙ two))
       (λ x. (x.by_status.refused two).0 alone)
 
@@ -252,9 +252,9 @@ module _ {R W E : Type 0} {source : Source R} {sink : Sink W} {messages : Sink E
   wrong means asked one = means (record { accepted = accepted_at_one one; asked = asked }) one
 
   -- 1 of `check`: the lines have their meaning
-  pub lines : (AsksForCheck words → status ≡ 1 → Relates LinesTell (source.left old.reader)
+  pub lines : (AsksForCheck words → status ≡ 1 → RelatesReadToWritten LinesHaveMeaning (source.left old.reader)
       (sink.written_bytes old.writer) (sink.written_bytes new.writer)) →
-      asked_by words ≡ Check → status ≡ 1 → Relates LinesTell (source.left old.reader)
+      asked_by words ≡ Check → status ≡ 1 → RelatesReadToWritten LinesHaveMeaning (source.left old.reader)
       (sink.written_bytes old.writer) (sink.written_bytes new.writer)
   lines means asked one = means (record { accepted = accepted_at_one one; asked = asked }) one
 

@@ -7,7 +7,7 @@ use Rattle.std.specs.Io.KnownBytes.{Appends, Consumes, IsAtEnd}
 use Rattle.answers.specs.declared.outcome.Outcome.{Outcome}
 use Rattle.answers.specs.declared.outcome.Outcome.TheVariants.{Yes}
 use Rattle.meaning.specs.Streams.{ReaderGives, SaysYes, YesMeans}
-use Rattle.headline.specs.ReportLines.{Relates}
+use Rattle.headline.specs.ReportLines.{RelatesReadToWritten}
 use Rattle.headline.proofs.FourthLines.{says_on}
 use Rattle.check_main.specs.Program.{YesPromises}
 use Rattle.check_main.specs.Stream.{ReadsAll, TakesPrefix}
@@ -116,7 +116,7 @@ pub outcome_tells : {E : Type 0} (P : List ℕ → List ℕ → Type 0) (wanted 
     (outcome ≡ wanted → P text output) → ReadsAll left left' text →
     (result : Result Outcome E) → result ≡ Ok wanted →
     IfOk result (λ o. o ≡ outcome) → OnOk result (Appends written_bytes written_bytes' output) →
-    Relates P left written_bytes written_bytes'
+    RelatesReadToWritten P left written_bytes written_bytes'
 outcome_tells P wanted left left' written_bytes written_bytes' text output outcome holds read (Ok o) is same all
     known before more e f g =
     let wanted_is : o ≡ wanted = cc in

@@ -10,20 +10,20 @@ use Rattle.section_text.specs.Section.{Reads, ReadsSection, ended_line}
 use Rattle.section_text.specs.Words.{lines_of}
 use Rattle.section_text.specs.declared.fault.ReadFault.{ReadFault}
 use Rattle.certificate_lines.specs.Entries.{Setting}
-use Rattle.certificate.specs.Grammars.{CertView, certificate_grammar, certificate_value}
+use Rattle.certificate.specs.Grammars.{CertView, certificate_grammar, certificate_section}
 use Rattle.certificate.specs.Text.{certificate_text}
 use Rattle.certificate.specs.Laws.{PrintsWhatIsRead}
 use Rattle.check_main.specs.Preparing.{taken_bytes}
 
 -- a feed that has a fault gives no certificate, so this one has read the section
 section_read : (g : Setting) (old new : FeedView) (c : CertView) (o : Option ReadFault) → old.stop ≡ o →
-    Reads (certificate_grammar g) (λ (d : CertView). certificate_value d) old new (Ok c) →
-    ReadsSection (certificate_grammar g) (λ (d : CertView). certificate_value d) old new (Ok c)
+    Reads (certificate_grammar g) (λ (d : CertView). certificate_section d) old new (Ok c) →
+    ReadsSection (certificate_grammar g) (λ (d : CertView). certificate_section d) old new (Ok c)
 section_read g old new c None e r = r.reads e
 section_read g old new c (Some fault) e r = absurd ((r.stopped fault e).0)
 
 pub text_taken : PrintsWhatIsRead → (g : Setting) (old new : FeedView) (c : CertView) →
-    Reads (certificate_grammar g) (λ (d : CertView). certificate_value d) old new (Ok c) →
+    Reads (certificate_grammar g) (λ (d : CertView). certificate_section d) old new (Ok c) →
     taken_bytes new ≡ taken_bytes old ++ certificate_text c
 text_taken printed g old new c r =
     let s = section_read g old new c old.stop refl r in

@@ -12,7 +12,7 @@ use Rattle.clap.specs.Walk.{Text, bundle_met, walked}
 use Rattle.clap.specs.Words.{fault_of}
 use Rattle.command_line.specs.CommandLine.{IsAccepted, asked_by, bbmcheck, workers_asked}
 use Rattle.command_line.specs.declared.Request.TheVariants.{Check}
-use Rattle.check_main.specs.Laws.{EachNumberAsks, OneWordAsks, words_with_workers}
+use Rattle.check_main.specs.Laws.{EachWorkerCountIsAccepted, CheckWordAsksForCheck, words_with_workers}
 
 -- ---- one word
 
@@ -24,7 +24,7 @@ is_asked : asked_by (codes "check" ∷ []) ≡ Check
 unfolding bundle_met defaults_fault flags_fault flags_pass walk_fault walk_passes walked
 is_asked = refl
 
-pub one_word : OneWordAsks
+pub one_word : CheckWordAsksForCheck
 one_word = record { accepted = is_accepted; asked = is_asked }
 
 -- ---- the digits of a number below 100
@@ -78,7 +78,7 @@ in_range test (suc m) a n h low high =
       | inr same ↦ ap test (omega (arith, same, low)) ∙ both.0
     ]
 
-pub each_number_asks : EachNumberAsks
+pub each_number_asks : EachWorkerCountIsAccepted
 each_number_asks n low high =
     let e : decimal n ≡ spelled n = decimal_spelled n (omega (arith, high)) in
     let both = and_parts (is_none (fault_of bbmcheck (spelled_words n))) (eqb (workers_asked (spelled_words n)) n)

@@ -10,7 +10,7 @@ use Rattle.border_match.specs.BorderFaults.{AreBorderFaultsOf}
 use Rattle.certificate.specs.Grammars.{CertView}
 use Rattle.certificate.specs.Text.{certificate_text}
 use Rattle.core_book.specs.Concluding.{AreOwnJobs, modules, setting}
-use Rattle.check_main.specs.declared.preparing.Made.{Made}
+use Rattle.check_main.specs.declared.preparing.JobsAndBorders.{JobsAndBorders}
 use Rattle.check_main.specs.declared.preparing.Prepared.{Prepared}
 
 -- the bytes of the lines that were taken
@@ -23,7 +23,7 @@ pub record IsSectionOf (f : FeedView) (from : ℕ) (c : CertView) : Type 0 where
   pub bytes : drop from (taken_bytes f) ≡ certificate_text c
 
 -- the jobs of the certificate's modules, and the faults of its borders
-pub record IsMadeFor (c : CertView) (made : Made) : Type 0 where
+pub record IsMadeFor (c : CertView) (made : JobsAndBorders) : Type 0 where
   pub jobs : AreOwnJobs c (map arc_value made.jobs.items)
   pub borders : AreBorderFaultsOf (setting c) (modules c) made.borders.items
 

@@ -8,7 +8,7 @@ use Rattle.clap.specs.declared.error.kind.ErrorKind.{ErrorKind}
 use Rattle.clap.specs.declared.error.kind.ErrorKind.TheVariants.{DisplayHelp, DisplayVersion}
 use Rattle.streams.specs.declared.streams.Source.{Ghosts as Source}
 use Rattle.streams.specs.declared.streams.Sink.{Ghosts as Sink}
-use Rattle.command_line.specs.CommandLine.{AsksForHelp, IsAccepted, IsHelpAlone, asked_by}
+use Rattle.command_line.specs.CommandLine.{AsksForHelp, IsAccepted, AsksOnlyForHelp, asked_by}
 use Rattle.command_line.specs.declared.Request.{Request}
 use Rattle.command_line.specs.declared.Request.TheVariants.{Check}
 use Rattle.answers.specs.declared.outcome.Outcome.{Outcome}
@@ -69,5 +69,5 @@ pub record Explained {R W E : Type 0} (sink : Sink W) (messages : Sink E) (words
     (old new : Streams R W E) (status : ℕ) : Type 0 where
   -- the reader is as it was
   pub unread : new.reader ≡ old.reader
-  pub by_status : Explains sink messages (AsksForHelp words) (IsHelpAlone words) old.writer new.writer
+  pub by_status : Explains sink messages (AsksForHelp words) (AsksOnlyForHelp words) old.writer new.writer
       old.errors new.errors status

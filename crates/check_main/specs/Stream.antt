@@ -23,8 +23,8 @@ pub record GivesTooMuch (old new : Option (List ℕ)) : Type 0 where
   pub beyond : text_limit < length text
 
 -- the feed is all of a text, of which no line is taken
-abbrev pub whole_text : List ℕ → FeedView
-whole_text text = record { text = text; taken = 0; closed = true; stop = None }
+abbrev pub closed_feed_of : List ℕ → FeedView
+closed_feed_of text = record { text = text; taken = 0; closed = true; stop = None }
 
 -- the writer took the first bytes of the output, and not all of them
 pub record TakesPrefix (old new : Option (List ℕ)) (output : List ℕ) : Type 0 where

@@ -12,7 +12,7 @@ ghost use Rattle.core_book.specs.Filling.{shapes_of};
 ghost use Rattle.check_main.specs.Audits.{IsAuditOf, IsClosedOnce, IsCompleted, filings_in};
 
 use certificate::{Cert, Job, job_groups};
-use core_book::{BookState, fill_open};
+use core_book::{BookState, fill_open_book};
 use job_pool::{Gate, WorkEnd, work};
 use std::alloc::{AllocError, Global};
 use std::marker::Brand;
@@ -99,7 +99,7 @@ pub(crate) fn audit_opening<G: Gate + Sync, R: Threads + Wait + Sync>(
         acceptances: Blank::new(workers as u64),
         workers,
     };
-    let mut audited = audited_by::<Brand, Brand, G, R>(
+    let mut audited = audit_with_book::<Brand, Brand, G, R>(
         rt, alloc, gate, &copies, &groups, unopened,
     )?;
     complete(alloc, &mut audited.state, digest, &copies)?;
@@ -118,7 +118,7 @@ fn complete(
         state.new) }
     ensures replays { OnOk result (IsReplayed state.new) }
 {
-    fill_open(alloc, state, digest, jobs, &mut 0)?;
+    fill_open_book(alloc, state, digest, jobs, &mut 0)?;
     state.close()?;
     // The history replays to the state.
     let _history = state.history();
@@ -135,7 +135,7 @@ struct BookToOpen {
 }
 
 // What the workers filed of these jobs into a book, over two ledgers. It is still open.
-fn audited_by<F: Filings + Sync, A: Ledger + Sync, G: Gate + Sync, R: Threads + Wait + Sync>(
+fn audit_with_book<F: Filings + Sync, A: Ledger + Sync, G: Gate + Sync, R: Threads + Wait + Sync>(
     rt: &R,
     alloc: Global,
     gate: &G,

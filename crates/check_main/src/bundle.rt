@@ -5,14 +5,14 @@ ghost use Rattle.meaning.specs.Headline.{IsRight};
 ghost use Rattle.meaning.specs.Streams.{SaysYes};
 ghost use Rattle.headline.specs.Stops.{HasRightStops};
 ghost use Rattle.headline.specs.Plain.{IsWrongIfPlain};
-ghost use Rattle.headline.specs.ReportLines.{LinesTell};
+ghost use Rattle.headline.specs.ReportLines.{LinesHaveMeaning};
 ghost use Rattle.headline.specs.RightInFull.{IsRightInFull};
 ghost use Rattle.headline.specs.SmallDesigns.{IsNoSmallDesign};
 
 use crate::check::report_on;
 use crate::preparing::prepare;
 use answers::{Answered, Outcome, refused};
-use certificate::laws::one_text;
+use certificate::laws::text_round_trips;
 use certificate::read_certificate;
 use circuit::{port_names, read_circuit};
 use job_pool::Gate;
@@ -73,7 +73,7 @@ pub fn check_text<G: Gate + Sync, R: Threads + Wait + Sync>(
     ensures wrong { IfOk result (λ answered. answered.outcome ≡ Outcome.No →
         IsWrongIfPlain feed.text) }
     ensures lines { IfOk result (λ answered. answered.outcome ≡ Outcome.No →
-        LinesTell feed.text answered.output.items) }
+        LinesHaveMeaning feed.text answered.output.items) }
 
     // A refusal: the text is not the plain text of a small design.
     ensures small { IfOk result (λ answered. answered.outcome ≡ Outcome.Refused →
@@ -116,7 +116,7 @@ fn report_of_text<G: Gate + Sync, R: Threads + Wait + Sync>(
         return refused(alloc, fault);
     }
     // A certificate prints as the bytes that it was read from.
-    one_text();
+    text_round_trips();
     let prepared = prepare(rt, alloc, &cert, feed, from, workers)?;
     report_on(rt, alloc, &cert, prepared, workers, gate)
 }

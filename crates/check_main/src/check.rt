@@ -12,12 +12,12 @@ ghost use Rattle.check_main.specs.Preparing.{IsPreparedFor};
 use crate::auditing::audit_opening;
 use crate::preparing::Prepared;
 use answers::{Answered, Outcome};
-use audit_core::conclude_full;
+use audit_core::conclude_from_full_book;
 use border_match::BorderFault;
 use certificate::Cert;
 use core_book::{BookState, Verdict};
 use job_pool::Gate;
-use report::report_under;
+use report::report_with_digest;
 use std::alloc::{AllocError, Global};
 use std::sync::Wait;
 use std::thread::Threads;
@@ -37,7 +37,7 @@ pub(crate) fn report_on<G: Gate + Sync, R: Threads + Wait + Sync>(
         answered.outcome) }
 {
     let Concluded { digest, verdict } = conclude_on(rt, alloc, cert, prepared, workers, gate)?;
-    let output = report_under(alloc, cert, digest, &verdict)?;
+    let output = report_with_digest(alloc, cert, digest, &verdict)?;
     Ok(Answered {
         outcome: outcome_of(&verdict),
         output,
@@ -88,7 +88,7 @@ fn verdict_from(
 {
     // What is known of the modules.
     let _count = cert.modules();
-    conclude_full(alloc, cert, borders, state)
+    conclude_from_full_book(alloc, cert, borders, state)
 }
 
 fn outcome_of(verdict: &Verdict) -> Outcome

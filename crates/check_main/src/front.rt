@@ -7,7 +7,7 @@ ghost use Rattle.meaning.specs.Streams.{ReaderGives};
 ghost use Rattle.headline.specs.RightInFull.{IsRightInFull};
 ghost use Rattle.headline.specs.Plain.{IsWrongIfPlain};
 ghost use Rattle.headline.specs.SmallDesigns.{IsNoSmallDesign};
-ghost use Rattle.headline.specs.ReportLines.{LinesTell, Relates};
+ghost use Rattle.headline.specs.ReportLines.{LinesHaveMeaning, RelatesReadToWritten};
 ghost use Rattle.check_main.specs.Commands.{IsAnswerTo};
 ghost use Rattle.check_main.specs.Program.{AsksForCheck, Explained, Explains, IsHelp, Ran, YesPromises};
 ghost use Rattle.check_main.specs.Status.{status_for, Says};
@@ -95,8 +95,8 @@ where
     ensures wrong { AsksForCheck (texts words.entry.now) → result ≡ 1 →
         ReaderGives IsWrongIfPlain (R.left streams.old.reader) }
     ensures lines { AsksForCheck (texts words.entry.now) → result ≡ 1 →
-        Relates LinesTell (R.left streams.old.reader) (W.written_bytes streams.old.writer)
-        (W.written_bytes streams.new.writer) }
+        RelatesReadToWritten LinesHaveMeaning (R.left streams.old.reader)
+        (W.written_bytes streams.old.writer) (W.written_bytes streams.new.writer) }
 
     // A refusal of `check`: the text is not the plain text of a small design.
     ensures small { AsksForCheck (texts words.entry.now) → result ≡ 3 →
@@ -143,7 +143,7 @@ where
     ensures wrong { asked.request ≡ Request.Check → result ≡ Ok Outcome.No →
         ReaderGives IsWrongIfPlain (R.left reader.old) }
     ensures lines { asked.request ≡ Request.Check → result ≡ Ok Outcome.No →
-        Relates LinesTell (R.left reader.old) (W.written_bytes writer.old)
+        RelatesReadToWritten LinesHaveMeaning (R.left reader.old) (W.written_bytes writer.old)
         (W.written_bytes writer.new) }
     ensures small { asked.request ≡ Request.Check → result ≡ Ok Outcome.Refused →
         ReaderGives IsNoSmallDesign (R.left reader.old) }

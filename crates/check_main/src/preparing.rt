@@ -37,7 +37,7 @@ pub(crate) fn prepare<R: Threads>(
     ensures { IfOk result (IsPreparedFor cert.now) }
 {
     let (digest, made) = digest_and_make(rt, alloc, cert, text, from, workers);
-    let Made { jobs, borders } = made?;
+    let JobsAndBorders { jobs, borders } = made?;
     Ok(Prepared {
         opening: Opening { digest, jobs },
         borders,
@@ -52,26 +52,26 @@ fn digest_and_make<R: Threads>(
     text: Feed,
     from: usize,
     workers: usize,
-) -> ([u8; 32], Result<Made, AllocError>)
+) -> ([u8; 32], Result<JobsAndBorders, AllocError>)
     requires { IsSectionOf text from cert.now }
     ensures digest { result.0 ≡ sha256 (certificate_text cert.now) }
     ensures made { IfOk result.1 (IsMadeFor cert.now) }
 {
     if workers == 1 {
-        let digest = Sha256::digest(section_in(&text, from));
+        let digest = Sha256::digest(certificate_section_in(&text, from));
         drop(text);
         return (digest, make(alloc, cert));
     }
-    digest_beside_making(rt, alloc, cert, section_in(&text, from))
+    digest_in_parallel(rt, alloc, cert, certificate_section_in(&text, from))
 }
 
 // The digest of a certificate's section, and what is made without it, in two threads.
-fn digest_beside_making<R: Threads>(
+fn digest_in_parallel<R: Threads>(
     rt: &R,
     alloc: Global,
     cert: &Cert<'_>,
     section: &[u8],
-) -> ([u8; 32], Result<Made, AllocError>)
+) -> ([u8; 32], Result<JobsAndBorders, AllocError>)
     ensures digest { result.0 ≡ sha256 section.now }
     ensures made { IfOk result.1 (IsMadeFor cert.now) }
 {
@@ -86,20 +86,20 @@ fn digest_beside_making<R: Threads>(
 
 // Jobs, and the faults of the borders between their modules.
 #[derive(Drop)]
-struct Made {
+struct JobsAndBorders {
     jobs: Vec<Arc<Job>>,
     borders: Vec<Option<BorderFault>>,
 }
 
-fn make(alloc: Global, cert: &Cert<'_>) -> Result<Made, AllocError>
+fn make(alloc: Global, cert: &Cert<'_>) -> Result<JobsAndBorders, AllocError>
     ensures { IfOk result (IsMadeFor cert.now) }
 {
     let jobs = cert.jobs(alloc)?;
     let borders = match_borders(alloc, cert, &jobs)?;
-    Ok(Made { jobs, borders })
+    Ok(JobsAndBorders { jobs, borders })
 }
 
-fn section_in(text: &Feed, from: usize) -> &[u8]
+fn certificate_section_in(text: &Feed, from: usize) -> &[u8]
     requires { from ≤ length (taken_bytes text.now) }
     ensures { result.now ≡ drop from (taken_bytes text.now) }
 {

@@ -6,13 +6,13 @@ ghost use Rattle.meaning.specs.Streams.{ReaderGives};
 ghost use Rattle.headline.specs.RightInFull.{IsRightInFull};
 ghost use Rattle.headline.specs.Plain.{IsWrongIfPlain};
 ghost use Rattle.headline.specs.SmallDesigns.{IsNoSmallDesign};
-ghost use Rattle.headline.specs.ReportLines.{LinesTell, Relates};
+ghost use Rattle.headline.specs.ReportLines.{LinesHaveMeaning, RelatesReadToWritten};
 ghost use Rattle.answers.specs.MigrateText.{IsMigrationOf};
 ghost use Rattle.answers.specs.ModulesText.{IsModulesOf};
 ghost use Rattle.answers.specs.RunText.{IsRunOf};
 ghost use Rattle.answers.specs.ValueText.{IsValueOf};
 ghost use Rattle.check_main.specs.Program.{YesPromises};
-ghost use Rattle.check_main.specs.Stream.{ReadsAll, Serves, GivesTooMuch, TakesPrefix, whole_text};
+ghost use Rattle.check_main.specs.Stream.{ReadsAll, Serves, GivesTooMuch, TakesPrefix, closed_feed_of};
 
 use crate::CheckFault;
 use crate::bundle::check_text;
@@ -68,7 +68,7 @@ where
         (W.written_bytes writer.old) (W.written_bytes writer.new) }
     ensures wrong { result ≡ Ok Outcome.No → ReaderGives IsWrongIfPlain (R.left reader.old) }
     ensures lines { result ≡ Ok Outcome.No →
-        Relates LinesTell (R.left reader.old) (W.written_bytes writer.old)
+        RelatesReadToWritten LinesHaveMeaning (R.left reader.old) (W.written_bytes writer.old)
         (W.written_bytes writer.new) }
     ensures small { result ≡ Ok Outcome.Refused → ReaderGives IsNoSmallDesign (R.left reader.old) }
 {
@@ -167,7 +167,7 @@ fn read_text<T: RandomSource, R: Source>(
     requires { R.has_failed reader.old ≡ false }
     ensures read_all { IfOk result (λ feed. ReadsAll (R.left reader.old) (R.left reader.new)
         feed.text) }
-    ensures whole { IfOk result (λ feed. feed ≡ whole_text feed.text) }
+    ensures whole { IfOk result (λ feed. feed ≡ closed_feed_of feed.text) }
     ensures works { OnOk result (R.has_failed reader.new ≡ false) }
     ensures read { IsErrOf result CheckFault.Read → R.has_failed reader.new ≡ true }
     ensures too_long { IsErrOf result CheckFault.TooLong →
@@ -179,17 +179,21 @@ fn read_text<T: RandomSource, R: Source>(
         return Err(CheckFault::Memory);
     };
     let feed = Feed::seeded(alloc, Seed::drawn(rt));
-    read_by(feed, reader, &mut block)
+    read_by_blocks(feed, reader, &mut block)
 }
 
 // The same, by reads that ask for as many bytes as the block has.
-fn read_by<R: Source>(empty: Feed, reader: &mut R, block: &mut [u8]) -> Result<Feed, CheckFault>
+fn read_by_blocks<R: Source>(
+    empty: Feed,
+    reader: &mut R,
+    block: &mut [u8],
+) -> Result<Feed, CheckFault>
     requires empty { empty ≡ record { text = []; taken = 0; closed = false; stop = None } }
     requires works { R.has_failed reader.old ≡ false }
     requires block_has_room { 0 < length block.old }
     ensures read_all { IfOk result (λ feed. ReadsAll (R.left reader.old) (R.left reader.new)
         feed.text) }
-    ensures whole { IfOk result (λ feed. feed ≡ whole_text feed.text) }
+    ensures whole { IfOk result (λ feed. feed ≡ closed_feed_of feed.text) }
     ensures works { OnOk result (R.has_failed reader.new ≡ false) }
     ensures read { IsErrOf result CheckFault.Read → R.has_failed reader.new ≡ true }
     ensures too_long { IsErrOf result CheckFault.TooLong →

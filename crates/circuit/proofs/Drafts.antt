@@ -7,7 +7,8 @@ use Rattle.std.specs.Str.{bytes_eq}
 use Rattle.std.proofs.lemmas.Bool.{true≢false, ltb-false, leb-false}
 use Rattle.circuit.specs.Entries.{defined}
 use Rattle.circuit.specs.declared.circuit_line.CircuitLine.{CircuitLine}
-use Rattle.circuit.specs.Rules.{consumed, consume, define, is_gate, gate_count, add_fault, passes_limit, is_wrong_delay}
+use Rattle.circuit.specs.Rules.{consumed, consume, define, is_gate, gate_count, add_fault, exceeds_limit}
+use Rattle.circuit.specs.Rules.{is_wrong_delay}
 use Rattle.circuit.specs.Bridge.{gates_of, FitsKind, InputsFirst, IsGoodAfter, AreGood}
 use Rattle.circuit.specs.Meaning.{Gate, number}
 use Rattle.section_text.specs.Words.{has}
@@ -22,7 +23,7 @@ or_false : (a b : Bool) → (a || b) ≡ false → (a ≡ false) × (b ≡ false
 or_false true b e = absurd (true≢false e)
 or_false false b e = (refl, e)
 
-no_fault : (entries : List CircuitLine) (r : CircuitLine) → passes_limit entries r ≡ false →
+no_fault : (entries : List CircuitLine) (r : CircuitLine) → exceeds_limit entries r ≡ false →
     consume (defined entries) (consumed entries) r.ins ≡ None → define (defined entries) r.outs ≡ None →
     add_fault entries r ≡ None
 unfolding add_fault
@@ -33,7 +34,7 @@ pub record Added (a b : Inside) (r : CircuitLine) (numbers : List ℕ) : Type 0 
   pub entries : b.entries.items ≡ a.entries.items ++ r ∷ []
   pub wires : b.wires.keys ≡ a.wires.keys ++ r.outs
   pub used : b.consumed.items ≡ marked (take (length r.ins) numbers) (a.consumed.items ++ map (λ _. false) r.outs)
-  pub limit : passes_limit a.entries.items r ≡ false
+  pub limit : exceeds_limit a.entries.items r ≡ false
   pub ins_pass : consume (defined a.entries.items) (consumed a.entries.items) r.ins ≡ None
   pub outs_pass : define a.wires.keys r.outs ≡ None
   pub fits : FitsKind r
@@ -42,7 +43,7 @@ pub record Added (a b : Inside) (r : CircuitLine) (numbers : List ℕ) : Type 0 
   pub wired : map gate_of b.wired.items ≡ map gate_of a.wired.items ++ gate_at r.kind numbers (length a.wires.keys)
   pub gates : b.gates ≡ a.gates + cond (is_gate r.kind) 1 0
 
-few : (entries : List CircuitLine) (r : CircuitLine) → passes_limit entries r ≡ false →
+few : (entries : List CircuitLine) (r : CircuitLine) → exceeds_limit entries r ≡ false →
     (length (defined entries) + length r.outs ≤ 4096) × ((is_gate r.kind && nat_le 1024 (gate_count entries)) ≡ false)
 few entries r e =
     let limits = (or_false (is_wrong_delay r.kind) _ e).1 in

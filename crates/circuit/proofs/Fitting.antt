@@ -14,7 +14,7 @@ use Rattle.circuit.specs.Entries.{entry, rank_of}
 use Rattle.circuit.specs.Gates.{uses, defines}
 use Rattle.section_text.proofs.Spellings.{chosen, passed}
 use Rattle.circuit.specs.Text.{Line}
-use Rattle.circuit.specs.Forms.{gate_kind, words_before, gate_names, gate_entry, form_of}
+use Rattle.circuit.specs.Forms.{gate_kind, words_before_names, gate_line_of_kind, gate_entry, form_of}
 use Rattle.circuit.specs.Bridge.{FitsKind, is_input}
 
 names_length : (ws : List (List ℕ)) (i n : ℕ) (ns : List (List ℕ)) → names_at ws i n ≡ Some ns → length ns ≡ n
@@ -28,21 +28,21 @@ names_length ws i (suc n) ns e =
     ap length (sym (same_Some (first ∷ others) ns made)) ∙ omega (arith, l)))
 
 gate_fits : (ws : List (List ℕ)) (r : CircuitLine) → gate_entry ws ≡ Some r → FitsKind r
-unfolding gate_entry gate_names
+unfolding gate_entry gate_line_of_kind
 gate_fits ws r e =
     option_and_then_some (λ kind.
-    cond (eqb (length ws) (words_before kind + uses kind + 1 + defines kind))
-    (cond (is_word_at ws (words_before kind + uses kind) (codes "->")) (gate_names ws kind) None) None)
+    cond (eqb (length ws) (words_before_names kind + uses kind + 1 + defines kind))
+    (cond (is_word_at ws (words_before_names kind + uses kind) (codes "->")) (gate_line_of_kind ws kind) None) None)
     (gate_kind ws) r e (λ kind known rest.
-    let count = passed (eqb (length ws) (words_before kind + uses kind + 1 + defines kind))
-    (cond (is_word_at ws (words_before kind + uses kind) (codes "->")) (gate_names ws kind) None) r rest in
-    let arrow = passed (is_word_at ws (words_before kind + uses kind) (codes "->"))
-    (gate_names ws kind) r count.1 in
-    option_and_then_some (λ ins. names_at ws (words_before kind + uses kind + 1)
+    let count = passed (eqb (length ws) (words_before_names kind + uses kind + 1 + defines kind))
+    (cond (is_word_at ws (words_before_names kind + uses kind) (codes "->")) (gate_line_of_kind ws kind) None) r rest in
+    let arrow = passed (is_word_at ws (words_before_names kind + uses kind) (codes "->"))
+    (gate_line_of_kind ws kind) r count.1 in
+    option_and_then_some (λ ins. names_at ws (words_before_names kind + uses kind + 1)
     (defines kind) >>= λ outs. Some (entry (Gate kind) ins outs))
-    (names_at ws (words_before kind) (uses kind)) r arrow.1 (λ ins some_ins rest_ins.
+    (names_at ws (words_before_names kind) (uses kind)) r arrow.1 (λ ins some_ins rest_ins.
     option_and_then_some (λ outs. Some (entry (Gate kind) ins outs))
-    (names_at ws (words_before kind + uses kind + 1) (defines kind)) r rest_ins
+    (names_at ws (words_before_names kind + uses kind + 1) (defines kind)) r rest_ins
     (λ outs some_outs made.
     subst FitsKind (same_Some (entry (Gate kind) ins outs) r made)
     (names_length ws _ _ ins some_ins, names_length ws _ _ outs some_outs))))

@@ -8,7 +8,7 @@ use Rattle.circuit.specs.declared.circuit_line.CircuitLine.{CircuitLine}
 use Rattle.circuit.specs.declared.circuit_line.GateKind.{GateKind}
 use Rattle.circuit.specs.declared.circuit_line.Kind.TheVariants.{Gate}
 use Rattle.circuit.specs.Entries.{entry}
-use Rattle.circuit.specs.Forms.{gate_entry, gate_kind, gate_names, words_before}
+use Rattle.circuit.specs.Forms.{gate_entry, gate_kind, gate_line_of_kind, words_before_names}
 use Rattle.circuit.specs.Gates.{uses, defines}
 
 abbrev pub Sides : Type 0
@@ -30,21 +30,23 @@ by_parts kind true false x y = refl
 by_parts kind false b x y = refl
 
 module _ (ws : List (List ℕ)) (kind : GateKind) where
-  gate_by_names : gate_of kind (names_beside_arrow ws (words_before kind) (uses kind) (defines kind))
-      ≡ (if length ws == words_before kind + uses kind + 1 + defines kind then
-      (if is_word_at ws (words_before kind + uses kind) (codes "->") then gate_names ws kind else None) else None)
-  unfolding names_beside_arrow gate_names
+  gate_by_names : gate_of kind (names_beside_arrow ws (words_before_names kind) (uses kind) (defines kind))
+      ≡ (if length ws == words_before_names kind + uses kind + 1 + defines kind then
+      (if is_word_at ws (words_before_names kind + uses kind) (codes "->") then gate_line_of_kind ws kind else None)
+      else None)
+  unfolding names_beside_arrow gate_line_of_kind
   gate_by_names =
-      by_parts kind (length ws == words_before kind + uses kind + 1 + defines kind)
-      (is_word_at ws (words_before kind + uses kind) (codes "->")) (names_at ws (words_before kind) (uses kind))
-      (names_at ws (words_before kind + uses kind + 1) (defines kind))
+      by_parts kind (length ws == words_before_names kind + uses kind + 1 + defines kind)
+      (is_word_at ws (words_before_names kind + uses kind) (codes "->"))
+      (names_at ws (words_before_names kind) (uses kind))
+      (names_at ws (words_before_names kind + uses kind + 1) (defines kind))
 
   -- the line of a gate, whose words before its names and whose numbers of names are those of its kind
-  pub gate_entry_is : (before ins outs : ℕ) → before ≡ words_before kind → ins ≡ uses kind → outs ≡ defines kind →
+  pub gate_entry_is : (before ins outs : ℕ) → before ≡ words_before_names kind → ins ≡ uses kind → outs ≡ defines kind →
       gate_kind ws ≡ Some kind → gate_of kind (names_beside_arrow ws before ins outs) ≡ gate_entry ws
   unfolding gate_entry
   gate_entry_is before ins outs b i o k =
       ap (λ n. gate_of kind (names_beside_arrow ws n ins outs)) b
-      ∙ ap (λ n. gate_of kind (names_beside_arrow ws (words_before kind) n outs)) i
-      ∙ ap (λ n. gate_of kind (names_beside_arrow ws (words_before kind) (uses kind) n)) o
+      ∙ ap (λ n. gate_of kind (names_beside_arrow ws (words_before_names kind) n outs)) i
+      ∙ ap (λ n. gate_of kind (names_beside_arrow ws (words_before_names kind) (uses kind) n)) o
       ∙ gate_by_names ∙ rw k refl

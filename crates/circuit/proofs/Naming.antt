@@ -20,7 +20,7 @@ use Rattle.section_text.specs.Words.{has}
 use Rattle.circuit.specs.Rules.{define, gate_count, is_gate}
 use Rattle.circuit.specs.Meaning.{Gate, place_of, wires_after, number}
 use Rattle.circuit.specs.Bridge.{is_input, input_count, input_names, gate_in, gates_of, FitsKind, AreGoodAfter}
-use Rattle.circuit.specs.Laws.{WiresAreNamed, NamesAreOwn, InputsAreFirst}
+use Rattle.circuit.specs.Laws.{WiresAreNamed, WireNamesAreDistinct, InputsAreFirst}
 use Rattle.circuit.proofs.Places.{has_front, has_left, number_left, number_new, bytes_same, position_number, look_up}
 use Rattle.circuit.proofs.Bridging.{names_pass, define_first, defined_push, push_cons, input_cons, count_append}
 use Rattle.circuit.proofs.Bridging.{no_inputs}
@@ -219,7 +219,7 @@ own_good before (r ∷ rest) good own =
     subst (λ (l : List CircuitLine). AreOwn (defined l)) (push_cons before r rest)
     (own_good (before ++ r ∷ []) rest good.1 here)
 
-pub names_are_own : NamesAreOwn
+pub names_are_own : WireNamesAreDistinct
 names_are_own entries w name good at =
     let own = own_good [] entries good (λ w n at. absurd cc) w name at in
     place_number (defined entries) name ∙ ap (λ b. cond b (Some (number (defined entries) name)) None) own.1

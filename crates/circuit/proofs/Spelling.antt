@@ -18,8 +18,9 @@ use Rattle.circuit.specs.declared.circuit_line.CircuitLine.{CircuitLine}
 use Rattle.circuit.specs.Entries.{entry}
 use Rattle.circuit.specs.Gates.{uses, defines}
 use Rattle.section_text.proofs.Spellings.{chosen, passed, one_word, two_words, number_at_spelled}
-use Rattle.circuit.specs.Forms.{bit_at, gate_kind, words_before, gate_names, gate_entry, form_of}
-use Rattle.circuit.specs.Text.{bit_word, gate_word, gate_number, first_word, words_by, more_words, entry_text}
+use Rattle.circuit.specs.Forms.{bit_at, gate_kind, words_before_names, gate_line_of_kind, gate_entry, form_of}
+use Rattle.circuit.specs.Text.{bit_word, gate_word, gate_parameter_words, first_word, words_after_first}
+use Rattle.circuit.specs.Text.{words_after_keyword, entry_text}
 use Rattle.circuit.specs.Text.{Line, form_text}
 
 -- the first word of a form, and the others
@@ -30,7 +31,7 @@ first_of End = codes "end"
 
 others_of : Line → List (List ℕ)
 others_of (Header h) = []
-others_of (Item r) = more_words r
+others_of (Item r) = words_after_keyword r
 others_of End = []
 
 take_one : (ws : List (List ℕ)) (w : List ℕ) → slice_get ws 0 ≡ Some w → take 1 ws ≡ w ∷ []
@@ -70,7 +71,7 @@ bit_spelled ws i b e =
 
 -- the head of a gate line
 abbrev HeadIs : List (List ℕ) → GateKind → Type 0
-HeadIs ws kind = take (words_before kind) ws ≡ gate_word kind ∷ gate_number kind
+HeadIs ws kind = take (words_before_names kind) ws ≡ gate_word kind ∷ gate_parameter_words kind
 
 plain_head : (ws : List (List ℕ)) (x kind : GateKind) → ◌≡◌ {A = Option GateKind} (Some x) (Some kind) → HeadIs ws x →
     HeadIs ws kind
@@ -114,34 +115,36 @@ head_spelled ws kind e =
     ]
 
 -- a gate's entry
-gate_spelled : (ws : List (List ℕ)) (r : CircuitLine) → gate_entry ws ≡ Some r → ws ≡ first_word r.kind ∷ more_words r
-unfolding gate_entry gate_names first_word more_words
+gate_spelled : (ws : List (List ℕ)) (r : CircuitLine) → gate_entry ws ≡ Some r →
+    ws ≡ first_word r.kind ∷ words_after_keyword r
+unfolding gate_entry gate_line_of_kind first_word words_after_keyword
 gate_spelled ws r e =
     option_and_then_some (λ kind.
-    cond (eqb (length ws) (words_before kind + uses kind + 1 + defines kind))
-    (cond (is_word_at ws (words_before kind + uses kind) (codes "->")) (gate_names ws kind) None) None)
+    cond (eqb (length ws) (words_before_names kind + uses kind + 1 + defines kind))
+    (cond (is_word_at ws (words_before_names kind + uses kind) (codes "->")) (gate_line_of_kind ws kind) None) None)
     (gate_kind ws) r e (λ kind known rest.
-    let count = passed (eqb (length ws) (words_before kind + uses kind + 1 + defines kind))
-    (cond (is_word_at ws (words_before kind + uses kind) (codes "->")) (gate_names ws kind) None) r rest in
-    let arrow = passed (is_word_at ws (words_before kind + uses kind) (codes "->"))
-    (gate_names ws kind) r count.1 in
-    option_and_then_some (λ ins. names_at ws (words_before kind + uses kind + 1)
+    let count = passed (eqb (length ws) (words_before_names kind + uses kind + 1 + defines kind))
+    (cond (is_word_at ws (words_before_names kind + uses kind) (codes "->")) (gate_line_of_kind ws kind) None) r rest in
+    let arrow = passed (is_word_at ws (words_before_names kind + uses kind) (codes "->"))
+    (gate_line_of_kind ws kind) r count.1 in
+    option_and_then_some (λ ins. names_at ws (words_before_names kind + uses kind + 1)
     (defines kind) >>= λ outs. Some (entry (Gate kind) ins outs))
-    (names_at ws (words_before kind) (uses kind)) r arrow.1 (λ ins some_ins rest_ins.
+    (names_at ws (words_before_names kind) (uses kind)) r arrow.1 (λ ins some_ins rest_ins.
     option_and_then_some (λ outs. Some (entry (Gate kind) ins outs))
-    (names_at ws (words_before kind + uses kind + 1) (defines kind)) r rest_ins
+    (names_at ws (words_before_names kind + uses kind + 1) (defines kind)) r rest_ins
     (λ outs some_outs made.
-    let whole = assembled ws (gate_word kind ∷ gate_number kind) ins outs (codes "->") (words_before kind)
+    let whole = assembled ws (gate_word kind ∷ gate_parameter_words kind) ins outs (codes "->")
+    (words_before_names kind)
     (uses kind) (defines kind) (head_spelled ws kind known) (names_at_are ws _ _ ins some_ins)
     (is_at_is ws _ (codes "->") arrow.0) (names_at_are ws _ _ outs some_outs) (eqb-true _ _ count.0) in
-    subst (λ (x : CircuitLine). ws ≡ first_word x.kind ∷ words_by x.ins x.outs x.kind)
+    subst (λ (x : CircuitLine). ws ≡ first_word x.kind ∷ words_after_first x.ins x.outs x.kind)
     (same_Some (entry (Gate kind) ins outs) r made) whole)))
 
 abbrev SpelledAs : List (List ℕ) → Line → Type 0
 SpelledAs ws f = ws ≡ first_of f ∷ others_of f
 
 form_words : (ws : List (List ℕ)) (f : Line) → form_of ws ≡ Some f → SpelledAs ws f
-unfolding form_of first_of others_of first_word more_words
+unfolding form_of first_of others_of first_word words_after_keyword
 form_words ws f e =
     elim (chosen (is_word_at ws 0 (codes "circuit")) _ _ (Some f) e) [
       | inl p ↦ let a = lone_spelled ws (codes "circuit") (Header tt) f p.0 p.1 in subst (SpelledAs ws) a.1 a.0
@@ -171,5 +174,5 @@ pub form_line : (l : List ℕ) (f : Line) → form_of (words_of l) ≡ Some f �
 unfolding first_of others_of entry_text
 form_line l (Header h) e = ap ended_line (line_from_words l (codes "circuit") [] (form_words (words_of l) (Header h) e))
 form_line l (Item r) e = ap ended_line
-    (line_from_words l (first_word r.kind) (more_words r) (form_words (words_of l) (Item r) e))
+    (line_from_words l (first_word r.kind) (words_after_keyword r) (form_words (words_of l) (Item r) e))
 form_line l End e = ap ended_line (line_from_words l (codes "end") [] (form_words (words_of l) End e))

@@ -11,25 +11,28 @@ use Rattle.std.proofs.lemmas.Option.{slice_get_within, get_or_from_slice_get, sa
 use Rattle.circuit.specs.declared.netlist.ValuesFault.{ValuesFault}
 use Rattle.circuit.specs.declared.netlist.ValuesFault.TheVariants.{OutOfDomain, Memory}
 use Rattle.circuit.specs.Gates.{row, uses, defines, is_inverse}
-use Rattle.circuit.specs.Meaning.{Gate, Netlist, Valuation, HasRow, RowsBelow, Satisfies, AreOrdered, AreForward}
+use Rattle.circuit.specs.Meaning.{Gate, Netlist, Valuation, HasRow, RowsBelow, Satisfies, AreOrdered, AreNonInverse}
 use Rattle.circuit.specs.Meaning.{IsUndefined, first_gates, wires, wires_after}
 use Rattle.circuit.specs.Bridge.{read, StopsAt, IsValuesFault}
-use Rattle.circuit.specs.Evaluate.{evaluate, first_undefined, undefined_or, EvaluatesUpTo, IsEvaluateFault}
-use Rattle.circuit.specs.Laws.{HasValuation, UndefinedHasNoValuation, OnlyInverseGatesAreUndefined, UndefinedIsOne}
-use Rattle.circuit.specs.Laws.{StoppedIsUndefined}
+use Rattle.circuit.specs.Evaluate.{evaluate, first_undefined, undefined_gate_or_later, EvaluatesUpTo}
+use Rattle.circuit.specs.Evaluate.{IsGateEvaluationError}
+use Rattle.circuit.specs.Laws.{HasValuation, UndefinedHasNoValuation, OnlyInverseGatesAreUndefined}
+use Rattle.circuit.specs.Laws.{AtMostOneGateIsUndefined}
+use Rattle.circuit.specs.Laws.{ValuesStopAtUndefinedGate}
 use Rattle.circuit.proofs.Valuations.{row_of, row_cases, map_below, all_head, all_tail, evaluated}
 
 -- ---- what `first_undefined` answers
 clash : {A : Type 0} (x : A) → ◌≡◌ {A = Option A} None (Some x) → ⊥
 clash x e = cc
 
-undefined_or-cases : (o : Option ℕ) (k : ℕ) → option_map (λ k. k + 1) o ≡ Some k → (m : ℕ) × (o ≡ Some m) × (k ≡ suc m)
-undefined_or-cases None k e = absurd (clash k e)
-undefined_or-cases (Some m) k e = (m, refl, omega (arith, same_Some (m + 1) k e))
+undefined_gate_or_later-cases : (o : Option ℕ) (k : ℕ) → option_map (λ k. k + 1) o ≡ Some k →
+    (m : ℕ) × (o ≡ Some m) × (k ≡ suc m)
+undefined_gate_or_later-cases None k e = absurd (clash k e)
+undefined_gate_or_later-cases (Some m) k e = (m, refl, omega (arith, same_Some (m + 1) k e))
 
-undefined_or-none : (o : Option ℕ) → option_map (λ k. k + 1) o ≡ None → o ≡ None
-undefined_or-none None e = refl
-undefined_or-none (Some m) e = absurd (clash (m + 1) (sym e))
+undefined_gate_or_later-none : (o : Option ℕ) → option_map (λ k. k + 1) o ≡ None → o ≡ None
+undefined_gate_or_later-none None e = refl
+undefined_gate_or_later-none (Some m) e = absurd (clash (m + 1) (sym e))
 
 total : (vs r : List Bool) (d : ℕ) → length r ≡ d → length vs + d ≡ length (vs ++ r)
 total vs r d e = sym (length-append vs r ∙ ap (λ n. length vs + n) e)
@@ -41,10 +44,11 @@ unfolding evaluate first_undefined AreOrdered
 all_evaluated vs [] ordered e = (vs, refl)
 all_evaluated vs (g ∷ gs) ordered e =
     elim (row_cases g.kind (map (read vs) g.ins) (length-map g.ins (read vs) ∙ ordered.1)) [
-      | inl none ↦ absurd (clash 0 (sym e ∙ ap (undefined_or (λ r. first_undefined (vs ++ r) gs)) none))
+      | inl none ↦ absurd (clash 0 (sym e ∙ ap (undefined_gate_or_later (λ r. first_undefined (vs ++ r) gs)) none))
       | inr s ↦
           let rest = all_evaluated (vs ++ s.0) gs (subst (λ n. AreOrdered n gs) (total vs s.0 _ s.2) ordered.3)
-          (undefined_or-none _ (sym (ap (undefined_or (λ r. first_undefined (vs ++ r) gs)) s.1) ∙ e)) in
+          (undefined_gate_or_later-none _
+          (sym (ap (undefined_gate_or_later (λ r. first_undefined (vs ++ r) gs)) s.1) ∙ e)) in
           (rest.0, ap (option_and_then (λ r. evaluate (vs ++ r) gs)) s.1 ∙ rest.1)
     ]
 
@@ -55,13 +59,15 @@ unfolding evaluate first_undefined AreOrdered
 up_to vs [] k ordered e = absurd (clash k e)
 up_to vs (g ∷ gs) k ordered e = elim (row_cases g.kind (map (read vs) g.ins) (length-map g.ins (read vs) ∙ ordered.1)) [
   | inl none ↦
-      let at : 0 ≡ k = same_Some 0 k (sym (ap (undefined_or (λ r. first_undefined (vs ++ r) gs)) none) ∙ e) in (
+      let at : 0 ≡ k = same_Some 0 k
+      (sym (ap (undefined_gate_or_later (λ r. first_undefined (vs ++ r) gs)) none) ∙ e) in (
         vs,
         subst (λ k. EvaluatesUpTo vs (g ∷ gs) k vs) at
             (record { gate = g; numbered = refl; before = refl; none = none }),
       )
   | inr s ↦
-      let later = undefined_or-cases _ k (sym (ap (undefined_or (λ r. first_undefined (vs ++ r) gs)) s.1) ∙ e) in
+      let later = undefined_gate_or_later-cases _ k
+      (sym (ap (undefined_gate_or_later (λ r. first_undefined (vs ++ r) gs)) s.1) ∙ e) in
       let m : ℕ = later.0 in
       let rest = up_to (vs ++ s.0) gs m (subst (λ n. AreOrdered n gs) (total vs s.0 _ s.2) ordered.3) later.1 in
       let is : EvaluatesUpTo (vs ++ s.0) gs m rest.0 = rest.1 in (
@@ -116,13 +122,13 @@ undefined_from vs (h ∷ gs) v zero g ordered agree rows at none =
     let same : h ≡ g = same_Some h g at in
     let here : row h.kind (map v h.ins) ≡ None =
     subst (λ (f : Gate). row f.kind (map v f.ins) ≡ None) (sym same) none in
-    ap (undefined_or (λ r. first_undefined (vs ++ r) gs))
+    ap (undefined_gate_or_later (λ r. first_undefined (vs ++ r) gs))
     (ap (row h.kind) (sym (map_below (length vs) v (read vs) h.ins ordered.0 agree)) ∙ here)
 undefined_from vs (h ∷ gs) v (suc k) g ordered agree rows at none =
     let n : IsNext vs h v = next vs h gs v ordered agree (rows 0 h (omega arith) refl) in
     let rest = undefined_from (vs ++ map v h.outs) gs v k g (subst (λ n. AreOrdered n gs) n.long ordered.3) n.agree
     (λ j f l e. rows (suc j) f (omega arith) e) at none in
-    ap (undefined_or (λ r. first_undefined (vs ++ r) gs)) n.is ∙ ap (option_map (λ k. k + 1)) rest
+    ap (undefined_gate_or_later (λ r. first_undefined (vs ++ r) gs)) n.is ∙ ap (option_map (λ k. k + 1)) rest
     ∙ ap Some (plus_one k)
   where
     plus_one : (k : ℕ) → k + 1 ≡ suc k
@@ -137,7 +143,7 @@ defined_from vs (h ∷ gs) v ordered agree rows =
     let n : IsNext vs h v = next vs h gs v ordered agree (all_head (HasRow v) h gs rows) in
     let rest = defined_from (vs ++ map v h.outs) gs v (subst (λ n. AreOrdered n gs) n.long ordered.3) n.agree
     (all_tail (HasRow v) h gs rows) in
-    ap (undefined_or (λ r. first_undefined (vs ++ r) gs)) n.is ∙ ap (option_map (λ k. k + 1)) rest
+    ap (undefined_gate_or_later (λ r. first_undefined (vs ++ r) gs)) n.is ∙ ap (option_map (λ k. k + 1)) rest
 
 -- ---- a netlist
 -- some values of the given wires
@@ -188,7 +194,7 @@ row_at : (v : Valuation) (gates : List Gate) (k : ℕ) (g : Gate) → All (HasRo
 row_at v gates k g all e = subst (HasRow v) (get_or_from_slice_get gates k g g e)
     (all k g (slice_get_within gates k g e))
 
-pub stopped : StoppedIsUndefined
+pub stopped : ValuesStopAtUndefinedGate
 stopped n a k vs s = record {
   gate = s.gate;
   numbered = s.numbered;
@@ -210,7 +216,7 @@ stops n a given k vs ordered long same e = record {
 
 pub fault_stops : (n : Netlist) (a : Valuation) (given : List Bool) (e : ValuesFault) → AreOrdered n.given n.gates →
     length given ≡ n.given → ((i : ℕ) → i < n.given → read given i ≡ a i) →
-    IsEvaluateFault given n.gates e → IsValuesFault n a e
+    IsGateEvaluationError given n.gates e → IsValuesFault n a e
 fault_stops n a given (OutOfDomain k vs) ordered long same e = stops n a given k vs.items ordered long same e
 fault_stops n a given Memory ordered long same e = tt
 
@@ -237,7 +243,7 @@ undefined_has_none n a v k ordered u s =
     let is = given_of n a in
     clash k (sym (defined_at n a v _ ordered is.long is.same s) ∙ undefined_at n a _ k ordered is.long is.same u)
 
-pub undefined_is_one : UndefinedIsOne
+pub undefined_is_one : AtMostOneGateIsUndefined
 undefined_is_one n a k m ordered u w =
     let is = given_of n a in
     same_Some k m (sym (undefined_at n a _ k ordered is.long is.same u)
@@ -260,7 +266,7 @@ only_inverse n a k ordered u = elim (cases_Bool (is_inverse u.gate.kind)) [
 ]
 
 -- gates without inverse gates have a valuation
-pub forward_valuation : (n : Netlist) (a : Valuation) → AreOrdered n.given n.gates → AreForward n.gates →
+pub forward_valuation : (n : Netlist) (a : Valuation) → AreOrdered n.given n.gates → AreNonInverse n.gates →
     (v : Valuation) × Satisfies n a v
 forward_valuation n a ordered forward =
     has_valuation n a ordered (λ k u. elim (cases_Bool (is_inverse u.gate.kind)) [

@@ -4,7 +4,7 @@ use Rattle.std.proofs.Common.{sym, ap, ◌∙◌, arith, append_assoc}
 use Rattle.std.proofs.lemmas.List.{append-nil}
 use Rattle.circuit.specs.Meaning.{wires}
 use Rattle.circuit.specs.Bridge.{netlist_of}
-use Rattle.circuit.specs.Laws.{HasOneValuation, ListsValues}
+use Rattle.circuit.specs.Laws.{HasOneValuation, ValuesAreTheValuation}
 use Rattle.circuit.proofs.Bridging.{gates_are_ordered}
 use Rattle.circuit.proofs.Undefined.{forward_valuation}
 use Rattle.circuit.proofs.Valuations.{at_most_one, map_range}
@@ -42,8 +42,8 @@ has_one_valuation entries a good forward =
     let found = forward_valuation (netlist_of entries) a ordered forward in
     (found.0, found.1, λ u s w h. at_most_one (netlist_of entries) a u found.0 ordered s found.1 w h)
 
-pub lists_values : ListsValues
-lists_values n a v vs values s =
+pub values_are_the_valuation : ValuesAreTheValuation
+values_are_the_valuation n a v vs values s =
     map_range vs 0 (wires n) v values.all (λ i h. ap v (plus_zero i) ∙ values.only v s i (omega (arith, values.all, h)))
   where
     plus_zero : (i : ℕ) → 0 + i ≡ i

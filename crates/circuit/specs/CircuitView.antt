@@ -3,7 +3,7 @@ use Rattle.std.specs.Prelude.{◌≡◌, ◌≤◌, List, None, length, map}
 use Rattle.circuit.specs.Entries.{defined}
 use Rattle.circuit.specs.declared.circuit_line.CircuitLine.{CircuitLine}
 use Rattle.circuit.specs.declared.netlist.Circuit.TheInside.{Inside}
-use Rattle.circuit.specs.Rules.{consumed, gate_count, unused}
+use Rattle.circuit.specs.Rules.{consumed, gate_count, first_unconsumed}
 use Rattle.circuit.specs.Bridge.{AreGood, gates_of}
 use Rattle.circuit.specs.Wiring.{gate_of}
 
@@ -14,7 +14,7 @@ circuit_entries a = a.entries.items
 -- the fields of every circuit: good lines, of which each wire is consumed, within the limits
 pub record IsCircuit (a : Inside) : Type 0 where
   pub wires : a.wires.keys ≡ defined a.entries.items
-  pub all_used : unused (consumed a.entries.items) (defined a.entries.items) ≡ None
+  pub all_used : first_unconsumed (consumed a.entries.items) (defined a.entries.items) ≡ None
   pub few_wires : length (defined a.entries.items) ≤ 4096
   pub few_gates : gate_count a.entries.items ≤ 1024
   pub good : AreGood a.entries.items

@@ -13,14 +13,15 @@ evaluate vs [] = Some vs
 evaluate vs (g ∷ gs) = option_and_then (λ r. evaluate (vs ++ r) gs) (row g.kind (map (read vs) g.ins))
 
 -- the number of a gate, if this one has these outputs or no row
-abbrev pub undefined_or : (List Bool → Option ℕ) → Option (List Bool) → Option ℕ
-undefined_or later None = Some 0
-undefined_or later (Some r) = option_map (λ k. k + 1) (later r)
+abbrev pub undefined_gate_or_later : (List Bool → Option ℕ) → Option (List Bool) → Option ℕ
+undefined_gate_or_later later None = Some 0
+undefined_gate_or_later later (Some r) = option_map (λ k. k + 1) (later r)
 
 -- the first gate that has no row
 unfoldable pub first_undefined : List Bool → List Gate → Option ℕ
 first_undefined vs [] = None
-first_undefined vs (g ∷ gs) = undefined_or (λ r. first_undefined (vs ++ r) gs) (row g.kind (map (read vs) g.ins))
+first_undefined vs (g ∷ gs) =
+    undefined_gate_or_later (λ r. first_undefined (vs ++ r) gs) (row g.kind (map (read vs) g.ins))
 
 -- gate k has no row, and vs are the values after the gates before it
 pub record EvaluatesUpTo (given : List Bool) (gs : List Gate) (k : ℕ) (vs : List Bool) : Type 0 where
@@ -30,6 +31,6 @@ pub record EvaluatesUpTo (given : List Bool) (gs : List Gate) (k : ℕ) (vs : Li
   pub none : row gate.kind (map (read vs) gate.ins) ≡ None
 
 -- the reason why gates have no values: the first gate without a row, or out of memory
-abbrev pub IsEvaluateFault : List Bool → List Gate → ValuesFault → Type 0
-IsEvaluateFault given gs (OutOfDomain k vs) = EvaluatesUpTo given gs k vs.items
-IsEvaluateFault given gs Memory = Unit {0}
+abbrev pub IsGateEvaluationError : List Bool → List Gate → ValuesFault → Type 0
+IsGateEvaluationError given gs (OutOfDomain k vs) = EvaluatesUpTo given gs k vs.items
+IsGateEvaluationError given gs Memory = Unit {0}

@@ -32,24 +32,25 @@ gate_kind ws =
     else None
 
 -- how many words are before the names
-abbrev pub words_before : GateKind → ℕ
-words_before (Source b) = 2
-words_before (Delay n) = 2
-words_before _ = 1
+abbrev pub words_before_names : GateKind → ℕ
+words_before_names (Source b) = 2
+words_before_names (Delay n) = 2
+words_before_names _ = 1
 
 -- the gate line of this kind by its words
-unfoldable pub gate_names : List (List ℕ) → GateKind → Option CircuitLine
-gate_names ws kind = do
-  ins ← names_at ws (words_before kind) (uses kind)
-  outs ← names_at ws (words_before kind + uses kind + 1) (defines kind)
+unfoldable pub gate_line_of_kind : List (List ℕ) → GateKind → Option CircuitLine
+gate_line_of_kind ws kind = do
+  ins ← names_at ws (words_before_names kind) (uses kind)
+  outs ← names_at ws (words_before_names kind + uses kind + 1) (defines kind)
   Some (entry (Gate kind) ins outs)
 
 -- a gate: its kind, the names that it consumes, an arrow, the names that it defines
 unfoldable pub gate_entry : List (List ℕ) → Option CircuitLine
 gate_entry ws = do
   kind ← gate_kind ws
-  if length ws == words_before kind + uses kind + 1 + defines kind then
-      (if is_word_at ws (words_before kind + uses kind) (codes "->") then gate_names ws kind else None) else None
+  if length ws == words_before_names kind + uses kind + 1 + defines kind then
+      (if is_word_at ws (words_before_names kind + uses kind) (codes "->") then gate_line_of_kind ws kind else None)
+      else None
 
 -- the form of a line by its words, if it has one; the header has no content
 unfoldable pub form_of : List (List ℕ) → Option (Form (Unit {0}) CircuitLine)

@@ -5,7 +5,7 @@ use Rattle.section_text.specs.Section.{Grammar}
 use Rattle.circuit.specs.declared.circuit_line.CircuitLine.{CircuitLine}
 use Rattle.section_text.specs.Codes.{or_else}
 use Rattle.circuit.specs.Forms.{form_of}
-use Rattle.circuit.specs.Rules.{order_fault, add_fault, unused, consumed}
+use Rattle.circuit.specs.Rules.{order_fault, add_fault, first_unconsumed, consumed}
 use Rattle.section_text.specs.declared.code.RefusalCode.{RefusalCode}
 use Rattle.section_text.specs.declared.code.RefusalCode.TheVariants.{SomethingMissing}
 
@@ -20,9 +20,9 @@ circuit_grammar = record {
   form = form_of;
   header_fault = λ h. None;
   item_fault = λ h entries r. or_else (order_fault entries r) (add_fault entries r);
-  end_fault = λ h entries. missing_code (unused (consumed entries) (defined entries));
+  end_fault = λ h entries. missing_code (first_unconsumed (consumed entries) (defined entries));
 }
 
 -- what the section of a circuit gives
-abbrev pub circuit_value : List CircuitLine → Unit {0} × List CircuitLine
-circuit_value entries = (tt, entries)
+abbrev pub circuit_section : List CircuitLine → Unit {0} × List CircuitLine
+circuit_section entries = (tt, entries)

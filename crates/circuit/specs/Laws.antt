@@ -10,7 +10,7 @@ use Rattle.section_text.specs.Section.{section_of, ended_line}
 use Rattle.circuit.specs.declared.circuit_line.CircuitLine.{CircuitLine}
 use Rattle.circuit.specs.Grammars.{circuit_grammar}
 use Rattle.circuit.specs.Text.{circuit_text}
-use Rattle.circuit.specs.Meaning.{Netlist, Valuation, Satisfies, AreOrdered, AreForward, IsUndefined, wires, wire_of}
+use Rattle.circuit.specs.Meaning.{Netlist, Valuation, Satisfies, AreOrdered, AreNonInverse, IsUndefined, wires, wire_of}
 use Rattle.circuit.specs.Bridge.{AreGood, AreValues, StopsAt, input_count, input_names, gates_of, netlist_of}
 use Rattle.circuit.specs.Bridge.{circuit_of}
 
@@ -48,13 +48,14 @@ OnlyInverseGatesAreUndefined =
     IsTrue (is_inverse u.gate.kind)
 
 -- at most one gate is
-abbrev pub UndefinedIsOne : Type 0
-UndefinedIsOne = (n : Netlist) (a : Valuation) (k m : ℕ) → AreOrdered n.given n.gates → IsUndefined n a k →
+abbrev pub AtMostOneGateIsUndefined : Type 0
+AtMostOneGateIsUndefined = (n : Netlist) (a : Valuation) (k m : ℕ) → AreOrdered n.given n.gates → IsUndefined n a k →
     IsUndefined n a m → k ≡ m
 
 -- a gate at which the values stop is undefined
-abbrev pub StoppedIsUndefined : Type 0
-StoppedIsUndefined = (n : Netlist) (a : Valuation) (k : ℕ) (vs : List Bool) → StopsAt n a k vs → IsUndefined n a k
+abbrev pub ValuesStopAtUndefinedGate : Type 0
+ValuesStopAtUndefinedGate = (n : Netlist) (a : Valuation) (k : ℕ) (vs : List Bool) → StopsAt n a k vs →
+    IsUndefined n a k
 
 -- ordered gates have at most one, with inverse gates too
 abbrev pub HasAtMostOneValuation : Type 0
@@ -64,18 +65,18 @@ HasAtMostOneValuation = (n : Netlist) (a u v : Valuation) → AreOrdered n.given
 -- a circuit of good lines without inverse gates has one valuation, whatever its inputs are
 abbrev pub HasOneValuation : Type 0
 HasOneValuation = (entries : List CircuitLine) (a : Valuation) → AreGood entries →
-    AreForward (netlist_of entries).gates →
+    AreNonInverse (netlist_of entries).gates →
     (v : Valuation) × Satisfies (netlist_of entries) a v
     × ((u : Valuation) → Satisfies (netlist_of entries) a u → (w : ℕ) → w < wires (netlist_of entries) → u w ≡ v w)
 
 -- what lists the values lists them of every valuation that satisfies the netlist
-abbrev pub ListsValues : Type 0
-ListsValues = (n : Netlist) (a v : Valuation) (vs : List Bool) → AreValues n a vs → Satisfies n a v →
+abbrev pub ValuesAreTheValuation : Type 0
+ValuesAreTheValuation = (n : Netlist) (a v : Valuation) (vs : List Bool) → AreValues n a vs → Satisfies n a v →
     map v (range_with_len 0 (wires n)) ≡ vs
 
 -- the wires of a circuit have names of their own: the wire of the name of a wire is that wire
-abbrev pub NamesAreOwn : Type 0
-NamesAreOwn = (entries : List CircuitLine) (w : ℕ) (name : List ℕ) → AreGood entries →
+abbrev pub WireNamesAreDistinct : Type 0
+WireNamesAreDistinct = (entries : List CircuitLine) (w : ℕ) (name : List ℕ) → AreGood entries →
     slice_get (defined entries) w ≡ Some name → wire_of (circuit_of entries) name ≡ Some w
 
 -- each wire has a name

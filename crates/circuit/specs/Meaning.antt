@@ -66,8 +66,8 @@ AreOrdered n (g ∷ gs) =
     × AreOrdered (n + defines g.kind) gs
 
 -- none of the gates is an inverse gate
-abbrev pub AreForward : List Gate → Type 0
-AreForward gates = All (λ g. is_inverse g.kind ≡ false) gates
+abbrev pub AreNonInverse : List Gate → Type 0
+AreNonInverse gates = All (λ g. is_inverse g.kind ≡ false) gates
 
 -- Gate k has no row if the given wires have the values a, and it is the first: the gates before it have theirs under
 -- some values of the wires, and it has none there.

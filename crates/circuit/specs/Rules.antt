@@ -62,13 +62,13 @@ is_wrong_delay Output = false
 is_wrong_delay Spill = false
 
 -- whether a delay, the count of wires or the count of gates is outside its limits
-abbrev pub passes_limit : List CircuitLine → CircuitLine → Bool
-passes_limit entries r = is_wrong_delay r.kind
+abbrev pub exceeds_limit : List CircuitLine → CircuitLine → Bool
+exceeds_limit entries r = is_wrong_delay r.kind
     || (nat_lt 4096 (length (defined entries) + length r.outs) || (is_gate r.kind && nat_le 1024 (gate_count entries)))
 
 -- the code of a line outside the limits
 abbrev pub limit_fault : List CircuitLine → CircuitLine → Option RefusalCode
-limit_fault entries r = code_where (passes_limit entries r) PastLimit
+limit_fault entries r = code_where (exceeds_limit entries r) PastLimit
 
 -- the first of codes 2 to 5
 unfoldable pub add_fault : List CircuitLine → CircuitLine → Option RefusalCode
@@ -87,6 +87,6 @@ abbrev pub order_fault : List CircuitLine → CircuitLine → Option RefusalCode
 order_fault entries r = code_where (nat_lt (rank_of r.kind) (last_rank entries)) OutOfOrder
 
 -- the first wire that nobody consumes
-abbrev pub unused : List (List ℕ) → List (List ℕ) → Option (List ℕ)
-unused c [] = None
-unused c (n ∷ ns) = if has c n then unused c ns else Some n
+abbrev pub first_unconsumed : List (List ℕ) → List (List ℕ) → Option (List ℕ)
+first_unconsumed c [] = None
+first_unconsumed c (n ∷ ns) = if has c n then first_unconsumed c ns else Some n

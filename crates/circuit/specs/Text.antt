@@ -30,10 +30,10 @@ gate_word Unswitch = codes "unswitch"
 gate_word Uninteract = codes "uninteract"
 
 -- the words between the keyword of a gate and its names
-abbrev pub gate_number : GateKind → List (List ℕ)
-gate_number (Source b) = bit_word b ∷ []
-gate_number (Delay n) = decimal n ∷ []
-gate_number _ = []
+abbrev pub gate_parameter_words : GateKind → List (List ℕ)
+gate_parameter_words (Source b) = bit_word b ∷ []
+gate_parameter_words (Delay n) = decimal n ∷ []
+gate_parameter_words _ = []
 
 -- the first word of a entry, and the others
 unfoldable pub first_word : Kind → List ℕ
@@ -43,19 +43,19 @@ first_word Output = codes "output"
 first_word Spill = codes "spill"
 
 -- the words of a line behind the first, by its kind
-abbrev pub words_by : List (List ℕ) → List (List ℕ) → Kind → List (List ℕ)
-words_by ins outs Input = outs
-words_by ins outs (Gate k) = gate_number k ++ (ins ++ codes "->" ∷ outs)
-words_by ins outs Output = ins
-words_by ins outs Spill = ins
+abbrev pub words_after_first : List (List ℕ) → List (List ℕ) → Kind → List (List ℕ)
+words_after_first ins outs Input = outs
+words_after_first ins outs (Gate k) = gate_parameter_words k ++ (ins ++ codes "->" ∷ outs)
+words_after_first ins outs Output = ins
+words_after_first ins outs Spill = ins
 
 -- the words of a line behind the first
-unfoldable pub more_words : CircuitLine → List (List ℕ)
-more_words r = words_by r.ins r.outs r.kind
+unfoldable pub words_after_keyword : CircuitLine → List (List ℕ)
+words_after_keyword r = words_after_first r.ins r.outs r.kind
 
 -- the line of an entry
 unfoldable pub entry_text : CircuitLine → List ℕ
-entry_text r = line_text (first_word r.kind) (more_words r)
+entry_text r = line_text (first_word r.kind) (words_after_keyword r)
 
 -- the text of a circuit, from its header line to its `end` line
 unfoldable pub circuit_text : List CircuitLine → List ℕ

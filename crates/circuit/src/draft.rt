@@ -4,18 +4,18 @@ ghost use Rattle.circuit.specs.Entries.{entry, defined};
 ghost use Rattle.circuit.specs.Gates.{uses, defines};
 ghost use Rattle.circuit.specs.declared.circuit_line.Kind.TheVariants.{Input, Gate, Output, Spill};
 ghost use Rattle.circuit.specs.declared.circuit_line.GateKind.TheVariants.{Source};
-ghost use Rattle.circuit.specs.Rules.{add_fault, passes_limit, is_wrong_delay, is_gate, gate_count, consumed, consume, define, unused};
+ghost use Rattle.circuit.specs.Rules.{add_fault, exceeds_limit, is_wrong_delay, is_gate, gate_count, consumed, consume, define, first_unconsumed};
 ghost use Rattle.circuit.specs.Wiring.{gate_of, gate_at};
 ghost use Rattle.circuit.specs.Meaning.{number};
 ghost use Rattle.section_text.specs.Words.{has};
-ghost use Rattle.section_text.specs.Adding.{FaultIs};
+ghost use Rattle.section_text.specs.Adding.{HasRefusalCode};
 ghost use Rattle.circuit.specs.Bridge.{FitsKind, InputsFirst};
 
 use crate::circuit_line::{CircuitLine, GateKind, Kind};
 use crate::netlist::Circuit;
 use crate::number::WireNo;
 use crate::sets::{define_wires, mark_wires};
-use crate::wiring::{GateWires, add_wires};
+use crate::wiring::{GateWires, push_gate_of_line};
 use indexmap::IndexSet;
 use section_text::{LineFault, Name, Names, RefusalCode, Seed};
 use std::alloc::{AllocError, Global};
@@ -58,7 +58,7 @@ pub struct Unused {
     pub wire: Name,
 }
 
-fn is_wrong(kind: Kind) -> bool
+fn has_wrong_delay(kind: Kind) -> bool
     ensures { result ≡ is_wrong_delay kind }
 {
     match kind {
@@ -77,7 +77,7 @@ fn is_gate_kind(kind: Kind) -> bool
 }
 
 // Keeps a line and its gate. An error changes nothing.
-fn keep_line(
+fn push_line_and_gate(
     entries: &mut Vec<CircuitLine>,
     wired: &mut Vec<GateWires>,
     entry: CircuitLine,
@@ -92,7 +92,7 @@ fn keep_line(
         × (wired.new.items ≡ wired.old.items)) }
 {
     let before = wired.len();
-    add_wires(wired, entry.kind, ins, first)?;
+    push_gate_of_line(wired, entry.kind, ins, first)?;
     if entries.push(entry).is_err() {
         wired.truncate(before);
         return Err(AllocError);
@@ -122,16 +122,16 @@ impl Draft {
     }
 
     // Whether the line would pass a limit.
-    fn passes(&self, entry: &CircuitLine) -> bool
-        ensures { result ≡ passes_limit self.now entry.now }
+    fn exceeds_limit(&self, entry: &CircuitLine) -> bool
+        ensures { result ≡ exceeds_limit self.now entry.now }
     {
-        is_wrong(entry.kind)
+        has_wrong_delay(entry.kind)
             || self.wires.len() + entry.outs.as_slice().len() > MAX_WIRES
             || (is_gate_kind(entry.kind) && self.gates >= MAX_GATES)
     }
 
     // The wire of a name, if no line consumes it yet, else the code.
-    fn free_wire(&self, name: &Name) -> Result<WireNo, RefusalCode>
+    fn unconsumed_wire(&self, name: &Name) -> Result<WireNo, RefusalCode>
         ensures known { OnOk result (has (defined self.now) name.now ≡ true) }
         ensures free { OnOk result (has (consumed self.now) name.now ≡ false) }
         ensures wire { IfOk result (λ w. w ≡ number (defined self.now) name.now) }
@@ -148,7 +148,7 @@ impl Draft {
     }
 
     // The wires that a line with these inputs consumes, else the code of the first input that it may not consume.
-    fn free_wires(&self, names: &[Name]) -> Result<[WireNo; 4], RefusalCode>
+    fn unconsumed_wires(&self, names: &[Name]) -> Result<[WireNo; 4], RefusalCode>
         requires { length names.now ≤ 4 }
         ensures ok { OnOk result (consume (defined self.now) (consumed self.now) names.now ≡ None) }
         ensures wires { IfOk result (λ ins.
@@ -158,7 +158,7 @@ impl Draft {
     {
         let mut ins = [WireNo::of(0); 4];
         'names: for (place, name) in names.iter().enumerate() {
-            let wire = self.free_wire(name)?;
+            let wire = self.unconsumed_wire(name)?;
             if ins[..place].contains(&wire) {
                 return Err(RefusalCode::ConsumedTwice);
             }
@@ -175,12 +175,12 @@ impl Draft {
         ensures ok { OnOk result ((add_fault self.old entry ≡ None)
             × (self.new ≡ self.old ++ entry ∷ [])) }
         ensures err { OnErr result (self.new ≡ self.old) }
-        ensures fault { IfErr result (λ e. FaultIs e (add_fault self.old entry)) }
+        ensures fault { IfErr result (λ e. HasRefusalCode e (add_fault self.old entry)) }
     {
-        if self.passes(&entry) {
+        if self.exceeds_limit(&entry) {
             return Err(LineFault::Code(RefusalCode::PastLimit));
         }
-        let ins = match self.free_wires(entry.ins.as_slice()) {
+        let ins = match self.unconsumed_wires(entry.ins.as_slice()) {
             Ok(ins) => ins,
             Err(code) => return Err(LineFault::Code(code)),
         };
@@ -188,7 +188,14 @@ impl Draft {
         let wires = self.wires.len();
         define_wires(&mut self.wires, &mut self.consumed, entry.outs.as_slice())?;
         let is_gate = is_gate_kind(entry.kind);
-        if keep_line(&mut self.entries, &mut self.wired, entry, ins, wires as u16).is_err() {
+        if push_line_and_gate(
+            &mut self.entries,
+            &mut self.wired,
+            entry,
+            ins,
+            wires as u16,
+        ).is_err()
+        {
             self.wires.truncate(wires);
             self.consumed.truncate(wires);
             return Err(LineFault::Memory);
@@ -220,7 +227,7 @@ impl Draft {
         ensures ok { OnOk result ((add_fault self.old (entry Input [] (name ∷ [])) ≡ None)
             × (self.new ≡ self.old ++ entry Input [] (name ∷ []) ∷ [])) }
         ensures err { OnErr result (self.new ≡ self.old) }
-        ensures fault { IfErr result (λ e. FaultIs e
+        ensures fault { IfErr result (λ e. HasRefusalCode e
             (add_fault self.old (entry Input [] (name ∷ [])))) }
     {
         self.add(CircuitLine::lone(Kind::Input, name))
@@ -238,7 +245,7 @@ impl Draft {
         ensures ok { OnOk result ((add_fault self.old (entry (Gate (Source bit)) [] (name ∷ []))
             ≡ None) × (self.new ≡ self.old ++ entry (Gate (Source bit)) [] (name ∷ []) ∷ [])) }
         ensures err { OnErr result (self.new ≡ self.old) }
-        ensures fault { IfErr result (λ e. FaultIs e
+        ensures fault { IfErr result (λ e. HasRefusalCode e
             (add_fault self.old (entry (Gate (Source bit)) [] (name ∷ [])))) }
     {
         self.add(CircuitLine::source(bit, name))
@@ -259,7 +266,7 @@ impl Draft {
         ensures ok { OnOk result ((add_fault self.old (entry (Gate kind) ins.now outs.now) ≡ None)
             × (self.new ≡ self.old ++ entry (Gate kind) ins.now outs.now ∷ [])) }
         ensures err { OnErr result (self.new ≡ self.old) }
-        ensures fault { IfErr result (λ e. FaultIs e
+        ensures fault { IfErr result (λ e. HasRefusalCode e
             (add_fault self.old (entry (Gate kind) ins.now outs.now))) }
     {
         let few_ins = kind.ins();
@@ -284,7 +291,7 @@ impl Draft {
         ensures ok { OnOk result ((add_fault self.old (entry Output (name ∷ []) []) ≡ None)
             × (self.new ≡ self.old ++ entry Output (name ∷ []) [] ∷ [])) }
         ensures err { OnErr result (self.new ≡ self.old) }
-        ensures fault { IfErr result (λ e. FaultIs e
+        ensures fault { IfErr result (λ e. HasRefusalCode e
             (add_fault self.old (entry Output (name ∷ []) []))) }
     {
         self.add(CircuitLine::lone(Kind::Output, name))
@@ -302,7 +309,7 @@ impl Draft {
         ensures ok { OnOk result ((add_fault self.old (entry Spill (name ∷ []) []) ≡ None)
             × (self.new ≡ self.old ++ entry Spill (name ∷ []) [] ∷ [])) }
         ensures err { OnErr result (self.new ≡ self.old) }
-        ensures fault { IfErr result (λ e. FaultIs e
+        ensures fault { IfErr result (λ e. HasRefusalCode e
             (add_fault self.old (entry Spill (name ∷ []) []))) }
     {
         self.add(CircuitLine::lone(Kind::Spill, name))
@@ -310,7 +317,7 @@ impl Draft {
 
     // The first wire that nobody consumes.
     pub(crate) fn missing(&self) -> Option<Name>
-        ensures { result ≡ unused (consumed self.now) (defined self.now) }
+        ensures { result ≡ first_unconsumed (consumed self.now) (defined self.now) }
     {
         'wires: for (number, name) in self.wires.as_slice().iter().enumerate() {
             if !self.consumed[number] {
@@ -327,9 +334,9 @@ impl Draft {
     /// The first wire that no line consumes, if there is one, with the draft.
     pub fn finish(self) -> Result<Circuit, Unused>
         ensures ok { IfOk result (λ c. (c ≡ self)
-            × (unused (consumed self) (defined self) ≡ None)) }
+            × (first_unconsumed (consumed self) (defined self) ≡ None)) }
         ensures err { IfErr result (λ u. (u.draft ≡ self)
-            × (unused (consumed self) (defined self) ≡ Some u.wire)) }
+            × (first_unconsumed (consumed self) (defined self) ≡ Some u.wire)) }
     {
         if let Some(wire) = self.missing() {
             return Err(Unused { draft: self, wire });

@@ -4,7 +4,7 @@ ghost use Rattle.std.specs.Str.{bytes_eq};
 ghost use Rattle.section_text.specs.Words.{words_of};
 ghost use Rattle.circuit.specs.declared.circuit_line.Kind.TheVariants.{Input, Output, Spill};
 ghost use Rattle.section_text.specs.Feeds.{IsLine, line_bytes};
-ghost use Rattle.circuit.specs.Forms.{bit_at, gate_kind, words_before, gate_entry, form_of};
+ghost use Rattle.circuit.specs.Forms.{bit_at, gate_kind, words_before_names, gate_entry, form_of};
 
 use crate::circuit_line::{CircuitLine, GateKind, Kind};
 use section_text::{Feed, Form, Line, is_keyword};
@@ -52,7 +52,7 @@ fn gate_kind_of(feed: &Feed, line: &Line, keyword: &[u8]) -> Option<GateKind>
 }
 
 fn words_before_names(kind: GateKind) -> usize
-    ensures count { result ≡ words_before kind }
+    ensures count { result ≡ words_before_names kind }
     ensures at_most_2 { result ≤ 2 }
 {
     match kind {
@@ -84,7 +84,7 @@ fn gate_entry_of(feed: &Feed, line: &Line, keyword: &[u8]) -> Option<CircuitLine
 }
 
 // The kind of a line of a keyword and a name.
-fn lone_kind(keyword: &[u8]) -> Option<Kind>
+fn kind_of_keyword(keyword: &[u8]) -> Option<Kind>
     ensures { result ≡ (if bytes_eq keyword.now (codes "input") then Some Input
         else if bytes_eq keyword.now (codes "output") then Some Output
         else if bytes_eq keyword.now (codes "spill") then Some Spill else None) }
@@ -113,7 +113,7 @@ pub fn line_form(feed: &Feed, line: &Line) -> Option<Form<(), CircuitLine>>
     if is_keyword(keyword, b"end") {
         return feed.lone(line, Form::End);
     }
-    match lone_kind(keyword) {
+    match kind_of_keyword(keyword) {
         Some(kind) => Some(Form::Item(CircuitLine::lone(kind, feed.lone_name(line)?))),
         None => Some(Form::Item(gate_entry_of(feed, line, keyword)?)),
     }

@@ -1,11 +1,11 @@
 //! Laws of the definitions.
-ghost use Rattle.circuit.specs.Laws.{PrintsWhatIsRead, ReadsWhatIsPrinted, GatesAreOrdered, HasValuation, UndefinedHasNoValuation, OnlyInverseGatesAreUndefined, UndefinedIsOne, StoppedIsUndefined, HasAtMostOneValuation, HasOneValuation, ListsValues, WiresAreNamed, NamesAreOwn, InputsAreFirst, GatesKeepOnes, InverseGatesUndo};
+ghost use Rattle.circuit.specs.Laws.{PrintsWhatIsRead, ReadsWhatIsPrinted, GatesAreOrdered, HasValuation, UndefinedHasNoValuation, OnlyInverseGatesAreUndefined, AtMostOneGateIsUndefined, ValuesStopAtUndefinedGate, HasAtMostOneValuation, HasOneValuation, ValuesAreTheValuation, WiresAreNamed, WireNamesAreDistinct, InputsAreFirst, GatesKeepOnes, InverseGatesUndo};
 
 /// States that a circuit has one text.
 ///
 /// The text of a circuit that is read is the text of the lines that it is read from. It is read as the same circuit
 /// again.
-pub fn one_text()
+pub fn text_round_trips()
     ensures printed { PrintsWhatIsRead }
     ensures read_again { ReadsWhatIsPrinted }
 {}
@@ -26,8 +26,8 @@ pub fn has_valuation()
 /// `Circuit::values` stops at it.
 pub fn one_gate_is_undefined()
     ensures inverse { OnlyInverseGatesAreUndefined }
-    ensures one { UndefinedIsOne }
-    ensures stopped { StoppedIsUndefined }
+    ensures one { AtMostOneGateIsUndefined }
+    ensures stopped { ValuesStopAtUndefinedGate }
 {}
 
 /// States that ordered gates, inverse gates among them, have at most one valuation for their given wires.
@@ -41,14 +41,14 @@ pub fn has_one_valuation()
 {}
 
 /// States that `Circuit::values` answers the values of that valuation, from wire 0 on.
-pub fn lists_values()
-    ensures { ListsValues }
+pub fn values_are_the_valuation()
+    ensures { ValuesAreTheValuation }
 {}
 
 /// States that wires are numbered in order of definition, inputs first, and that each has a name of its own.
 pub fn wires_are_named()
     ensures named { WiresAreNamed }
-    ensures own_names { NamesAreOwn }
+    ensures own_names { WireNamesAreDistinct }
     ensures first { InputsAreFirst }
 {}
 

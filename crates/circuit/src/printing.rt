@@ -5,7 +5,7 @@ ghost use Rattle.circuit.specs.Entries.{defined};
 ghost use Rattle.section_text.specs.Spelling.{spaced};
 ghost use Rattle.circuit.specs.Bridge.{netlist_of};
 ghost use Rattle.circuit.specs.Meaning.{wires};
-ghost use Rattle.circuit.specs.Text.{value_line, value_lines, gate_word, gate_number, first_word, more_words, entry_text, circuit_text};
+ghost use Rattle.circuit.specs.Text.{value_line, value_lines, gate_word, gate_parameter_words, first_word, words_after_keyword, entry_text, circuit_text};
 
 use crate::circuit_line::{CircuitLine, GateKind, Kind};
 use crate::netlist::Circuit;
@@ -24,7 +24,7 @@ fn print_names(out: &mut Vec<u8>, names: &[Name]) -> Result<(), AllocError>
 // The keyword of a gate, and its bit or number.
 fn print_gate(out: &mut Vec<u8>, kind: GateKind) -> Result<(), AllocError>
     ensures { OnOk result (out.new.items
-        ≡ out.old.items ++ (gate_word kind ++ flat_map spaced (gate_number kind))) }
+        ≡ out.old.items ++ (gate_word kind ++ flat_map spaced (gate_parameter_words kind))) }
 {
     match kind {
         GateKind::Source(true) => out.extend_from_slice(b"source 1"),
@@ -42,7 +42,7 @@ fn print_gate(out: &mut Vec<u8>, kind: GateKind) -> Result<(), AllocError>
     }
 }
 
-#[tactic(auto, unfolding(crate::specs::Text::entry_text, crate::specs::Text::first_word, crate::specs::Text::more_words))]
+#[tactic(auto, unfolding(crate::specs::Text::entry_text, crate::specs::Text::first_word, crate::specs::Text::words_after_keyword))]
 fn print_entry(out: &mut Vec<u8>, entry: &CircuitLine) -> Result<(), AllocError>
     ensures { OnOk result (out.new.items ≡ out.old.items ++ entry_text entry.now) }
 {
@@ -103,7 +103,7 @@ fn print_value(out: &mut Vec<u8>, name: &Name, value: bool) -> Result<(), AllocE
     }
 }
 
-fn print_each(out: &mut Vec<u8>, names: &[Name], values: &[bool]) -> Result<(), AllocError>
+fn print_value_lines(out: &mut Vec<u8>, names: &[Name], values: &[bool]) -> Result<(), AllocError>
     requires { length values.now ≤ length names.now }
     ensures { OnOk result (out.new.items ≡ out.old.items ++ value_lines names.now values.now) }
 {
@@ -123,6 +123,6 @@ pub fn print_values(
     ensures { IfOk result (λ text. text.items ≡ value_lines (defined circuit.now) values.now) }
 {
     let mut out = Vec::new(alloc);
-    print_each(&mut out, circuit.names(), values)?;
+    print_value_lines(&mut out, circuit.names(), values)?;
     Ok(out)
 }

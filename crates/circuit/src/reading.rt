@@ -2,7 +2,7 @@
 ghost use Rattle.std.specs.Prelude.{◌≡◌, ◌==◌, true, if◌then◌else◌};
 ghost use Rattle.section_text.specs.Section.{Reads};
 ghost use Rattle.circuit.specs.Rules.{last_rank, gate_count};
-ghost use Rattle.circuit.specs.Grammars.{circuit_grammar, circuit_value};
+ghost use Rattle.circuit.specs.Grammars.{circuit_grammar, circuit_section};
 
 use crate::circuit_line::CircuitLine;
 use crate::draft::Draft;
@@ -64,7 +64,7 @@ impl Section for Reading {
 /// Reads a circuit section.
 pub fn read_circuit(alloc: Global, feed: &mut Feed) -> Result<Circuit, ReadFault>
     requires { feed.old.closed ≡ true }
-    ensures { Reads circuit_grammar circuit_value feed.old feed.new result }
+    ensures { Reads circuit_grammar circuit_section feed.old feed.new result }
 {
     let mut reading = Reading {
         draft: Draft::seeded(alloc, feed.seed()),

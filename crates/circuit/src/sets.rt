@@ -4,7 +4,7 @@ ghost use Rattle.std.specs.List.{All};
 ghost use Rattle.section_text.specs.Words.{has};
 ghost use Rattle.circuit.specs.Rules.{define};
 ghost use Rattle.circuit.specs.Wiring.{marked};
-ghost use Rattle.section_text.specs.Adding.{FaultIs};
+ghost use Rattle.section_text.specs.Adding.{HasRefusalCode};
 
 use crate::number::WireNo;
 use indexmap::IndexSet;
@@ -14,7 +14,7 @@ fn define_one(wires: &mut IndexSet<Name, Seed>, name: Name) -> Result<(), LineFa
     ensures ok { OnOk result ((has wires.old.keys name ≡ false)
         × (wires.new.keys ≡ wires.old.keys ++ name ∷ [])) }
     ensures err { OnErr result (wires.new.keys ≡ wires.old.keys) }
-    ensures fault { IfErr result (λ e. FaultIs e (define wires.old.keys (name ∷ []))) }
+    ensures fault { IfErr result (λ e. HasRefusalCode e (define wires.old.keys (name ∷ []))) }
 {
     match wires.insert(name) {
         Ok(true) => Ok(()),
@@ -28,7 +28,7 @@ fn define_all(wires: &mut IndexSet<Name, Seed>, names: &[Name]) -> Result<(), Li
     ensures ok { OnOk result ((define wires.old.keys names.now ≡ None)
         × (wires.new.keys ≡ wires.old.keys ++ names.now)) }
     ensures err { OnErr result (wires.new.keys ≡ wires.old.keys) }
-    ensures fault { IfErr result (λ e. FaultIs e (define wires.old.keys names.now)) }
+    ensures fault { IfErr result (λ e. HasRefusalCode e (define wires.old.keys names.now)) }
 {
     let before = wires.len();
     for name in names {
@@ -53,7 +53,7 @@ pub(crate) fn define_wires(
         ≡ consumed.old.items ++ map (λ _. false) names.now) }
     ensures err { OnErr result ((wires.new.keys ≡ wires.old.keys)
         × (consumed.new.items ≡ consumed.old.items)) }
-    ensures fault { IfErr result (λ e. FaultIs e (define wires.old.keys names.now)) }
+    ensures fault { IfErr result (λ e. HasRefusalCode e (define wires.old.keys names.now)) }
 {
     let first = wires.len();
     define_all(wires, names)?;

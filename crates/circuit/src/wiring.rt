@@ -3,7 +3,7 @@ ghost use Rattle.std.specs.Prelude.{◌≡◌, ◌≤◌, ◌++◌, Bool, List, 
 ghost use Rattle.std.specs.List.{range_with_len};
 ghost use Rattle.circuit.specs.Gates.{row, uses};
 ghost use Rattle.circuit.specs.Bridge.{read};
-ghost use Rattle.circuit.specs.Evaluate.{evaluate, IsEvaluateFault};
+ghost use Rattle.circuit.specs.Evaluate.{evaluate, IsGateEvaluationError};
 ghost use Rattle.circuit.specs.Wiring.{gate_of, gate_at};
 
 use crate::circuit_line::{GateKind, Kind};
@@ -44,7 +44,7 @@ impl GateWires {
 }
 
 // Four wires, from this one on.
-fn next_four(first: u16) -> [WireNo; 4]
+fn four_wires_from(first: u16) -> [WireNo; 4]
     requires { first ≤ 4096 }
     ensures { result ≡ range_with_len first 4 }
 {
@@ -58,7 +58,7 @@ fn next_four(first: u16) -> [WireNo; 4]
 
 /// Adds the gate of a line, if it is a gate's line. The wires that it defines are numbered from `first` on. An error
 /// changes nothing.
-pub(crate) fn add_wires(
+pub(crate) fn push_gate_of_line(
     gates: &mut Vec<GateWires>,
     kind: Kind,
     ins: [WireNo; 4],
@@ -73,7 +73,7 @@ pub(crate) fn add_wires(
 {
     match kind {
         Kind::Gate(kind) => {
-            let outs = next_four(first);
+            let outs = four_wires_from(first);
             gates.push(GateWires { kind, ins, outs })?;
             Ok(())
         }
@@ -145,7 +145,7 @@ pub(crate) fn values_of(
 ) -> Result<Vec<bool>, ValuesFault>
     ensures values { IfOk result (λ vs. evaluate given.now (map gate_of gates.now)
         ≡ Some vs.items) }
-    ensures fault { IfErr result (λ e. IsEvaluateFault given.now (map gate_of gates.now) e) }
+    ensures fault { IfErr result (λ e. IsGateEvaluationError given.now (map gate_of gates.now) e) }
 {
     let mut values = given.to_vec(alloc)?;
     for (number, gate) in gates.iter().enumerate() {

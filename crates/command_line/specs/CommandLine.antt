@@ -76,6 +76,6 @@ AsksForHelp words = IsAmong kind.DisplayHelp (fault_of bbmcheck words)
     ⊎ IsAmong kind.DisplayVersion (fault_of bbmcheck words)
 
 -- and nothing else
-abbrev pub IsHelpAlone : List Text → Type 0
-IsHelpAlone words = (k : ErrorKind) → IsAmong k (fault_of bbmcheck words) →
+abbrev pub AsksOnlyForHelp : List Text → Type 0
+AsksOnlyForHelp words = (k : ErrorKind) → IsAmong k (fault_of bbmcheck words) →
     (k ≡ kind.DisplayHelp) ⊎ (k ≡ kind.DisplayVersion)

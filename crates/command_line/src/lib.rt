@@ -52,7 +52,7 @@ pub fn read_words<'a>(alloc: Global, words: &'a [&'a str]) -> Result<Asked, Erro
 {
     let matches = match command(alloc)?.try_get_matches_from(words) {
         Ok(matches) => matches,
-        Err(error) => return Err(explained(alloc, error)),
+        Err(error) => return Err(explain_number_error(alloc, error)),
     };
     let request = match matches.subcommand_name() {
         Some("check") => Request::Check,
@@ -69,20 +69,20 @@ pub fn read_words<'a>(alloc: Global, words: &'a [&'a str]) -> Result<Asked, Erro
 }
 
 // The same error. One about the number of workers says which numbers there are.
-fn explained(alloc: Global, error: Error) -> Error
+fn explain_number_error(alloc: Global, error: Error) -> Error
     ensures kind { (kind_of result ≡ kind_of error) ⊎ (kind_of result ≡ ErrorKind.OutOfMemory) }
 {
     if !matches!(error.kind(), ErrorKind::ValueValidation) {
         return error;
     }
-    match number_error(alloc) {
+    match worker_count_error(alloc) {
         Ok(other) => other,
         Err(other) => Error::from(other),
     }
 }
 
 // Only a number of workers is refused by its value.
-fn number_error(alloc: Global) -> Result<Error, AllocError>
+fn worker_count_error(alloc: Global) -> Result<Error, AllocError>
     ensures { IfOk result (λ error. kind_of error ≡ ErrorKind.ValueValidation) }
 {
     let mut check = check(alloc)?;

@@ -15,9 +15,10 @@ use Rattle.local_run.specs.Shown.{digest_of, number_of, job_of, fault_of, keep_o
 use Rattle.local_run.specs.declared.finding.Finding.{Finding}
 use Rattle.local_run.proofs.Least.{least_unique, least_keep_unique}
 use Rattle.core_book.specs.Book.{BookView, IsOwn, after_filing, found_in, is_job_of, reply_to}
-use Rattle.core_book.specs.Laws.{AcceptsItsOwn, BooksAgree, ClosedAnswersClosed, DoublesWhatIsHeld}
-use Rattle.core_book.specs.Laws.{HoldsWhatIsAccepted, HoldsNothingElse, KeepsWhatIsHeld, KnowsItsOwn, StaysBook}
-use Rattle.core_book.specs.Laws.{StaysReplayed}
+use Rattle.core_book.specs.Laws.{AcceptedIsOwnAndNew, BooksAgreeOnFaults, ClosedAnswersClosed, DoubleIsOwnAndHeld}
+use Rattle.core_book.specs.Laws.{AcceptedFindingIsHeld, UnacceptedKeepsFindings, FilingKeepsHeldFindings}
+use Rattle.core_book.specs.Laws.{OwnFindingIsNoStranger, FilingKeepsBookValid}
+use Rattle.core_book.specs.Laws.{EachEntryKeepsReplay}
 use Rattle.core_book.specs.declared.reply.Mismatch.{Mismatch}
 use Rattle.core_book.specs.declared.reply.Mismatch.TheVariants.{Digest, Number, Content}
 use Rattle.core_book.specs.declared.reply.Reply.{Reply}
@@ -47,7 +48,7 @@ unfolding is_job_of
 own-job b n f own = ap (λ (o : Option JobView). option_eq same_job o (Some (job_of f))) own.job
     ∙ (jobs_decide (job_of f) (job_of f)).1 refl
 
-pub accepts-its-own : AcceptsItsOwn
+pub accepts-its-own : AcceptedIsOwnAndNew
 accepts-its-own b f e = (accepted-own b f e, none_held _ (accepted-new b f e))
 
 no_stranger : (b : BookView) (f : Finding) (mismatch : Mismatch) (closed held : Bool) → IsOwn b (number_of f) f →
@@ -62,7 +63,7 @@ no_stranger b f mismatch false false own is held_is e =
     let new = reply_to-new b f is (own-digest b _ f own) (own-number b f own) (own-job b _ f own) held_is in
     cc
 
-pub knows-its-own : KnowsItsOwn
+pub knows-its-own : OwnFindingIsNoStranger
 knows-its-own b f k mismatch own =
     no_stranger b f mismatch _ _ (subst (λ (n : ℕ). IsOwn b n f) (sym own.number_is) own) refl refl
 
@@ -120,14 +121,14 @@ double-own b f k e =
     } in
     subst (λ (n : ℕ). IsOwn b n f) p.same own
 
-pub doubles-what_is_held : DoublesWhatIsHeld
+pub doubles-what_is_held : DoubleIsOwnAndHeld
 doubles-what_is_held b f k e =
     let p = double_tells b f k e in
     (double-own b f k e, subst (λ (n : ℕ). IsSome (found_in b n)) p.same p.held_is)
 
 -- ---- what a filing leaves
 
-pub holds-what_is_accepted : HoldsWhatIsAccepted
+pub holds-what_is_accepted : AcceptedFindingIsHeld
 holds-what_is_accepted b f is e =
     ap (λ (xs : List (Option Finding)). get_or xs (number_of f) None) (findings_after-accepted b f e)
     ∙ get_or-set_same b.findings (number_of f) (Some f) None (accepted-inside b f is e)
@@ -152,16 +153,16 @@ keeps b f g k (Stranger mismatch) e held =
 keeps b f g k (Double n) e held =
     ap (λ (xs : List (Option Finding)). get_or xs k None) (findings_after-other b.findings f _ (λ s. cc)) ∙ held
 
-pub keeps-what_is_held : KeepsWhatIsHeld
+pub keeps-what_is_held : FilingKeepsHeldFindings
 keeps-what_is_held b f g k held = keeps b f g k (reply_to b f) refl held
 
-pub holds-nothing_else : HoldsNothingElse
+pub holds-nothing_else : UnacceptedKeepsFindings
 holds-nothing_else b f other = findings_after-other b.findings f (reply_to b f) other
 
-pub stays-book : StaysBook
+pub stays-book : FilingKeepsBookValid
 stays-book b f is = IsBook-filed b f is
 
-pub stays-replayed : StaysReplayed
+pub stays-replayed : EachEntryKeepsReplay
 stays-replayed b book is = ((λ f. IsReplayed-filed b f book is), IsReplayed-closed b is)
 
 -- a filing that is accepted changes nothing at another number
@@ -173,7 +174,7 @@ held-elsewhere b f k e other =
 
 -- ---- two books
 
-pub books-agree : BooksAgree
+pub books-agree : BooksAgreeOnFaults
 books-agree b c k f g is other jobs held there =
     let mine = (is.own k f held).job in
     let theirs = (other.own k g there).job in

@@ -8,8 +8,9 @@ use Rattle.std.proofs.lemmas.List.Elements.{All-head, All-tail}
 use Rattle.module_job.specs.Jobs.{JobView}
 use Rattle.core_book.specs.Draws.{IsDrawn, total}
 use Rattle.core_book.specs.Claims.{claim_draws, claim_next, has_ended}
-use Rattle.core_book.specs.Core.{CoreView, IsCore, IsSeated, after_claim, after_event, after_events, draws_of, ended}
-use Rattle.core_book.specs.Core.{new_core, numbers_in}
+use Rattle.core_book.specs.Core.{CoreView, IsCore, HasSeatBelow, after_claim, after_event, after_events, draws_of}
+use Rattle.core_book.specs.Core.{ended}
+use Rattle.core_book.specs.Core.{new_core, job_count_of}
 use Rattle.core_book.specs.declared.machine.Event.{Event}
 use Rattle.core_book.specs.declared.machine.Event.TheVariants as Events
 use Rattle.core_book.proofs.Counting.{drawn-none, drawn-push, has_ended-push, total-le, total-set}
@@ -45,7 +46,7 @@ claim-few n next seat lists inside false e few =
 
 pub claim-core : (c : CoreView) (seat : ℕ) → seat < length c.draws → IsCore c → IsCore (after_claim c seat)
 claim-core c seat inside is =
-    let n = numbers_in c in
+    let n = job_count_of c in
     record {
       drawn = claim-drawn n c.next seat c.draws inside (has_ended n (draws_of c seat)) is.drawn;
       few = claim-few n c.next seat c.draws inside (has_ended n (draws_of c seat)) refl is.few;
@@ -55,7 +56,7 @@ claim-core c seat inside is =
 
 -- ---- an event
 
-pub event-core : (c : CoreView) (e : Event) → IsSeated (length c.draws) e → IsCore c → IsCore (after_event c e)
+pub event-core : (c : CoreView) (e : Event) → HasSeatBelow (length c.draws) e → IsCore c → IsCore (after_event c e)
 event-core c (Events.Claim seat) seated is = claim-core c seat seated is
 event-core c (Events.File f) seated is = record {
   drawn = is.drawn;
@@ -70,13 +71,13 @@ length-event c (Events.Claim seat) = length-set c.draws seat _
 length-event c (Events.File f) = refl
 length-event c (Events.Lose number) = refl
 
-pub events-core : (seats : ℕ) (es : List Event) (c : CoreView) → length c.draws ≡ seats → All (IsSeated seats) es →
+pub events-core : (seats : ℕ) (es : List Event) (c : CoreView) → length c.draws ≡ seats → All (HasSeatBelow seats) es →
     IsCore c → IsCore (after_events c es)
 events-core seats [] c len seated is = is
 events-core seats (e ∷ es) c len seated is =
-    let first : IsSeated (length c.draws) e =
-    subst (λ (n : ℕ). IsSeated n e) (sym len) (All-head (IsSeated seats) e es seated) in
-    events-core seats es (after_event c e) (length-event c e ∙ len) (All-tail (IsSeated seats) e es seated)
+    let first : HasSeatBelow (length c.draws) e =
+    subst (λ (n : ℕ). HasSeatBelow n e) (sym len) (All-head (HasSeatBelow seats) e es seated) in
+    events-core seats es (after_event c e) (length-event c e ∙ len) (All-tail (HasSeatBelow seats) e es seated)
     (event-core c e first is)
 
 pub length-events : (es : List Event) (c : CoreView) → length (after_events c es).draws ≡ length c.draws
@@ -105,8 +106,8 @@ ended-one n xs = by_case (has_ended n xs)
     by_case false = omega arith
 
 -- at most one draw of each seat is past the numbers
-pub next-few : (c : CoreView) → IsCore c → c.next ≤ numbers_in c + length c.draws
-next-few c is = omega (arith, is.few, total-le (ended (numbers_in c)) c.draws (ended-one (numbers_in c)))
+pub next-few : (c : CoreView) → IsCore c → c.next ≤ job_count_of c + length c.draws
+next-few c is = omega (arith, is.few, total-le (ended (job_count_of c)) c.draws (ended-one (job_count_of c)))
 
 -- ---- what the code leaves of a claim
 
@@ -118,7 +119,7 @@ drawn-at f (x ∷ vs) zero v inside at = ap f at
 drawn-at f (x ∷ vs) (suc k) v inside at = drawn-at f vs k v (omega (arith, inside)) at
 
 pub left-claim : (c : CoreView) (seat count next : ℕ) (before after : List ℕ) (draws : List (List ℕ)) →
-    count ≡ numbers_in c → before ≡ draws_of c seat →
+    count ≡ job_count_of c → before ≡ draws_of c seat →
     next ≡ claim_next count before c.next → after ≡ claim_draws count before c.next → draws ≡ set c.draws seat after →
     record c { next = next; draws = draws } ≡ after_claim c seat
 left-claim c seat count next before after draws counts was next_is after_is draws_are =

@@ -4,7 +4,7 @@ use Rattle.std.proofs.Common.{get_or, set, length-append}
 use Rattle.std.specs.Prelude.{nat_le, nat_lt, replicate, slice_get, Some}
 use Rattle.std.proofs.lemmas.Option.{same_Some}
 use Rattle.std.proofs.lemmas.Bool.Decides.{nat_tests}
-use Rattle.core_book.specs.Draws.{IsDrawn, end_of, once_below, times, total}
+use Rattle.core_book.specs.Draws.{IsDrawn, past_last, one_if_below, times, total}
 use Rattle.core_book.specs.Claims.{has_ended}
 
 -- ---- sums
@@ -35,13 +35,13 @@ times-append : (x : ℕ) (xs ys : List ℕ) → times x (xs ++ ys) ≡ times x x
 times-append x [] ys = omega arith
 times-append x (y ∷ xs) ys = let rest = times-append x xs ys in omega (arith, rest)
 
-end_of-push : (xs : List ℕ) (x : ℕ) → end_of (xs ++ x ∷ []) ≡ x + 1
-end_of-push [] x = refl
-end_of-push (y ∷ []) x = refl
-end_of-push (y ∷ z ∷ zs) x = end_of-push (z ∷ zs) x
+past_last-push : (xs : List ℕ) (x : ℕ) → past_last (xs ++ x ∷ []) ≡ x + 1
+past_last-push [] x = refl
+past_last-push (y ∷ []) x = refl
+past_last-push (y ∷ z ∷ zs) x = past_last-push (z ∷ zs) x
 
 pub has_ended-push : (n : ℕ) (xs : List ℕ) (x : ℕ) → has_ended n (xs ++ x ∷ []) ≡ nat_lt n (x + 1)
-has_ended-push n xs x = ap (nat_lt n) (end_of-push xs x)
+has_ended-push n xs x = ap (nat_lt n) (past_last-push xs x)
 
 pub drawn-push : (counter : ℕ) (lists : List (List ℕ)) (seat : ℕ) → seat < length lists → IsDrawn counter lists →
     IsDrawn (counter + 1) (set lists seat (get_or lists seat [] ++ counter ∷ []))
@@ -66,7 +66,7 @@ drawn-none seats = record {
 -- ---- what a list that has ended tells
 
 -- one less than the end of a list stands in it
-end-stands : (xs : List ℕ) (n : ℕ) → n < end_of xs → (last : ℕ) × (n ≤ last) × (1 ≤ times last xs)
+end-stands : (xs : List ℕ) (n : ℕ) → n < past_last xs → (last : ℕ) × (n ≤ last) × (1 ≤ times last xs)
 end-stands [] n below = absurd (omega (arith, below))
 end-stands (y ∷ []) n below = (y, omega (arith, below), grind (arith, nat_tests))
 end-stands (y ∷ z ∷ zs) n below =
@@ -77,19 +77,19 @@ end-stands (y ∷ z ∷ zs) n below =
 pub ended-all : (n counter : ℕ) (lists : List (List ℕ)) (seat : ℕ) → seat < length lists →
     has_ended n (get_or lists seat []) ≡ true → IsDrawn counter lists → n < counter
 ended-all n counter lists seat inside has is =
-    let below : n < end_of (get_or lists seat []) = grind (arith, nat_tests) in
+    let below : n < past_last (get_or lists seat []) = grind (arith, nat_tests) in
     let there = end-stands (get_or lists seat []) n below in
     let within = at-le-total (times there.0) lists seat [] inside in
     let once = is.once there.0 in
     let drawn : there.0 < counter = drawn-below there.0 counter (omega (arith, within, once, there.2)) in
     omega (arith, drawn, there.1)
   where
-    drawn-below : (x n : ℕ) → 1 ≤ once_below x n → x < n
+    drawn-below : (x n : ℕ) → 1 ≤ one_if_below x n → x < n
     drawn-below x n some = grind (arith, nat_tests)
 
 -- ---- the last draw of a seat
 
-last-end : (xs : List ℕ) (k x : ℕ) → length xs ≡ k + 1 → slice_get xs k ≡ Some x → end_of xs ≡ x + 1
+last-end : (xs : List ℕ) (k x : ℕ) → length xs ≡ k + 1 → slice_get xs k ≡ Some x → past_last xs ≡ x + 1
 last-end [] k x len e = absurd (omega (arith, len))
 last-end (y ∷ []) zero x len e = let same : y ≡ x = same_Some y x e in ap (λ n. n + 1) same
 last-end (y ∷ []) (suc k) x len e = absurd (omega (arith, len))
@@ -102,5 +102,5 @@ some-length (y ∷ ys) x e = omega arith
 
 pub has_ended-last : (n : ℕ) (xs : List ℕ) (x : ℕ) → slice_get xs (length xs - 1) ≡ Some x → nat_le n x ≡ has_ended n xs
 has_ended-last n xs x e =
-    let end : end_of xs ≡ x + 1 = last-end xs (length xs - 1) x (some-length xs x e) e in
+    let end : past_last xs ≡ x + 1 = last-end xs (length xs - 1) x (some-length xs x e) e in
     grind (arith, nat_tests)

@@ -14,10 +14,12 @@ use Rattle.local_run.specs.declared.finding.Finding.{Finding}
 use Rattle.core_book.specs.Draws.{IsDrawn, times, total}
 use Rattle.core_book.specs.Claims.{claim_of_draw, has_ended}
 use Rattle.core_book.specs.Book.{IsBook, IsReplayed, after_filing, found_in, reply_to}
-use Rattle.core_book.specs.Core.{CoreView, IsCore, IsSeated, after_claim, after_event, after_events, answer_of_claim}
-use Rattle.core_book.specs.Core.{answer_to, draws_of, new_core, numbers_in}
-use Rattle.core_book.specs.CoreLaws.{AcceptsOneForEach, AreAllDrawn, DrawsEachOnce, EmptyWhereAllAreDrawn}
-use Rattle.core_book.specs.CoreLaws.{EventsKeepWhatIsHeld, EventsReplay, FindingsAreOwnAndLeast, HoldsWhatWasAccepted}
+use Rattle.core_book.specs.Core.{CoreView, IsCore, HasSeatBelow, after_claim, after_event, after_events}
+use Rattle.core_book.specs.Core.{answer_of_claim}
+use Rattle.core_book.specs.Core.{answer_to, draws_of, new_core, job_count_of}
+use Rattle.core_book.specs.CoreLaws.{AcceptsAtMostOnePerNumber, AreAllDrawn, DrawsEachOnce, EmptyOnlyIfAllAreDrawn}
+use Rattle.core_book.specs.CoreLaws.{EventsKeepHeldFindings, HistoryReplaysAfterEvents, HeldFindingsAreOwnAndLeast}
+use Rattle.core_book.specs.CoreLaws.{HoldsWhatWasAccepted}
 use Rattle.core_book.specs.CoreLaws.{OnlyAcceptedChangesWhatIsHeld, accepted_among, accepted_by, accepted_of}
 use Rattle.core_book.specs.CoreLaws.{core_after}
 use Rattle.core_book.specs.declared.machine.Answer.TheVariants as Answered
@@ -34,7 +36,7 @@ use Rattle.core_book.proofs.Replays.{IsBook-new, IsReplayed-filed, IsReplayed-ne
 
 -- ---- draws
 
-all-core : (digest : List ℕ) (jobs : List JobView) (seats : ℕ) (es : List Event) → All (IsSeated seats) es →
+all-core : (digest : List ℕ) (jobs : List JobView) (seats : ℕ) (es : List Event) → All (HasSeatBelow seats) es →
     IsCore (core_after digest jobs seats es)
 all-core digest jobs seats es seated =
     events-core seats es (new_core digest jobs seats) (length-new digest jobs seats) seated (new-core digest jobs seats)
@@ -63,11 +65,11 @@ all-below next lists n is most k below = let once = is.once k in grind (arith, n
 empty-all : (c : CoreView) (seat : ℕ) → seat < length c.draws → IsCore c →
     answer_to c (Events.Claim seat) ≡ Answered.Empty → AreAllDrawn (after_claim c seat)
 empty-all c seat inside is h =
-    let n = numbers_in c in
+    let n = job_count_of c in
     let past = empty-past n c.next c.draws seat inside is.drawn (has_ended n (draws_of c seat)) refl h in
     all-below (after_claim c seat).next (after_claim c seat).draws n (claim-core c seat inside is).drawn past
 
-pub empty-where_all_are_drawn : EmptyWhereAllAreDrawn
+pub empty-where_all_are_drawn : EmptyOnlyIfAllAreDrawn
 empty-where_all_are_drawn digest jobs seats es seat seated inside h =
     let c = core_after digest jobs seats es in
     let len : length c.draws ≡ seats = length-events es (new_core digest jobs seats) ∙ length-new digest jobs seats in
@@ -75,7 +77,7 @@ empty-where_all_are_drawn digest jobs seats es seat seated inside h =
 
 -- ---- what is held
 
-pub events-keep : EventsKeepWhatIsHeld
+pub events-keep : EventsKeepHeldFindings
 events-keep c (Events.Claim seat) k f h = h
 events-keep c (Events.File g) k f h = keeps-what_is_held c.book g f k h
 events-keep c (Events.Lose number) k f h = h
@@ -118,11 +120,11 @@ new-nothing : (digest : List ℕ) (jobs : List JobView) (seats : ℕ) (k : ℕ) 
 unfolding new_core
 new-nothing digest jobs seats k = found_in-new digest jobs k
 
-pub events-replay : EventsReplay
+pub events-replay : HistoryReplaysAfterEvents
 events-replay digest jobs seats es =
     events-replayed es (new_core digest jobs seats) (new-book digest jobs seats) (new-replayed digest jobs seats)
 
-pub holds-honest_own : FindingsAreOwnAndLeast
+pub holds-honest_own : HeldFindingsAreOwnAndLeast
 holds-honest_own digest jobs seats es k f h =
     ((events-book es (new_core digest jobs seats) (new-book digest jobs seats)).own k f h, f.honest, f.keeps)
 
@@ -281,7 +283,7 @@ at_most_one : (b : Bool) → cond b 1 0 ≤ 1
 at_most_one true = omega arith
 at_most_one false = omega arith
 
-pub accepts-one_for_each : AcceptsOneForEach
+pub accepts-one_for_each : AcceptsAtMostOnePerNumber
 accepts-one_for_each digest jobs seats es k =
     let all = one-among es (new_core digest jobs seats) k (new-book digest jobs seats) in
     let most = at_most_one (is_some (found_in (core_after digest jobs seats es).book k)) in

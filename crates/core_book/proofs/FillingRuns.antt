@@ -14,7 +14,7 @@ use Rattle.module_job.specs.Shapes.{ShapeView, shape_of}
 use Rattle.local_run.specs.Shown.{job_of}
 use Rattle.local_run.specs.declared.finding.Finding.{Finding}
 use Rattle.core_book.specs.Book.{BookView, found_in}
-use Rattle.core_book.specs.Filling.{HoldsAlike, RunsOneForEach, firsts, shapes_of}
+use Rattle.core_book.specs.Filling.{HoldsAlike, RunsAtMostOncePerShape, group_count_below, shapes_of}
 use Rattle.core_book.proofs.Fillings.{IsFilling}
 
 -- ---- groups
@@ -33,18 +33,19 @@ pub first-read : (g : List ℕ) (n first : ℕ) → n < length g → first ≡ g
 first-read g n first within is = get_or_default g n 0 first within ∙ sym is
 
 pub same_firsts : {A : Type 0} (xs : List A) (g h : List ℕ) → AreGroups xs g → AreGroups xs h → (n : ℕ) →
-    n ≤ length xs → firsts g n ≡ firsts h n
+    n ≤ length xs → group_count_below g n ≡ group_count_below h n
 same_firsts xs g h of_g of_h zero le = refl
 same_firsts xs g h of_g of_h (suc n) le =
     let below : n < length xs = omega (arith, le) in
     let one = same_first xs n (slice_index g n) (slice_index h n) (of_g.each n below) (of_h.each n below) in
     ap₂ (λ a b. a + (if b == n then 1 else 0)) (same_firsts xs g h of_g of_h n (omega (arith, le))) one
 
-pub firsts_grow : (g : List ℕ) (n m : ℕ) → n ≤ m → firsts g n ≤ firsts g m
-firsts_grow g n zero le = let e : n ≡ zero = omega (arith, le) in subst (λ k. firsts g k ≤ firsts g zero) (sym e)
+pub firsts_grow : (g : List ℕ) (n m : ℕ) → n ≤ m → group_count_below g n ≤ group_count_below g m
+firsts_grow g n zero le = let e : n ≡ zero = omega (arith, le) in
+    subst (λ k. group_count_below g k ≤ group_count_below g zero) (sym e)
     (omega arith)
 firsts_grow g n (suc m) le = elim (cases_order n (suc m)) [
-  | inl same ↦ subst (λ k. firsts g n ≤ firsts g k) same (omega arith)
+  | inl same ↦ subst (λ k. group_count_below g n ≤ group_count_below g k) same (omega arith)
   | inr rest ↦ elim rest [
     | inl before ↦ let less = firsts_grow g n m (omega (arith, before)) in omega (arith, less)
     | inr after ↦ absurd (omega (arith, le, after))
@@ -97,16 +98,16 @@ step_by false a n before r r' f e so_far none one =
     apart : (a n : ℕ) → (a == n) ≡ false → a ≡ n → ⊥
     apart a n e s = grind (arith, nat_tests)
 
-pub runs_step : (g : List ℕ) (n before r r' : ℕ) → r ≤ before + firsts g n → (slice_index g n ≢ n → r' ≡ r) →
-    r' ≤ r + 1 → r' ≤ before + firsts g (n + 1)
+pub runs_step : (g : List ℕ) (n before r r' : ℕ) → r ≤ before + group_count_below g n → (slice_index g n ≢ n → r' ≡ r) →
+    r' ≤ r + 1 → r' ≤ before + group_count_below g (n + 1)
 runs_step g n before r r' so_far none one =
     let e : suc n ≡ n + 1 = omega arith in
-    subst (λ k. r' ≤ before + firsts g k) e
-    (step_by (slice_index g n == n) (slice_index g n) n before r r' (firsts g n) refl so_far none one)
+    subst (λ k. r' ≤ before + group_count_below g k) e
+    (step_by (slice_index g n == n) (slice_index g n) n before r r' (group_count_below g n) refl so_far none one)
 
 -- after some numbers, which are no more than there are jobs
 pub runs_end : {shapes : List ShapeView} (g : List ℕ) (n before r : ℕ) → AreGroups shapes g → n ≤ length shapes →
-    r ≤ before + firsts g n → RunsOneForEach shapes before r
+    r ≤ before + group_count_below g n → RunsAtMostOncePerShape shapes before r
 runs_end {shapes = shapes} g n before r of_g le so_far h of_h =
     let same = same_firsts shapes g h of_g of_h (length shapes) (omega arith) in
     let grow = firsts_grow g n (length shapes) le in

@@ -17,7 +17,7 @@ use Rattle.local_run.specs.declared.finding.Finding.{Finding}
 use Rattle.core_book.specs.Book.{BookView, IsBook, IsOwn, IsReplayed, accepted_in, after_filing, filing_of, found_in}
 use Rattle.core_book.specs.Book.{is_job_of, new_book, reply_to}
 use Rattle.core_book.specs.Filling.{IsHeldOrFiled, IsFilledTo, IsFull, IsOpenFor, IsPartlyFilled, accepted_entry}
-use Rattle.core_book.specs.Filling.{lacking}
+use Rattle.core_book.specs.Filling.{missing_numbers_below}
 use Rattle.core_book.specs.Verdicts.{AreHeldBelow}
 use Rattle.core_book.specs.declared.log_entry.LogEntry.{LogEntry}
 use Rattle.core_book.specs.declared.log_entry.LogEntry.TheVariants.{Filed}
@@ -91,11 +91,15 @@ filled-start b = record {
 }
 
 -- a number that held a finding before
-lacking-held : (b : BookView) (n : ℕ) → is_some (found_in b n) ≡ true → lacking b (suc n) ≡ lacking b n
-lacking-held b n held = ap (λ (t : Bool). lacking b n ++ (if t then [] else n ∷ [])) held ∙ append-nil (lacking b n)
+missing_numbers_below-held : (b : BookView) (n : ℕ) → is_some (found_in b n) ≡ true →
+    missing_numbers_below b (suc n) ≡ missing_numbers_below b n
+missing_numbers_below-held b n held =
+    ap (λ (t : Bool). missing_numbers_below b n ++ (if t then [] else n ∷ [])) held
+    ∙ append-nil (missing_numbers_below b n)
 
-lacking-new : (b : BookView) (n : ℕ) → is_some (found_in b n) ≡ false → lacking b (suc n) ≡ lacking b n ++ n ∷ []
-lacking-new b n lacks = ap (λ (t : Bool). lacking b n ++ (if t then [] else n ∷ [])) lacks
+missing_numbers_below-new : (b : BookView) (n : ℕ) → is_some (found_in b n) ≡ false →
+    missing_numbers_below b (suc n) ≡ missing_numbers_below b n ++ n ∷ []
+missing_numbers_below-new b n lacks = ap (λ (t : Bool). missing_numbers_below b n ++ (if t then [] else n ∷ [])) lacks
 
 step-held : (b c : BookView) (n : ℕ) → IsFilledTo b c n → is_some (found_in c n) ≡ true → IsFilledTo b c (suc n)
 step-held b c n is held = record {
@@ -104,7 +108,7 @@ step-held b c n is held = record {
   closed_stays = is.closed_stays;
   history_grows = is.history_grows
       ∙ ap (λ (ks : List ℕ). b.history ++ map (accepted_entry b.digest) ks)
-      (sym (lacking-held b n (ap is_some (sym (is.rest n (omega arith))) ∙ held)));
+      (sym (missing_numbers_below-held b n (ap is_some (sym (is.rest n (omega arith))) ∙ held)));
   kept = is.kept;
   held = λ k below.
       elim (eqb_tells n k) [
@@ -125,20 +129,21 @@ entry-accepted b c f n digest number accepted =
 
 history-filed : (b c : BookView) (f : Finding) (n : ℕ) → IsFilledTo b c n → is_some (found_in c n) ≡ false →
     number_of f ≡ n → reply_to c f ≡ Accepted
-    → (after_filing c f).history ≡ b.history ++ map (accepted_entry b.digest) (lacking b (suc n))
+    → (after_filing c f).history ≡ b.history ++ map (accepted_entry b.digest) (missing_numbers_below b (suc n))
 history-filed b c f n is lacks number accepted =
     let entry = accepted_entry b.digest in
-    let new : lacking b (suc n) ≡ lacking b n ++ n ∷ [] =
-    lacking-new b n (ap is_some (sym (is.rest n (omega arith))) ∙ lacks) in
+    let new : missing_numbers_below b (suc n) ≡ missing_numbers_below b n ++ n ∷ [] =
+    missing_numbers_below-new b n (ap is_some (sym (is.rest n (omega arith))) ∙ lacks) in
     let own : c.history ++ Filed (filing_of c f) ∷ [] ≡ c.history ++ entry n ∷ [] =
     ap (λ (e : LogEntry). c.history ++ e ∷ []) (entry-accepted b c f n is.digest_stays number accepted) in
-    let before : c.history ++ entry n ∷ [] ≡ (b.history ++ map entry (lacking b n)) ++ entry n ∷ [] =
+    let before : c.history ++ entry n ∷ [] ≡ (b.history ++ map entry (missing_numbers_below b n)) ++ entry n ∷ [] =
     ap (λ (es : List LogEntry). es ++ entry n ∷ []) is.history_grows in
-    let apart : (b.history ++ map entry (lacking b n)) ++ entry n ∷ []
-    ≡ b.history ++ (map entry (lacking b n) ++ entry n ∷ []) =
-    append_assoc b.history (map entry (lacking b n)) (entry n ∷ []) in
-    let mapped : map entry (lacking b n) ++ entry n ∷ [] ≡ map entry (lacking b n ++ n ∷ []) =
-    sym (map-append entry (lacking b n) (n ∷ [])) in
+    let apart : (b.history ++ map entry (missing_numbers_below b n)) ++ entry n ∷ []
+    ≡ b.history ++ (map entry (missing_numbers_below b n) ++ entry n ∷ []) =
+    append_assoc b.history (map entry (missing_numbers_below b n)) (entry n ∷ []) in
+    let mapped : map entry (missing_numbers_below b n) ++ entry n ∷ []
+    ≡ map entry (missing_numbers_below b n ++ n ∷ []) =
+    sym (map-append entry (missing_numbers_below b n) (n ∷ [])) in
     own ∙ before ∙ apart ∙ ap (λ (es : List LogEntry). b.history ++ es) (mapped ∙ ap (map entry) (sym new))
 
 step-filed : (b c : BookView) (f : Finding) (n : ℕ) → IsBook c → IsFilledTo b c n → is_some (found_in c n) ≡ false →

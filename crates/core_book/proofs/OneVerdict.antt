@@ -12,9 +12,9 @@ use Rattle.local_run.proofs.Least.{least_unique, least_keep_unique}
 use Rattle.border_match.specs.BorderFaults.{AreBorderFaultsOf}
 use Rattle.border_match.specs.declared.fault.BorderFault.{BorderFault}
 use Rattle.border_match.proofs.Unique.{least_unique as least_border_unique}
-use Rattle.core_book.specs.CoreLaws.{VerdictIsOne}
+use Rattle.core_book.specs.CoreLaws.{VerdictIsUnique}
 use Rattle.core_book.specs.Verdicts.{AreLeastFaults, AreReportLines, IsToldOf, IsVerdict, lines_from, renumber_keep}
-use Rattle.core_book.specs.Verdicts.{timing, unkept_lines}
+use Rattle.core_book.specs.Verdicts.{timing_report, unkept_lines}
 use Rattle.core_book.specs.declared.verdict.Reasons.{Reasons}
 use Rattle.core_book.specs.declared.verdict.ReportLine.{ReportLine}
 use Rattle.core_book.specs.declared.verdict.Verdict.TheVariants.{Yes, No}
@@ -60,9 +60,9 @@ lines-same : (g : Setting) (ms : List ModuleLines) (jobs : List JobView) (xs ys 
 lines-same g ms jobs xs ys a b =
     a.lines_are ∙ (λ i. lines_from 0 (faults-same jobs a.faults b.faults a.are_least b.are_least i)
     (borders-same g ms a.borders b.borders a.are_border_faults b.are_border_faults i) ++ unkept_lines g ms
-    ++ map timing (time_lines g.circuit ms)) ∙ sym b.lines_are
+    ++ map timing_report (time_lines g.circuit ms)) ∙ sym b.lines_are
 
-pub verdict-is-one : VerdictIsOne
+pub verdict-is-one : VerdictIsUnique
 unfolding IsVerdict
 verdict-is-one g ms jobs Yes Yes v w = tt
 verdict-is-one g ms jobs Yes (No lines) v w = w.0 v

@@ -10,7 +10,8 @@ use Rattle.std.specs.List.{count_by}
 use Rattle.module_job.specs.Jobs.{JobView}
 use Rattle.local_run.specs.Shown.{digest_of, number_of, job_of}
 use Rattle.local_run.specs.declared.finding.Finding.{Finding}
-use Rattle.core_book.specs.Replay.{Replayed, AreDue, IsDue, accepted_after, after_entry, beginning, has_closing}
+use Rattle.core_book.specs.Replay.{Replayed, AreRepliesByRule, IsReplyByRule, accepted_after, after_entry, beginning}
+use Rattle.core_book.specs.Replay.{has_closing}
 use Rattle.core_book.specs.Replay.{has_number, replay, replay_from, rule}
 use Rattle.core_book.specs.Book.{BookView, IsBook, IsReplayed, accepted_in, after_closing, after_filing, filing_of}
 use Rattle.core_book.specs.Book.{findings_after, is_job_of, new_book, reply_to, found_in}
@@ -29,14 +30,16 @@ replay_from-push : (p : Replayed) (es : List LogEntry) (e : LogEntry) →
 replay_from-push p [] e = refl
 replay_from-push p (x ∷ es) e = replay_from-push (after_entry p x) es e
 
-AreDue-push : (own : List ℕ) (count : ℕ) (p : Replayed) (es : List LogEntry) (e : LogEntry) → AreDue own count p es →
-    IsDue own count (replay_from p es) e → AreDue own count p (es ++ e ∷ [])
-AreDue-push own count p [] e h due = (due, tt)
-AreDue-push own count p (x ∷ es) e h due = (h.0, AreDue-push own count (after_entry p x) es e h.1 due)
+AreRepliesByRule-push : (own : List ℕ) (count : ℕ) (p : Replayed) (es : List LogEntry) (e : LogEntry) →
+    AreRepliesByRule own count p es →
+    IsReplyByRule own count (replay_from p es) e → AreRepliesByRule own count p (es ++ e ∷ [])
+AreRepliesByRule-push own count p [] e h due = (due, tt)
+AreRepliesByRule-push own count p (x ∷ es) e h due =
+    (h.0, AreRepliesByRule-push own count (after_entry p x) es e h.1 due)
 
 -- the reply that is stored is the one that the rule gives there
 due-filing : (b : BookView) (f : Finding) → IsReplayed b →
-    IsDue b.digest (length b.jobs) (replay b.history) (Filed (filing_of b f))
+    IsReplyByRule b.digest (length b.jobs) (replay b.history) (Filed (filing_of b f))
 unfolding reply_to
 due-filing b f is = (λ i. rule b.digest (length b.jobs) (sym is.closed_is i) (sym (is.accepted (number_of f)) i)
     (digest_of f) (number_of f) (is_job_of b.jobs (number_of f) (job_of f)))
@@ -70,7 +73,7 @@ by-reply b f ks held is numbers same count each =
     let push = replay_from-push beginning b.history e in
     let now : (replay (b.history ++ e ∷ [])).accepted ≡ ks = ap (λ (p : Replayed). p.accepted) push ∙ numbers in
     record {
-      due = AreDue-push b.digest (length b.jobs) beginning b.history e is.due (due-filing b f is);
+      due = AreRepliesByRule-push b.digest (length b.jobs) beginning b.history e is.due (due-filing b f is);
       accepted = λ k. ap (λ (xs : List ℕ). has_number xs k) now ∙ each k
           ∙ ap (λ (xs : List (Option Finding)). is_some (get_or xs k None)) (sym same);
       count = ap length now ∙ count;
@@ -104,7 +107,7 @@ IsReplayed-closed b is =
     let same : (replay (b.history ++ Closing ∷ [])).accepted ≡ (replay b.history).accepted =
     ap (λ (p : Replayed). p.accepted) push in
     record {
-      due = AreDue-push b.digest (length b.jobs) beginning b.history Closing is.due tt;
+      due = AreRepliesByRule-push b.digest (length b.jobs) beginning b.history Closing is.due tt;
       accepted = λ k. ap (λ (xs : List ℕ). has_number xs k) same ∙ is.accepted k;
       count = ap length same ∙ is.count;
       closed_is = ap (λ (p : Replayed). p.closed) push;

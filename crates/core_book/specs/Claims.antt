@@ -1,12 +1,12 @@
 -- A claim: the next number goes to a seat, until the seat has drawn one past the numbers that there are
 use Rattle.std.specs.Prelude.{ℕ, ◌+◌, nat_lt, if◌then◌else◌, Bool, List, [], ◌∷◌, ◌++◌}
-use Rattle.core_book.specs.Draws.{end_of}
+use Rattle.core_book.specs.Draws.{past_last}
 use Rattle.core_book.specs.declared.claim.Claim.{Claim}
 use Rattle.core_book.specs.declared.claim.Claim.TheVariants.{Number, Empty}
 
 -- whether a seat's draws end with a draw of n or more
 abbrev pub has_ended : ℕ → List ℕ → Bool
-has_ended n draws = nat_lt n (end_of draws)
+has_ended n draws = nat_lt n (past_last draws)
 
 -- a draw below n is one of the numbers
 abbrev pub claim_of_draw : ℕ → ℕ → Claim

@@ -23,8 +23,8 @@ unfoldable pub new_core : List ℕ → List JobView → ℕ → CoreView
 new_core digest jobs seats = record { next = 0; draws = replicate seats []; book = new_book digest jobs }
 
 -- how many numbers there are: one for each job
-abbrev pub numbers_in : CoreView → ℕ
-numbers_in c = length c.book.jobs
+abbrev pub job_count_of : CoreView → ℕ
+job_count_of c = length c.book.jobs
 
 -- what a seat drew
 abbrev pub draws_of : CoreView → ℕ → List ℕ
@@ -34,13 +34,13 @@ draws_of c seat = slice_index_or c.draws seat []
 
 -- the answer to a claim of a seat
 abbrev pub claim_of : CoreView → ℕ → Claim
-claim_of c seat = claim_answer (numbers_in c) (draws_of c seat) c.next
+claim_of c seat = claim_answer (job_count_of c) (draws_of c seat) c.next
 
 -- the core after a claim of a seat
 abbrev pub after_claim : CoreView → ℕ → CoreView
 after_claim c seat = record c {
-  next = claim_next (numbers_in c) (draws_of c seat) c.next;
-  draws = slice_set c.draws seat (claim_draws (numbers_in c) (draws_of c seat) c.next);
+  next = claim_next (job_count_of c) (draws_of c seat) c.next;
+  draws = slice_set c.draws seat (claim_draws (job_count_of c) (draws_of c seat) c.next);
 }
 
 -- the answer to an event that is a claim
@@ -68,10 +68,10 @@ after_events c [] = c
 after_events c (e ∷ es) = after_events (after_event c e) es
 
 -- the seat of a claim is one of the seats
-abbrev pub IsSeated : ℕ → Event → Type 0
-IsSeated seats (Events.Claim seat) = seat < seats
-IsSeated seats (Events.File f) = ⊤
-IsSeated seats (Events.Lose number) = ⊤
+abbrev pub HasSeatBelow : ℕ → Event → Type 0
+HasSeatBelow seats (Events.Claim seat) = seat < seats
+HasSeatBelow seats (Events.File f) = ⊤
+HasSeatBelow seats (Events.Lose number) = ⊤
 
 -- ---- what is true of each core
 
@@ -83,6 +83,6 @@ ended n draws = if has_ended n draws then 1 else 0
 -- has ended. The book is one, and its history replays to it
 pub record IsCore (c : CoreView) : Type 0 where
   pub drawn : IsDrawn c.next c.draws
-  pub few : c.next ≤ numbers_in c + total (ended (numbers_in c)) c.draws
+  pub few : c.next ≤ job_count_of c + total (ended (job_count_of c)) c.draws
   pub book_is : IsBook c.book
   pub replayed : IsReplayed c.book

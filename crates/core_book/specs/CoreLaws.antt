@@ -8,7 +8,7 @@ use Rattle.local_run.specs.Shown.{number_of, job_of, fault_of, keep_of}
 use Rattle.local_run.specs.declared.finding.Finding.{Finding}
 use Rattle.core_book.specs.Draws.{IsDrawn, times, total}
 use Rattle.core_book.specs.Book.{IsOwn, IsReplayed, found_in, reply_to}
-use Rattle.core_book.specs.Core.{CoreView, IsSeated, after_event, after_events, answer_to, new_core, numbers_in}
+use Rattle.core_book.specs.Core.{CoreView, HasSeatBelow, after_event, after_events, answer_to, new_core, job_count_of}
 use Rattle.core_book.specs.Verdicts.{IsVerdict}
 use Rattle.core_book.specs.declared.machine.Answer.TheVariants as Answered
 use Rattle.core_book.specs.declared.machine.Event.{Event}
@@ -27,17 +27,17 @@ core_after digest jobs seats events = after_events (new_core digest jobs seats) 
 -- each number below the next is in one seat's list, once, and no other is in any
 abbrev pub DrawsEachOnce : Type 0
 DrawsEachOnce = (digest : List ℕ) (jobs : List JobView) (seats : ℕ) (events : List Event) →
-    All (IsSeated seats) events →
+    All (HasSeatBelow seats) events →
     IsDrawn (core_after digest jobs seats events).next (core_after digest jobs seats events).draws
 
 -- each of the numbers is in one seat's list, once
 abbrev pub AreAllDrawn : CoreView → Type 0
-AreAllDrawn c = (number : ℕ) → number < numbers_in c → total (times number) c.draws ≡ 1
+AreAllDrawn c = (number : ℕ) → number < job_count_of c → total (times number) c.draws ≡ 1
 
 -- a claim answers `Empty` only if all numbers were drawn
-abbrev pub EmptyWhereAllAreDrawn : Type 0
-EmptyWhereAllAreDrawn = (digest : List ℕ) (jobs : List JobView) (seats : ℕ) (events : List Event) (seat : ℕ) →
-    All (IsSeated seats) events → seat < seats →
+abbrev pub EmptyOnlyIfAllAreDrawn : Type 0
+EmptyOnlyIfAllAreDrawn = (digest : List ℕ) (jobs : List JobView) (seats : ℕ) (events : List Event) (seat : ℕ) →
+    All (HasSeatBelow seats) events → seat < seats →
     answer_to (core_after digest jobs seats events) (Events.Claim seat) ≡ Answered.Empty →
     AreAllDrawn (after_event (core_after digest jobs seats events) (Events.Claim seat))
 
@@ -67,21 +67,21 @@ HoldsWhatWasAccepted = (digest : List ℕ) (jobs : List JobView) (seats : ℕ) (
     ↔ (Contains (accepted_among (new_core digest jobs seats) events) f × (number_of f ≡ number))
 
 -- at most one for each number
-abbrev pub AcceptsOneForEach : Type 0
-AcceptsOneForEach = (digest : List ℕ) (jobs : List JobView) (seats : ℕ) (events : List Event) (number : ℕ) →
+abbrev pub AcceptsAtMostOnePerNumber : Type 0
+AcceptsAtMostOnePerNumber = (digest : List ℕ) (jobs : List JobView) (seats : ℕ) (events : List Event) (number : ℕ) →
     count_by (λ f. number_of f == number) (accepted_among (new_core digest jobs seats) events) ≤ 1
 
 -- each is of the book's job of its number, and has the least fault of that job
-abbrev pub FindingsAreOwnAndLeast : Type 0
-FindingsAreOwnAndLeast = (digest : List ℕ) (jobs : List JobView) (seats : ℕ) (events : List Event) (number : ℕ)
+abbrev pub HeldFindingsAreOwnAndLeast : Type 0
+HeldFindingsAreOwnAndLeast = (digest : List ℕ) (jobs : List JobView) (seats : ℕ) (events : List Event) (number : ℕ)
     (f : Finding) →
     found_in (core_after digest jobs seats events).book number ≡ Some f →
     IsOwn (core_after digest jobs seats events).book number f × IsLeastFault (job_of f) (fault_of f)
     × IsLeastKeepFault (job_of f) (keep_of f)
 
 -- no event changes a finding that is held
-abbrev pub EventsKeepWhatIsHeld : Type 0
-EventsKeepWhatIsHeld = (c : CoreView) (e : Event) (number : ℕ) (f : Finding) → found_in c.book number ≡ Some f →
+abbrev pub EventsKeepHeldFindings : Type 0
+EventsKeepHeldFindings = (c : CoreView) (e : Event) (number : ℕ) (f : Finding) → found_in c.book number ≡ Some f →
     found_in (after_event c e).book number ≡ Some f
 
 -- no event but a filing that is answered `Accepted` changes what is held
@@ -91,20 +91,20 @@ OnlyAcceptedChangesWhatIsHeld =
     (after_event c e).book.findings ≡ c.book.findings
 
 -- the history replays to the book
-abbrev pub EventsReplay : Type 0
-EventsReplay = (digest : List ℕ) (jobs : List JobView) (seats : ℕ) (events : List Event) →
+abbrev pub HistoryReplaysAfterEvents : Type 0
+HistoryReplaysAfterEvents = (digest : List ℕ) (jobs : List JobView) (seats : ℕ) (events : List Event) →
     IsReplayed (core_after digest jobs seats events).book
 
 -- ---- verdicts
 
 -- both are `Yes`, or both are `No` with the same lines
-abbrev pub SaysTheSame : Verdict → Verdict → Type 0
-SaysTheSame Yes Yes = ⊤
-SaysTheSame Yes (No lines) = ⊥
-SaysTheSame (No lines) Yes = ⊥
-SaysTheSame (No lines) (No others) = lines.items ≡ others.items
+abbrev pub AreSameVerdicts : Verdict → Verdict → Type 0
+AreSameVerdicts Yes Yes = ⊤
+AreSameVerdicts Yes (No lines) = ⊥
+AreSameVerdicts (No lines) Yes = ⊥
+AreSameVerdicts (No lines) (No others) = lines.items ≡ others.items
 
 -- the modules of a certificate have one verdict, whatever book it was concluded from
-abbrev pub VerdictIsOne : Type 0
-VerdictIsOne = (g : Setting) (ms : List ModuleLines) (jobs : List JobView) (v w : Verdict) → IsVerdict g ms jobs v →
-    IsVerdict g ms jobs w → SaysTheSame v w
+abbrev pub VerdictIsUnique : Type 0
+VerdictIsUnique = (g : Setting) (ms : List ModuleLines) (jobs : List JobView) (v w : Verdict) → IsVerdict g ms jobs v →
+    IsVerdict g ms jobs w → AreSameVerdicts v w

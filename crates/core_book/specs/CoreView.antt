@@ -2,7 +2,7 @@
 use Rattle.std.specs.Prelude.{◌≤◌, ℕ, List, length, map}
 use Rattle.std.specs.declared.vec.Vec.{Vec}
 use Rattle.std.specs.declared.alloc.Global.{Global}
-use Rattle.core_book.specs.Core.{CoreView, IsCore, numbers_in}
+use Rattle.core_book.specs.Core.{CoreView, IsCore, job_count_of}
 use Rattle.core_book.specs.declared.machine.Core.TheInside.{Inside}
 
 -- the lists in a list of `Vec`
@@ -16,5 +16,5 @@ core_view a = record { next = a.next; draws = lists_of a.draws.items; book = a.b
 -- the fields of every core: a core of at most 1024 numbers and at most 64 seats
 pub record IsStoredCore (a : Inside) : Type 0 where
   pub core : IsCore (core_view a)
-  pub numbers : numbers_in (core_view a) ≤ 1024
+  pub numbers : job_count_of (core_view a) ≤ 1024
   pub seats : length a.draws.items ≤ 64

@@ -12,17 +12,17 @@ times x [] = 0
 times x (y ∷ ys) = (if y == x then 1 else 0) + times x ys
 
 -- 1 for a number below n, and else 0
-abbrev pub once_below : ℕ → ℕ → ℕ
-once_below x n = if nat_lt x n then 1 else 0
+abbrev pub one_if_below : ℕ → ℕ → ℕ
+one_if_below x n = if nat_lt x n then 1 else 0
 
 -- one more than the last of a list, and 0 for the empty list
-abbrev pub end_of : List ℕ → ℕ
-end_of [] = 0
-end_of (y ∷ []) = y + 1
-end_of (y ∷ z ∷ zs) = end_of (z ∷ zs)
+abbrev pub past_last : List ℕ → ℕ
+past_last [] = 0
+past_last (y ∷ []) = y + 1
+past_last (y ∷ z ∷ zs) = past_last (z ∷ zs)
 
 -- The lists have as many numbers as the counter says: each number below it is in one list, once, and no other is in
 -- any.
 pub record IsDrawn (counter : ℕ) (lists : List (List ℕ)) : Type 0 where
   pub whole : total length lists ≡ counter
-  pub once : (x : ℕ) → total (times x) lists ≡ once_below x counter
+  pub once : (x : ℕ) → total (times x) lists ≡ one_if_below x counter

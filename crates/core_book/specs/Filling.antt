@@ -27,9 +27,9 @@ pub record IsFull (digest : List ℕ) (jobs : List JobView) (b : BookView) : Typ
   pub all_accepted : accepted_in b ≡ length jobs
 
 -- the numbers below this one for which the book holds nothing, in their order
-abbrev pub lacking : BookView → ℕ → List ℕ
-lacking b zero = []
-lacking b (suc n) = lacking b n ++ (if is_some (found_in b n) then [] else n ∷ [])
+abbrev pub missing_numbers_below : BookView → ℕ → List ℕ
+missing_numbers_below b zero = []
+missing_numbers_below b (suc n) = missing_numbers_below b n ++ (if is_some (found_in b n) then [] else n ∷ [])
 
 -- the entry of a finding of this number that the book accepts
 abbrev pub accepted_entry : List ℕ → ℕ → LogEntry
@@ -41,7 +41,7 @@ pub record IsFilledTo (b c : BookView) (below : ℕ) : Type 0 where
   pub digest_stays : c.digest ≡ b.digest
   pub jobs_stay : c.jobs ≡ b.jobs
   pub closed_stays : c.closed ≡ b.closed
-  pub history_grows : c.history ≡ b.history ++ map (accepted_entry b.digest) (lacking b below)
+  pub history_grows : c.history ≡ b.history ++ map (accepted_entry b.digest) (missing_numbers_below b below)
   pub kept : (number : ℕ) (f : Finding) → found_in b number ≡ Some f → found_in c number ≡ Some f
   pub held : (number : ℕ) → number < below → IsSome (found_in c number)
   pub rest : (number : ℕ) → below ≤ number → found_in c number ≡ found_in b number
@@ -81,11 +81,11 @@ pub record HoldsAlike (b : BookView) (number : ℕ) (job : JobView) : Type 0 whe
   pub alike : shape_of (job_of finding) ≡ shape_of job
 
 -- how many of the numbers below this one are the first of their group
-abbrev pub firsts : List ℕ → ℕ → ℕ
-firsts groups zero = 0
-firsts groups (suc n) = firsts groups n + (if slice_index groups n == n then 1 else 0)
+abbrev pub group_count_below : List ℕ → ℕ → ℕ
+group_count_below groups zero = 0
+group_count_below groups (suc n) = group_count_below groups n + (if slice_index groups n == n then 1 else 0)
 
 -- a count of runs after at most one for each shape
-abbrev pub RunsOneForEach : List ShapeView → ℕ → ℕ → Type 0
-RunsOneForEach shapes before after = (groups : List ℕ) → AreGroups shapes groups →
-    after ≤ before + firsts groups (length shapes)
+abbrev pub RunsAtMostOncePerShape : List ShapeView → ℕ → ℕ → Type 0
+RunsAtMostOncePerShape shapes before after = (groups : List ℕ) → AreGroups shapes groups →
+    after ≤ before + group_count_below groups (length shapes)

@@ -10,18 +10,18 @@ use Rattle.core_book.specs.declared.reply.Mismatch.{Mismatch}
 use Rattle.core_book.specs.declared.reply.Reply.TheVariants.{Closed, Stranger, Double, Accepted}
 
 -- what is accepted is the book's own, and nothing is held for its number
-abbrev pub AcceptsItsOwn : Type 0
-AcceptsItsOwn = (b : BookView) (f : Finding) → reply_to b f ≡ Accepted →
+abbrev pub AcceptedIsOwnAndNew : Type 0
+AcceptedIsOwnAndNew = (b : BookView) (f : Finding) → reply_to b f ≡ Accepted →
     IsOwn b (number_of f) f × (found_in b (number_of f) ≡ None)
 
 -- what is answered `Double` is the book's own, and a finding is held for its number
-abbrev pub DoublesWhatIsHeld : Type 0
-DoublesWhatIsHeld = (b : BookView) (f : Finding) (number : ℕ) → reply_to b f ≡ Double number →
+abbrev pub DoubleIsOwnAndHeld : Type 0
+DoubleIsOwnAndHeld = (b : BookView) (f : Finding) (number : ℕ) → reply_to b f ≡ Double number →
     IsOwn b number f × IsSome (found_in b number)
 
 -- what is the book's own is no stranger
-abbrev pub KnowsItsOwn : Type 0
-KnowsItsOwn = (b : BookView) (f : Finding) (number : ℕ) (mismatch : Mismatch) → IsOwn b number f →
+abbrev pub OwnFindingIsNoStranger : Type 0
+OwnFindingIsNoStranger = (b : BookView) (f : Finding) (number : ℕ) (mismatch : Mismatch) → IsOwn b number f →
     reply_to b f ≢ Stranger mismatch
 
 -- a closed book answers `Closed`, and no other does
@@ -29,35 +29,36 @@ abbrev pub ClosedAnswersClosed : Type 0
 ClosedAnswersClosed = (b : BookView) (f : Finding) → (reply_to b f ≡ Closed) ↔ (b.closed ≡ true)
 
 -- what is accepted is held from then on
-abbrev pub HoldsWhatIsAccepted : Type 0
-HoldsWhatIsAccepted = (b : BookView) (f : Finding) → IsBook b → reply_to b f ≡ Accepted →
+abbrev pub AcceptedFindingIsHeld : Type 0
+AcceptedFindingIsHeld = (b : BookView) (f : Finding) → IsBook b → reply_to b f ≡ Accepted →
     found_in (after_filing b f) (number_of f) ≡ Some f
 
 -- no filing changes a finding that is held
-abbrev pub KeepsWhatIsHeld : Type 0
-KeepsWhatIsHeld = (b : BookView) (f g : Finding) (number : ℕ) → found_in b number ≡ Some g →
+abbrev pub FilingKeepsHeldFindings : Type 0
+FilingKeepsHeldFindings = (b : BookView) (f g : Finding) (number : ℕ) → found_in b number ≡ Some g →
     found_in (after_filing b f) number ≡ Some g
 
 -- if a finding is not accepted, what is held stays
-abbrev pub HoldsNothingElse : Type 0
-HoldsNothingElse = (b : BookView) (f : Finding) → reply_to b f ≢ Accepted → (after_filing b f).findings ≡ b.findings
+abbrev pub UnacceptedKeepsFindings : Type 0
+UnacceptedKeepsFindings = (b : BookView) (f : Finding) → reply_to b f ≢ Accepted →
+    (after_filing b f).findings ≡ b.findings
 
 -- a filing leaves a book
-abbrev pub StaysBook : Type 0
-StaysBook = (b : BookView) (f : Finding) → IsBook b → IsBook (after_filing b f)
+abbrev pub FilingKeepsBookValid : Type 0
+FilingKeepsBookValid = (b : BookView) (f : Finding) → IsBook b → IsBook (after_filing b f)
 
 -- a history that replays to the book does so after a filing, and after a closing
-abbrev pub StaysReplayed : Type 0
-StaysReplayed = (b : BookView) → IsBook b → IsReplayed b →
+abbrev pub EachEntryKeepsReplay : Type 0
+EachEntryKeepsReplay = (b : BookView) → IsBook b → IsReplayed b →
     ((f : Finding) → IsReplayed (after_filing b f)) × IsReplayed (after_closing b)
 
 -- a book to which its history replays is closed exactly if the history has a closing entry
-abbrev pub ClosedByItsHistory : Type 0
-ClosedByItsHistory = (b : BookView) → IsReplayed b → b.closed ≡ has_closing b.history
+abbrev pub ClosedIfHistoryHasClosing : Type 0
+ClosedIfHistoryHasClosing = (b : BookView) → IsReplayed b → b.closed ≡ has_closing b.history
 
 -- what two books of the same jobs hold for one number has the same fault
-abbrev pub BooksAgree : Type 0
-BooksAgree = (b c : BookView) (number : ℕ) (f g : Finding) → IsBook b → IsBook c → b.jobs ≡ c.jobs →
+abbrev pub BooksAgreeOnFaults : Type 0
+BooksAgreeOnFaults = (b c : BookView) (number : ℕ) (f g : Finding) → IsBook b → IsBook c → b.jobs ≡ c.jobs →
     found_in b number ≡ Some f → found_in c number ≡ Some g → (fault_of f ≡ fault_of g) × (keep_of f ≡ keep_of g)
 
 -- a book that accepted as many findings as it has jobs holds one for each job

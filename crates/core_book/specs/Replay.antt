@@ -59,12 +59,12 @@ has_closing (Filed f ∷ es) = has_closing es
 has_closing (Closing ∷ es) = true
 
 -- the stored reply is the one that the rule gives there
-abbrev pub IsDue : List ℕ → ℕ → Replayed → LogEntry → Type 0
-IsDue own count p (Filed f) =
+abbrev pub IsReplyByRule : List ℕ → ℕ → Replayed → LogEntry → Type 0
+IsReplyByRule own count p (Filed f) =
     f.reply ≡ rule own count p.closed (has_number p.accepted f.number) f.digest f.number f.same
-IsDue own count p Closing = ⊤
+IsReplyByRule own count p Closing = ⊤
 
 -- so is each of these, entry after entry
-abbrev pub AreDue : List ℕ → ℕ → Replayed → List LogEntry → Type 0
-AreDue own count p [] = ⊤
-AreDue own count p (e ∷ es) = IsDue own count p e × AreDue own count (after_entry p e) es
+abbrev pub AreRepliesByRule : List ℕ → ℕ → Replayed → List LogEntry → Type 0
+AreRepliesByRule own count p [] = ⊤
+AreRepliesByRule own count p (e ∷ es) = IsReplyByRule own count p e × AreRepliesByRule own count (after_entry p e) es

@@ -81,9 +81,9 @@ abbrev pub unkept_lines : Setting → List ModuleLines → List ReportLine
 unkept_lines g ms = map (λ n. Unkept n) (unkept g ms)
 
 -- what stops say of a gate, as a line
-abbrev pub timing : TimeLine → ReportLine
-timing (times.Delay gate wanted gap) = Delay gate wanted gap
-timing (times.Meet gate at) = Meet gate at
+abbrev pub timing_report : TimeLine → ReportLine
+timing_report (times.Delay gate wanted gap) = Delay gate wanted gap
+timing_report (times.Meet gate at) = Meet gate at
 
 -- all lines on modules of these jobs
 pub record AreReportLines (g : Setting) (ms : List ModuleLines) (jobs : List JobView)
@@ -93,7 +93,8 @@ pub record AreReportLines (g : Setting) (ms : List ModuleLines) (jobs : List Job
   pub borders : List (Option BorderFault)
   pub are_border_faults : AreBorderFaultsOf g ms borders
   -- then the inverse gates that no module keeps, and then a line for each delay and each meeting
-  pub lines_are : lines ≡ lines_from 0 faults borders ++ unkept_lines g ms ++ map timing (time_lines g.circuit ms)
+  pub lines_are : lines ≡ lines_from 0 faults borders ++ unkept_lines g ms
+      ++ map timing_report (time_lines g.circuit ms)
 
 -- `Yes` if the modules are accepted, and else `No` with all lines
 unfoldable pub IsVerdict : Setting → List ModuleLines → List JobView → Verdict → Type 0

@@ -2,7 +2,7 @@
 ghost use Rattle.std.specs.Prelude.{◌≡◌, ◌≢◌, ◌<◌, ◌≤◌, ◌+◌, ◌⊎◌, length, map, slice_get, true, false, Some, IfNone, IfSome, IfOk, IsErr, OnErr, OnOk};
 ghost use Rattle.std.specs.Arc.{arc_value};
 ghost use Rattle.core_book.specs.Book.{IsReplayed, new_book};
-ghost use Rattle.core_book.specs.Filling.{HoldsAlike, IsHeldOrFiled, IsFilledTo, IsFull, IsOneMore, IsOpenFor, IsPartlyFilled, RunsOneForEach, shapes_of};
+ghost use Rattle.core_book.specs.Filling.{HoldsAlike, IsHeldOrFiled, IsFilledTo, IsFull, IsOneMore, IsOpenFor, IsPartlyFilled, RunsAtMostOncePerShape, shapes_of};
 ghost use Rattle.local_run.specs.Shown.{digest_of, job_of, number_of};
 
 use crate::book::BookState;
@@ -36,7 +36,7 @@ pub fn fill(
     if !own {
         *state = BookState::new(alloc, digest, jobs.to_vec(alloc)?)?;
     }
-    fill_open(alloc, state, digest, jobs, &mut 0)
+    fill_open_book(alloc, state, digest, jobs, &mut 0)
 }
 
 // Whether a state is open, and of this digest and these jobs.
@@ -62,7 +62,7 @@ fn are_same(own: &[Arc<Job>], jobs: &[Arc<Job>]) -> bool
 /// # Errors
 ///
 /// Out of memory. The findings that were accepted stay.
-pub fn fill_open(
+pub fn fill_open_book(
     alloc: Global,
     state: &mut BookState,
     digest: [u8; 32],
@@ -72,7 +72,7 @@ pub fn fill_open(
     requires open_for_jobs { IsOpenFor digest (map arc_value jobs.now) state.old }
     ensures full { OnOk result (IsFull digest (map arc_value jobs.now) state.new) }
     ensures partly { IsPartlyFilled state.old state.new }
-    ensures one_run_a_shape { RunsOneForEach (shapes_of (map arc_value jobs.now)) runs.old
+    ensures one_run_a_shape { RunsAtMostOncePerShape (shapes_of (map arc_value jobs.now)) runs.old
         runs.new }
 {
     // The history replays to the state.

@@ -1,13 +1,13 @@
 //! Laws of books and of the core, each the contract of a function without a body.
-ghost use Rattle.core_book.specs.CoreLaws.{AcceptsOneForEach, DrawsEachOnce, EmptyWhereAllAreDrawn, EventsKeepWhatIsHeld, EventsReplay, FindingsAreOwnAndLeast, HoldsWhatWasAccepted, OnlyAcceptedChangesWhatIsHeld, VerdictIsOne};
-ghost use Rattle.core_book.specs.Laws.{AcceptsItsOwn, BooksAgree, ClosedAnswersClosed, ClosedByItsHistory, DoublesWhatIsHeld, FullBookHoldsAll, HoldsWhatIsAccepted, HoldsNothingElse, KeepsWhatIsHeld, KnowsItsOwn, StaysBook, StaysReplayed};
+ghost use Rattle.core_book.specs.CoreLaws.{AcceptsAtMostOnePerNumber, DrawsEachOnce, EmptyOnlyIfAllAreDrawn, EventsKeepHeldFindings, HistoryReplaysAfterEvents, HeldFindingsAreOwnAndLeast, HoldsWhatWasAccepted, OnlyAcceptedChangesWhatIsHeld, VerdictIsUnique};
+ghost use Rattle.core_book.specs.Laws.{AcceptedIsOwnAndNew, BooksAgreeOnFaults, ClosedAnswersClosed, ClosedIfHistoryHasClosing, DoubleIsOwnAndHeld, FullBookHoldsAll, AcceptedFindingIsHeld, UnacceptedKeepsFindings, FilingKeepsHeldFindings, OwnFindingIsNoStranger, FilingKeepsBookValid, EachEntryKeepsReplay};
 
 /// States that, after any events, a new core has given each number below the next to one seat, once.
 ///
 /// No other number was drawn. A claim answers `Empty` only if all numbers were drawn.
 pub fn core_draws_each_once()
     ensures once { DrawsEachOnce }
-    ensures empty { EmptyWhereAllAreDrawn }
+    ensures empty { EmptyOnlyIfAllAreDrawn }
 {}
 
 /// States that, after any events, a new core holds the findings that were answered `Accepted`, one for each number.
@@ -15,23 +15,23 @@ pub fn core_draws_each_once()
 /// Each is honest and of the book's job. The history replays to the book.
 pub fn core_holds_what_was_accepted()
     ensures accepted { HoldsWhatWasAccepted }
-    ensures one { AcceptsOneForEach }
-    ensures honest { FindingsAreOwnAndLeast }
-    ensures replays { EventsReplay }
+    ensures one { AcceptsAtMostOnePerNumber }
+    ensures honest { HeldFindingsAreOwnAndLeast }
+    ensures replays { HistoryReplaysAfterEvents }
 {}
 
 /// States that no event changes a finding that is held.
 ///
 /// No claim, no loss and no filing that is not answered `Accepted` changes what is held.
-pub fn events_keep_what_is_held()
-    ensures keeps_findings { EventsKeepWhatIsHeld }
+pub fn events_keep_held_findings()
+    ensures keeps_findings { EventsKeepHeldFindings }
     ensures only { OnlyAcceptedChangesWhatIsHeld }
 {}
 
 /// States that the modules of a certificate have exactly one verdict: two books from which it is concluded give the
 /// same.
-pub fn verdict_is_one()
-    ensures { VerdictIsOne }
+pub fn verdict_is_unique()
+    ensures { VerdictIsUnique }
 {}
 
 /// States that a closed book answers `Closed` to every finding, and that no other book does.
@@ -43,8 +43,8 @@ pub fn closed_book_answers_closed()
 ///
 /// The book is closed exactly if the history has a closing entry.
 pub fn history_replays()
-    ensures stays { StaysReplayed }
-    ensures closed { ClosedByItsHistory }
+    ensures stays { EachEntryKeepsReplay }
+    ensures closed { ClosedIfHistoryHasClosing }
 {}
 
 /// States what replies say of a finding.
@@ -53,9 +53,9 @@ pub fn history_replays()
 /// - One that is answered `Double` is the book's own, and one is held for its number.
 /// - One that is the book's own is no stranger.
 pub fn replies_tell_whose_a_finding_is()
-    ensures accepted { AcceptsItsOwn }
-    ensures double { DoublesWhatIsHeld }
-    ensures knows_its_own { KnowsItsOwn }
+    ensures accepted { AcceptedIsOwnAndNew }
+    ensures double { DoubleIsOwnAndHeld }
+    ensures knows_its_own { OwnFindingIsNoStranger }
 {}
 
 /// States what a book holds after a filing.
@@ -64,16 +64,16 @@ pub fn replies_tell_whose_a_finding_is()
 /// - No finding that was held is lost or changed, and else nothing new is held.
 /// - Each finding that is held is still the book's own.
 pub fn filing_holds_what_is_accepted()
-    ensures accepted { HoldsWhatIsAccepted }
-    ensures keeps_findings { KeepsWhatIsHeld }
-    ensures nothing_else { HoldsNothingElse }
-    ensures book { StaysBook }
+    ensures accepted { AcceptedFindingIsHeld }
+    ensures keeps_findings { FilingKeepsHeldFindings }
+    ensures nothing_else { UnacceptedKeepsFindings }
+    ensures book { FilingKeepsBookValid }
 {}
 
 /// States that two books of the same jobs hold findings with the same fault for one number, whatever the order of
 /// filings.
-pub fn books_agree()
-    ensures { BooksAgree }
+pub fn books_agree_on_faults()
+    ensures { BooksAgreeOnFaults }
 {}
 
 /// States that a book that accepted as many findings as it has jobs holds a finding for each of them, of that job.

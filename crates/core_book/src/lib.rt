@@ -21,7 +21,7 @@ mod verdict;
 
 pub use book::{BookState, NotFiled};
 pub use claim::Claim;
-pub use filling::{fill, fill_open};
+pub use filling::{fill, fill_open_book};
 pub use log_entry::{Filing, LogEntry};
 pub use machine::{Answer, Core, Event, NotApplied};
 pub use reply::{Mismatch, Reply};

@@ -72,7 +72,7 @@ impl Model for Core {
 
 impl Core {
     ghost use Rattle.core_book.specs.Draws.{IsDrawn};
-    ghost use Rattle.core_book.specs.Core.{IsSeated, after_claim, after_event, answer_to, claim_of, draws_of, new_core};
+    ghost use Rattle.core_book.specs.Core.{HasSeatBelow, after_claim, after_event, answer_to, claim_of, draws_of, new_core};
 
     /// Creates a core of these jobs, numbered from 0 in their order, and of seats that have drawn nothing.
     ///
@@ -102,7 +102,7 @@ impl Core {
     ///
     /// `NotApplied` if the core is out of memory. The core is then as before, and the event comes back.
     pub fn apply(&mut self, event: Event) -> Result<Answer, NotApplied>
-        requires { IsSeated (length self.old.draws) event }
+        requires { HasSeatBelow (length self.old.draws) event }
         ensures answer { IfOk result (λ a. a ≡ answer_to self.old event) }
         ensures after { OnOk result (self.new ≡ after_event self.old event) }
         ensures unchanged { OnErr result (self.new ≡ self.old) }

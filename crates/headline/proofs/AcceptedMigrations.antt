@@ -7,7 +7,7 @@ use Rattle.section_text.proofs.Good.{AreFaultless, IsFaultless}
 use Rattle.circuit.specs.Bridge.{circuit_of}
 use Rattle.circuit.specs.declared.circuit_line.CircuitLine.{CircuitLine}
 use Rattle.pattern.specs.FromLines.{layout_of}
-use Rattle.pattern.specs.Grammars.{layout_value}
+use Rattle.pattern.specs.Grammars.{layout_section}
 use Rattle.pattern.specs.Layout.{Pattern}
 use Rattle.certificate_lines.specs.Entries.{ModuleLines, Setting, modules_of}
 use Rattle.certificate.specs.Grammars.{CertView, certificate_grammar, migrated, modules_in}
@@ -52,7 +52,7 @@ from_lines g v (i ∷ es) before h = (h.0, from_lines g v es (before ++ i ∷ []
 
 -- a bundle by its sizes and parts has the setting of its layout
 own_setting : (b : Bundle) (circuit : List CircuitLine) (p : Pattern) → circuit ≡ b.circuit →
-    layout_value p ≡ (b.size, b.parts) → setting_of b.circuit (layout_of b.size b.parts) ≡ setting_of circuit p
+    layout_section p ≡ (b.size, b.parts) → setting_of b.circuit (layout_of b.size b.parts) ≡ setting_of circuit p
 own_setting b circuit p lines same = ap₂ setting_of (sym lines) (layout_from p b.size b.parts same)
 
 -- what is reported of the migrated text

@@ -8,7 +8,7 @@ use Rattle.section_text.proofs.SaidSections.{one_section, section_said}
 use Rattle.circuit.specs.Forms.{form_of as circuit_form}
 use Rattle.circuit.specs.Grammars.{circuit_grammar}
 use Rattle.circuit.specs.declared.circuit_line.CircuitLine.{CircuitLine}
-use Rattle.pattern.specs.Grammars.{layout_grammar, layout_value}
+use Rattle.pattern.specs.Grammars.{layout_grammar, layout_section}
 use Rattle.pattern.specs.Forms.{form_of as layout_form}
 use Rattle.pattern.specs.Layout.{Pattern, parts_of}
 use Rattle.meaning.specs.Design.{SaysDesign}
@@ -24,12 +24,12 @@ use Rattle.headline.proofs.OneAnswer.{one_layout}
 
 pub design_said : (text : List ℕ) (circuit : List CircuitLine) (named : Option Named) (n : ℕ) (layout : Pattern)
     → section_of circuit_grammar 0 (lines_of text) ≡ Ok (tt, circuit)
-    → section_of (layout_grammar named) n (drop (length circuit + 2) (lines_of text)) ≡ Ok (layout_value layout)
+    → section_of (layout_grammar named) n (drop (length circuit + 2) (lines_of text)) ≡ Ok (layout_section layout)
     → SaysDesign text circuit layout
 design_said text circuit named n layout first second =
     let k = length circuit + 2 in
     let later = drop k (lines_of text) in
-    let m = length (layout_value layout).1 + 2 in
+    let m = length (layout_section layout).1 + 2 in
     record {
       first = take k (lines_of text);
       second = take m later;
@@ -37,7 +37,7 @@ design_said text circuit named n layout first second =
       lines = sym (ap (λ ls. take k (lines_of text) ++ ls) (take-append-drop m later)
           ∙ take-append-drop k (lines_of text));
       circuit_is = section_said circuit_grammar 0 (lines_of text) tt circuit first;
-      layout_is = section_said (layout_grammar named) n later layout.size (layout_value layout).1 second;
+      layout_is = section_said (layout_grammar named) n later layout.size (layout_section layout).1 second;
     }
 
 -- and the section after them
@@ -45,9 +45,9 @@ pub bundle_said : (text : List ℕ) (circuit : List CircuitLine) (named : Option
     (g : Setting)
     (m version : ℕ) (lines : List CertificateLine)
     → section_of circuit_grammar 0 (lines_of text) ≡ Ok (tt, circuit)
-    → section_of (layout_grammar named) n (drop (length circuit + 2) (lines_of text)) ≡ Ok (layout_value layout)
+    → section_of (layout_grammar named) n (drop (length circuit + 2) (lines_of text)) ≡ Ok (layout_section layout)
     → section_of (certificate_grammar g) m
-    (drop (length (layout_value layout).1 + 2) (drop (length circuit + 2) (lines_of text))) ≡ Ok (version, lines)
+    (drop (length (layout_section layout).1 + 2) (drop (length circuit + 2) (lines_of text))) ≡ Ok (version, lines)
     → SaysBundle text circuit layout lines
 unfolding design_said
 bundle_said text circuit named n layout g m version lines first second third =

@@ -23,7 +23,7 @@ use Rattle.circuit.proofs.Bridging.{gates_are_ordered}
 use Rattle.circuit.proofs.Valuations.{evaluated}
 use Rattle.circuit.specs.declared.circuit_line.CircuitLine.{CircuitLine}
 use Rattle.section_text.specs.Spelling.{line_text}
-use Rattle.pattern.specs.Grammars.{layout_value}
+use Rattle.pattern.specs.Grammars.{layout_section}
 use Rattle.pattern.specs.Layout.{Pattern}
 use Rattle.module_box.specs.Locals.{is_among}
 use Rattle.module_box.specs.Boxes.{in_box, in_ring}
@@ -52,7 +52,7 @@ use Rattle.border_match.specs.BorderFaults.{IsBorderFault, IsLeastBorderFault}
 use Rattle.border_match.specs.declared.fault.BorderFault.{BorderFault}
 use Rattle.soundness.specs.HeadlineLaws.{BelongTogether}
 use Rattle.soundness.specs.PlainCertificates.{IsPlain, LineMeans, Shows}
-use Rattle.core_book.specs.Verdicts.{IsToldOf, IsVerdict, lines_from, timing, unkept_lines}
+use Rattle.core_book.specs.Verdicts.{IsToldOf, IsVerdict, lines_from, timing_report, unkept_lines}
 use Rattle.core_book.specs.declared.verdict.Reasons.{Reasons}
 use Rattle.core_book.specs.declared.verdict.ReportLine.{ReportLine}
 use Rattle.core_book.specs.declared.verdict.ReportLine.TheVariants.{Local}
@@ -66,7 +66,7 @@ use Rattle.soundness.proofs.SomeVerdict.{IsVecOf, jobs_good, vec_of}
 use Rattle.soundness.proofs.Trials.{all_at, all_below, at_every, at_odd, at_odd_times, edge_test, every_cell, given_of}
 use Rattle.soundness.proofs.Trials.{implied, meets, meets_is, stop_test}
 use Rattle.soundness.proofs.YesMeansCorrect.{IsRead}
-use Rattle.report.specs.ReportText.{fault_line, opening_lines, report_lines}
+use Rattle.report.specs.ReportText.{report_line_text, opening_lines, report_lines}
 use Rattle.answers.specs.Answers.{Answered}
 use Rattle.answers.specs.BundleText.{Bundle, bundle_of}
 use Rattle.answers.specs.CheckText.{IsReportOf, SaysReport}
@@ -219,13 +219,13 @@ its_job b p m = job_of (circuit_of b.circuit) p m
 -- the end, of this cell and under this assignment. The lines on delays and meetings are these.
 pub record Fails (b : Bundle) (p : Pattern) (m : ModuleLines) (d : Cell) (a : ℕ)
     (times : List ReportLine) : Type 0 where
-  pub layout : layout_value p ≡ (b.size, b.parts)
+  pub layout : layout_section p ≡ (b.size, b.parts)
   pub alone : modules_in (its_lines b p) ≡ m ∷ []
   pub plain : IsPlain b.circuit p m
   pub none_kept : (its_job b p m).kept ≡ []
   pub first : IsFirstByTests (its_job b p m) d a
   pub unkept : unkept_lines (setting_of b.circuit p) (m ∷ []) ≡ []
-  pub on_times : map timing (time_lines (circuit_of b.circuit) (m ∷ [])) ≡ times
+  pub on_times : map timing_report (time_lines (circuit_of b.circuit) (m ∷ [])) ≡ times
   pub few : length times < 1024
 
 -- it is reported with a no, whose lines are one on the fault, and then these
@@ -342,7 +342,7 @@ module _ (text : List ℕ) (b : Bundle) (e : bundle_of text ≡ Ok b) (p : Patte
     digest = sha256 (certificate_text c);
     modules = length (modules_of c.entries);
     spelled = ap (λ ls. opening_lines (sha256 (certificate_text c)) (length (modules_of c.entries))
-        ++ (line_text (codes "verdict") (codes "no" ∷ []) ++ flat_map fault_line ls)) vec.items;
+        ++ (line_text (codes "verdict") (codes "no" ∷ []) ++ flat_map report_line_text ls)) vec.items;
   }
 
   read_so : IsRead c c.layout.size

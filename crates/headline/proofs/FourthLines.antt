@@ -17,16 +17,16 @@ use Rattle.section_text.specs.declared.fault.Refusal.{Refusal}
 use Rattle.section_text.proofs.Again.{IsOneLine}
 use Rattle.section_text.proofs.Lines.{ended-cons, some_part}
 use Rattle.certificate.specs.declared.times.TimeLine.{TimeLine}
-use Rattle.core_book.specs.Verdicts.{timing}
+use Rattle.core_book.specs.Verdicts.{timing_report}
 use Rattle.certificate_lines.specs.Entries.{modules_of}
 use Rattle.certificate.specs.Grammars.{CertView}
 use Rattle.certificate.specs.Text.{certificate_text}
 use Rattle.certificate_lines.proofs.Lists.{kept}
 use Rattle.core_book.specs.declared.verdict.Verdict.{Verdict}
 use Rattle.core_book.specs.declared.verdict.Verdict.TheVariants as verdict
-use Rattle.report.specs.ReportText.{fault_line, refusal_line, report_lines, verdict_lines}
+use Rattle.report.specs.ReportText.{report_line_text, refusal_line, report_lines, verdict_lines}
 use Rattle.meaning.specs.Streams.{SaysYes}
-use Rattle.headline.specs.Laws.{FourthLineIsLine}
+use Rattle.headline.specs.Laws.{SaysYesMeansFourthLine}
 
 -- ---- bytes that are no line feed
 
@@ -121,12 +121,13 @@ fourth_by : (digest : List ℕ) (count : ℕ) (times : List TimeLine) (v : Verdi
 fourth_by digest count times verdict.Yes clean = ap (λ ls. slice_get ls 3)
     (four_lines (codes "bbmcheck 1") (codes "certificate" ++ flat_map spaced (digest ∷ []))
     (codes "modules" ++ flat_map spaced (decimal count ∷ [])) (codes "verdict yes")
-    (flat_map (λ t. fault_line (timing t)) times)
+    (flat_map (λ t. report_line_text (timing_report t)) times)
     refl (ap is_clean (append-nil digest) ∙ clean)
     (ap is_clean (append-nil (decimal count)) ∙ clean_decimal count) refl)
 fourth_by digest count times (verdict.No lines) clean = ap (λ ls. slice_get ls 3)
     (four_lines (codes "bbmcheck 1") (codes "certificate" ++ flat_map spaced (digest ∷ []))
-    (codes "modules" ++ flat_map spaced (decimal count ∷ [])) (codes "verdict no") (flat_map fault_line lines.items)
+    (codes "modules" ++ flat_map spaced (decimal count ∷ [])) (codes "verdict no")
+    (flat_map report_line_text lines.items)
     refl (ap is_clean (append-nil digest) ∙ clean)
     (ap is_clean (append-nil (decimal count)) ∙ clean_decimal count) refl)
 
@@ -240,5 +241,5 @@ has_on front rest e =
 pub says_on : (front rest : List ℕ) → SaysYes front → SaysYes (front ++ rest)
 says_on front rest e = says_yes_by_line (front ++ rest) (has_on front rest (has_yes front e))
 
-pub fourth_line_is_line : FourthLineIsLine
+pub fourth_line_is_line : SaysYesMeansFourthLine
 fourth_line_is_line output = (has_yes output, says_yes_by_line output)

@@ -7,11 +7,12 @@ use Rattle.std.specs.List.{flat_map}
 use Rattle.std.proofs.lemmas.Grind.{flat_map-append}
 use Rattle.std.proofs.lemmas.List.{append-nil, length-map, length-append}
 use Rattle.std.proofs.Math.Seq.{drop-append_seam}
-use Rattle.section_text.specs.Words.{is_word_at, lines_of, lone_number, number_at, number_of, rest_of, words_of}
+use Rattle.section_text.specs.Words.{is_word_at, lines_of, lone_number, number_at, number_of, bytes_after_lines}
+use Rattle.section_text.specs.Words.{words_of}
 use Rattle.section_text.specs.Codes.{code_where, or_else}
 use Rattle.section_text.specs.SaidSection.{IsSection}
 use Rattle.section_text.specs.Section.{Grammar, ended_line}
-use Rattle.section_text.specs.Sections.{finished, go_on, section_then}
+use Rattle.section_text.specs.Sections.{value_at_end, go_on, section_then}
 use Rattle.section_text.specs.declared.fault.Refusal.{Refusal}
 use Rattle.section_text.specs.declared.section.Form.{Form}
 use Rattle.section_text.specs.declared.section.Form.TheVariants.{Header, Item, End}
@@ -49,7 +50,7 @@ use Rattle.answers.specs.BundleText.{Bundle, bundle_of}
 use Rattle.answers.specs.MigrateText.{IsMigrationOf, SaysMigration, bundle_text, certificate_lines, in_version_two}
 use Rattle.answers.specs.MigrateText.{layout_lines, migrate_of}
 use Rattle.answers.specs.declared.outcome.Outcome.TheVariants.{Yes, Refused}
-use Rattle.headline.specs.Migration.{KeepsVersionTwo, MigratesOnce, MigrationSaysTheSame}
+use Rattle.headline.specs.Migration.{MigrationKeepsVersionTwo, MigrationIsIdempotent, MigrationSaysTheSame}
 use Rattle.meaning.specs.Design.{SaysDesign}
 use Rattle.headline.specs.Stops.{SaysBundle}
 use Rattle.section_text.specs.declared.code.RefusalCode.{RefusalCode}
@@ -64,7 +65,7 @@ pub record HasSections (text : List ℕ) (b : Bundle) : Type 0 where
   pub second : List (List ℕ)
   pub third : List (List ℕ)
   pub lines : lines_of text ≡ first ++ (second ++ third)
-  pub rest : rest_of text ≡ []
+  pub rest : bytes_after_lines text ≡ []
   pub circuit_is : IsSection circuit_form first tt b.circuit
   pub layout_is : IsSection layout_form second b.size b.parts
   pub certificate_is : IsSection certificate_form third b.version b.entries
@@ -136,7 +137,7 @@ module _ (text : List ℕ) where
   abbrev ended : List CircuitLine → LayoutHeader → List LayoutLine → ℕ → List CertificateLine → ℕ → List (List ℕ) →
       Result Bundle Refusal
   ended circuit size parts version entries k last =
-      finished k last (rest_of text)
+      value_at_end k last (bytes_after_lines text)
       (record { circuit = circuit; size = size; parts = parts; version = version; entries = entries })
 
   abbrev after_layout : List CircuitLine → LayoutHeader → List LayoutLine → ℕ → List (List ℕ) → Result Bundle Refusal
@@ -160,7 +161,7 @@ bundle_made text b s good =
     ∙ then_made (certificate_grammar (setting_of b.circuit (layout_of b.size b.parts)))
     (0 + i + j) s.third [] s.third b.version b.entries (ended text b.circuit b.size b.parts)
     (sym (append-nil s.third)) s.certificate_is good.certificate
-    ∙ at_the_end (0 + i + j + n) [] (rest_of text) b refl s.rest
+    ∙ at_the_end (0 + i + j + n) [] (bytes_after_lines text) b refl s.rest
 
 -- ---- they are those of one bundle
 
@@ -316,7 +317,7 @@ migrated_sections text b s =
       second = s.second;
       third = third;
       lines = ap lines_of is ∙ lines_again all all_clean;
-      rest = ap rest_of is ∙ nothing_follows all all_clean;
+      rest = ap bytes_after_lines is ∙ nothing_follows all all_clean;
       circuit_is = s.circuit_is;
       layout_is = s.layout_is;
       certificate_is = certificate_is;
@@ -352,7 +353,7 @@ unfolding without_halos
 without_twice [] = refl
 without_twice (i ∷ es) = twice_on i es (is_halo i) refl (without_twice es)
 
-pub migrates_once : MigratesOnce
+pub migrates_once : MigrationIsIdempotent
 migrates_once text output again first second =
     let a = was_migrated text output first in
     let b = was_migrated output again second in
@@ -390,7 +391,7 @@ unchanged text output m two =
     m.says ∙ ap bundle_text (in_place m.bundle (good_read text m.bundle m.read) two)
     ∙ sym (text_is text m.bundle (sections_read text m.bundle m.read))
 
-pub keeps_version_two : KeepsVersionTwo
+pub keeps_version_two : MigrationKeepsVersionTwo
 keeps_version_two text output circuit layout certificate migrates says =
     let m = was_migrated text output migrates in
     unchanged text output m ((said_so text m.bundle circuit layout certificate

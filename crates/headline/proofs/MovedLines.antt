@@ -13,7 +13,8 @@ use Rattle.bbm_rule.proofs.Spans.{in_span-negsuc, span_from, span_parts}
 use Rattle.section_text.specs.Codes.{code_where}
 use Rattle.section_text.specs.declared.code.RefusalCode.TheVariants.{PastLimit, TakenCell}
 use Rattle.pattern.specs.Layout.{Pattern, cell, in_layout, parts_of, rectangle_cells, row_cells}
-use Rattle.pattern.specs.Lines.{AreGoodAfter, begins, begun, cell_fault, cells_of, ended, ends, holds, is_inside}
+use Rattle.pattern.specs.Lines.{AreGoodAfter, begins, taken_at_start, cell_fault, cells_of, ended, ends, holds}
+use Rattle.pattern.specs.Lines.{is_inside}
 use Rattle.pattern.specs.Lines.{is_side, is_taken, limit_fault, size_fault}
 use Rattle.pattern.specs.declared.layout_line.LayoutHeader.{LayoutHeader}
 use Rattle.pattern.specs.declared.layout_line.LayoutLine.{LayoutLine}
@@ -104,8 +105,8 @@ ends_moved (Out q) = refl
 ends_moved (Waste c) = refl
 
 begun_moved : (parts : List LayoutLine) (x y : ℤ) →
-    begun (moved_lines parts) (x +ℤ pos 2) (y +ℤ pos 2) ≡ begun parts x y
-unfolding begun
+    taken_at_start (moved_lines parts) (x +ℤ pos 2) (y +ℤ pos 2) ≡ taken_at_start parts x y
+unfolding taken_at_start
 begun_moved parts x y =
     any_map moved_line _ _ (λ b. ap₂ (λ a c. a && c) (begins_moved b) (holds_moved b x y)) parts
 
@@ -120,10 +121,10 @@ taken_moved : (before : List LayoutLine) (part : LayoutLine) →
 unfolding is_taken
 taken_moved before part = λ i. cond (begins_moved part i) (at_start i) (at_end i)
   where
-    at_start : list_any (λ c. begun (moved_lines before) c.x c.y) (cells_of (moved_line part))
-        ≡ list_any (λ c. begun before c.x c.y) (cells_of part)
+    at_start : list_any (λ c. taken_at_start (moved_lines before) c.x c.y) (cells_of (moved_line part))
+        ≡ list_any (λ c. taken_at_start before c.x c.y) (cells_of part)
     at_start =
-        ap (list_any (λ c. begun (moved_lines before) c.x c.y)) (line_cells_moved part)
+        ap (list_any (λ c. taken_at_start (moved_lines before) c.x c.y)) (line_cells_moved part)
         ∙ any_map moved_by_two _ _ (λ c. begun_moved before c.x c.y) (cells_of part)
 
     at_end : list_any (λ c. ended (moved_lines before) c.x c.y) (cells_of (moved_line part))

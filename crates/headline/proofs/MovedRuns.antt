@@ -8,7 +8,7 @@ use Rattle.section_text.specs.Words.{has}
 use Rattle.circuit.specs.Bridge.{circuit_of, input_names, output_names}
 use Rattle.circuit.specs.Meaning.{Circuit, Valuation, values_by_name}
 use Rattle.circuit.specs.declared.circuit_line.CircuitLine.{CircuitLine}
-use Rattle.pattern.specs.Layout.{Pattern, StaysInside, in_cells, in_layout, in_rectangles}
+use Rattle.pattern.specs.Layout.{Pattern, IsDeadOutside, in_cells, in_layout, in_rectangles}
 use Rattle.pattern.specs.declared.layout_line.Port.{Port}
 use Rattle.meaning.specs.Implements.{Computes, HaveNames, Implements, IsCorrect, IsNamed, LooksAsAsked, in_ports}
 use Rattle.meaning.specs.Implements.{run_under}
@@ -78,8 +78,8 @@ implements_moved c p h inputs =
           (run_under c (moved p) inputs p.size.steps) (under_moved c p inputs p.size.steps) (own.looks v satisfied);
     }
 
-stays_moved : (c : Circuit) (p : Pattern) (inputs : Valuation) (t : ℕ) → StaysInside p.size (run_under c p inputs t) →
-    StaysInside (enlarged p.size) (run_under c (moved p) inputs t)
+stays_moved : (c : Circuit) (p : Pattern) (inputs : Valuation) (t : ℕ) → IsDeadOutside p.size (run_under c p inputs t) →
+    IsDeadOutside (enlarged p.size) (run_under c (moved p) inputs t)
 stays_moved c p inputs t inside =
     by_moved (λ x y. run_under c (moved p) inputs t x y ≡ true → in_layout (enlarged p.size) x
     y ≡ true) (λ x y live. layout_enlarged p.size x y (inside x y (sym (under_moved c p inputs t x y) ∙ live)))

@@ -14,22 +14,22 @@ use Rattle.pattern.specs.declared.layout_line.LayoutHeader.{LayoutHeader}
 use Rattle.pattern.specs.declared.run.RunEnd.{RunEnd}
 use Rattle.pattern.specs.declared.run.RunEnd.TheVariants.{Cells, LeftAt}
 use Rattle.pattern.specs.FromLines.{layout_of}
-use Rattle.pattern.specs.Layout.{Pattern, StaysInside, parts_of}
+use Rattle.pattern.specs.Layout.{Pattern, IsDeadOutside, parts_of}
 use Rattle.section_text.specs.Words.{has}
-use Rattle.pattern.specs.Grammars.{layout_value}
+use Rattle.pattern.specs.Grammars.{layout_section}
 use Rattle.pattern.specs.Run.{IsRunEnd, GoesOutside}
 use Rattle.answers.specs.declared.outcome.Outcome.{Outcome}
-use Rattle.answers.specs.RunText.{IsRunOf, RunAsked, SaysRunEnd, cell_line, end_text, end_outcome, run_asked}
+use Rattle.answers.specs.RunText.{IsRunOf, RunSections, SaysRunEnd, cell_line, end_text, end_outcome, run_sections_of}
 use Rattle.answers.specs.Answers.{Answered}
 use Rattle.answers.proofs.Bundles.{layout_again}
-use Rattle.headline.specs.Laws.{HasOneAnswer}
+use Rattle.headline.specs.Laws.{HasAtMostOneAnswer}
 
 -- a layout is what its lines make, so they are those of one layout
-pub layout_from : (p : Pattern) (size : LayoutHeader) (parts : List LayoutLine) → layout_value p ≡ (size, parts) →
+pub layout_from : (p : Pattern) (size : LayoutHeader) (parts : List LayoutLine) → layout_section p ≡ (size, parts) →
     layout_of size parts ≡ p
 layout_from p size parts e = ap (λ (v : LayoutHeader × List LayoutLine). layout_of v.0 v.1) (sym e) ∙ layout_again p
 
-pub one_layout : (p q : Pattern) → layout_value p ≡ layout_value q → p ≡ q
+pub one_layout : (p q : Pattern) → layout_section p ≡ layout_section q → p ≡ q
 one_layout p q e = sym (layout_from p q.size (parts_of q) e) ∙ layout_again q
 
 -- ---- a run ends in one way
@@ -37,7 +37,7 @@ one_layout p q e = sym (layout_from p q.size (parts_of q) e) ∙ layout_again q
 abbrev SameEnd : RunEnd → RunEnd → Type 0
 SameEnd e e' = (end_text e ≡ end_text e') × (end_outcome e ≡ end_outcome e')
 
-clash : (s : LayoutHeader) (state : State) → StaysInside s state → GoesOutside s state → ⊥
+clash : (s : LayoutHeader) (state : State) → IsDeadOutside s state → GoesOutside s state → ⊥
 clash s state stays goes = true≢false (sym (stays goes.x goes.y goes.lives) ∙ goes.outside)
 
 one_end : (p : Pattern) (on : List ℕ → Bool) (e e' : RunEnd) → IsRunEnd p on e → IsRunEnd p on e' → SameEnd e e'
@@ -54,7 +54,8 @@ one_end p on (LeftAt k) (LeftAt j) h h' = elim (cases_order k j) [
   ]
 ]
 
-one_run : (asked : RunAsked) (output output' : List ℕ) (outcome outcome' : Outcome) → SaysRunEnd asked output outcome →
+one_run : (asked : RunSections) (output output' : List ℕ) (outcome outcome' : Outcome) →
+    SaysRunEnd asked output outcome →
     SaysRunEnd asked output' outcome' → (output ≡ output') × (outcome ≡ outcome')
 one_run asked output output' outcome outcome' h h' =
     let same : h'.layout ≡ h.layout = one_layout h'.layout h.layout (h'.lines ∙ sym h.lines) in
@@ -72,6 +73,6 @@ answered_once says once (Ok asked) output output' outcome outcome' h h' =
     once asked output output' outcome outcome' h h'
 answered_once says once (Err refusal) output output' outcome outcome' h h' = (h.0 ∙ sym h'.0, h.1 ∙ sym h'.1)
 
-pub one_answer : HasOneAnswer IsRunOf
+pub one_answer : HasAtMostOneAnswer IsRunOf
 one_answer text output output' outcome outcome' h h' =
-    answered_once SaysRunEnd one_run (run_asked text) output output' outcome outcome' h h'
+    answered_once SaysRunEnd one_run (run_sections_of text) output output' outcome outcome' h h'

@@ -4,14 +4,14 @@ use Rattle.answers.specs.BundleText.{Bundle, bundle_of}
 use Rattle.answers.specs.MigrateText.{IsMigrationOf, SaysMigration}
 use Rattle.answers.specs.ModulesText.{IsModulesOf, SaysModules}
 use Rattle.answers.specs.declared.outcome.Outcome.{Outcome}
-use Rattle.headline.specs.Laws.{HasOneAnswer}
+use Rattle.headline.specs.Laws.{HasAtMostOneAnswer}
 use Rattle.headline.proofs.OneAnswer.{answered_once}
 
 one_listing : (bundle : Bundle) (output output' : List ℕ) (outcome outcome' : Outcome) →
     SaysModules bundle output outcome → SaysModules bundle output' outcome' → (output ≡ output') × (outcome ≡ outcome')
 one_listing bundle output output' outcome outcome' h h' = (h.says ∙ sym h'.says, h.ends ∙ sym h'.ends)
 
-pub one_list : HasOneAnswer IsModulesOf
+pub one_list : HasAtMostOneAnswer IsModulesOf
 one_list text output output' outcome outcome' h h' =
     answered_once SaysModules one_listing (bundle_of text) output output' outcome outcome' h h'
 
@@ -20,6 +20,6 @@ migrated_once : (bundle : Bundle) (output output' : List ℕ) (outcome outcome' 
     (output ≡ output') × (outcome ≡ outcome')
 migrated_once bundle output output' outcome outcome' h h' = (h.says ∙ sym h'.says, h.ends ∙ sym h'.ends)
 
-pub one_migration : HasOneAnswer IsMigrationOf
+pub one_migration : HasAtMostOneAnswer IsMigrationOf
 one_migration text output output' outcome outcome' h h' =
     answered_once SaysMigration migrated_once (bundle_of text) output output' outcome outcome' h h'

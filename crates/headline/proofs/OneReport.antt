@@ -15,15 +15,15 @@ use Rattle.certificate.specs.Jobs.{AreJobsOf}
 use Rattle.certificate_lines.specs.Modules.{AreModules}
 use Rattle.certificate.specs.Text.{certificate_text}
 use Rattle.soundness.proofs.ModuleJobs.{one_job}
-use Rattle.core_book.specs.CoreLaws.{SaysTheSame}
+use Rattle.core_book.specs.CoreLaws.{AreSameVerdicts}
 use Rattle.core_book.specs.Verdicts.{IsVerdict}
 use Rattle.core_book.specs.declared.verdict.Verdict.{Verdict}
 use Rattle.core_book.specs.declared.verdict.Verdict.TheVariants as verdict
 use Rattle.core_book.proofs.OneVerdict.{none-past, same-elements, verdict-is-one}
-use Rattle.report.specs.ReportText.{fault_line, opening_lines, report_lines}
+use Rattle.report.specs.ReportText.{report_line_text, opening_lines, report_lines}
 use Rattle.answers.specs.BundleText.{Bundle, bundle_of}
 use Rattle.answers.specs.CheckText.{IsCertificateOf, IsReportOf, IsVerdictOn, SaysReport, verdict_outcome}
-use Rattle.headline.specs.Laws.{HasOneAnswer}
+use Rattle.headline.specs.Laws.{HasAtMostOneAnswer}
 use Rattle.answers.specs.declared.outcome.Outcome.{Outcome}
 use Rattle.headline.proofs.OneAnswer.{answered_once, one_layout}
 
@@ -57,23 +57,23 @@ module _ (c : CertView) (good : AreModules (setting_of c.circuit c.layout) (modu
       subst (λ (l : List JobView). IsVerdict (setting_of c.circuit c.layout) (modules_in c) l v)
       (one_list_of_jobs js ks own_j own_k) is
 
-pub one_verdict : (c : CertView) (v w : Verdict) → IsVerdictOn c v → IsVerdictOn c w → SaysTheSame v w
+pub one_verdict : (c : CertView) (v w : Verdict) → IsVerdictOn c v → IsVerdictOn c w → AreSameVerdicts v w
 one_verdict c v w a b =
     verdict-is-one (setting_of c.circuit c.layout) (modules_in c) a.jobs v w a.judged
     (verdict_over c a.good b.jobs a.jobs w b.are_jobs a.are_jobs b.judged)
 
 -- ---- what is written of it
 
-same_lines : (c : CertView) (v w : Verdict) → SaysTheSame v w → report_lines c v ≡ report_lines c w
+same_lines : (c : CertView) (v w : Verdict) → AreSameVerdicts v w → report_lines c v ≡ report_lines c w
 unfolding report_lines
 same_lines c verdict.Yes verdict.Yes same = refl
 same_lines c verdict.Yes (verdict.No lines) same = absurd same
 same_lines c (verdict.No lines) verdict.Yes same = absurd same
 same_lines c (verdict.No lines) (verdict.No others) same =
     ap (λ ls. opening_lines (sha256 (certificate_text c)) (length (modules_of c.entries))
-    ++ (line_text (codes "verdict") (codes "no" ∷ []) ++ flat_map fault_line ls)) same
+    ++ (line_text (codes "verdict") (codes "no" ∷ []) ++ flat_map report_line_text ls)) same
 
-same_outcome : (v w : Verdict) → SaysTheSame v w → verdict_outcome v ≡ verdict_outcome w
+same_outcome : (v w : Verdict) → AreSameVerdicts v w → verdict_outcome v ≡ verdict_outcome w
 same_outcome verdict.Yes verdict.Yes same = refl
 same_outcome verdict.Yes (verdict.No lines) same = absurd same
 same_outcome (verdict.No lines) verdict.Yes same = absurd same
@@ -92,7 +92,7 @@ one_said : (bundle : Bundle) (output output' : List ℕ) (outcome outcome' : Out
 one_said bundle output output' outcome outcome' h h' =
     let same : h.certificate ≡ h'.certificate =
     same_certificate bundle h.certificate h'.certificate h.its_own h'.its_own in
-    let said : SaysTheSame h.verdict h'.verdict =
+    let said : AreSameVerdicts h.verdict h'.verdict =
     one_verdict h.certificate h.verdict h'.verdict h.is_verdict
     (subst (λ c. IsVerdictOn c h'.verdict) (sym same) h'.is_verdict) in (
       h.says ∙ same_lines h.certificate h.verdict h'.verdict said ∙ ap (λ c. report_lines c h'.verdict) same
@@ -100,6 +100,6 @@ one_said bundle output output' outcome outcome' h h' =
       h.ends ∙ same_outcome h.verdict h'.verdict said ∙ sym h'.ends,
     )
 
-pub one_report : HasOneAnswer IsReportOf
+pub one_report : HasAtMostOneAnswer IsReportOf
 one_report text output output' outcome outcome' h h' =
     answered_once SaysReport one_said (bundle_of text) output output' outcome outcome' h h'

@@ -12,8 +12,8 @@ use Rattle.std.specs.Fmt.{decimal}
 use Rattle.circuit.specs.Text.{value_lines}
 use Rattle.answers.specs.ValueText.{SaysAll, SaysSome}
 use Rattle.answers.specs.declared.outcome.Outcome.{Outcome}
-use Rattle.answers.specs.ValueText.{IsValueOf, ValueAsked, SaysValues, value_asked}
-use Rattle.headline.specs.Laws.{HasOneAnswer}
+use Rattle.answers.specs.ValueText.{IsValueOf, ValueSections, SaysValues, value_sections_of}
+use Rattle.headline.specs.Laws.{HasAtMostOneAnswer}
 use Rattle.headline.proofs.OneAnswer.{answered_once}
 
 same_bits : (xs ys : List Bool) → length xs ≡ length ys →
@@ -39,7 +39,7 @@ one_stop n a k m vs us ordered s t =
     let before : AreValues (first_gates k n) a us = subst (λ j. AreValues (first_gates j n) a us) (sym same) t.before in
     (same, one_list (first_gates k n) a vs us s.before before)
 
-one_of : (asked : ValueAsked) (output output' : List ℕ) (outcome outcome' : Outcome) →
+one_of : (asked : ValueSections) (output output' : List ℕ) (outcome outcome' : Outcome) →
     AreOrdered (netlist_of asked.0).given (netlist_of asked.0).gates →
     SaysAll asked output outcome ⊎ SaysSome asked output outcome →
     SaysAll asked output' outcome' ⊎ SaysSome asked output' outcome' → (output ≡ output') × (outcome ≡ outcome')
@@ -58,11 +58,11 @@ one_of asked output output' outcome outcome' ordered (inr h) (inr h') =
       h.ends ∙ sym h'.ends,
     )
 
-one_evaluation : (asked : ValueAsked) (output output' : List ℕ) (outcome outcome' : Outcome) →
+one_evaluation : (asked : ValueSections) (output output' : List ℕ) (outcome outcome' : Outcome) →
     SaysValues asked output outcome → SaysValues asked output' outcome' → (output ≡ output') × (outcome ≡ outcome')
 one_evaluation asked output output' outcome outcome' h h' =
     one_of asked output output' outcome outcome' h.ordered h.says h'.says
 
-pub one_value : HasOneAnswer IsValueOf
+pub one_value : HasAtMostOneAnswer IsValueOf
 one_value text output output' outcome outcome' h h' =
-    answered_once SaysValues one_evaluation (value_asked text) output output' outcome outcome' h h'
+    answered_once SaysValues one_evaluation (value_sections_of text) output output' outcome outcome' h h'

@@ -4,7 +4,7 @@ use Rattle.section_text.specs.declared.fault.Refusal.{Refusal}
 use Rattle.circuit.specs.Bridge.{circuit_of}
 use Rattle.circuit.proofs.Bridging.{gates_are_ordered}
 use Rattle.pattern.specs.FromLines.{layout_of}
-use Rattle.pattern.specs.Grammars.{layout_value}
+use Rattle.pattern.specs.Grammars.{layout_section}
 use Rattle.pattern.specs.Layout.{Pattern}
 use Rattle.certificate_lines.specs.Entries.{ModuleLines}
 use Rattle.certificate_lines.specs.Settings.{setting_of}
@@ -33,7 +33,7 @@ modules_by b =
 
 -- its layout has the lines of the bundle, and its modules pass the tests
 pub record Passes (b : Bundle) : Type 0 where
-  pub layout : layout_value (layout_in b) ≡ (b.size, b.parts)
+  pub layout : layout_section (layout_in b) ≡ (b.size, b.parts)
   pub tests : PassTests (setting_of b.circuit (layout_in b)) (modules_by b)
       (map (job_of (circuit_of b.circuit) (layout_in b)) (modules_by b))
 

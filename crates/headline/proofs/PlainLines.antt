@@ -33,7 +33,7 @@ use Rattle.soundness.proofs.InputRuns.{IsPlaced, placed}
 use Rattle.headline.specs.RightInFull.{IsGoodDesign}
 use Rattle.headline.specs.Plain.{SaysPlain}
 use Rattle.headline.specs.SmallDesigns.{gate_numbers, plain_lines}
-use Rattle.headline.specs.PlainLaws.{PlainLinesDecide}
+use Rattle.headline.specs.PlainLaws.{PlainLinesTextIsDecided}
 use Rattle.headline.proofs.PlainTexts.{plain_is_decided}
 use Rattle.headline.proofs.YesIsRight.{good_designs}
 
@@ -200,7 +200,7 @@ module _ (circuit : List CircuitLine) (p : Pattern) (good : AreGood circuit) whe
     no_edge = its_edges;
   }
 
-pub plain_lines_decide : PlainLinesDecide
+pub plain_lines_decide : PlainLinesTextIsDecided
 plain_lines_decide text output outcome circuit layout said reports some =
     let good : IsGoodDesign text circuit layout = good_designs text output outcome circuit layout reports some
     said.design in

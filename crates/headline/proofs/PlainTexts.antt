@@ -11,7 +11,7 @@ use Rattle.module_box.specs.Locals.{is_among}
 use Rattle.certificate_lines.specs.Entries.{ModuleLines, Setting, cut_in, edge_in, keep_in, modules_of, stop_in, cuts}
 use Rattle.certificate_lines.specs.Entries.{edges, stops}
 use Rattle.certificate_lines.specs.Settings.{setting_of}
-use Rattle.certificate_lines.specs.Versions.{edge_lines_beside, in_order, is_haloless, meant, with_halos}
+use Rattle.certificate_lines.specs.Versions.{edge_lines_beside, in_order, is_haloless, modules_by_version, with_halos}
 use Rattle.certificate_lines.specs.declared.certificate_line.CertificateLine.{CertificateLine}
 use Rattle.certificate_lines.specs.declared.certificate_line.StopLine.{StopLine}
 use Rattle.certificate.specs.Arrivals.{AreOnTime}
@@ -34,8 +34,8 @@ use Rattle.local_run.specs.declared.fault.Kind.TheVariants.{Edge, End, Stop as A
 use Rattle.soundness.proofs.EarliestLines.{earliest_is_real}
 use Rattle.report.specs.ReportText.{report_lines}
 use Rattle.headline.specs.Plain.{HasRimTouch, IsWrongIfPlain, IsWrongText, SaysPlain}
-use Rattle.headline.specs.ReportLines.{EarliestIsReal, LinesMeanIfPlain, LinesTell, SaysNoWith}
-use Rattle.headline.specs.PlainLaws.{NoLinesTell, PlainIsDecided, PlainNoMeansWrong, YesKeepsOffRim}
+use Rattle.headline.specs.ReportLines.{EarliestIsReal, LinesMeanIfPlain, LinesHaveMeaning, SaysNoWith}
+use Rattle.headline.specs.PlainLaws.{LinesOfNoHaveMeaning, PlainIsDecided, PlainNoMeansWrong, YesKeepsOffRim}
 use Rattle.core_book.specs.declared.verdict.ReportLine.TheVariants.{Local, Keep, Border, Unkept, Delay, Meet}
 use Rattle.soundness.specs.FirstFaults.{HasAssignment, IsAsCertified, IsEarliestLine, IsReal}
 use Rattle.soundness.specs.HeadlineLaws.{BelongTogether, HasInputNames, IsInputName}
@@ -103,7 +103,7 @@ with_halos_same g ms m = record {
 -- the module that module i means
 record MeansModule (version : ℕ) (g : Setting) (ms : List ModuleLines) (i : ℕ) (m : ModuleLines) : Type 0 where
   full : ModuleLines
-  numbered : slice_get (meant version g ms) i ≡ Some full
+  numbered : slice_get (modules_by_version version g ms) i ≡ Some full
   same : HaveSameLines full m
 
 means_module : (version : ℕ) (g : Setting) (ms : List ModuleLines) (i : ℕ) (m : ModuleLines) →
@@ -177,7 +177,7 @@ all_same lines p full m ls same all k d lt = line_same lines p full m _ same (al
 record MeansPlain (version : ℕ) (g : Setting) (ms : List ModuleLines) (lines : List CircuitLine) (p : Pattern)
     (m : ModuleLines) : Type 0 where
   one : ModuleLines
-  alone : meant version g ms ≡ one ∷ []
+  alone : modules_by_version version g ms ≡ one ∷ []
   plain : IsPlain lines p one
   same : HaveSameLines one m
 
@@ -366,7 +366,7 @@ module _ (text : List ℕ) (b : Bundle) (output : List ℕ) (outcome : Outcome) 
         (subst (λ p. All (LineMeans c.circuit p r.one) its_no.lines.items) (sym same.1)
         (all_same c.circuit c.layout it.one r.one its_no.lines.items it.same all))
 
-    tells : LinesTell text output
+    tells : LinesHaveMeaning text output
     tells = record { lines = its_no.lines.items; says = spelled; earliest = earliest; plain = meant_lines }
 
 -- ---- of texts
@@ -402,9 +402,9 @@ plain_is_decided text output No plain says some =
 plain_is_decided text output Refused plain says some = absurd (some refl)
 
 told : (text output : List ℕ) (read : Result Bundle Refusal) → bundle_of text ≡ read →
-    Answered SaysReport read output No → LinesTell text output
+    Answered SaysReport read output No → LinesHaveMeaning text output
 told text output (Ok b) e says = tells text b output No e says refl
 told text output (Err refusal) e answer = absurd (not_refused answer.1)
 
-pub no_lines_tell : NoLinesTell
+pub no_lines_tell : LinesOfNoHaveMeaning
 no_lines_tell text output says = told text output (bundle_of text) refl says

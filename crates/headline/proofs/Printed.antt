@@ -20,7 +20,7 @@ use Rattle.circuit.specs.Bridge.{FitsKind, kind_ins, kind_outs}
 use Rattle.circuit.specs.Entries.{entry}
 use Rattle.circuit.specs.Forms.{form_of as circuit_form}
 use Rattle.circuit.specs.Grammars.{circuit_grammar}
-use Rattle.circuit.specs.Text.{circuit_text, entry_text, first_word, form_text as circuit_line, more_words}
+use Rattle.circuit.specs.Text.{circuit_text, entry_text, first_word, form_text as circuit_line, words_after_keyword}
 use Rattle.circuit.specs.declared.circuit_line.CircuitLine.{CircuitLine}
 use Rattle.circuit.specs.declared.circuit_line.GateKind.TheVariants.{Source, Fredkin, Cswap, Interact, Switch, Delay}
 use Rattle.circuit.specs.declared.circuit_line.GateKind.TheVariants.{Unswitch, Uninteract}
@@ -36,7 +36,7 @@ use Rattle.pattern.specs.declared.layout_line.LayoutLine.TheVariants.{Mirror, Ba
 use Rattle.pattern.proofs.Spelling.{form_line as layout_spelled}
 use Rattle.meaning.specs.Printed.{IsForm, IsLine, circuit_printed, form, layout_printed}
 use Rattle.meaning.specs.Printed.{line_words, part_form, printed}
-use Rattle.headline.specs.Laws.{BeginsWithOneDesign, PrintedIsRead}
+use Rattle.headline.specs.Laws.{BeginsWithOneDesign, PrintedDesignIsRead}
 use Rattle.headline.proofs.Designs.{one_design}
 use Rattle.headline.proofs.Written.{HasLine, HasSection, has_section}
 use Rattle.headline.proofs.WrittenCircuits.{AreNames, first_line, last_line, line_of, names_left, names_right}
@@ -87,7 +87,7 @@ are_names (n ∷ ns) h = ap₂ (λ a b. a && b) (All-head (λ n. IsTrue (is_name
 
 line_printed : (kind : Kind) (ins outs : List (List ℕ)) → FitsKind (entry kind ins outs) →
     printed (line_words (entry kind ins outs)) ≡ entry_text (entry kind ins outs)
-unfolding entry_text first_word more_words
+unfolding entry_text first_word words_after_keyword
 line_printed (Gate (Source true)) ins outs fits = refl
 line_printed (Gate (Source false)) ins outs fits = refl
 line_printed (Gate Fredkin) ins outs fits = refl
@@ -260,7 +260,7 @@ layout_whole p = sym (append_assoc (layout_line (Header p.size)) (flat_map (λ i
     (layout_line End))
 
 -- a text that begins with a design says it
-pub printed_is_read : PrintedIsRead
+pub printed_is_read : PrintedDesignIsRead
 printed_is_read text circuit p b =
     let c = circuit_lines circuit b.circuit_lines in
     let size = All-head IsForm (size_form p) (other_forms p) b.layout_lines in

@@ -16,13 +16,13 @@ use Rattle.section_text.proofs.Good.{AreFaultless, IsFaultless}
 use Rattle.section_text.proofs.MadeSections.{one_line, section_made}
 use Rattle.section_text.proofs.Spellings.{chosen, passed}
 use Rattle.circuit.specs.Entries.{defined, entry}
-use Rattle.circuit.specs.Forms.{form_of, gate_entry, gate_kind, gate_names, words_before}
+use Rattle.circuit.specs.Forms.{form_of, gate_entry, gate_kind, gate_line_of_kind, words_before_names}
 use Rattle.circuit.specs.Gates.{defines, uses}
 use Rattle.circuit.specs.Grammars.{circuit_grammar, missing_code}
-use Rattle.circuit.specs.Rules.{add_fault, consumed, order_fault, unused}
+use Rattle.circuit.specs.Rules.{add_fault, consumed, order_fault, first_unconsumed}
 use Rattle.circuit.specs.declared.circuit_line.CircuitLine.{CircuitLine}
 use Rattle.circuit.specs.declared.circuit_line.Kind.TheVariants.{Input, Gate, Output, Spill}
-use Rattle.pattern.specs.Grammars.{layout_grammar, layout_value}
+use Rattle.pattern.specs.Grammars.{layout_grammar, layout_section}
 use Rattle.pattern.specs.Layout.{Pattern, parts_of}
 use Rattle.pattern.specs.declared.layout_line.LayoutHeader.{LayoutHeader}
 use Rattle.pattern.specs.declared.layout_line.LayoutLine.{LayoutLine}
@@ -33,7 +33,7 @@ use Rattle.soundness.proofs.SomeVerdict.{first_none}
 use Rattle.answers.specs.Answers.{Answered}
 use Rattle.answers.specs.BundleText.{Bundle, bundle_of}
 use Rattle.answers.specs.CheckText.{SaysReport}
-use Rattle.headline.specs.PlainLaws.{DesignsAreRead}
+use Rattle.headline.specs.PlainLaws.{UnrefusedKeepsDesignRules}
 use Rattle.headline.specs.SmallDesigns.{AreInOrder, IsDesign}
 use Rattle.headline.proofs.Designs.{one_design}
 use Rattle.headline.proofs.Migrations.{good_read, sections_read}
@@ -70,21 +70,21 @@ Names : CircuitLine → Type 0
 Names r = AreNames r.outs
 
 gate_named : (ws : List (List ℕ)) (r : CircuitLine) → gate_entry ws ≡ Some r → Names r
-unfolding gate_entry gate_names Names
+unfolding gate_entry gate_line_of_kind Names
 gate_named ws r e =
     option_and_then_some (λ kind.
-    cond (eqb (length ws) (words_before kind + uses kind + 1 + defines kind))
-    (cond (is_word_at ws (words_before kind + uses kind) (codes "->")) (gate_names ws kind) None) None)
+    cond (eqb (length ws) (words_before_names kind + uses kind + 1 + defines kind))
+    (cond (is_word_at ws (words_before_names kind + uses kind) (codes "->")) (gate_line_of_kind ws kind) None) None)
     (gate_kind ws) r e (λ kind known rest.
-    let count = passed (eqb (length ws) (words_before kind + uses kind + 1 + defines kind))
-    (cond (is_word_at ws (words_before kind + uses kind) (codes "->")) (gate_names ws kind) None) r rest in
-    let arrow = passed (is_word_at ws (words_before kind + uses kind) (codes "->"))
-    (gate_names ws kind) r count.1 in
-    option_and_then_some (λ ins. names_at ws (words_before kind + uses kind + 1)
+    let count = passed (eqb (length ws) (words_before_names kind + uses kind + 1 + defines kind))
+    (cond (is_word_at ws (words_before_names kind + uses kind) (codes "->")) (gate_line_of_kind ws kind) None) r rest in
+    let arrow = passed (is_word_at ws (words_before_names kind + uses kind) (codes "->"))
+    (gate_line_of_kind ws kind) r count.1 in
+    option_and_then_some (λ ins. names_at ws (words_before_names kind + uses kind + 1)
     (defines kind) >>= λ outs. Some (entry (Gate kind) ins outs))
-    (names_at ws (words_before kind) (uses kind)) r arrow.1 (λ ins some_ins rest_ins.
+    (names_at ws (words_before_names kind) (uses kind)) r arrow.1 (λ ins some_ins rest_ins.
     option_and_then_some (λ outs. Some (entry (Gate kind) ins outs))
-    (names_at ws (words_before kind + uses kind + 1) (defines kind)) r rest_ins
+    (names_at ws (words_before_names kind + uses kind + 1) (defines kind)) r rest_ins
     (λ outs some_outs made.
     subst (λ (x : CircuitLine). AreNames x.outs) (same_Some (entry (Gate kind) ins outs) r made)
     (are_named ws _ _ outs some_outs))))
@@ -166,7 +166,7 @@ design_by circuit p ls is good layout =
       in_order = in_order [] circuit good.each;
       names = All-from_recursion (λ n. IsTrue (is_name n)) (defined circuit)
           (each_name (defined circuit) (wires_named circuit ls is));
-      all_consumed = no_missing (unused (consumed circuit) (defined circuit)) good.end;
+      all_consumed = no_missing (first_unconsumed (consumed circuit) (defined circuit)) good.end;
       size = layout.header;
       layout_lines = laid_out ports p.size [] (parts_of p) layout.each;
       ports = read_layout-is_named circuit p (faultless_named ports p.size (parts_of p) layout);
@@ -174,7 +174,7 @@ design_by circuit p ls is good layout =
 
 -- what is read is a design
 pub design_read : (text : List ℕ) (b : Bundle) (p : Pattern) → bundle_of text ≡ Ok b →
-    layout_value p ≡ (b.size, b.parts) → IsDesign b.circuit p
+    layout_section p ≡ (b.size, b.parts) → IsDesign b.circuit p
 design_read text b p e same =
     let s = sections_read text b e in
     let good = good_read text b e in
@@ -182,7 +182,7 @@ design_read text b p e same =
     (subst (λ (q : LayoutHeader × List LayoutLine).
     IsFaultless (layout_grammar (Some (port_names_of b.circuit))) q.0 q.1) (sym same) good.layout)
 
-pub designs_are_read : DesignsAreRead
+pub designs_are_read : UnrefusedKeepsDesignRules
 designs_are_read text output outcome circuit layout reports some d = by (bundle_of text) refl reports
   where
     by : (read : Result Bundle Refusal) → bundle_of text ≡ read → Answered SaysReport read output outcome →

@@ -30,8 +30,8 @@ use Rattle.certificate_lines.specs.Entries.{ModuleLines, Setting, cut_in, cuts, 
 use Rattle.certificate_lines.specs.Entries.{add_line, use_in, areas}
 use Rattle.certificate_lines.specs.ModuleParts.{is_module}
 use Rattle.certificate_lines.specs.Orders.{cell_of, is_cut, line_cmp, may_follow, may_precede, number_of, rank_of}
-use Rattle.certificate_lines.specs.Rules.{are_new, cut_fault, cut_wire_fault, entry_fault, gate_fault, inner_fault}
-use Rattle.certificate_lines.specs.Rules.{is_inverse_gate, keep_line_code, line_fault, use_fault, words_fault}
+use Rattle.certificate_lines.specs.Rules.{are_new, cut_fault, cut_wire_fault, entry_fault, gate_fault, body_line_code}
+use Rattle.certificate_lines.specs.Rules.{is_inverse_gate, keep_line_code, line_fault, use_fault, content_code}
 use Rattle.certificate_lines.specs.Rules.{box_cells}
 use Rattle.certificate_lines.specs.Rules.{box_fault, end_fault, is_incomplete, is_local, is_local_wire, is_odd}
 use Rattle.certificate_lines.specs.Rules.{is_wrong_side, lacks_port, leaves_gap, module_fault, whole}
@@ -48,7 +48,7 @@ use Rattle.std.proofs.lemmas.Slice.Eq.{bytes_eq-Decides}
 use Rattle.std.proofs.lemmas.List.Folds.{list_any-append}
 use Rattle.circuit.specs.Grammars.{circuit_grammar}
 use Rattle.pattern.specs.Forms.{form_of as layout_form}
-use Rattle.pattern.specs.Grammars.{layout_grammar, layout_value}
+use Rattle.pattern.specs.Grammars.{layout_grammar, layout_section}
 use Rattle.pattern.specs.declared.layout_line.LayoutHeader.{LayoutHeader}
 use Rattle.pattern.specs.declared.layout_line.LayoutLine.{LayoutLine}
 use Rattle.certificate_lines.specs.Forms.{form_of as certificate_form}
@@ -183,12 +183,12 @@ in_module : (g : Setting) (before : List CertificateLine) (m : ModuleLines) (i :
     is_module i ≡ false → line_fault g m i ≡ None → entry_fault g before i ≡ None
 unfolding entry_fault
 in_module g before m (Module b) e h f = absurd cc
-in_module g before m (Cut n) e h f = ap (λ o. inner_fault g o (Cut n)) e ∙ f
-in_module g before m (Use k) e h f = ap (λ o. inner_fault g o (Use k)) e ∙ f
-in_module g before m (Keep k) e h f = ap (λ o. inner_fault g o (Keep k)) e ∙ f
-in_module g before m (Edge x) e h f = ap (λ o. inner_fault g o (Edge x)) e ∙ f
-in_module g before m (Halo x) e h f = ap (λ o. inner_fault g o (Halo x)) e ∙ f
-in_module g before m (Stop s) e h f = ap (λ o. inner_fault g o (Stop s)) e ∙ f
+in_module g before m (Cut n) e h f = ap (λ o. body_line_code g o (Cut n)) e ∙ f
+in_module g before m (Use k) e h f = ap (λ o. body_line_code g o (Use k)) e ∙ f
+in_module g before m (Keep k) e h f = ap (λ o. body_line_code g o (Keep k)) e ∙ f
+in_module g before m (Edge x) e h f = ap (λ o. body_line_code g o (Edge x)) e ∙ f
+in_module g before m (Halo x) e h f = ap (λ o. body_line_code g o (Halo x)) e ∙ f
+in_module g before m (Stop s) e h f = ap (λ o. body_line_code g o (Stop s)) e ∙ f
 
 present_one : (b : Box2) (ms : List CertificateLine) → list_all (λ i. not (is_module i)) ms ≡ true →
     last_of (modules_of (Module b ∷ ms)) ≡ Some (record { area = b; lines = ms })
@@ -263,7 +263,7 @@ keep_keep j k lt =
     ap (λ o. is_lt (ordering_then o (cell_cmp (cell_of (Keep j)) (cell_of (Keep k)))) || false) (less j k lt)
 
 follow_by : (g : Setting) (m : ModuleLines) (i : CertificateLine) → may_follow m.lines i ≡ true →
-    words_fault g m i ≡ None →
+    content_code g m i ≡ None →
     line_fault g m i ≡ None
 follow_by g m i f w = ap₂ or_else (ap (λ b. code_where (not b) OutOfOrder) f) w
 
@@ -702,7 +702,7 @@ module _ (circuit : List CircuitLine) (p : Pattern) (good : AreGood circuit)
 
 -- a text that is read and has the lines of the plain certificate
 pub is_plain_text : (text : List ℕ) (b : Bundle) (layout : Pattern) → bundle_of text ≡ Ok b →
-    layout_value layout ≡ (b.size, b.parts) → b.version ≡ 1 → b.entries ≡ plain_lines b.circuit layout →
+    layout_section layout ≡ (b.size, b.parts) → b.version ≡ 1 → b.entries ≡ plain_lines b.circuit layout →
     IsPlainText text b.circuit layout
 is_plain_text text b layout e same version entries =
     let s = sections_read text b e in

@@ -20,7 +20,7 @@ use Rattle.answers.specs.Answers.{Answered, with_value}
 use Rattle.answers.specs.BundleText.{bundle_of}
 use Rattle.answers.specs.MigrateText.{IsMigrationOf, SaysMigration}
 use Rattle.answers.specs.ModulesText.{IsModulesOf, SaysModules}
-use Rattle.answers.specs.ValueText.{IsValueOf, SaysValues, ValueAsked, inputs_asked, value_asked}
+use Rattle.answers.specs.ValueText.{IsValueOf, SaysValues, ValueSections, assigned_inputs, value_sections_of}
 use Rattle.answers.specs.declared.outcome.Outcome.{Outcome}
 use Rattle.answers.specs.declared.outcome.Outcome.TheVariants.{Yes, No, Refused}
 use Rattle.headline.specs.Laws.{HasAnAnswer}
@@ -49,9 +49,9 @@ some_migration text = answered_always SaysMigration (bundle_of text)
 
 -- ---- the values of a circuit
 
-says_values : (asked : ValueAsked) (ordered : AreOrdered (netlist_of asked.0).given (netlist_of asked.0).gates)
-    → HasValues (netlist_of asked.0) (inputs_asked asked) ordered ⊎ HasStop (netlist_of asked.0)
-    (inputs_asked asked) ordered
+says_values : (asked : ValueSections) (ordered : AreOrdered (netlist_of asked.0).given (netlist_of asked.0).gates)
+    → HasValues (netlist_of asked.0) (assigned_inputs asked) ordered ⊎ HasStop (netlist_of asked.0)
+    (assigned_inputs asked) ordered
     → SaysSomething SaysValues asked
 says_values asked ordered (inl v) = record {
   output = value_lines (defined asked.0) v.0;
@@ -69,14 +69,14 @@ says_values asked ordered (inr s) = record {
 }
 
 -- what is asked has the lines of a circuit that was read
-asked_first : (entries : List CircuitLine) (read : Result (List (List ℕ)) Refusal) (asked : ValueAsked)
+asked_first : (entries : List CircuitLine) (read : Result (List (List ℕ)) Refusal) (asked : ValueSections)
     → with_value entries read ≡ Ok asked → entries ≡ asked.0
 asked_first entries (Ok on) asked e = cc
 asked_first entries (Err refusal) asked e = absurd cc
 
-asked_ordered : (text : List ℕ) (asked : ValueAsked) → value_asked text ≡ Ok asked
+asked_ordered : (text : List ℕ) (asked : ValueSections) → value_sections_of text ≡ Ok asked
     → AreOrdered (netlist_of asked.0).given (netlist_of asked.0).gates
-unfolding value_asked
+unfolding value_sections_of
 asked_ordered text asked e =
     let c = went_on (section_of circuit_grammar 0 (lines_of text)) _ asked e in
     let same : c.items ≡ asked.0 = asked_first c.items _ asked c.then in
@@ -84,6 +84,6 @@ asked_ordered text asked e =
     (gates_are_ordered c.items (circuit_good 0 (lines_of text) c.header c.items c.was))
 
 pub some_values : HasAnAnswer IsValueOf
-some_values text = answered_always SaysValues (value_asked text) (λ asked e.
+some_values text = answered_always SaysValues (value_sections_of text) (λ asked e.
     let ordered = asked_ordered text asked e in
-    says_values asked ordered (values_or_stop (netlist_of asked.0) (inputs_asked asked) ordered))
+    says_values asked ordered (values_or_stop (netlist_of asked.0) (assigned_inputs asked) ordered))

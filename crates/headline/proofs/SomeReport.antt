@@ -3,7 +3,7 @@ use Rattle.std.proofs.Common.{◌≡◌, ◌++◌, ◌∷◌, ◌∙◌, [], ℕ
 use Rattle.std.proofs.Common.{append-nil, append_assoc}
 use Rattle.section_text.proofs.Good.{AreFaultless, IsFaultless}
 use Rattle.section_text.specs.Ports.{Named}
-use Rattle.pattern.specs.Grammars.{layout_grammar, layout_value}
+use Rattle.pattern.specs.Grammars.{layout_grammar, layout_section}
 use Rattle.pattern.specs.Layout.{Pattern, parts_of}
 use Rattle.pattern.specs.Lines.{line_fault, order_fault, part_fault, size_fault}
 use Rattle.pattern.specs.declared.layout_line.LayoutHeader.{LayoutHeader}
@@ -30,7 +30,7 @@ use Rattle.headline.proofs.YesIsRight.{bundle_good, certificate_faultless}
 
 -- a layout of this size with these lines
 HasLines : LayoutHeader → List LayoutLine → Type 0
-HasLines s parts = (p : Pattern) × (layout_value p ≡ (s, parts))
+HasLines s parts = (p : Pattern) × (layout_section p ≡ (s, parts))
 
 with_part : (p : Pattern) (part : LayoutLine) → order_fault (parts_of p) part ≡ None →
     HasLines p.size (parts_of p ++ part ∷ [])
@@ -68,7 +68,7 @@ more_parts ports s before (part ∷ parts) has good =
 
 pub some_layout : (ports : Option Named) (s : LayoutHeader) (parts : List LayoutLine) →
     IsFaultless (layout_grammar ports) s parts →
-    (p : Pattern) × (layout_value p ≡ (s, parts))
+    (p : Pattern) × (layout_section p ≡ (s, parts))
 unfolding HasLines
 some_layout ports s parts good =
     let empty : Pattern = record { size = s; mirrors = []; balls = []; ins = []; outs = []; wastes = [] } in
@@ -78,7 +78,7 @@ some_layout ports s parts good =
 
 -- a bundle that is read, and a layout of its lines
 module _ (text : List ℕ) (b : Bundle) (e : bundle_of text ≡ Ok b) (p : Pattern)
-    (same : layout_value p ≡ (b.size, b.parts)) where
+    (same : layout_section p ≡ (b.size, b.parts)) where
   abbrev pub certificate_by : CertView
   certificate_by = record { circuit = b.circuit; layout = p; version = b.version; entries = b.entries }
 

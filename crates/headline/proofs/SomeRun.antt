@@ -14,7 +14,7 @@ use Rattle.bbm_rule.specs.declared.block.Cell.{Cell}
 use Rattle.bbm_rule.proofs.PlaneLemmas.{partner_twice}
 use Rattle.bbm_rule.proofs.Steps.{step_dead}
 use Rattle.pattern.specs.Grammars.{layout_grammar}
-use Rattle.pattern.specs.Layout.{Pattern, StaysInside, in_layout, parts_of, plane_at, start}
+use Rattle.pattern.specs.Layout.{Pattern, IsDeadOutside, in_layout, parts_of, plane_at, start}
 use Rattle.pattern.specs.Lines.{size_fault}
 use Rattle.pattern.specs.Run.{GoesOutside, IsRunEnd, RunLeaves, live_cells}
 use Rattle.pattern.specs.declared.layout_line.LayoutHeader.{LayoutHeader}
@@ -31,7 +31,7 @@ use Rattle.certificate.proofs.FullModules.{stands}
 use Rattle.soundness.proofs.SomeLeast.{Decided, HasOne, both_decided, bools_decided, some_decided, true_decided}
 use Rattle.soundness.proofs.SomeVerdict.{vec_of}
 use Rattle.answers.specs.Answers.{with_value}
-use Rattle.answers.specs.RunText.{IsRunOf, RunAsked, SaysRunEnd, end_outcome, end_text, run_asked}
+use Rattle.answers.specs.RunText.{IsRunOf, RunSections, SaysRunEnd, end_outcome, end_text, run_sections_of}
 use Rattle.headline.specs.Laws.{HasAnAnswer}
 use Rattle.headline.proofs.SomeAnswer.{SaysSomething, answered_always}
 use Rattle.headline.proofs.SomeReport.{some_layout}
@@ -44,7 +44,7 @@ module _ (s : LayoutHeader) where
   unfolding in_box
   in_whole x y h = stands (box_cells (whole s)) _ (record { x = x; y = y }) (box_place (whole s) x y h)
 
-  module _ (t : ℕ) (state : State) (stays : StaysInside s state) where
+  module _ (t : ℕ) (state : State) (stays : IsDeadOutside s state) where
     -- the other cells of the block of a cell
     abbrev block_cells : Cell → List Cell
     block_cells d = record { x = partner t d.x; y = partner t d.y } ∷ record { x = partner t d.x; y = d.y }
@@ -97,7 +97,7 @@ module _ (s : LayoutHeader) where
       ]
     ]
 
-    none_out : ¬ HasOne IsOut near_cells → StaysInside s (step t state)
+    none_out : ¬ HasOne IsOut near_cells → IsDeadOutside s (step t state)
     none_out none x y live = elim (cases_Bool (in_layout s x y)) [
       | inl inside ↦ inside
       | inr out ↦
@@ -105,7 +105,7 @@ module _ (s : LayoutHeader) where
           absurd (none (record { number = at.0; one = record { x = x; y = y }; at = at.1; holds = (live, out) }))
     ]
 
-    step_decided : StaysInside s (step t state) ⊎ GoesOutside s (step t state)
+    step_decided : IsDeadOutside s (step t state) ⊎ GoesOutside s (step t state)
     step_decided = elim (some_decided IsOut out_decided near_cells) [
       | inl h ↦ inr (record { x = h.one.x; y = h.one.y; lives = h.holds.0; outside = h.holds.1 })
       | inr none ↦ inl (none_out none)
@@ -114,21 +114,21 @@ module _ (s : LayoutHeader) where
   -- ---- the whole run
 
   abbrev StaysUpTo : State → ℕ → Type 0
-  StaysUpTo first n = (k : ℕ) → k ≤ n → StaysInside s (run first k)
+  StaysUpTo first n = (k : ℕ) → k ≤ n → IsDeadOutside s (run first k)
 
   abbrev Leaves : State → Type 0
   Leaves first = (k : ℕ) × RunLeaves s first k
 
-  run_to : (first : State) → StaysInside s first → (n : ℕ) → n ≤ s.steps → StaysUpTo first n ⊎ Leaves first
+  run_to : (first : State) → IsDeadOutside s first → (n : ℕ) → n ≤ s.steps → StaysUpTo first n ⊎ Leaves first
   unfolding run
   run_to first inside zero le = inl
-      (λ k low. let e : zero ≡ k = omega (arith, low) in subst (λ k. StaysInside s (run first k)) e inside)
+      (λ k low. let e : zero ≡ k = omega (arith, low) in subst (λ k. IsDeadOutside s (run first k)) e inside)
   run_to first inside (suc n) le = next (run_to first inside n (omega (arith, le)))
     where
-      last : StaysUpTo first n → StaysInside s (run first (suc n)) → StaysUpTo first (suc n)
+      last : StaysUpTo first n → IsDeadOutside s (run first (suc n)) → StaysUpTo first (suc n)
       last stays now k low = elim (cases_lt k (suc n)) [
         | inl lt ↦ stays k (omega (arith, lt))
-        | inr ge ↦ let e : suc n ≡ k = omega (arith, low, ge) in subst (λ k. StaysInside s (run first k)) e now
+        | inr ge ↦ let e : suc n ≡ k = omega (arith, low, ge) in subst (λ k. IsDeadOutside s (run first k)) e now
       ]
 
       next : StaysUpTo first n ⊎ Leaves first → StaysUpTo first (suc n) ⊎ Leaves first
@@ -160,7 +160,7 @@ few_cells s state limits =
     let count = box_length (whole s) in
     omega (arith, all, count, area, high)
 
-some_end : (p : Pattern) (on : List ℕ → Bool) → size_fault p.size ≡ None → StaysInside p.size (start p on) →
+some_end : (p : Pattern) (on : List ℕ → Bool) → size_fault p.size ≡ None → IsDeadOutside p.size (start p on) →
     (end : RunEnd) × IsRunEnd p on end
 some_end p on limits inside = elim (run_to p.size (start p on) inside p.size.steps (omega arith)) [
   | inl stays ↦
@@ -173,19 +173,19 @@ some_end p on limits inside = elim (run_to p.size (start p on) inside p.size.ste
 -- ---- the answer
 
 -- what is asked has the lines of a layout that was read
-record IsAskedLayout (asked : RunAsked) : Type 0 where
+record IsAskedLayout (asked : RunSections) : Type 0 where
   pub size : LayoutHeader
   pub parts : List LayoutLine
   pub good : IsFaultless (layout_grammar None) size parts
   pub same : (size, parts) ≡ asked.0
 
-asked_first : (lines : LayoutHeader × List LayoutLine) (read : Result (List (List ℕ)) Refusal) (asked : RunAsked) →
+asked_first : (lines : LayoutHeader × List LayoutLine) (read : Result (List (List ℕ)) Refusal) (asked : RunSections) →
     with_value lines read ≡ Ok asked → lines ≡ asked.0
 asked_first lines (Ok on) asked e = cc
 asked_first lines (Err refusal) asked e = absurd cc
 
-asked_layout : (text : List ℕ) (asked : RunAsked) → run_asked text ≡ Ok asked → IsAskedLayout asked
-unfolding run_asked
+asked_layout : (text : List ℕ) (asked : RunSections) → run_sections_of text ≡ Ok asked → IsAskedLayout asked
+unfolding run_sections_of
 asked_layout text asked e =
     let l = went_on (section_of (layout_grammar None) 0 (lines_of text)) _ asked e in
     record {
@@ -195,7 +195,7 @@ asked_layout text asked e =
       same = asked_first (l.header, l.items) _ asked l.then;
     }
 
-says_end : (asked : RunAsked) → IsAskedLayout asked → SaysSomething SaysRunEnd asked
+says_end : (asked : RunSections) → IsAskedLayout asked → SaysSomething SaysRunEnd asked
 says_end asked a =
     let p = some_layout None a.size a.parts a.good in
     let whole : IsFaultless (layout_grammar None) p.0.size (parts_of p.0) =
@@ -209,4 +209,5 @@ says_end asked a =
     }
 
 pub some_run : HasAnAnswer IsRunOf
-some_run text = answered_always SaysRunEnd (run_asked text) (λ asked e. says_end asked (asked_layout text asked e))
+some_run text = answered_always SaysRunEnd (run_sections_of text)
+    (λ asked e. says_end asked (asked_layout text asked e))

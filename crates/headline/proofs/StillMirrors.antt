@@ -20,7 +20,8 @@ use Rattle.circuit.specs.declared.circuit_line.CircuitLine.{CircuitLine}
 use Rattle.circuit.specs.declared.circuit_line.GateKind.{GateKind}
 use Rattle.circuit.specs.declared.circuit_line.GateKind.TheVariants.{Delay, Source}
 use Rattle.circuit.specs.declared.circuit_line.Kind.TheVariants.{Gate, Spill}
-use Rattle.pattern.specs.Lines.{AreGoodAfter, begins, begun, cell_fault, cells_of, is_inside, is_taken, limit_fault}
+use Rattle.pattern.specs.Lines.{AreGoodAfter, begins, taken_at_start, cell_fault, cells_of, is_inside, is_taken}
+use Rattle.pattern.specs.Lines.{limit_fault}
 use Rattle.pattern.specs.Lines.{size_fault}
 use Rattle.pattern.specs.Layout.{Pattern, in_layout, parts_of, plane_at, rectangle_cells}
 use Rattle.pattern.specs.Layout.{start}
@@ -222,7 +223,7 @@ unfolding size_fault
 mirror_size = refl
 
 mirror_good : AreGoodAfter rim_mirror.size [] (parts_of rim_mirror)
-unfolding begins begun cell_fault cells_of is_inside is_taken limit_fault rectangle_cells
+unfolding begins taken_at_start cell_fault cells_of is_inside is_taken limit_fault rectangle_cells
 mirror_good = (refl, refl, tt)
 
 mirror_design : IsDesign constant rim_mirror

@@ -18,10 +18,10 @@ use Rattle.section_text.specs.declared.section.Form.TheVariants.{Header, Item, E
 use Rattle.section_text.proofs.Numbers.{number_written}
 use Rattle.circuit.specs.Bridge.{AreGoodAfter, FitsKind}
 use Rattle.circuit.specs.Entries.{defined, entry}
-use Rattle.circuit.specs.Forms.{bit_at, form_of, gate_entry, gate_kind, gate_names, words_before}
+use Rattle.circuit.specs.Forms.{bit_at, form_of, gate_entry, gate_kind, gate_line_of_kind, words_before_names}
 use Rattle.circuit.specs.Gates.{defines, uses}
-use Rattle.circuit.specs.Rules.{add_fault, consumed, is_wrong_delay, limit_fault, passes_limit}
-use Rattle.circuit.specs.Text.{gate_number, gate_word}
+use Rattle.circuit.specs.Rules.{add_fault, consumed, is_wrong_delay, limit_fault, exceeds_limit}
+use Rattle.circuit.specs.Text.{gate_parameter_words, gate_word}
 use Rattle.circuit.specs.declared.circuit_line.CircuitLine.{CircuitLine}
 use Rattle.circuit.specs.declared.circuit_line.GateKind.{GateKind}
 use Rattle.circuit.specs.declared.circuit_line.GateKind.TheVariants.{Source, Fredkin, Cswap, Interact, Switch, Delay}
@@ -117,7 +117,7 @@ pub is_short : (kind : Kind) → is_wrong_delay kind ≡ false → IsShort kind
 is_short kind h n e = delay_small n (subst (λ k. is_wrong_delay k ≡ false) e h)
 
 kind_read : (k : GateKind) (rest : List (List ℕ)) → IsShort (Gate k) →
-    gate_kind (gate_word k ∷ (gate_number k ++ rest)) ≡ Some k
+    gate_kind (gate_word k ∷ (gate_parameter_words k ++ rest)) ≡ Some k
 unfolding gate_kind bit_at is_word_at number_at
 kind_read (Source true) rest h = refl
 kind_read (Source false) rest h = refl
@@ -129,7 +129,7 @@ kind_read (Delay n) rest h = ap (λ o. o >>= λ m. Some (Delay m)) (number_writt
 kind_read Unswitch rest h = refl
 kind_read Uninteract rest h = refl
 
-head_length : (k : GateKind) → length (gate_word k ∷ gate_number k) ≡ words_before k
+head_length : (k : GateKind) → length (gate_word k ∷ gate_parameter_words k) ≡ words_before_names k
 head_length (Source b) = refl
 head_length Fredkin = refl
 head_length Cswap = refl
@@ -152,7 +152,7 @@ gate_form Unswitch rest = refl
 gate_form Uninteract rest = refl
 
 head_words : (k : GateKind) → IsShort (Gate k) →
-    IsWord (gate_word k) × AllByRecursion IsWord (gate_number k)
+    IsWord (gate_word k) × AllByRecursion IsWord (gate_parameter_words k)
 head_words (Source true) h = (refl, (refl, tt))
 head_words (Source false) h = (refl, (refl, tt))
 head_words Fredkin h = (refl, tt)
@@ -171,42 +171,42 @@ words_both (x ∷ xs) ys h k = (h.0, words_both xs ys h.1 k)
 module _ (k : GateKind) (ins outs : List (List ℕ)) (fits : FitsKind (entry (Gate k) ins outs)) (in_names : AreNames ins)
     (out_names : AreNames outs) (right : IsShort (Gate k)) where
   abbrev head : List (List ℕ)
-  head = gate_word k ∷ gate_number k
+  head = gate_word k ∷ gate_parameter_words k
 
   abbrev arrow : List ℕ
   arrow = codes "->"
 
   abbrev ws : List (List ℕ)
-  ws = gate_word k ∷ (gate_number k ++ (ins ++ arrow ∷ outs))
+  ws = gate_word k ∷ (gate_parameter_words k ++ (ins ++ arrow ∷ outs))
 
-  count : (length ws == words_before k + uses k + 1 + defines k) ≡ true
+  count : (length ws == words_before_names k + uses k + 1 + defines k) ≡ true
   count =
       let all = length-append head (ins ++ arrow ∷ outs) in
       let some = length-append ins (arrow ∷ outs) in
       let h = head_length k in
       let i = fits.0 in
       let o = fits.1 in
-      eq-eqb (length ws) (words_before k + uses k + 1 + defines k) (omega (arith, all, some, h, i, o))
+      eq-eqb (length ws) (words_before_names k + uses k + 1 + defines k) (omega (arith, all, some, h, i, o))
 
-  arrow_at : is_word_at ws (words_before k + uses k) arrow ≡ true
+  arrow_at : is_word_at ws (words_before_names k + uses k) arrow ≡ true
   unfolding is_word_at
   arrow_at =
-      let place : length (head ++ ins) ≡ words_before k + uses k =
+      let place : length (head ++ ins) ≡ words_before_names k + uses k =
       (let all = length-append head ins in let h = head_length k in let i = fits.0 in omega (arith, all, h, i)) in
       ap₂ (λ l n. is_word (slice_get l n) arrow) (sym (append_assoc head ins (arrow ∷ outs))) (sym place)
       ∙ ap (λ o. is_word o arrow) (at_seam (head ++ ins) outs arrow)
 
-  ins_read : names_at ws (words_before k) (uses k) ≡ Some ins
+  ins_read : names_at ws (words_before_names k) (uses k) ≡ Some ins
   ins_read = ap₂ (names_at ws) (sym (head_length k)) (sym fits.0) ∙ names_here head ins (arrow ∷ outs) in_names
 
-  outs_read : names_at ws (words_before k + uses k + 1) (defines k) ≡ Some outs
+  outs_read : names_at ws (words_before_names k + uses k + 1) (defines k) ≡ Some outs
   outs_read =
       let pre = head ++ (ins ++ arrow ∷ []) in
       let same : pre ++ (outs ++ []) ≡ ws =
       append_assoc head (ins ++ arrow ∷ []) (outs ++ [])
       ∙ ap (λ l. head ++ l) (append_assoc ins (arrow ∷ []) (outs ++ []) ∙ ap (λ l. ins ++ arrow ∷ l) (append-nil outs))
       in
-      let place : length pre ≡ words_before k + uses k + 1 =
+      let place : length pre ≡ words_before_names k + uses k + 1 =
       (let all = length-append head (ins ++ arrow ∷ []) in
       let some = length-append ins (arrow ∷ []) in
       let h = head_length k in
@@ -217,20 +217,22 @@ module _ (k : GateKind) (ins outs : List (List ℕ)) (fits : FitsKind (entry (Ga
       ∙ names_here pre outs [] out_names
 
   entry_read : gate_entry ws ≡ Some (entry (Gate k) ins outs)
-  unfolding gate_entry gate_names
+  unfolding gate_entry gate_line_of_kind
   entry_read =
-      ap (λ o. o >>= λ kind. cond (length ws == words_before kind + uses kind + 1 + defines kind)
-      (cond (is_word_at ws (words_before kind + uses kind) arrow) (gate_names ws kind) None) None)
+      ap (λ o. o >>= λ kind. cond (length ws == words_before_names kind + uses kind + 1 + defines kind)
+      (cond (is_word_at ws (words_before_names kind + uses kind) arrow) (gate_line_of_kind ws kind) None) None)
       (kind_read k (ins ++ arrow ∷ outs) right)
-      ∙ ap (λ b. cond b (cond (is_word_at ws (words_before k + uses k) arrow) (gate_names ws k) None) None) count
-      ∙ ap (λ b. cond b (gate_names ws k) None) arrow_at
+      ∙ ap (λ b. cond b (cond (is_word_at ws (words_before_names k + uses k) arrow) (gate_line_of_kind ws k) None) None)
+      count
+      ∙ ap (λ b. cond b (gate_line_of_kind ws k) None) arrow_at
       ∙ ap₂ (λ o p. o >>= λ is. p >>= λ os. Some (entry (Gate k) is os)) ins_read outs_read
 
   gate_line : HasLine form_of (Item (entry (Gate k) ins outs))
   gate_line =
       let words = head_words k right in
-      line_by form_of (Item (entry (Gate k) ins outs)) (gate_word k) (gate_number k ++ (ins ++ arrow ∷ outs)) words.0
-      (words_both (gate_number k) (ins ++ arrow ∷ outs) words.1
+      line_by form_of (Item (entry (Gate k) ins outs)) (gate_word k)
+      (gate_parameter_words k ++ (ins ++ arrow ∷ outs)) words.0
+      (words_both (gate_parameter_words k) (ins ++ arrow ∷ outs) words.1
       (words_both ins (arrow ∷ outs) (names_words ins in_names) (refl, names_words outs out_names)))
       (gate_form k _ ∙ ap (λ o. o >>= λ r. Some (Item r)) entry_read)
 
@@ -273,7 +275,7 @@ pub right_delay : (before : List CircuitLine) (r : CircuitLine) → add_fault be
     is_wrong_delay r.kind ≡ false
 unfolding add_fault
 right_delay before r e = either_false (is_wrong_delay r.kind) _
-    (no_code (passes_limit before r) PastLimit (first_none (limit_fault before r) _ e))
+    (no_code (exceeds_limit before r) PastLimit (first_none (limit_fault before r) _ e))
 
 pub defined_more : (before : List CircuitLine) (r : CircuitLine) → AreNames (defined before) → AreNames r.outs →
     AreNames (defined (before ++ r ∷ []))

@@ -44,9 +44,9 @@ use Rattle.meaning.specs.Design.{SaysDesign}
 use Rattle.meaning.specs.Headline.{IsRight}
 use Rattle.meaning.specs.Implements.{IsCorrect}
 use Rattle.headline.specs.Plain.{HasRimTouch}
-use Rattle.headline.specs.PlainLaws.{EachSmallDesignHasText, EachSmallDesignIsDecided}
+use Rattle.headline.specs.PlainLaws.{EachSmallDesignHasPlainText, EachSmallDesignIsDecided}
 use Rattle.headline.specs.SmallDesigns.{AreInOrder, HasNoDelay, IsDesign, IsPlainText, IsSmallDesign, gate_numbers}
-use Rattle.headline.specs.SmallDesigns.{inverse_numbers, plain_lines, design_text}
+use Rattle.headline.specs.SmallDesigns.{inverse_gate_numbers, plain_lines, design_text}
 use Rattle.headline.specs.Stops.{HasRightStops, SaysBundle}
 use Rattle.headline.proofs.Designs.{one_certificate, one_design}
 use Rattle.headline.proofs.Migrations.{HasSections, text_is}
@@ -249,7 +249,7 @@ module _ (circuit : List CircuitLine) (p : Pattern) (design : IsDesign circuit p
   pub has_text : IsPlainText (design_text circuit p) circuit p
   has_text = subst (λ text. IsPlainText text circuit p) spelled its_text
 
-pub each_has_text : EachSmallDesignHasText
+pub each_has_text : EachSmallDesignHasPlainText
 each_has_text = has_text
 
 -- ---- what is decided
@@ -296,7 +296,7 @@ module _ (text : List ℕ) (circuit : List CircuitLine) (p : Pattern) (t : IsPla
       (flat_map-append stop_in cuts uses
       ∙ ap₂ (λ a b. a ++ b) (none_of Cut stop_in (λ n. refl) (input_names circuit))
       (none_of Use stop_in (λ k. refl) (gate_numbers circuit)))
-      (none_of Keep stop_in (λ k. refl) (inverse_numbers circuit))
+      (none_of Keep stop_in (λ k. refl) (inverse_gate_numbers circuit))
 
   no_delay : HasRightStops text → HasNoDelay circuit
   no_delay r k steps a b is =

@@ -27,7 +27,8 @@ use Rattle.pattern.specs.Forms.{cell_from, corner_and_sides, form_of, lone_cell,
 use Rattle.pattern.specs.Forms.{sides_and_steps, size_of}
 use Rattle.pattern.specs.Grammars.{layout_grammar}
 use Rattle.pattern.specs.Layout.{Pattern, cell, in_layout, parts_of}
-use Rattle.pattern.specs.Lines.{AreGoodAfter, cell_fault, is_in, is_inside, is_late, is_out, is_side}
+use Rattle.pattern.specs.Lines.{AreGoodAfter, cell_fault, is_in_line_named, is_inside, is_late, is_out_line_named}
+use Rattle.pattern.specs.Lines.{is_side}
 use Rattle.pattern.specs.Lines.{is_taken, limit_fault, line_fault, missing_fault, name_fault, order_fault, part_fault}
 use Rattle.pattern.specs.Lines.{rank_of, size_fault}
 use Rattle.pattern.specs.declared.layout_line.LayoutHeader.{LayoutHeader}
@@ -363,8 +364,8 @@ module _ (circuit : List CircuitLine) (p : Pattern) (limits : size_fault p.size 
     header = limits;
     each = faultless_on s l names [] (parts_of p) (in_order p) good ports_named;
     end = ap₂ (λ a b. code_where (not (a && b)) SomethingMissing)
-        (all_have (λ n. list_any (is_in n) (parts_of p)) names.ins (λ k n at.
+        (all_have (λ n. list_any (is_in_line_named n) (parts_of p)) names.ins (λ k n at.
         in_lines p n ∙ each_port names.ins p.ins are.ins k n at))
-        (all_have (λ n. list_any (is_out n) (parts_of p)) names.outs (λ k n at.
+        (all_have (λ n. list_any (is_out_line_named n) (parts_of p)) names.outs (λ k n at.
         out_lines p n ∙ each_port names.outs p.outs are.outs k n at));
   }

@@ -8,14 +8,14 @@ use Rattle.std.proofs.lemmas.Grind.{flat_map-append}
 use Rattle.std.proofs.lemmas.List.{append-nil}
 use Rattle.std.proofs.lemmas.Bool.{ltb-false}
 use Rattle.section_text.specs.Codes.{or_else}
-use Rattle.section_text.specs.Words.{lines_of, rest_of, words_of}
-use Rattle.section_text.specs.Section.{ended_line, unless, line_after, header_line, section_of, body_of}
+use Rattle.section_text.specs.Words.{lines_of, bytes_after_lines, words_of}
+use Rattle.section_text.specs.Section.{ended_line, unless, result_after_line, header_line, section_of, body_of}
 use Rattle.section_text.proofs.Lines.{whole_text as no_byte_lost}
 use Rattle.circuit.specs.Text.{Line, circuit_text}
 use Rattle.circuit.proofs.RoundTrip.{prints_what_is_read as circuit_printed}
 use Rattle.pattern.specs.Text.{layout_text}
 use Rattle.pattern.proofs.RoundTrip.{prints_what_is_read as layout_printed}
-use Rattle.section_text.specs.Sections.{go_on, finished}
+use Rattle.section_text.specs.Sections.{go_on, value_at_end}
 use Rattle.section_text.specs.declared.fault.Refusal.{Refusal}
 use Rattle.section_text.specs.declared.section.Form.TheVariants.{Header, Item, End}
 use Rattle.section_text.proofs.Good.{AreFaultless, IsFaultless, read_faultless}
@@ -30,7 +30,7 @@ use Rattle.circuit.proofs.Bridging.{count_append, gates_are_ordered}
 use Rattle.circuit.proofs.Fitting.{entry_fits, no_gate_still, no_gate_yet}
 use Rattle.circuit.proofs.Naming.{inputs_are_first}
 use Rattle.circuit.proofs.Orders.{last_rank_push}
-use Rattle.pattern.specs.Grammars.{layout_grammar, layout_value}
+use Rattle.pattern.specs.Grammars.{layout_grammar, layout_section}
 use Rattle.pattern.specs.Layout.{Pattern, parts_of}
 use Rattle.pattern.specs.Lines as lines
 use Rattle.pattern.specs.declared.layout_line.LayoutLine.{LayoutLine}
@@ -62,7 +62,7 @@ use Rattle.answers.specs.BundleText.{Bundle, bundle_of}
 use Rattle.answers.specs.CheckText.{IsReportOf, SaysReport, verdict_outcome}
 use Rattle.meaning.specs.Design.{SaysDesign}
 use Rattle.meaning.specs.Streams.{SaysYes}
-use Rattle.headline.specs.Laws.{FourthLineTells, SaysCorrectDesign, ReportsOnGoodDesigns, YesHasOneValuation}
+use Rattle.headline.specs.Laws.{FourthLineShowsOutcome, SaysCorrectDesign, UnrefusedDesignIsGood, YesHasOneValuation}
 use Rattle.headline.specs.Laws.{YesMeansRightStops}
 use Rattle.headline.specs.RightInFull.{IsGoodDesign}
 use Rattle.headline.proofs.OneAnswer.{layout_from}
@@ -110,7 +110,7 @@ unless_ok n (Some code) r y e = absurd cc
 
 line_good : (words : List (List ℕ)) (ls : List (List ℕ)) (before : List CircuitLine) (n : ℕ) (rows : List CircuitLine)
     (o : Option Line) → form_of words ≡ o → HasNoGateYet before
-    → line_after circuit_grammar tt before n (λ i. body_of circuit_grammar tt (before ++ i ∷ []) (n + 1) ls) o
+    → result_after_line circuit_grammar tt before n (λ i. body_of circuit_grammar tt (before ++ i ∷ []) (n + 1) ls) o
     ≡ Ok (tt, rows)
     → ((i : CircuitLine) → HasNoGateYet (before ++ i ∷ []) →
     body_of circuit_grammar tt (before ++ i ∷ []) (n + 1) ls ≡ Ok (tt, rows) → MoreGood (before ++ i ∷ []) rows) →
@@ -195,7 +195,7 @@ pub record BeginsWith (text : List ℕ) (circuit : List CircuitLine) (p : Patter
 
 spelled : (text : List ℕ) (circuit : List CircuitLine) (ports : Option Named) (n : ℕ) (p : Pattern) →
     section_of circuit_grammar 0 (lines_of text) ≡ Ok (tt, circuit)
-    → section_of (layout_grammar ports) n (drop (length circuit + 2) (lines_of text)) ≡ Ok (layout_value p) →
+    → section_of (layout_grammar ports) n (drop (length circuit + 2) (lines_of text)) ≡ Ok (layout_section p) →
     BeginsWith text circuit p
 spelled text circuit ports n p first second =
     let k = length circuit + 2 in
@@ -210,18 +210,18 @@ spelled text circuit ports n p first second =
     ∙ flat_map-append ended_line (take m later) (drop m later)
     ∙ ap (λ a. a ++ after) (layout_printed ports n later p second)) in
     record {
-      rest = after ++ rest_of text;
-      begins = sym (no_byte_lost text) ∙ ap (λ a. a ++ rest_of text) split
-          ∙ append_assoc (circuit_text circuit) (layout_text p ++ after) (rest_of text)
-          ∙ ap (λ a. circuit_text circuit ++ a) (append_assoc (layout_text p) after (rest_of text));
+      rest = after ++ bytes_after_lines text;
+      begins = sym (no_byte_lost text) ∙ ap (λ a. a ++ bytes_after_lines text) split
+          ∙ append_assoc (circuit_text circuit) (layout_text p ++ after) (bytes_after_lines text)
+          ∙ ap (λ a. circuit_text circuit ++ a) (append_assoc (layout_text p) after (bytes_after_lines text));
     }
 
 pub record IsReadBundle (text : List ℕ) (b : Bundle) : Type 0 where
   pub circuit : AreGood b.circuit
   pub layout : IsFaultless (layout_grammar (Some (port_names_of b.circuit))) b.size b.parts
-  pub says : (p : Pattern) → layout_value p ≡ (b.size, b.parts) → SaysDesign text b.circuit p
-  pub begins : (p : Pattern) → layout_value p ≡ (b.size, b.parts) → BeginsWith text b.circuit p
-  pub says_all : (p : Pattern) → layout_value p ≡ (b.size, b.parts) → SaysBundle text b.circuit p b.entries
+  pub says : (p : Pattern) → layout_section p ≡ (b.size, b.parts) → SaysDesign text b.circuit p
+  pub begins : (p : Pattern) → layout_section p ≡ (b.size, b.parts) → BeginsWith text b.circuit p
+  pub says_all : (p : Pattern) → layout_section p ≡ (b.size, b.parts) → SaysBundle text b.circuit p b.entries
 
 -- what goes on with a value that was read, was read
 pub record WentOn {H I : Type 0} {B : Type 0} (read : Result (H × List I) Refusal)
@@ -236,7 +236,8 @@ pub went_on : {H I : Type 0} {B : Type 0} (read : Result (H × List I) Refusal) 
 went_on (Ok read) next b e = record { header = read.0; items = read.1; was = refl; then = e }
 went_on (Err refusal) next b e = absurd cc
 
-is_over : {B : Type 0} (n : ℕ) (ls : List (List ℕ)) (rest : List ℕ) (value b : B) → finished n ls rest value ≡ Ok b →
+is_over : {B : Type 0} (n : ℕ) (ls : List (List ℕ)) (rest : List ℕ) (value b : B) →
+    value_at_end n ls rest value ≡ Ok b →
     (ls ≡ []) × (rest ≡ []) × (value ≡ b)
 is_over n [] [] value b e = (refl, refl, cc)
 is_over n [] (c ∷ rest) value b e = absurd cc
@@ -256,7 +257,7 @@ pub record AreSections (text : List ℕ) (b : Bundle) : Type 0 where
   pub certificate : section_of (certificate_grammar (setting_of b.circuit (layout_of b.size b.parts)))
       (0 + (length b.circuit + 2) + (length b.parts + 2)) (past_layout text b) ≡ Ok (b.version, b.entries)
   pub nothing_more : drop (length b.entries + 2) (past_layout text b) ≡ []
-  pub ended : rest_of text ≡ []
+  pub ended : bytes_after_lines text ≡ []
 
 pub in_sections : (text : List ℕ) (b : Bundle) → bundle_of text ≡ Ok b → AreSections text b
 unfolding bundle_of
@@ -288,7 +289,8 @@ bundle_good text b e =
 
 -- and those of its certificate are good
 pub certificate_faultless : (text : List ℕ) (b : Bundle) (p : Pattern) → bundle_of text ≡ Ok b →
-    layout_value p ≡ (b.size, b.parts) → IsFaultless (certificate_grammar (setting_of b.circuit p)) b.version b.entries
+    layout_section p ≡ (b.size, b.parts) →
+    IsFaultless (certificate_grammar (setting_of b.circuit p)) b.version b.entries
 certificate_faultless text b p e same =
     subst (λ p. IsFaultless (certificate_grammar (setting_of b.circuit p)) b.version b.entries)
     (layout_from p b.size b.parts same)
@@ -329,7 +331,7 @@ by_read text output outcome circuit layout (Ok b) e says some said =
     own_design text b output outcome circuit layout e says said
 by_read text output outcome circuit layout (Err refusal) e told some said = absurd (some told.1)
 
-pub good_designs : ReportsOnGoodDesigns
+pub good_designs : UnrefusedDesignIsGood
 good_designs text output outcome circuit layout says some said =
     by_read text output outcome circuit layout (bundle_of text) refl says some said
 
@@ -445,7 +447,7 @@ line_tells output outcome (Err refusal) told = (
   λ is. absurd (not_refused (sym is ∙ told.1)),
 )
 
-pub fourth_line-tells : FourthLineTells
+pub fourth_line-tells : FourthLineShowsOutcome
 fourth_line-tells text output outcome says = line_tells output outcome (bundle_of text) says
 
 pub by_line : (text output : List ℕ) (outcome : Outcome) → IsReportOf text output outcome → SaysYes output →

@@ -20,8 +20,8 @@ use Rattle.headline.specs.Stops.{HasRightStops, SaysBundle}
 use Rattle.headline.specs.RightInFull.{IsGoodDesign, IsRightInFull}
 
 -- a command has at most one answer to each text
-abbrev pub HasOneAnswer : (List ℕ → List ℕ → Outcome → Type 0) → Type 0
-HasOneAnswer R = (text output output' : List ℕ) (outcome outcome' : Outcome) → R text output outcome →
+abbrev pub HasAtMostOneAnswer : (List ℕ → List ℕ → Outcome → Type 0) → Type 0
+HasAtMostOneAnswer R = (text output output' : List ℕ) (outcome outcome' : Outcome) → R text output outcome →
     R text output' outcome' → (output ≡ output') × (outcome ≡ outcome')
 
 -- a command has an answer to each text; with the law above, its answer is a function of the text
@@ -44,13 +44,13 @@ abbrev pub RightSaysCorrectDesign : Type 0
 RightSaysCorrectDesign = (text : List ℕ) → IsRight text → SaysCorrectDesign text
 
 -- a text that begins with a circuit and a layout says them
-abbrev pub PrintedIsRead : Type 0
-PrintedIsRead = (text : List ℕ) (circuit : List CircuitLine) (layout : Pattern) →
+abbrev pub PrintedDesignIsRead : Type 0
+PrintedDesignIsRead = (text : List ℕ) (circuit : List CircuitLine) (layout : Pattern) →
     BeginsWithDesign text circuit layout → SaysDesign text circuit layout
 
 -- and a text that is not refused begins with the circuit and the layout that it says
-abbrev pub ReadIsPrinted : Type 0
-ReadIsPrinted = (text output : List ℕ) (outcome : Outcome) (circuit : List CircuitLine) (layout : Pattern) →
+abbrev pub ReadDesignIsPrinted : Type 0
+ReadDesignIsPrinted = (text output : List ℕ) (outcome : Outcome) (circuit : List CircuitLine) (layout : Pattern) →
     IsReportOf text output outcome → outcome ≢ Refused →
     SaysDesign text circuit layout → BeginsWithDesign text circuit layout
 
@@ -76,13 +76,14 @@ YesHasOneValuation = (text output : List ℕ) (circuit : List CircuitLine) (layo
     (w : ℕ) → w < wires (netlist_of circuit) → u w ≡ v w
 
 -- a report says yes in its fourth line exactly if that is the outcome
-abbrev pub FourthLineTells : Type 0
-FourthLineTells = (text output : List ℕ) (outcome : Outcome) → IsReportOf text output outcome →
+abbrev pub FourthLineShowsOutcome : Type 0
+FourthLineShowsOutcome = (text output : List ℕ) (outcome : Outcome) → IsReportOf text output outcome →
     (SaysYes output → outcome ≡ Yes) × (outcome ≡ Yes → SaysYes output)
 
 -- and the fourth line is that of the lines of the output
-abbrev pub FourthLineIsLine : Type 0
-FourthLineIsLine = (output : List ℕ) → SaysYes output ↔ (slice_get (lines_of output) 3 ≡ Some (codes "verdict yes"))
+abbrev pub SaysYesMeansFourthLine : Type 0
+SaysYesMeansFourthLine = (output : List ℕ) →
+    SaysYes output ↔ (slice_get (lines_of output) 3 ≡ Some (codes "verdict yes"))
 
 -- a text says one circuit and one layout at most
 abbrev pub SaysOneDesign : Type 0
@@ -99,8 +100,8 @@ SaysOneCertificate = (text : List ℕ) (circuit circuit' : List CircuitLine) (la
 
 -- In a text that is not refused, each line of the circuit and of the layout is good after those before it, and has its
 -- one spelling.
-abbrev pub ReportsOnGoodDesigns : Type 0
-ReportsOnGoodDesigns = (text output : List ℕ) (outcome : Outcome) (circuit : List CircuitLine) (layout : Pattern) →
+abbrev pub UnrefusedDesignIsGood : Type 0
+UnrefusedDesignIsGood = (text output : List ℕ) (outcome : Outcome) (circuit : List CircuitLine) (layout : Pattern) →
     IsReportOf text output outcome → outcome ≢ Refused →
     SaysDesign text circuit layout → IsGoodDesign text circuit layout
 

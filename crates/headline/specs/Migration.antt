@@ -17,8 +17,8 @@ pub record SaysInVersion (version : ℕ) (text : List ℕ) (circuit : List Circu
   pub of_version : says.version ≡ version
 
 -- a text of version 2 is written as it is, byte for byte
-abbrev pub KeepsVersionTwo : Type 0
-KeepsVersionTwo = (text output : List ℕ) (circuit : List CircuitLine) (layout : Pattern)
+abbrev pub MigrationKeepsVersionTwo : Type 0
+MigrationKeepsVersionTwo = (text output : List ℕ) (circuit : List CircuitLine) (layout : Pattern)
     (certificate : List CertificateLine) →
     IsMigrationOf text output Yes → SaysInVersion 2 text circuit layout certificate → output ≡ text
 
@@ -31,8 +31,8 @@ MigrationSaysTheSame = (text output : List ℕ) (circuit : List CircuitLine) (la
     SaysInVersion 2 output circuit layout (without_halos certificate)
 
 -- what is written is migrated to itself, if it is not refused
-abbrev pub MigratesOnce : Type 0
-MigratesOnce = (text output again : List ℕ) → IsMigrationOf text output Yes → IsMigrationOf output again Yes →
+abbrev pub MigrationIsIdempotent : Type 0
+MigrationIsIdempotent = (text output again : List ℕ) → IsMigrationOf text output Yes → IsMigrationOf output again Yes →
     again ≡ output
 
 -- The output is reported with the outcome yes, and says each circuit and layout that the text says.

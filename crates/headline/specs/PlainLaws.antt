@@ -14,7 +14,7 @@ use Rattle.headline.specs.ThereAndBack.{there_and_back}
 use Rattle.headline.specs.Plain.{SaysPlain, HasRimTouch, IsWrongIfPlain}
 use Rattle.headline.specs.SmallDesigns.{plain_lines, design_text, HasNoDelay, IsDesign, IsNoSmallDesign}
 use Rattle.headline.specs.SmallDesigns.{IsPlainText, IsSmallDesign}
-use Rattle.headline.specs.ReportLines.{LinesTell}
+use Rattle.headline.specs.ReportLines.{LinesHaveMeaning}
 
 -- A text that is reported with the outcome no is wrong if it is plain.
 abbrev pub PlainNoMeansWrong : Type 0
@@ -30,8 +30,8 @@ PlainIsDecided = (text output : List ℕ) (outcome : Outcome) → SaysPlain text
     outcome ≢ Refused → (outcome ≡ Yes) ↔ (IsRight text × HasRightStops text × ¬ HasRimTouch text)
 
 -- A text with the lines of the plain certificate is plain, so `check` decides it, if it does not refuse it.
-abbrev pub PlainLinesDecide : Type 0
-PlainLinesDecide = (text output : List ℕ) (outcome : Outcome) (circuit : List CircuitLine) (layout : Pattern) →
+abbrev pub PlainLinesTextIsDecided : Type 0
+PlainLinesTextIsDecided = (text output : List ℕ) (outcome : Outcome) (circuit : List CircuitLine) (layout : Pattern) →
     SaysBundle text circuit layout (plain_lines circuit layout) → IsReportOf text output outcome → outcome ≢ Refused →
     SaysPlain text × ((outcome ≡ Yes) ↔ (IsRight text × HasRightStops text × ¬ HasRimTouch text))
 
@@ -47,8 +47,8 @@ abbrev pub RefusedIsNoSmallDesign : Type 0
 RefusedIsNoSmallDesign = (text output : List ℕ) → IsReportOf text output Refused → IsNoSmallDesign text
 
 -- Each small design has a plain text: its lines and the plain lines, each in its one spelling.
-abbrev pub EachSmallDesignHasText : Type 0
-EachSmallDesignHasText = (circuit : List CircuitLine) (layout : Pattern) → IsDesign circuit layout →
+abbrev pub EachSmallDesignHasPlainText : Type 0
+EachSmallDesignHasPlainText = (circuit : List CircuitLine) (layout : Pattern) → IsDesign circuit layout →
     IsSmallDesign circuit layout → IsPlainText (design_text circuit layout) circuit layout
 
 -- So `check` decides each small design, by this text. It does not refuse the text. It says yes exactly if the layout
@@ -60,8 +60,8 @@ EachSmallDesignIsDecided = (circuit : List CircuitLine) (layout : Pattern) (outp
     × ((outcome ≡ Yes) ↔ (IsCorrect circuit layout × HasNoDelay circuit × ¬ TouchesRim circuit layout))
 
 -- The rules of a design are not too many: each text that is not refused says a circuit and a layout that keep them.
-abbrev pub DesignsAreRead : Type 0
-DesignsAreRead = (text output : List ℕ) (outcome : Outcome) (circuit : List CircuitLine) (layout : Pattern) →
+abbrev pub UnrefusedKeepsDesignRules : Type 0
+UnrefusedKeepsDesignRules = (text output : List ℕ) (outcome : Outcome) (circuit : List CircuitLine) (layout : Pattern) →
     IsReportOf text output outcome → outcome ≢ Refused → SaysDesign text circuit layout → IsDesign circuit layout
 
 -- Some plain text is reported with the outcome yes (`ThereAndBackIsAccepted`), so the laws are not vacuous.
@@ -75,6 +75,6 @@ pub record ThereAndBackIsSmall : Type 0 where
   pub plain : IsPlainText there_and_back circuit layout
   pub small : IsSmallDesign circuit layout
 
--- the lines of a report with the outcome no have the meaning of `LinesTell`
-abbrev pub NoLinesTell : Type 0
-NoLinesTell = (text output : List ℕ) → IsReportOf text output No → LinesTell text output
+-- the lines of a report with the outcome no have the meaning of `LinesHaveMeaning`
+abbrev pub LinesOfNoHaveMeaning : Type 0
+LinesOfNoHaveMeaning = (text output : List ℕ) → IsReportOf text output No → LinesHaveMeaning text output

@@ -17,15 +17,15 @@ use Rattle.circuit.specs.Meaning.{Satisfies, Valuation}
 use Rattle.local_run.specs.declared.fault.Fault.{Fault}
 use Rattle.soundness.specs.FirstFaults.{HasAssignment, IsEarliestLine, IsReal}
 use Rattle.core_book.specs.declared.verdict.ReportLine.{ReportLine}
-use Rattle.report.specs.ReportText.{fault_line, opening_lines}
+use Rattle.report.specs.ReportText.{report_line_text, opening_lines}
 use Rattle.headline.specs.Plain.{SaysPlain}
 
--- the output is three opening lines, then `verdict no`, and then these lines as `fault_line` spells them
+-- the output is three opening lines, then `verdict no`, and then these lines as `report_line_text` spells them
 pub record SaysNoWith (output : List ℕ) (lines : List ReportLine) : Type 0 where
   pub digest : List ℕ
   pub modules : ℕ
   pub spelled : output ≡ opening_lines digest modules
-      ++ (line_text (codes "verdict") (codes "no" ∷ []) ++ flat_map fault_line lines)
+      ++ (line_text (codes "verdict") (codes "no" ∷ []) ++ flat_map report_line_text lines)
 
 -- The text says a circuit, a layout and a certificate. Then the earliest of these lines is real, whatever the inputs
 -- and the values v of the wires for them. If v gives the module of the line the line's assignment, its fault is one of
@@ -43,7 +43,7 @@ LinesMeanIfPlain text lines = (said : SaysPlain text) → All (LineMeans said.ci
 
 -- The meaning of an output of no for a text: the earliest of the lines after its fourth is real. If the text is plain,
 -- each of them means something.
-pub record LinesTell (text output : List ℕ) : Type 0 where
+pub record LinesHaveMeaning (text output : List ℕ) : Type 0 where
   pub lines : List ReportLine
   pub says : SaysNoWith output lines
   pub earliest : EarliestIsReal text lines
@@ -51,7 +51,8 @@ pub record LinesTell (text output : List ℕ) : Type 0 where
 
 -- The bytes of a reader are known, and so are those of a writer before and after: P holds of what there was to read and
 -- of what was written.
-abbrev pub Relates : (List ℕ → List ℕ → Type 0) → Option (List ℕ) → Option (List ℕ) → Option (List ℕ) → Type 0
-Relates P left written_bytes written_bytes' =
+abbrev pub RelatesReadToWritten : (List ℕ → List ℕ → Type 0) → Option (List ℕ) → Option (List ℕ) → Option (List ℕ) →
+    Type 0
+RelatesReadToWritten P left written_bytes written_bytes' =
     (text before output : List ℕ) → left ≡ Some text → written_bytes ≡ Some before →
     written_bytes' ≡ Some (before ++ output) → P text output

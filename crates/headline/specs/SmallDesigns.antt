@@ -8,15 +8,15 @@ use Rattle.std.specs.Prelude.{IsTrue}
 use Rattle.std.specs.List.{All, range_with_len}
 use Rattle.section_text.specs.SaidSection.{IsSection}
 use Rattle.section_text.specs.Section.{section_of}
-use Rattle.section_text.specs.Words.{is_name, lines_of, rest_of}
+use Rattle.section_text.specs.Words.{is_name, lines_of, bytes_after_lines}
 use Rattle.circuit.specs.Bridge.{AreGood, circuit_of, input_names, netlist_of}
 use Rattle.circuit.specs.Entries.{defined}
 use Rattle.circuit.specs.Forms.{form_of as circuit_form}
 use Rattle.circuit.specs.Grammars.{circuit_grammar}
-use Rattle.circuit.specs.Rules.{consumed, order_fault, unused}
+use Rattle.circuit.specs.Rules.{consumed, order_fault, first_unconsumed}
 use Rattle.circuit.specs.Text.{circuit_text}
 use Rattle.pattern.specs.Forms.{form_of as layout_form}
-use Rattle.pattern.specs.Grammars.{layout_grammar, layout_value}
+use Rattle.pattern.specs.Grammars.{layout_grammar, layout_section}
 use Rattle.pattern.specs.Lines.{AreGoodAfter, size_fault}
 use Rattle.pattern.specs.Text.{layout_text}
 use Rattle.certificate_lines.specs.Forms.{form_of as certificate_form}
@@ -35,15 +35,15 @@ abbrev pub gate_numbers : List CircuitLine → List ℕ
 gate_numbers circuit = range_with_len 0 (length (netlist_of circuit).gates)
 
 -- those of its inverse gates
-abbrev pub inverse_numbers : List CircuitLine → List ℕ
-inverse_numbers circuit =
+abbrev pub inverse_gate_numbers : List CircuitLine → List ℕ
+inverse_gate_numbers circuit =
     filter (λ k. is_inverse_gate (slice_get (netlist_of circuit).gates k)) (gate_numbers circuit)
 
 -- The lines of the plain certificate: one module, the whole rectangle, which cuts each input, uses each gate and keeps
 -- each inverse gate.
 abbrev pub plain_lines : List CircuitLine → Pattern → List CertificateLine
 plain_lines circuit layout = Module (whole layout.size)
-    ∷ (map Cut (input_names circuit) ++ map Use (gate_numbers circuit) ++ map Keep (inverse_numbers circuit))
+    ∷ (map Cut (input_names circuit) ++ map Use (gate_numbers circuit) ++ map Keep (inverse_gate_numbers circuit))
 
 -- The text says this circuit and this layout, in sections that are read, then the plain certificate, and nothing more.
 pub record IsPlainText (text : List ℕ) (circuit : List CircuitLine) (layout : Pattern) : Type 0 where
@@ -51,11 +51,11 @@ pub record IsPlainText (text : List ℕ) (circuit : List CircuitLine) (layout : 
   pub second : List (List ℕ)
   pub third : List (List ℕ)
   pub lines : lines_of text ≡ first ++ (second ++ third)
-  pub ended : rest_of text ≡ []
+  pub ended : bytes_after_lines text ≡ []
   pub circuit_is : IsSection circuit_form first tt circuit
   pub circuit_read : section_of circuit_grammar 0 first ≡ Ok (tt, circuit)
   pub layout_is : IsSection layout_form second layout.size (parts_of layout)
-  pub layout_read : section_of (layout_grammar (Some (port_names_of circuit))) 0 second ≡ Ok (layout_value layout)
+  pub layout_read : section_of (layout_grammar (Some (port_names_of circuit))) 0 second ≡ Ok (layout_section layout)
   pub certificate_is : IsSection certificate_form third 1 (plain_lines circuit layout)
 
 -- at most 64 by 64 cells, 12 inputs and 64 gates
@@ -79,7 +79,7 @@ pub record IsDesign (circuit : List CircuitLine) (layout : Pattern) : Type 0 whe
   pub circuit_lines : AreGood circuit
   pub in_order : AreInOrder [] circuit
   pub names : All (λ n. IsTrue (is_name n)) (defined circuit)
-  pub all_consumed : unused (consumed circuit) (defined circuit) ≡ None
+  pub all_consumed : first_unconsumed (consumed circuit) (defined circuit) ≡ None
   pub size : size_fault layout.size ≡ None
   pub layout_lines : AreGoodAfter layout.size [] (parts_of layout)
   pub ports : IsNamed circuit layout

@@ -35,8 +35,8 @@ pub record PlainYesIsAccepted : Type 0 where
 
 -- The fault of `plain_no`: at the end, of the cell (2, 2), where cut 0 is on and cut 1 is off. So p has a ball and q
 -- has none.
-abbrev pub swapped_end : Fault
-swapped_end = record { time = 3; kind = End; cell = cell 2 2; assignment = 1 }
+abbrev pub swapped_outputs_fault : Fault
+swapped_outputs_fault = record { time = 3; kind = End; cell = cell 2 2; assignment = 1 }
 
 -- `plain_no` is plain, has at least two steps, and is reported with the outcome no. Its report has a `local` line on
 -- this fault, and the line that says that p and q meet at time 1. The `local` line means what `Shows` says: the plane
@@ -46,8 +46,8 @@ pub record PlainNoIsRefuted : Type 0 where
   pub steps : 2 ≤ plain.layout.size.steps
   pub output : List ℕ
   pub reported : IsReportOf plain_no output No
-  pub says : SaysNoWith output (Local 0 swapped_end ∷ Meet 0 (Some 1) ∷ [])
-  pub shows : Shows plain.circuit plain.layout plain.one swapped_end
+  pub says : SaysNoWith output (Local 0 swapped_outputs_fault ∷ Meet 0 (Some 1) ∷ [])
+  pub shows : Shows plain.circuit plain.layout plain.one swapped_outputs_fault
 
 -- A small design of at least two steps, whose plain text is reported with this outcome.
 pub record HasSmallDesign (outcome : Outcome) : Type 0 where

@@ -1,10 +1,10 @@
 //! Laws of the definitions, each the contract of a function without a body.
 ghost use Rattle.answers.specs.CheckText.{IsReportOf};
-ghost use Rattle.headline.specs.Laws.{BeginsWithOneDesign, FourthLineIsLine, FourthLineTells, HasAnAnswer, HasOneAnswer, PrintedIsRead, ReadIsPrinted, ReportsOnGoodDesigns, RightSaysCorrectDesign, SaysOneCertificate, SaysOneDesign, ThereAndBackIsAccepted, TimedModulesAreAccepted, YesHasOneValuation, YesMeansRight, YesMeansRightInFull, YesMeansRightStops};
-ghost use Rattle.headline.specs.PlainLaws.{DesignsAreRead, EachSmallDesignHasText, EachSmallDesignIsDecided, PlainIsDecided, PlainLinesDecide, PlainNoMeansWrong, RefusedIsNoSmallDesign, SmallDesignIsDecided, ThereAndBackIsPlain, ThereAndBackIsSmall, YesKeepsOffRim, NoLinesTell};
+ghost use Rattle.headline.specs.Laws.{BeginsWithOneDesign, SaysYesMeansFourthLine, FourthLineShowsOutcome, HasAnAnswer, HasAtMostOneAnswer, PrintedDesignIsRead, ReadDesignIsPrinted, UnrefusedDesignIsGood, RightSaysCorrectDesign, SaysOneCertificate, SaysOneDesign, ThereAndBackIsAccepted, TimedModulesAreAccepted, YesHasOneValuation, YesMeansRight, YesMeansRightInFull, YesMeansRightStops};
+ghost use Rattle.headline.specs.PlainLaws.{UnrefusedKeepsDesignRules, EachSmallDesignHasPlainText, EachSmallDesignIsDecided, PlainIsDecided, PlainLinesTextIsDecided, PlainNoMeansWrong, RefusedIsNoSmallDesign, SmallDesignIsDecided, ThereAndBackIsPlain, ThereAndBackIsSmall, YesKeepsOffRim, LinesOfNoHaveMeaning};
 ghost use Rattle.headline.specs.Witnesses.{PlainNoIsRefuted, PlainYesIsAccepted, SmallDesignIsAccepted, SmallDesignIsRefuted};
 ghost use Rattle.headline.specs.MovedDesigns.{EachCorrectDesignGetsYes, SomeDesignNeedsRoom};
-ghost use Rattle.headline.specs.Migration.{KeepsVersionTwo, MigratesOnce, MigrationIsAccepted, MigrationSaysTheSame};
+ghost use Rattle.headline.specs.Migration.{MigrationKeepsVersionTwo, MigrationIsIdempotent, MigrationIsAccepted, MigrationSaysTheSame};
 ghost use Rattle.answers.specs.MigrateText.{IsMigrationOf};
 ghost use Rattle.answers.specs.ModulesText.{IsModulesOf};
 ghost use Rattle.answers.specs.RunText.{IsRunOf};
@@ -12,31 +12,31 @@ ghost use Rattle.answers.specs.ValueText.{IsValueOf};
 
 /// States that what `check` writes for a text, and its outcome, is a function of the text.
 pub fn check_has_one_answer()
-    ensures one { HasOneAnswer IsReportOf }
+    ensures one { HasAtMostOneAnswer IsReportOf }
     ensures some { HasAnAnswer IsReportOf }
 {}
 
 /// States that what `run` writes for a text, and its outcome, is a function of the text.
 pub fn run_has_one_answer()
-    ensures one { HasOneAnswer IsRunOf }
+    ensures one { HasAtMostOneAnswer IsRunOf }
     ensures some { HasAnAnswer IsRunOf }
 {}
 
 /// States that what `value` writes for a text, and its outcome, is a function of the text.
 pub fn value_has_one_answer()
-    ensures one { HasOneAnswer IsValueOf }
+    ensures one { HasAtMostOneAnswer IsValueOf }
     ensures some { HasAnAnswer IsValueOf }
 {}
 
 /// States that what `modules` writes for a text, and its outcome, is a function of the text.
 pub fn modules_has_one_answer()
-    ensures one { HasOneAnswer IsModulesOf }
+    ensures one { HasAtMostOneAnswer IsModulesOf }
     ensures some { HasAnAnswer IsModulesOf }
 {}
 
 /// States that what `migrate` writes for a text, and its outcome, is a function of the text.
 pub fn migrate_has_one_answer()
-    ensures one { HasOneAnswer IsMigrationOf }
+    ensures one { HasAtMostOneAnswer IsMigrationOf }
     ensures some { HasAnAnswer IsMigrationOf }
 {}
 
@@ -48,9 +48,9 @@ pub fn migrate_has_one_answer()
 ///   migrated to itself.
 /// - A text that is reported with a yes is reported so too after it is migrated.
 pub fn migration_keeps_what_is_accepted()
-    ensures unchanged { KeepsVersionTwo }
+    ensures unchanged { MigrationKeepsVersionTwo }
     ensures says_the_same { MigrationSaysTheSame }
-    ensures once { MigratesOnce }
+    ensures once { MigrationIsIdempotent }
     ensures accepted { MigrationIsAccepted }
 {}
 
@@ -66,8 +66,8 @@ pub fn yes_means_right()
     ensures stops { YesMeansRightStops }
     ensures in_full { YesMeansRightInFull }
     ensures one_valuation { YesHasOneValuation }
-    ensures told { FourthLineTells }
-    ensures line { FourthLineIsLine }
+    ensures told { FourthLineShowsOutcome }
+    ensures line { SaysYesMeansFourthLine }
 {}
 
 /// States what a no means for a text whose certificate is one plain module, the whole rectangle.
@@ -78,7 +78,7 @@ pub fn no_means_wrong()
     ensures no { PlainNoMeansWrong }
     ensures off_rim { YesKeepsOffRim }
     ensures decided { PlainIsDecided }
-    ensures lines { PlainLinesDecide }
+    ensures lines { PlainLinesTextIsDecided }
 {}
 
 /// States that `check` decides small designs.
@@ -91,9 +91,9 @@ pub fn no_means_wrong()
 pub fn small_designs_are_decided()
     ensures decided { SmallDesignIsDecided }
     ensures refused { RefusedIsNoSmallDesign }
-    ensures text { EachSmallDesignHasText }
+    ensures text { EachSmallDesignHasPlainText }
     ensures each { EachSmallDesignIsDecided }
-    ensures read { DesignsAreRead }
+    ensures read { UnrefusedKeepsDesignRules }
 {}
 
 /// States that each small design that computes its circuit gets a yes, after its layout is moved away from the rim.
@@ -120,8 +120,8 @@ pub fn each_correct_design_gets_yes()
 /// - `stop`: a stop is wrong;
 /// - `end` and `keep`: the layout does not compute the circuit, for the inputs in the line;
 /// - `delay` and `meet`: the line is right about the times of its own gate, and they are wrong if the line says so.
-pub fn lines_of_a_no_tell()
-    ensures { NoLinesTell }
+pub fn lines_of_no_have_meaning()
+    ensures { LinesOfNoHaveMeaning }
 {}
 
 /// States that a text begins with one circuit, one layout and one certificate at most.
@@ -134,9 +134,9 @@ pub fn lines_of_a_no_tell()
 pub fn says_one_design()
     ensures one { SaysOneDesign }
     ensures certificate { SaysOneCertificate }
-    ensures good { ReportsOnGoodDesigns }
-    ensures printed { PrintedIsRead }
-    ensures read { ReadIsPrinted }
+    ensures good { UnrefusedDesignIsGood }
+    ensures printed { PrintedDesignIsRead }
+    ensures read { ReadDesignIsPrinted }
     ensures begins { BeginsWithOneDesign }
 {}
 

@@ -8,8 +8,8 @@ use Rattle.atomic_table.proofs.Lists.{at_index, at_map}
 use mathlib.Core.Option.{some}
 use lib.ListN.{get_elem?}
 use Rattle.job_pool.specs.declared.rule.View.{View}
-use Rattle.core_book.specs.Draws.{end_of, times, IsDrawn}
-use Rattle.job_pool.specs.Lists.{joined, top, front, AreAllDraws}
+use Rattle.core_book.specs.Draws.{past_last, times, IsDrawn}
+use Rattle.job_pool.specs.Lists.{joined, past_greatest, front, AreAllDraws}
 use Rattle.job_pool.specs.Rule.{IsWhole}
 use Rattle.job_pool.proofs.Sums.{at_le, joined_drawn}
 
@@ -51,7 +51,7 @@ moved f g done now x rest y left all is was same h =
     ∙ (ap (λ l. map f done ++ map g l) (sym was) ∙ h))))
 
 pub shares : (n seats counter : ℕ) (lists : List (List ℕ)) (v : View) → IsWhole n seats counter v →
-    v.draws ≡ joined lists → length lists ≡ seats → All (λ xs. top (front xs) ≤ n) lists →
+    v.draws ≡ joined lists → length lists ≡ seats → All (λ xs. past_greatest (front xs) ≤ n) lists →
     AreAllDraws n seats counter lists
 shares n seats counter lists v w is count last = record {
   count = count;
@@ -77,16 +77,16 @@ taken g done now rest y left all is was h =
     ∙ (append_assoc done (g y ∷ []) (map g left)
     ∙ (ap (λ l. done ++ map g l) (sym was) ∙ h))
 
-last_stands : (xs : List ℕ) (m : ℕ) → end_of xs ≡ m + 1 → 0 < times m xs
+last_stands : (xs : List ℕ) (m : ℕ) → past_last xs ≡ m + 1 → 0 < times m xs
 last_stands [] m e = absurd (omega arith)
 last_stands (y ∷ []) m e = let same : y ≡ m = omega arith in grind (arith, nat_tests)
 last_stands (y ∷ z ∷ zs) m e = let h = last_stands (z ∷ zs) m e in omega arith
 
 -- the last draw of a list was counted
 pub end_counted : (counter n i : ℕ) (lists : List (List ℕ)) (xs : List ℕ) → IsDrawn counter lists →
-    get_elem? lists i ≡ some xs → n < end_of xs → n < counter
+    get_elem? lists i ≡ some xs → n < past_last xs → n < counter
 end_counted counter n i lists xs r at ends =
-    let m : ℕ = end_of xs - 1 in
+    let m : ℕ = past_last xs - 1 in
     let stands = last_stands xs m (omega arith) in
     let above = at_le (times m) lists i xs at in
     let once = r.once m in
@@ -94,7 +94,7 @@ end_counted counter n i lists xs r at ends =
     omega arith
 
 pub any_ended : {X : Type 0} (f : X → List ℕ) (xs : List X) (counter n : ℕ) (lists : List (List ℕ)) → lists ≡ map f xs →
-    IsDrawn counter lists → Any (λ x. n < end_of (f x)) xs → n < counter
+    IsDrawn counter lists → Any (λ x. n < past_last (f x)) xs → n < counter
 any_ended f xs counter n lists is r (k, x, below, at, ends) =
     end_counted counter n k lists (f x) r
     (subst (λ l. get_elem? l k ≡ some (f x)) (sym is) (at_map f xs k x (at_index xs k x below (sym at)))) ends

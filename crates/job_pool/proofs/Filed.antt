@@ -11,7 +11,7 @@ use mathlib.Core.Option.{some}
 use lib.ListN.{get_elem?}
 use Rattle.core_book.specs.declared.claim.Claim.TheVariants.{Number, Empty}
 use Rattle.core_book.specs.Claims.{claim_answer, claim_draws, has_ended}
-use Rattle.core_book.specs.Draws.{end_of, total, IsDrawn}
+use Rattle.core_book.specs.Draws.{past_last, total, IsDrawn}
 use Rattle.job_pool.specs.declared.desk.Desk.{Desk}
 use Rattle.job_pool.specs.declared.worker.Worker.{Worker}
 use Rattle.job_pool.specs.Seats.{IsSeatOf, drawn_by}
@@ -39,7 +39,7 @@ empty_adds_none groups n next before after below e is =
 -- where a list ends with a draw of n or more, all numbers below n were drawn, and so the findings of all members are
 -- due
 all_are_due : (counter n i : ℕ) (lists : List (List ℕ)) (xs groups : List ℕ) → IsDrawn counter lists →
-    get_elem? lists i ≡ some xs → n < end_of xs → All (λ g. g < n) groups → total (due groups) lists ≡ length groups
+    get_elem? lists i ≡ some xs → n < past_last xs → All (λ g. g < n) groups → total (due groups) lists ≡ length groups
 all_are_due counter n i lists xs groups r at ends below =
     let counted = end_counted counter n i lists xs r at ends in
     due_in_all counter n lists r (omega (arith, counted)) groups below
@@ -91,8 +91,8 @@ module _ {F A : Type 0} (desk : Desk) (groups : List ℕ) where
         let sum = all_filed before after len (λ i d below. (each i d below).filed (fed i d (omega arith))) in
         let first = first_of after (omega arith) in
         let ends = (each 0 first.0 some_worker).ended (fed 0 first.0 (omega arith)) in
-        let ended : desk.numbers < end_of (drawn_by first.0.seat) =
-        subst (λ (w : Worker F A). desk.numbers < end_of (drawn_by w.seat)) first.2 ends in
+        let ended : desk.numbers < past_last (drawn_by first.0.seat) =
+        subst (λ (w : Worker F A). desk.numbers < past_last (drawn_by w.seat)) first.2 ends in
         let all = all_are_due counter desk.numbers 0 (map drawn_by (seats_of after)) (drawn_by first.0.seat) groups
         (subst (IsDrawn counter) is r) first.1 ended below in
         omega (arith, sum, all)

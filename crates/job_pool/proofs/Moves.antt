@@ -10,20 +10,23 @@ use Rattle.std.proofs.lemmas.Bool.Decides.{nat_tests}
 use Rattle.atomic_table.specs.Table.{State, Me, keeps, step, Allows, Splits, Joins}
 use Rattle.atomic_table.proofs.Lists.{at_set, at_snoc, at_map, set_else, set_again}
 use Rattle.job_pool.specs.declared.rule.View.{View}
-use Rattle.job_pool.specs.declared.rule.Size.{Size}
+use Rattle.job_pool.specs.declared.rule.DeskSize.{DeskSize}
 use Rattle.core_book.specs.Draws.{total, times, IsDrawn}
-use Rattle.job_pool.specs.Lists.{late}
-use Rattle.job_pool.specs.Rule.{Fits, IsDealt, MeetsRule, lists_of, view, drew, saw, Drew, Saw, fewer, one_place, both}
+use Rattle.job_pool.specs.Lists.{draw_count_from}
+use Rattle.job_pool.specs.Rule.{Fits, IsDealt, MeetsRule, lists_of, view, drew, saw, IsAfterClaim, IsAfterLook, fewer}
+use Rattle.job_pool.specs.Rule.{one_place, both}
 use Rattle.job_pool.specs.Rule.{spent, IsWhole}
-use Rattle.job_pool.proofs.Sums.{total_set, total_snoc, total-map, total_le, at_le, late-append, top-append, front-snoc}
+use Rattle.job_pool.proofs.Sums.{total_set, total_snoc, total-map, total_le, at_le, draw_count_from-append}
+use Rattle.job_pool.proofs.Sums.{past_greatest-append, front-snoc}
 use Rattle.job_pool.proofs.Sums.{late_in_all, draw_keeps, merge_keeps, empty_keeps}
 
 -- the word is at most the numbers and the seats together
 pub bound : (n seats word : ℕ) (views : List View) → IsDealt n seats word views → word ≤ n + seats
 bound n seats word views r =
-    let a = total_le (λ (v : View). late n v.draws) (λ v. v.places) views (λ i v at. (r.each i v at).late_within) in
+    let a = total_le (λ (v : View). draw_count_from n v.draws) (λ v. v.places) views
+    (λ i v at. (r.each i v at).late_within) in
     let b = late_in_all word (lists_of views) r.drawn n in
-    let c = total-map (late n) (λ (v : View). v.draws) views in
+    let c = total-map (draw_count_from n) (λ (v : View). v.draws) views in
     let p = r.places in
     omega arith
 
@@ -43,13 +46,14 @@ fits_set n word now id views w le others mine j v at =
     })
     (at_set views id j w v at)
 
-fits_drew : (n word : ℕ) (v : View) → v.places ≡ 1 → late n v.draws ≡ 0 → Fits n word v →
+fits_drew : (n word : ℕ) (v : View) → v.places ≡ 1 → draw_count_from n v.draws ≡ 0 → Fits n word v →
     Fits n (suc word) (drew v word)
 fits_drew n word v one clear f = record {
-  late_within = let a = late-append n v.draws (word ∷ []) in grind (arith, nat_tests);
-  only_last = λ _. ap (late n) (front-snoc v.draws word) ∙ clear;
+  late_within = let a = draw_count_from-append n v.draws (word ∷ []) in grind (arith, nat_tests);
+  only_last = λ _. ap (draw_count_from n) (front-snoc v.draws word) ∙ clear;
   seen_within = omega arith;
-  seen_above = let a = top-append v.draws (word ∷ []) in let s = f.seen_within in let t = f.seen_above in omega arith;
+  seen_above = let a = past_greatest-append v.draws (word ∷ []) in let s = f.seen_within in let t = f.seen_above in
+      omega arith;
   spent = λ z. absurd (omega arith);
 }
 
@@ -69,7 +73,7 @@ same_lists views id v w at same =
     ∙ set_again (lists_of views) id v.draws (at_lists views id v at))
 
 pub claim_keeps : (n seats word id : ℕ) (views : List View) (v : View) → get_elem? views id ≡ some v → v.places ≡ 1 →
-    late n v.draws ≡ 0 → IsDealt n seats word views → IsDealt n seats (suc word) (set views id (drew v word))
+    draw_count_from n v.draws ≡ 0 → IsDealt n seats word views → IsDealt n seats (suc word) (set views id (drew v word))
 claim_keeps n seats word id views v at one clear r = let w = drew v word in record {
   drawn = subst (IsDrawn (suc word)) (sym (lists_set views id w))
       (draw_keeps word (lists_of views) id v.draws (at_lists views id v at) r.drawn);
@@ -78,9 +82,10 @@ claim_keeps n seats word id views v at one clear r = let w = drew v word in reco
 }
 
 module _ {S : Type 0} where
-  pub claims : (size : Size) (slots id : ℕ) (me : Me S View) → size.numbers + size.seats < 2 ^ 63 → me.0.places ≡ 1 →
-      late size.numbers me.0.draws ≡ 0
-      → Allows {S = S} (MeetsRule size) slots id me 0 (λ n. (n + 1) % 2 ^ 64) (Drew (step slots 0 1 0 none) me)
+  pub claims : (size : DeskSize) (slots id : ℕ) (me : Me S View) → size.numbers + size.seats < 2 ^ 63 →
+      me.0.places ≡ 1 →
+      draw_count_from size.numbers me.0.draws ≡ 0
+      → Allows {S = S} (MeetsRule size) slots id me 0 (λ n. (n + 1) % 2 ^ 64) (IsAfterClaim (step slots 0 1 0 none) me)
   claims size slots id me small one clear s r wide at fits =
       let word : ℕ = get_or s.words 0 0 in
       let w : View = drew me.0 word in
@@ -101,14 +106,14 @@ module _ {S : Type 0} where
         (f, refl, refl),
       )
 
-  unmoved : (size : Size) (s : State S View) (views : List View) → MeetsRule size s →
+  unmoved : (size : DeskSize) (s : State S View) (views : List View) → MeetsRule size s →
       ((word : ℕ) → word ≡ get_or s.words 0 0 → IsDealt size.numbers size.seats word s.views →
       IsDealt size.numbers size.seats word views) →
       (length s.words ≡ 1) × IsDealt size.numbers size.seats (get_or s.words 0 0) views
   unmoved size s views r step = (r.0, step (get_or s.words 0 0) refl r.1)
 
-  pub looks : (size : Size) (slots id : ℕ) (me : Me S View) → me.0.places ≡ 1 →
-      Allows {S = S} (MeetsRule size) slots id me 0 (λ n. n) (Saw (step slots 0 0 0 none) me)
+  pub looks : (size : DeskSize) (slots id : ℕ) (me : Me S View) → me.0.places ≡ 1 →
+      Allows {S = S} (MeetsRule size) slots id me 0 (λ n. n) (IsAfterLook (step slots 0 0 0 none) me)
   looks size slots id me one s r wide at fits =
       let word : ℕ = get_or s.words 0 0 in
       let w : View = saw me.0 word in
@@ -177,10 +182,12 @@ split_keeps n seats word id p views at some_place r =
 fits_both : (n word : ℕ) (v w : View) → 0 < v.places → 0 < w.places → Fits n word v → Fits n word w →
     Fits n word (both v w)
 fits_both n word v w some_place other_place f g = record {
-  late_within = let a = late-append n v.draws w.draws in let x = f.late_within in let y = g.late_within in omega arith;
+  late_within = let a = draw_count_from-append n v.draws w.draws in let x = f.late_within in let y = g.late_within in
+      omega arith;
   only_last = λ one. absurd (omega arith);
   seen_within = let x = f.seen_within in let y = g.seen_within in omega arith;
-  seen_above = let a = top-append v.draws w.draws in let x = f.seen_above in let y = g.seen_above in omega arith;
+  seen_above = let a = past_greatest-append v.draws w.draws in let x = f.seen_above in let y = g.seen_above in
+      omega arith;
   spent = λ z. absurd (omega arith);
 }
 
@@ -203,17 +210,17 @@ join_keeps n seats word id other views v w at apart there some_place other_place
     }
 
 module _ {S : Type 0} where
-  pub splits : (size : Size) (id p : ℕ) → 0 < p →
+  pub splits : (size : DeskSize) (id p : ℕ) → 0 < p →
       Splits {S = S} (MeetsRule size) id (view [] 0 p) (fewer (view [] 0 p)) (one_place (view [] 0 p))
   splits size id p some_place s r at =
       (r.0, split_keeps size.numbers size.seats (get_or s.words 0 0) id p s.views at some_place r.1)
 
-  pub splits_as : (size : Size) (id p : ℕ) (v : View) → v ≡ view [] 0 p → 0 < p →
+  pub splits_as : (size : DeskSize) (id p : ℕ) (v : View) → v ≡ view [] 0 p → 0 < p →
       Splits {S = S} (MeetsRule size) id v (fewer v) (one_place v)
   splits_as size id p v is some_place =
       subst (λ u. Splits {S = S} (MeetsRule size) id u (fewer u) (one_place u)) (sym is) (splits size id p some_place)
 
-  pub joins : (size : Size) (id : ℕ) (v : View) (other : ℕ) (w : View) → 0 < v.places → 0 < w.places →
+  pub joins : (size : DeskSize) (id : ℕ) (v : View) (other : ℕ) (w : View) → 0 < v.places → 0 < w.places →
       Joins {S = S} (MeetsRule size) id v other w (both v w) spent
   joins size id v other w some_place other_place s r at apart there = (
     r.0,

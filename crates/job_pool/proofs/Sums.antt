@@ -5,8 +5,8 @@ use Rattle.std.proofs.lemmas.List.{append-nil}
 use mathlib.Core.Option.{some, some-injective, some-ne-none}
 use lib.ListN.{get_elem?}
 use Rattle.std.proofs.lemmas.Bool.Decides.{nat_tests}
-use Rattle.core_book.specs.Draws.{total, times, end_of, IsDrawn}
-use Rattle.job_pool.specs.Lists.{late, early, top, front, joined}
+use Rattle.core_book.specs.Draws.{total, times, past_last, IsDrawn}
+use Rattle.job_pool.specs.Lists.{draw_count_from, draw_count_below, past_greatest, front, joined}
 
 module _ {X : Type 0} where
   pub total_set : (f : X → ℕ) (xs : List X) (i : ℕ) (v w : X) → get_elem? xs i ≡ some v →
@@ -46,55 +46,59 @@ pub times-append : (x : ℕ) (xs ys : List ℕ) → times x (xs ++ ys) ≡ times
 times-append x [] ys = omega arith
 times-append x (y ∷ xs) ys = let h = times-append x xs ys in omega arith
 
-pub late-append : (n : ℕ) (xs ys : List ℕ) → late n (xs ++ ys) ≡ late n xs + late n ys
-late-append n [] ys = omega arith
-late-append n (y ∷ xs) ys = let h = late-append n xs ys in omega arith
+pub draw_count_from-append : (n : ℕ) (xs ys : List ℕ) →
+    draw_count_from n (xs ++ ys) ≡ draw_count_from n xs + draw_count_from n ys
+draw_count_from-append n [] ys = omega arith
+draw_count_from-append n (y ∷ xs) ys = let h = draw_count_from-append n xs ys in omega arith
 
-pub top-append : (xs ys : List ℕ) → top (xs ++ ys) ≡ max (top xs) (top ys)
-top-append [] ys = omega arith
-top-append (y ∷ xs) ys = let h = top-append xs ys in omega arith
+pub past_greatest-append : (xs ys : List ℕ) → past_greatest (xs ++ ys) ≡ max (past_greatest xs) (past_greatest ys)
+past_greatest-append [] ys = omega arith
+past_greatest-append (y ∷ xs) ys = let h = past_greatest-append xs ys in omega arith
 
-pub end_of-snoc : (xs : List ℕ) (x : ℕ) → end_of (xs ++ x ∷ []) ≡ x + 1
-end_of-snoc [] x = refl
-end_of-snoc (y ∷ []) x = refl
-end_of-snoc (y ∷ z ∷ zs) x = end_of-snoc (z ∷ zs) x
+pub past_last-snoc : (xs : List ℕ) (x : ℕ) → past_last (xs ++ x ∷ []) ≡ x + 1
+past_last-snoc [] x = refl
+past_last-snoc (y ∷ []) x = refl
+past_last-snoc (y ∷ z ∷ zs) x = past_last-snoc (z ∷ zs) x
 
 pub front-snoc : (xs : List ℕ) (x : ℕ) → front (xs ++ x ∷ []) ≡ xs
 front-snoc [] x = refl
 front-snoc (y ∷ []) x = refl
 front-snoc (y ∷ z ∷ zs) x = ap (λ l. y ∷ l) (front-snoc (z ∷ zs) x)
 
-pub end_of-last : (xs : List ℕ) (n d : ℕ) → length xs ≡ n + 1 → end_of xs ≡ get_or xs n d + 1
-end_of-last [] n d e = absurd (omega arith)
-end_of-last (y ∷ []) zero d e = refl
-end_of-last (y ∷ []) (suc n) d e = absurd (omega arith)
-end_of-last (y ∷ z ∷ zs) zero d e = absurd (omega arith)
-end_of-last (y ∷ z ∷ zs) (suc n) d e = end_of-last (z ∷ zs) n d (omega arith)
+pub past_last-last : (xs : List ℕ) (n d : ℕ) → length xs ≡ n + 1 → past_last xs ≡ get_or xs n d + 1
+past_last-last [] n d e = absurd (omega arith)
+past_last-last (y ∷ []) zero d e = refl
+past_last-last (y ∷ []) (suc n) d e = absurd (omega arith)
+past_last-last (y ∷ z ∷ zs) zero d e = absurd (omega arith)
+past_last-last (y ∷ z ∷ zs) (suc n) d e = past_last-last (z ∷ zs) n d (omega arith)
 
 -- one more draw, which is above all that there were
-pub pushed : (xs ys : List ℕ) (x n : ℕ) → ys ≡ xs ++ x ∷ [] → top xs ≤ x → length xs ≤ top xs → top xs ≤ n
-    → (top ys ≡ x + 1) × (length ys ≤ top ys) × (top ys ≡ end_of ys) × (top (front ys) ≤ n)
+pub pushed : (xs ys : List ℕ) (x n : ℕ) → ys ≡ xs ++ x ∷ [] → past_greatest xs ≤ x → length xs ≤ past_greatest xs →
+    past_greatest xs ≤ n
+    → (past_greatest ys ≡ x + 1) × (length ys ≤ past_greatest ys) × (past_greatest ys ≡ past_last ys)
+    × (past_greatest (front ys) ≤ n)
 pushed xs ys x n is above rising below =
-    let t : top (xs ++ x ∷ []) ≡ x + 1 = let a = top-append xs (x ∷ []) in omega arith in
+    let t : past_greatest (xs ++ x ∷ []) ≡ x + 1 = let a = past_greatest-append xs (x ∷ []) in omega arith in
     let l = length-append xs (x ∷ []) in
-    let e = end_of-snoc xs x in
-    let f = ap top (front-snoc xs x) in
-    subst (λ (zs : List ℕ). (top zs ≡ x + 1) × (length zs ≤ top zs) × (top zs ≡ end_of zs) × (top (front zs) ≤ n))
+    let e = past_last-snoc xs x in
+    let f = ap past_greatest (front-snoc xs x) in
+    subst (λ (zs : List ℕ). (past_greatest zs ≡ x + 1) × (length zs ≤ past_greatest zs)
+    × (past_greatest zs ≡ past_last zs) × (past_greatest (front zs) ≤ n))
     (sym is) (t, omega arith, omega arith, omega arith)
 
-pub none_late : (n : ℕ) (xs : List ℕ) → top xs ≤ n → late n xs ≡ 0
+pub none_late : (n : ℕ) (xs : List ℕ) → past_greatest xs ≤ n → draw_count_from n xs ≡ 0
 none_late n [] h = refl
 none_late n (y ∷ ys) h = let l = none_late n ys (omega arith) in grind (arith, nat_tests)
 
-pub early_or_late : (n : ℕ) (xs : List ℕ) → early n xs + late n xs ≡ length xs
+pub early_or_late : (n : ℕ) (xs : List ℕ) → draw_count_below n xs + draw_count_from n xs ≡ length xs
 early_or_late n [] = refl
 early_or_late n (y ∷ ys) = let h = early_or_late n ys in grind (arith, nat_tests)
 
-pub early_suc : (k : ℕ) (xs : List ℕ) → early (suc k) xs ≡ early k xs + times k xs
+pub early_suc : (k : ℕ) (xs : List ℕ) → draw_count_below (suc k) xs ≡ draw_count_below k xs + times k xs
 early_suc k [] = refl
 early_suc k (y ∷ ys) = let h = early_suc k ys in grind (arith, nat_tests)
 
-pub early_zero : (xs : List ℕ) → early 0 xs ≡ 0
+pub early_zero : (xs : List ℕ) → draw_count_below 0 xs ≡ 0
 early_zero [] = refl
 early_zero (y ∷ ys) = let h = early_zero ys in grind (arith, nat_tests)
 
@@ -104,21 +108,22 @@ nothing (y ∷ ys) = let h = nothing ys in omega arith
 
 -- as many numbers below n were drawn as n and the counter allow
 pub early_in_all : (counter : ℕ) (lists : List (List ℕ)) → IsDrawn counter lists → (n : ℕ) →
-    total (early n) lists ≡ min n counter
-early_in_all counter lists r zero = total_same (early 0) (λ _. 0) lists early_zero ∙ (nothing lists ∙ omega arith)
+    total (draw_count_below n) lists ≡ min n counter
+early_in_all counter lists r zero =
+    total_same (draw_count_below 0) (λ _. 0) lists early_zero ∙ (nothing lists ∙ omega arith)
 early_in_all counter lists r (suc k) =
     let h = early_in_all counter lists r k in
-    let s = total_same (early (suc k)) (λ xs. early k xs + times k xs) lists (early_suc k) in
-    let a = total-add (early k) (times k) lists in
+    let s = total_same (draw_count_below (suc k)) (λ xs. draw_count_below k xs + times k xs) lists (early_suc k) in
+    let a = total-add (draw_count_below k) (times k) lists in
     let o = r.once k in
     grind (arith, nat_tests)
 
 pub late_in_all : (counter : ℕ) (lists : List (List ℕ)) → IsDrawn counter lists → (n : ℕ) →
-    total (late n) lists ≡ counter - n
+    total (draw_count_from n) lists ≡ counter - n
 late_in_all counter lists r n =
     let e = early_in_all counter lists r n in
-    let s = total_same (λ xs. early n xs + late n xs) length lists (early_or_late n) in
-    let a = total-add (early n) (late n) lists in
+    let s = total_same (λ xs. draw_count_below n xs + draw_count_from n xs) length lists (early_or_late n) in
+    let a = total-add (draw_count_below n) (draw_count_from n) lists in
     let w = r.whole in
     omega arith
 
@@ -174,10 +179,12 @@ joined_drawn counter lists r = record {
   once = λ x. let o = r.once x in let t = times-joined x lists in omega arith;
 }
 
-pub early-append : (n : ℕ) (xs ys : List ℕ) → early n (xs ++ ys) ≡ early n xs + early n ys
-early-append n [] ys = omega arith
-early-append n (y ∷ xs) ys = let h = early-append n xs ys in omega arith
+pub draw_count_below-append : (n : ℕ) (xs ys : List ℕ) →
+    draw_count_below n (xs ++ ys) ≡ draw_count_below n xs + draw_count_below n ys
+draw_count_below-append n [] ys = omega arith
+draw_count_below-append n (y ∷ xs) ys = let h = draw_count_below-append n xs ys in omega arith
 
-pub early_more : (n i : ℕ) (xs ys : List ℕ) → ys ≡ xs ++ i ∷ [] → i < n → early n ys ≡ early n xs + 1
-early_more n i xs ys is below = let e = ap (early n) is in let a = early-append n xs (i ∷ []) in
+pub early_more : (n i : ℕ) (xs ys : List ℕ) → ys ≡ xs ++ i ∷ [] → i < n →
+    draw_count_below n ys ≡ draw_count_below n xs + 1
+early_more n i xs ys is below = let e = ap (draw_count_below n) is in let a = draw_count_below-append n xs (i ∷ []) in
     grind (arith, nat_tests)

@@ -3,19 +3,19 @@ use Rattle.std.specs.Prelude.{◌≡◌, ℕ, ◌+◌, ◌≤◌, max, nat_lt, i
 use Rattle.core_book.specs.Draws.{IsDrawn}
 
 -- how many of a list are n or more
-abbrev pub late : ℕ → List ℕ → ℕ
-late n [] = 0
-late n (y ∷ ys) = (if nat_lt y n then 0 else 1) + late n ys
+abbrev pub draw_count_from : ℕ → List ℕ → ℕ
+draw_count_from n [] = 0
+draw_count_from n (y ∷ ys) = (if nat_lt y n then 0 else 1) + draw_count_from n ys
 
 -- how many of a list are below n
-abbrev pub early : ℕ → List ℕ → ℕ
-early n [] = 0
-early n (y ∷ ys) = (if nat_lt y n then 1 else 0) + early n ys
+abbrev pub draw_count_below : ℕ → List ℕ → ℕ
+draw_count_below n [] = 0
+draw_count_below n (y ∷ ys) = (if nat_lt y n then 1 else 0) + draw_count_below n ys
 
 -- one more than the greatest of a list, and 0 for the empty list
-abbrev pub top : List ℕ → ℕ
-top [] = 0
-top (y ∷ ys) = max (y + 1) (top ys)
+abbrev pub past_greatest : List ℕ → ℕ
+past_greatest [] = 0
+past_greatest (y ∷ ys) = max (y + 1) (past_greatest ys)
 
 -- a list without its last
 abbrev pub front : List ℕ → List ℕ
@@ -33,4 +33,4 @@ pub record AreAllDraws (n seats counter : ℕ) (lists : List (List ℕ)) : Type 
   pub count : length lists ≡ seats
   pub drawn : IsDrawn counter lists
   pub at_most : counter ≤ n + seats
-  pub only_last : All (λ xs. top (front xs) ≤ n) lists
+  pub only_last : All (λ xs. past_greatest (front xs) ≤ n) lists

@@ -5,8 +5,8 @@ use mathlib.Core.Option.{some}
 use lib.ListN.{get_elem?}
 use Rattle.atomic_table.specs.Table.{State, Me, Step}
 use Rattle.core_book.specs.Draws.{total, IsDrawn}
-use Rattle.job_pool.specs.Lists.{late, top, front}
-use Rattle.job_pool.specs.declared.rule.Size.{Size}
+use Rattle.job_pool.specs.Lists.{draw_count_from, past_greatest, front}
+use Rattle.job_pool.specs.declared.rule.DeskSize.{DeskSize}
 use Rattle.job_pool.specs.declared.rule.View.{View}
 
 -- ---- the rule
@@ -15,10 +15,10 @@ use Rattle.job_pool.specs.declared.rule.View.{View}
 -- as it has places. In a view with one place only the last draw is such a draw. The count that it has seen is above
 -- each of its draws and at most the word. A view with no place has nothing
 pub record Fits (n word : ℕ) (v : View) : Type 0 where
-  pub late_within : late n v.draws ≤ v.places
-  pub only_last : v.places ≡ 1 → late n (front v.draws) ≡ 0
+  pub late_within : draw_count_from n v.draws ≤ v.places
+  pub only_last : v.places ≡ 1 → draw_count_from n (front v.draws) ≡ 0
   pub seen_within : v.seen ≤ word
-  pub seen_above : top v.draws ≤ v.seen
+  pub seen_above : past_greatest v.draws ≤ v.seen
   pub spent : v.places ≡ 0 → (v.draws ≡ []) × (v.seen ≡ 0)
 
 -- the draws of each view
@@ -32,7 +32,7 @@ pub record IsDealt (n seats word : ℕ) (views : List View) : Type 0 where
   pub each : (seat : ℕ) (v : View) → get_elem? views seat ≡ some v → Fits n word v
 
 -- a desk has one word
-abbrev pub MeetsRule : {S : Type 0} → Size → State S View → Type 0
+abbrev pub MeetsRule : {S : Type 0} → DeskSize → State S View → Type 0
 MeetsRule size s = (length s.words ≡ 1) × IsDealt size.numbers size.seats (slice_index s.words 0) s.views
 
 -- ---- views
@@ -42,8 +42,8 @@ abbrev pub view : List ℕ → ℕ → ℕ → View
 view draws seen places = record { draws = draws; seen = seen; places = places }
 
 -- the first seat has all places
-abbrev pub opener : Size → View
-opener size = view [] 0 size.seats
+abbrev pub opening_view : DeskSize → View
+opening_view size = view [] 0 size.seats
 
 -- ---- steps
 
@@ -56,12 +56,12 @@ abbrev pub saw : View → ℕ → View
 saw v found = view v.draws found v.places
 
 -- what is found is at least what was seen
-abbrev pub Drew : {S : Type 0} → Step S → Me S View → ℕ → Me S View → Type 0
-Drew step before found after = (before.0.seen ≤ found) × (after.0 ≡ drew before.0 found) × (after.1 ≡ before.1)
+abbrev pub IsAfterClaim : {S : Type 0} → Step S → Me S View → ℕ → Me S View → Type 0
+IsAfterClaim step before found after = (before.0.seen ≤ found) × (after.0 ≡ drew before.0 found) × (after.1 ≡ before.1)
 
 -- a look finds at least what was seen
-abbrev pub Saw : {S : Type 0} → Step S → Me S View → ℕ → Me S View → Type 0
-Saw step before found after = (before.0.seen ≤ found) × (after.0 ≡ saw before.0 found) × (after.1 ≡ before.1)
+abbrev pub IsAfterLook : {S : Type 0} → Step S → Me S View → ℕ → Me S View → Type 0
+IsAfterLook step before found after = (before.0.seen ≤ found) × (after.0 ≡ saw before.0 found) × (after.1 ≡ before.1)
 
 -- a split gives one place away, to a seat that drew nothing
 abbrev pub fewer : View → View

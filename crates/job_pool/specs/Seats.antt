@@ -1,19 +1,19 @@
 -- A desk and its seats
 use Rattle.std.specs.Prelude.{◌≡◌, ℕ, ◌<◌, ◌≤◌, ◌++◌, List, [], ◌∷◌}
 use Rattle.core_book.specs.Claims.{claim_answer, claim_draws}
-use Rattle.core_book.specs.Draws.{end_of}
+use Rattle.core_book.specs.Draws.{past_last}
 use Rattle.core_book.specs.declared.claim.Claim.{Claim}
 use Rattle.core_book.specs.declared.claim.Claim.TheVariants.{Number, Empty}
 use Rattle.job_pool.specs.declared.desk.Desk.{Desk}
 use Rattle.job_pool.specs.declared.desk.DeskSeat.{DeskSeat}
 
 -- how many numbers the desk hands out
-abbrev pub numbers_of : Desk → ℕ
-numbers_of desk = desk.numbers
+abbrev pub number_count_of : Desk → ℕ
+number_count_of desk = desk.numbers
 
 -- how many seats were opened with it
-abbrev pub seats_opened : Desk → ℕ
-seats_opened desk = desk.seats
+abbrev pub seat_count_of : Desk → ℕ
+seat_count_of desk = desk.seats
 
 -- the seat was opened with the desk
 abbrev pub IsSeatOf : Desk → DeskSeat → Type 0
@@ -41,6 +41,7 @@ pub record IsClaim (n : ℕ) (before after : DeskSeat) (answer : Claim) : Type 0
 -- A number is below n, it is none that the seat had seen to be drawn, and it is the draw that the seat got by the
 -- claim. If the answer has no number, the seat's draws end with one of n or more, and it has seen that all numbers were
 -- drawn
-abbrev pub Tells : ℕ → DeskSeat → DeskSeat → Claim → Type 0
-Tells n before after (Number i) = (i < n) × (seen_by before ≤ i) × (drawn_by after ≡ drawn_by before ++ i ∷ [])
-Tells n before after Empty = (n < end_of (drawn_by after)) × (n < seen_by after)
+abbrev pub IsAnswerToClaim : ℕ → DeskSeat → DeskSeat → Claim → Type 0
+IsAnswerToClaim n before after (Number i) =
+    (i < n) × (seen_by before ≤ i) × (drawn_by after ≡ drawn_by before ++ i ∷ [])
+IsAnswerToClaim n before after Empty = (n < past_last (drawn_by after)) × (n < seen_by after)

@@ -1,9 +1,9 @@
 -- The results of workers
 use Rattle.std.specs.Prelude.{◌≡◌, ℕ, ◌+◌, ◌-◌, ◌^◌, ◌<◌, ◌≤◌, false, List, [], ◌∷◌, map, slice_index_or, sum_by}
 use Rattle.std.specs.Prelude.{length}
-use Rattle.core_book.specs.Draws.{end_of, times}
+use Rattle.core_book.specs.Draws.{past_last, times}
 use Rattle.verdict_book.specs.Counts.{Counts}
-use Rattle.job_pool.specs.Seats.{IsSeatOf, IsNewSeatOf, drawn_by, numbers_of}
+use Rattle.job_pool.specs.Seats.{IsSeatOf, IsNewSeatOf, drawn_by, number_count_of}
 use Rattle.job_pool.specs.declared.desk.Desk.{Desk}
 use Rattle.job_pool.specs.declared.desk.DeskSeat.{DeskSeat}
 use Rattle.job_pool.specs.declared.worker.Worker.{Worker}
@@ -38,7 +38,7 @@ module _ {F A : Type 0} where
     pub seat : IsSeatOf desk after.seat
     pub risen : HasRisen before.share after.share
     pub filed : after.starved ≡ false → after.share.filed ≡ before.share.filed + due groups (drawn_by after.seat)
-    pub ended : after.starved ≡ false → numbers_of desk < end_of (drawn_by after.seat)
+    pub ended : after.starved ≡ false → number_count_of desk < past_last (drawn_by after.seat)
 
   abbrev pub shares_of : List (Worker F A) → List Counts
   shares_of = map (λ w. w.share)

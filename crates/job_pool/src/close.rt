@@ -1,11 +1,11 @@
 //! The end of a desk.
 ghost use Rattle.std.specs.Prelude.{◌≡◌, ◌↔◌, ◌<◌, ◌≤◌, [], map, vec_len, vec_capacity, IfOk, IfErr, IsTrue, All, Any};
-ghost use Rattle.core_book.specs.Draws.{end_of};
+ghost use Rattle.core_book.specs.Draws.{past_last};
 ghost use Rattle.job_pool.specs.Lists.{joined, AreAllDraws};
-ghost use Rattle.job_pool.specs.Seats.{IsSeatOf, drawn_by, numbers_of, seats_opened};
+ghost use Rattle.job_pool.specs.Seats.{IsSeatOf, drawn_by, number_count_of, seat_count_of};
 
 use crate::desk::{Desk, DeskSeat};
-use crate::rule::{Places, View};
+use crate::rule::{SplitOrJoinStep, View};
 use atomic_table::Seat;
 use std::alloc::Global;
 
@@ -35,14 +35,14 @@ impl Desk {
     pub fn close(self, alloc: Global, seats: Vec<DeskSeat>) -> Result<Closed, CloseFault>
         requires { All (IsSeatOf self) seats.items }
         ensures draws { IfOk result (λ c. draws_of c ≡ map drawn_by seats.items) }
-        ensures all { IfOk result (λ c. AreAllDraws (numbers_of self) (seats_opened self) c.counter
-            (draws_of c)) }
+        ensures all { IfOk result (λ c. AreAllDraws (number_count_of self) (seat_count_of self)
+            c.counter (draws_of c)) }
         // where some seat met the end, each number was drawn
-        ensures ended { IfOk result (λ c. Any (λ s. numbers_of self < end_of (drawn_by s))
-            seats.items → numbers_of self < c.counter) }
+        ensures ended { IfOk result (λ c. Any (λ s. number_count_of self < past_last (drawn_by s))
+            seats.items → number_count_of self < c.counter) }
         ensures back { IfErr result (λ f. (f.desk ≡ self) × (f.seats ≡ seats)) }
         ensures missing { IfErr result (λ f. IsTrue f.missing
-            ↔ (vec_len seats < seats_opened self)) }
+            ↔ (vec_len seats < seat_count_of self)) }
     {
         if seats.len() < self.seats {
             return Err(CloseFault {
@@ -94,7 +94,9 @@ impl Desk {
                 drawn,
                 numbers: _,
             } = other;
-            self.table.shared.join_seat::<Places>(&mut seat, other);
+            self.table
+                .shared
+                .join_seat::<SplitOrJoinStep>(&mut seat, other);
             draws.push_reserved(drawn);
         }
         (seat, draws)
@@ -103,8 +105,8 @@ impl Desk {
     // The last count of the word, once one seat has all places.
     fn end(self, seat: Seat<(), View>) -> usize
         requires { (seat.table_id ≡ self.table.shared.table_id)
-            × (seats_opened self ≤ seat.me.0.places) }
-        ensures { IsWhole (numbers_of self) (seats_opened self) result seat.me.0 }
+            × (seat_count_of self ≤ seat.me.0.places) }
+        ensures { IsWhole (number_count_of self) (seat_count_of self) result seat.me.0 }
     {
         let Desk { table, .. } = self;
         let closed = table.close_with(seat);

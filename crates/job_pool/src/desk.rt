@@ -1,9 +1,9 @@
 //! The desk as threads share it, and the seats that they draw with.
 ghost use Rattle.std.specs.Prelude.{◌≡◌, ◌-◌, ◌<◌, ◌≤◌, [], length, vec_len, vec_capacity, IfOk, All};
-ghost use Rattle.core_book.specs.Draws.{end_of};
-ghost use Rattle.job_pool.specs.Lists.{front, top};
+ghost use Rattle.core_book.specs.Draws.{past_last};
+ghost use Rattle.job_pool.specs.Lists.{front, past_greatest};
 
-use crate::rule::{Claims, Looks, Numbered, Places, Size, View};
+use crate::rule::{Claims, DeskRule, DeskSize, LookStep, SplitOrJoinStep, View};
 use atomic_table::{Seat, Table};
 use core_book::Claim;
 use std::alloc::{AllocError, Global};
@@ -16,7 +16,7 @@ use std::alloc::{AllocError, Global};
 /// is no other step.
 #[derive(Drop)]
 pub struct Desk {
-    pub(crate) table: Table<(), View, Size, Numbered, Global>,
+    pub(crate) table: Table<(), View, DeskSize, DeskRule, Global>,
     pub(crate) numbers: usize,
     pub(crate) seats: usize,
     ghost counts: { (table.shared.table_id.words ≡ 1) × (table.shared.table_id.slots ≡ 0) },
@@ -36,10 +36,10 @@ pub struct DeskSeat {
     ghost one_place: { seat.me.0.places ≡ 1 },
     ghost no_slot: { seat.me.1 ≡ [] },
     ghost room: { numbers < vec_capacity drawn },
-    ghost seen_above: { top drawn.items ≤ seat.me.0.seen },
-    ghost rising: { length drawn.items ≤ top drawn.items },
-    ghost last_is_top: { top drawn.items ≡ end_of drawn.items },
-    ghost front_below: { top (front drawn.items) ≤ numbers },
+    ghost seen_above: { past_greatest drawn.items ≤ seat.me.0.seen },
+    ghost rising: { length drawn.items ≤ past_greatest drawn.items },
+    ghost last_is_top: { past_greatest drawn.items ≡ past_last drawn.items },
+    ghost front_below: { past_greatest (front drawn.items) ≤ numbers },
 }
 
 impl DeskSeat {
@@ -56,7 +56,7 @@ impl DeskSeat {
 
 impl Desk {
     ghost use Rattle.job_pool.specs.Rule.{view};
-    ghost use Rattle.job_pool.specs.Seats.{IsClaim, IsNewSeatOf, IsSeatOf, Tells, drawn_by, numbers_of, seats_opened, seen_by};
+    ghost use Rattle.job_pool.specs.Seats.{IsClaim, IsNewSeatOf, IsSeatOf, IsAnswerToClaim, drawn_by, number_count_of, seat_count_of, seen_by};
 
     /// Opens a desk for the numbers below `numbers`, and its seats. It takes all memory that they need.
     pub fn open(
@@ -65,15 +65,16 @@ impl Desk {
         seats: usize,
     ) -> Result<(Desk, Vec<DeskSeat>), AllocError>
         requires { (numbers ≤ 1024) × (0 < seats) × (seats ≤ 64) }
-        ensures desk { IfOk result (λ o. (numbers_of o.0 ≡ numbers) × (seats_opened o.0 ≡ seats)) }
+        ensures desk { IfOk result (λ o. (number_count_of o.0 ≡ numbers)
+            × (seat_count_of o.0 ≡ seats)) }
         ensures count { IfOk result (λ o. vec_len o.1 ≡ seats) }
         ensures seats { IfOk result (λ o. All (IsNewSeatOf o.0) o.1.items) }
     {
-        let size = Size {
+        let size = DeskSize {
             numbers: numbers as u64,
             seats: seats as u64,
         };
-        let (table, whole) = Table::<(), View, Size, Numbered, Global>::of_words(
+        let (table, whole) = Table::<(), View, DeskSize, DeskRule, Global>::of_words(
             alloc,
             &[0],
             &size,
@@ -91,14 +92,14 @@ impl Desk {
     // more.
     fn cut(&self, alloc: Global, mut rest: Seat<(), View>) -> Result<Vec<DeskSeat>, AllocError>
         requires { (rest.table_id ≡ self.now.table.shared.table_id)
-            × (rest.me.0 ≡ view [] 0 (seats_opened self.now)) }
-        ensures count { IfOk result (λ v. vec_len v ≡ seats_opened self.now) }
+            × (rest.me.0 ≡ view [] 0 (seat_count_of self.now)) }
+        ensures count { IfOk result (λ v. vec_len v ≡ seat_count_of self.now) }
         ensures each { IfOk result (λ v. All (IsNewSeatOf self.now) v.items) }
     {
         let mut opened = Vec::with_capacity(alloc, self.seats)?;
         for _ in 0..self.seats {
             let drawn = Vec::with_capacity(alloc, self.numbers + 1)?;
-            let seat = self.table.shared.split_seat::<Places>(&mut rest);
+            let seat = self.table.shared.split_seat::<SplitOrJoinStep>(&mut rest);
             opened.push_reserved(DeskSeat {
                 seat,
                 drawn,
@@ -114,8 +115,8 @@ impl Desk {
     pub fn claim(&self, seat: &mut DeskSeat) -> Claim
         requires { IsSeatOf self.now seat.old }
         ensures seat { IsSeatOf self.now seat.new }
-        ensures claim { IsClaim (numbers_of self.now) seat.old seat.new result }
-        ensures answer { Tells (numbers_of self.now) seat.old seat.new result }
+        ensures claim { IsClaim (number_count_of self.now) seat.old seat.new result }
+        ensures answer { IsAnswerToClaim (number_count_of self.now) seat.old seat.new result }
         ensures seen { seen_by seat.old ≤ seen_by seat.new }
     {
         if seat.has_ended() {
@@ -136,12 +137,12 @@ impl Desk {
     pub fn left(&self, seat: &mut DeskSeat) -> usize
         requires { IsSeatOf self.now seat.old }
         ensures seat { IsSeatOf self.now seat.new }
-        ensures left { result ≡ numbers_of self.now - seen_by seat.new }
-        ensures falls { result ≤ numbers_of self.now - seen_by seat.old }
+        ensures left { result ≡ number_count_of self.now - seen_by seat.new }
+        ensures falls { result ≤ number_count_of self.now - seen_by seat.old }
         ensures seen { seen_by seat.old ≤ seen_by seat.new }
         ensures draws { drawn_by seat.new ≡ drawn_by seat.old }
     {
-        let found = self.table.shared.load::<Looks>(&mut seat.seat, 0) as usize;
+        let found = self.table.shared.load::<LookStep>(&mut seat.seat, 0) as usize;
         self.numbers.saturating_sub(found)
     }
 }

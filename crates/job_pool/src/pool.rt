@@ -2,7 +2,7 @@
 ghost use Rattle.std.specs.Prelude.{◌≡◌, ℕ, ◌+◌, ◌<◌, ◌≤◌, false, [], length, map, slice_index_or, vec_len, vec_capacity, All, IfOk};
 ghost use Rattle.std.specs.Arc.{arc_value};
 ghost use Rattle.module_job.specs.Groups.{AreGroups};
-ghost use Rattle.job_pool.specs.Seats.{IsNewSeatOf, numbers_of, seats_opened};
+ghost use Rattle.job_pool.specs.Seats.{IsNewSeatOf, number_count_of, seat_count_of};
 ghost use Rattle.core_book.specs.Filling.{shapes_of};
 ghost use Rattle.job_pool.specs.Work.{HasWorked, HaveRisen, IsReadyWorker, filed_by, seats_of, shares_of};
 
@@ -30,7 +30,7 @@ pub struct WorkEnd<F: Filings, A: Ledger> {
 
 // Room for the workers, and later for their seats and shares.
 #[derive(Drop)]
-struct Rooms<F: Filings, A: Ledger> {
+struct ReservedLists<F: Filings, A: Ledger> {
     workers: Vec<Worker<F, A>>,
     seats: Vec<DeskSeat>,
     shares: Vec<Share<F, A>>,
@@ -69,7 +69,7 @@ pub fn work<F: Filings + Sync, A: Ledger + Sync, G: Gate + Sync, R: Threads + Wa
             runs: 0,
         };
     };
-    let Rooms {
+    let ReservedLists {
         workers,
         seats: ended,
         shares: returned,
@@ -103,9 +103,9 @@ fn prepare<F: Filings, A: Ledger>(
     alloc: Global,
     numbers: usize,
     count: usize,
-) -> Result<(Desk, Vec<DeskSeat>, Rooms<F, A>), AllocError>
+) -> Result<(Desk, Vec<DeskSeat>, ReservedLists<F, A>), AllocError>
     requires { (numbers ≤ 1024) × (0 < count) × (count ≤ 64) }
-    ensures desk { IfOk result (λ p. (numbers_of p.0 ≡ numbers) × (seats_opened p.0 ≡ count)
+    ensures desk { IfOk result (λ p. (number_count_of p.0 ≡ numbers) × (seat_count_of p.0 ≡ count)
         × (vec_len p.1 ≡ count)) }
     ensures seats { IfOk result (λ p. All (IsNewSeatOf p.0) p.1.items) }
     ensures empty { IfOk result (λ p. (p.2.workers.items ≡ []) × (p.2.seats.items ≡ [])
@@ -116,7 +116,7 @@ fn prepare<F: Filings, A: Ledger>(
     let workers = Vec::with_capacity(alloc, count)?;
     let seats = Vec::with_capacity(alloc, count)?;
     let shares = Vec::with_capacity(alloc, count)?;
-    let rooms = Rooms {
+    let rooms = ReservedLists {
         workers,
         seats,
         shares,
@@ -163,7 +163,7 @@ fn run_all<F: Filings + Sync, A: Ledger + Sync, G: Gate + Sync, R: Threads + Wai
 )
     requires some { 0 < length workers.old }
     requires ready { All (IsReadyWorker shared_work.now.desk.now) workers.old }
-    requires all { numbers_of shared_work.now.desk.now ≡ length shared_work.now.jobs.now }
+    requires all { number_count_of shared_work.now.desk.now ≡ length shared_work.now.jobs.now }
     requires groups { AreGroups (shapes_of (map arc_value shared_work.now.jobs.now))
         shared_work.now.groups.now }
     ensures { (i : ℕ) (d : _) → i < length workers.old →

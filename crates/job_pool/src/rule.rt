@@ -14,45 +14,45 @@ pub struct View {
 
 /// The size of a desk: how many numbers it hands out, and to how many seats.
 #[derive(Drop)]
-pub struct Size {
+pub struct DeskSize {
     pub numbers: u64,
     pub seats: u64,
 }
 
 /// The rule of a desk.
-pub struct Numbered;
+pub struct DeskRule;
 
-impl<S> TableRule<S, View, Size> for Numbered {
-    ghost use Rattle.job_pool.specs.Rule.{MeetsRule, opener};
+impl<S> TableRule<S, View, DeskSize> for DeskRule {
+    ghost use Rattle.job_pool.specs.Rule.{MeetsRule, opening_view};
 
     ghost holds = { MeetsRule };
 
-    ghost first = { opener };
+    ghost first = { opening_view };
 }
 
 /// The step of a claim: it adds 1 to the word, and the seat draws what it found.
 pub struct Claims;
 
 impl<S> Play<S, View> for Claims {
-    ghost use Rattle.job_pool.specs.Rule.{Drew};
+    ghost use Rattle.job_pool.specs.Rule.{IsAfterClaim};
 
-    ghost then = { Drew };
+    ghost then = { IsAfterClaim };
 }
 
 /// The step of a look: it leaves the word, and the seat has seen what it found.
-pub struct Looks;
+pub struct LookStep;
 
-impl<S> Play<S, View> for Looks {
-    ghost use Rattle.job_pool.specs.Rule.{Saw};
+impl<S> Play<S, View> for LookStep {
+    ghost use Rattle.job_pool.specs.Rule.{IsAfterLook};
 
-    ghost then = { Saw };
+    ghost then = { IsAfterLook };
 }
 
 /// The step of a split or a join: a split gives a new seat one place, and a join gives one seat the places and the
 /// draws of another.
-pub struct Places;
+pub struct SplitOrJoinStep;
 
-impl Split<View> for Places {
+impl Split<View> for SplitOrJoinStep {
     ghost use Rattle.job_pool.specs.Rule.{fewer, one_place};
 
     ghost left = { fewer };
@@ -60,7 +60,7 @@ impl Split<View> for Places {
     ghost right = { one_place };
 }
 
-impl Join<View> for Places {
+impl Join<View> for SplitOrJoinStep {
     ghost use Rattle.job_pool.specs.Rule.{both, spent};
 
     ghost both = { both };

@@ -7,7 +7,7 @@ ghost use Rattle.module_job.specs.Shapes.{shape_of};
 ghost use Rattle.local_run.specs.Shown.{digest_of, job_of};
 ghost use Rattle.verdict_book.specs.Counts.{counted};
 ghost use Rattle.verdict_book.specs.Replies.{IsReplyOf};
-ghost use Rattle.job_pool.specs.Seats.{numbers_of};
+ghost use Rattle.job_pool.specs.Seats.{number_count_of};
 ghost use Rattle.core_book.specs.Filling.{IsOneMore, shapes_of};
 ghost use Rattle.job_pool.specs.Work.{HasRisen, HasWorked, IsReadyWorker};
 
@@ -53,7 +53,7 @@ impl<F: Filings, A: Ledger> Worker<F, A> {
         shared_work: &SharedWork<'_, F, A, G>,
     )
         requires ready { IsReadyWorker shared_work.now.desk.now self.old }
-        requires all { numbers_of shared_work.now.desk.now ≡ length shared_work.now.jobs.now }
+        requires all { number_count_of shared_work.now.desk.now ≡ length shared_work.now.jobs.now }
         requires groups { AreGroups (shapes_of (map arc_value shared_work.now.jobs.now))
             shared_work.now.groups.now }
         ensures { HasWorked shared_work.now.desk.now shared_work.now.groups.now self.old self.new }

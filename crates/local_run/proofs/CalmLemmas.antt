@@ -6,8 +6,9 @@ use Rattle.std.proofs.Math.Nat.{mul-le-mul_left}
 use Rattle.bbm_rule.specs.Rows.{SetsPlace}
 use Rattle.bbm_rule.proofs.BitLemmas.{by_lt_or_le, by_eq_or_not}
 use Rattle.bbm_rule.specs.Marks.{IsUnmarked, MarksOne}
-use Rattle.local_run.specs.Turns.{AntiStays, IsCalmBlock, MainStays, MarksAround, MarksCorners, SameBeside, TurnsPart}
-use Rattle.local_run.specs.Calm.{OddCalm, EvenCalm, ChangesCells}
+use Rattle.local_run.specs.Turns.{AntiStays, IsStableBlock, MainStays, MarksEvenNeighbours, MarksOddNeighbours}
+use Rattle.local_run.specs.Turns.{SameBeside, TurnsPart}
+use Rattle.local_run.specs.Calm.{AreOddBlocksStable, AreEvenBlocksStable, ChangesCells}
 use Rattle.local_run.specs.Lanes.{HasSize}
 use Rattle.local_run.specs.declared.planes.Planes.{Planes}
 use Rattle.local_run.proofs.TurnLemmas.{anti_words, main_words}
@@ -73,7 +74,8 @@ AreOthers main anti a b c d m m' =
     (u : ℕ) → IsUnmarked m' u → IsUnmarked m u × (main ≡ true → (u ≢ a) × (u ≢ d)) × (anti ≡ true → (u ≢ b) × (u ≢ c))
 
 odd_kept : (main anti : Bool) (a b c d : ℕ) (m m' : List ℕ) (p q : Planes) → HasSize p.words p.stride p.rows q →
-    ChangesCells main anti a b c d p q → AreOthers main anti a b c d m m' → OddCalm m p → OddCalm m' q
+    ChangesCells main anti a b c d p q → AreOthers main anti a b c d m m' → AreOddBlocksStable m p →
+    AreOddBlocksStable m' q
 odd_kept main anti a b c d m m' p q size ch marks calm = rw (size.0, size.1, size.2) (λ u l free.
     let f = marks u free in
     let h = calm u l f.0 in (
@@ -94,7 +96,7 @@ odd_kept main anti a b c d m m' p q size ch marks calm = rw (size.0, size.1, siz
 even_kept : (main anti : Bool) (a b c d : ℕ) (m m' : List ℕ) (p q : Planes) → HasSize p.words p.stride p.rows q →
     ChangesCells main anti a b c d p q →
     ((u : ℕ) → IsUnmarked m' u → IsUnmarked m u × (main ≡ true → (u ≢ d) × (u + p.stride + 1 ≢ a))
-    × (anti ≡ true → (u + 1 ≢ c) × (u + p.stride ≢ b))) → EvenCalm m p → EvenCalm m' q
+    × (anti ≡ true → (u + 1 ≢ c) × (u + p.stride ≢ b))) → AreEvenBlocksStable m p → AreEvenBlocksStable m' q
 even_kept main anti a b c d m m' p q size ch marks calm = rw (size.0, size.1, size.2) (λ u l inside free.
     let f = marks u free in
     let h = calm u l inside f.0 in (
@@ -115,30 +117,32 @@ even_kept main anti a b c d m m' p q size ch marks calm = rw (size.0, size.1, si
 others_by_odd : (main anti : Bool) (u : ℕ) (m m' : List ℕ) → MarksOne u m m' → AreOthers main anti u u u u m m'
 others_by_odd main anti u m m' marks v free = let f = marks v free in (f.0, (λ e. (f.1, f.1)), (λ e. (f.1, f.1)))
 
-others_by_even : (main anti : Bool) (s u : ℕ) (m m' : List ℕ) → MarksCorners main anti s u m m' →
+others_by_even : (main anti : Bool) (s u : ℕ) (m m' : List ℕ) → MarksOddNeighbours main anti s u m m' →
     AreOthers main anti (u + s + 1) (u + s) (u + 1) u m m'
 others_by_even main anti s u m m' marks v free = let f = marks v free in
     (f.0, (λ e. ((f.1 e).1, (f.1 e).0)), (λ e. ((f.2 e).1, (f.2 e).0)))
 
 pub odd_kept_by_odd : (main anti : Bool) (u : ℕ) (m m' : List ℕ) (p q : Planes) → HasSize p.words p.stride p.rows q →
-    ChangesCells main anti u u u u p q → MarksOne u m m' → OddCalm m p → OddCalm m' q
+    ChangesCells main anti u u u u p q → MarksOne u m m' → AreOddBlocksStable m p → AreOddBlocksStable m' q
 odd_kept_by_odd main anti u m m' p q size ch marks calm =
     odd_kept main anti u u u u m m' p q size ch (others_by_odd main anti u m m' marks) calm
 
 pub even_kept_by_odd : (main anti : Bool) (u : ℕ) (m m' : List ℕ) (p q : Planes) → HasSize p.words p.stride p.rows q →
-    ChangesCells main anti u u u u p q → MarksAround main anti p.stride u m m' → EvenCalm m p → EvenCalm m' q
+    ChangesCells main anti u u u u p q → MarksEvenNeighbours main anti p.stride u m m' → AreEvenBlocksStable m p →
+    AreEvenBlocksStable m' q
 even_kept_by_odd main anti u m m' p q size ch marks calm = even_kept main anti u u u u m m' p q size ch marks calm
 
 pub odd_kept_by_even : (main anti : Bool) (u : ℕ) (m m' : List ℕ) (p q : Planes) → HasSize p.words p.stride p.rows q →
-    ChangesCells main anti (u + p.stride + 1) (u + p.stride) (u + 1) u p q → MarksCorners main anti p.stride u m m' →
-    OddCalm m p → OddCalm m' q
+    ChangesCells main anti (u + p.stride + 1) (u + p.stride) (u + 1) u p q →
+    MarksOddNeighbours main anti p.stride u m m' →
+    AreOddBlocksStable m p → AreOddBlocksStable m' q
 odd_kept_by_even main anti u m m' p q size ch marks calm =
     odd_kept main anti (u + p.stride + 1) (u + p.stride) (u + 1) u m m' p q size ch
     (others_by_even main anti p.stride u m m' marks) calm
 
 pub even_kept_by_even : (main anti : Bool) (u : ℕ) (m m' : List ℕ) (p q : Planes) → HasSize p.words p.stride p.rows q →
-    ChangesCells main anti (u + p.stride + 1) (u + p.stride) (u + 1) u p q → MarksOne u m m' → EvenCalm m p →
-    EvenCalm m' q
+    ChangesCells main anti (u + p.stride + 1) (u + p.stride) (u + 1) u p q → MarksOne u m m' → AreEvenBlocksStable m p →
+    AreEvenBlocksStable m' q
 even_kept_by_even main anti u m m' p q size ch marks calm =
     even_kept main anti (u + p.stride + 1) (u + p.stride) (u + 1) u m m' p q size ch
     (λ v free. let f = marks v free in
@@ -146,23 +150,25 @@ even_kept_by_even main anti u m m' p q size ch marks calm =
 
 -- ---- after a mark was taken off a block that stays
 pub odd_unmarked : (c : ℕ) (m m' : List ℕ) (p : Planes) → SetsPlace c false m m' →
-    IsCalmBlock p.words c c c c p.odd.items p.right.items p.down.items p.even.items → OddCalm m p → OddCalm m' p
+    IsStableBlock p.words c c c c p.odd.items p.right.items p.down.items p.even.items → AreOddBlocksStable m p →
+    AreOddBlocksStable m' p
 odd_unmarked c m m' p sets block calm u l free = by_eq_or_not u c
-    (λ e. subst (λ (v : ℕ). IsCalmBlock p.words v v v v p.odd.items p.right.items p.down.items p.even.items)
+    (λ e. subst (λ (v : ℕ). IsStableBlock p.words v v v v p.odd.items p.right.items p.down.items p.even.items)
     (sym e) block)
     (λ ne. calm u l (sym (sets.elsewhere u ne) ∙ free))
 
 pub even_unmarked : (c : ℕ) (m m' : List ℕ) (p : Planes) → SetsPlace c false m m' →
-    IsCalmBlock p.words c (c + 1) (c + p.stride)
-    (c + p.stride + 1) p.even.items p.down.items p.right.items p.odd.items → EvenCalm m p → EvenCalm m' p
+    IsStableBlock p.words c (c + 1) (c + p.stride)
+    (c + p.stride + 1) p.even.items p.down.items p.right.items p.odd.items → AreEvenBlocksStable m p →
+    AreEvenBlocksStable m' p
 even_unmarked c m m' p sets block calm u l inside free = by_eq_or_not u c
-    (λ e. subst (λ (v : ℕ). IsCalmBlock p.words v (v + 1) (v + p.stride)
+    (λ e. subst (λ (v : ℕ). IsStableBlock p.words v (v + 1) (v + p.stride)
     (v + p.stride + 1) p.even.items p.down.items p.right.items p.odd.items) (sym e) block)
     (λ ne. calm u l inside (sym (sets.elsewhere u ne) ∙ free))
 
 -- or off the last one of a row, of which nothing is known
 pub last_unmarked : (c : ℕ) (m m' : List ℕ) (p : Planes) → SetsPlace c false m m' → (c + 1) % p.stride ≡ 0 →
-    EvenCalm m p → EvenCalm m' p
+    AreEvenBlocksStable m p → AreEvenBlocksStable m' p
 last_unmarked c m m' p sets last calm u l inside free = by_eq_or_not u c
     (λ e. absurd (inside (ap (λ (n : ℕ). (n + 1) % p.stride) e ∙ last)))
     (λ ne. calm u l inside (sym (sets.elsewhere u ne) ∙ free))

@@ -10,7 +10,7 @@ use Rattle.bbm_rule.proofs.BitLemmas.{by_lt_or_le, bit-and}
 use Rattle.circuit.specs.Meaning.{Netlist, Satisfies, Valuation}
 use Rattle.module_box.specs.LocalValues.{AreRowsAt, AreValueRows, bit_of_row, value_of}
 use Rattle.module_box.specs.declared.values.ValueRows.{ValueRows}
-use Rattle.local_run.specs.Scans.{KeepsDefined}
+use Rattle.local_run.specs.Scans.{KeepsDefinedValues}
 
 -- the words below a place are cleared, and the others are the old ones
 pub record AreCleared (defined : List ℕ) (place : ℕ) (old new : List ℕ) : Type 0 where
@@ -21,7 +21,7 @@ pub record AreCleared (defined : List ℕ) (place : ℕ) (old new : List ℕ) : 
 
 -- a bit of a defined assignment stays
 pub cleared_keeps : (defined : List ℕ) (place : ℕ) (old new : List ℕ) → AreCleared defined place old new →
-    KeepsDefined defined old new
+    KeepsDefinedValues defined old new
 unfolding value_of bit_of_row
 cleared_keeps defined place old new c a w small is = by_lt_or_le at place
     (λ l. ap (λ n. bit n (a % 64))
@@ -40,7 +40,7 @@ cleared_keeps defined place old new c a w small is = by_lt_or_le at place
 -- so the rows of words stay what they are to be
 pub rows_kept : (n : Netlist) (words : ℕ) (old new : ValueRows) → new.defined ≡ old.defined →
     new.undefined ≡ old.undefined → length new.values.items ≡ length old.values.items →
-    KeepsDefined old.defined.items old.values.items new.values.items → AreValueRows n words old →
+    KeepsDefinedValues old.defined.items old.values.items new.values.items → AreValueRows n words old →
     AreValueRows n words new
 rows_kept n words old new whole lacking long keeps rows = record {
   long = long ∙ rows.long;

@@ -11,7 +11,7 @@ use Rattle.circuit.proofs.Valuations.{at_most_one}
 use Rattle.module_box.specs.LocalValues.{IsLocalValuation}
 use Rattle.module_box.specs.Moments.{moment_cmp}
 use Rattle.bbm_rule.specs.Plane.{is_at}
-use Rattle.module_box.specs.Schedules.{is_then}
+use Rattle.module_box.specs.Schedules.{is_moment_at}
 use Rattle.module_box.specs.declared.schedules.Moment.{Moment}
 use Rattle.module_box.proofs.Rising.{is_first, moment_total}
 use Rattle.bbm_rule.proofs.SameCells.{cell_same, cell_itself}
@@ -22,7 +22,7 @@ use Rattle.module_job.specs.declared.job.Demand.TheVariants as Demanded
 use Rattle.module_job.specs.declared.job.Stop as listed
 use Rattle.local_run.specs.Faults.{IsFaultUnder, IsStopFault, HasFault}
 use Rattle.local_run.specs.Runs.{local_run}
-use Rattle.local_run.specs.Laws.{FaultsAreDecided}
+use Rattle.local_run.specs.Laws.{OneValuationDecidesFault}
 use Rattle.local_run.specs.declared.fault.Fault.{Fault}
 use Rattle.local_run.specs.declared.fault.Kind.{Kind}
 use Rattle.local_run.specs.declared.fault.Kind.TheVariants.{Edge, Stop, End}
@@ -77,10 +77,10 @@ nothing_prop = Prim.hlevel props
 
 -- a stop at the moment, or none
 found_stop : (stops : List listed.Stop) (t : ℕ) (x y : ℤ) →
-    ((s : listed.Stop) × Contains stops s × (is_then s.at t x y ≡ true))
-    ⊎ ((s : listed.Stop) → Contains stops s → ¬ (is_then s.at t x y ≡ true))
+    ((s : listed.Stop) × Contains stops s × (is_moment_at s.at t x y ≡ true))
+    ⊎ ((s : listed.Stop) → Contains stops s → ¬ (is_moment_at s.at t x y ≡ true))
 found_stop [] t x y = inr (λ s h e. let lt = h.1 in absurd (omega (arith, lt)))
-found_stop (r ∷ stops) t x y = elim (cases_Bool (is_then r.at t x y)) [
+found_stop (r ∷ stops) t x y = elim (cases_Bool (is_moment_at r.at t x y)) [
   | inl e ↦ inl (r, (zero, omega arith, refl), e)
   | inr n ↦ elim (found_stop stops t x y) [
     | inl f ↦ inl (f.0, (suc f.1.0, (let lt = f.1.1 in omega (arith, lt)), f.1.2), f.2)
@@ -88,9 +88,11 @@ found_stop (r ∷ stops) t x y = elim (cases_Bool (is_then r.at t x y)) [
   ]
 ]
   where
-    later : (s : listed.Stop) → Contains (r ∷ stops) s → is_then s.at t x y ≡ true → is_then r.at t x y ≡ false →
-        ((q : listed.Stop) → Contains stops q → ¬ (is_then q.at t x y ≡ true)) → ⊥
-    later s (zero, lt, is) e n none = true≢false (sym e ∙ ap (λ (q : listed.Stop). is_then q.at t x y) (sym is) ∙ n)
+    later : (s : listed.Stop) → Contains (r ∷ stops) s → is_moment_at s.at t x y ≡ true →
+        is_moment_at r.at t x y ≡ false →
+        ((q : listed.Stop) → Contains stops q → ¬ (is_moment_at q.at t x y ≡ true)) → ⊥
+    later s (zero, lt, is) e n none =
+        true≢false (sym e ∙ ap (λ (q : listed.Stop). is_moment_at q.at t x y) (sym is) ∙ n)
     later s (suc k, lt, is) e n none = none s (k, omega (arith, lt), is) e
 
 -- stops at one moment are one stop
@@ -105,7 +107,7 @@ one_stop j r s is hr hs same =
           (sym same))
     ]
 
-is_moment : (m : Moment) (t : ℕ) (x y : ℤ) → is_then m t x y ≡ true →
+is_moment : (m : Moment) (t : ℕ) (x y : ℤ) → is_moment_at m t x y ≡ true →
     m ≡ record { time = t; cell = record { x = x; y = y } }
 is_moment m t x y h =
     let p = and_parts (eqb m.time t) (is_at m.cell x y) h in
@@ -117,8 +119,9 @@ then_moment : (j : JobView) (u : Valuation) (t : ℕ) (x y : ℤ) (f : IsStopFau
     f.stop.at ≡ record { time = t; cell = record { x = x; y = y } }
 then_moment j u t x y f i = record { time = f.time i; cell = record { x = f.column i; y = f.row i } }
 
-its_then : (j : JobView) (u : Valuation) (t : ℕ) (x y : ℤ) (f : IsStopFault j u t x y) → is_then f.stop.at t x y ≡ true
-its_then j u t x y f = ap (λ m. is_then m t x y) (then_moment j u t x y f)
+its_then : (j : JobView) (u : Valuation) (t : ℕ) (x y : ℤ) (f : IsStopFault j u t x y) →
+    is_moment_at f.stop.at t x y ≡ true
+its_then j u t x y f = ap (λ m. is_moment_at m t x y) (then_moment j u t x y f)
     ∙ and_from _ _ (eq-eqb t t refl) (cell_itself (record { x = x; y = y }))
 
 -- so a fault of a stop that there is can be found
@@ -153,7 +156,7 @@ moved j f u is ordered local h =
     fault_same j h.values u f.time f.kind f.cell.x f.cell.y is.own
     (λ w l. at_most_one j.locals.netlist _ h.values u ordered h.local local w l) h.differs
 
-pub decided : FaultsAreDecided
+pub decided : OneValuationDecidesFault
 decided j f u is ordered small local = (
   (λ h. told j u f.time f.kind f.cell.x f.cell.y is (∥∥₁_map h.shown (moved j f u is ordered local))),
   (λ h. record { in_range = small; shown = ∣ record { values = u; local = local; differs = h } ∣₁ }),

@@ -10,11 +10,12 @@ use Rattle.bbm_rule.proofs.BitLemmas.{bit-zero, by_eq_or_not, by_lt_or_le}
 use Rattle.bbm_rule.specs.Plane.{turned}
 use Rattle.bbm_rule.specs.Rows.{mate}
 use Rattle.bbm_rule.specs.Marks.{IsUnmarked}
-use Rattle.local_run.specs.Sweeps.{IsPast, IsPastInside, TurnsEven, TurnsEvenNamed, TurnsNamed, TurnsOdd}
-use Rattle.local_run.specs.Sweeps.{TurnsOddNamed}
-use Rattle.local_run.specs.Turns.{IsCalmBlock, TurnsPart}
-use Rattle.local_run.specs.Calm.{OddCalm, EvenCalm}
-use Rattle.local_run.specs.Live.{AllDead, AreUnmarked}
+use Rattle.local_run.specs.Sweeps.{IsNumberNotInRest, IsInnerNumberNotInRest, TurnsEven, TurnsEvenBlocksWhere}
+use Rattle.local_run.specs.Sweeps.{TurnsNamed, TurnsOdd}
+use Rattle.local_run.specs.Sweeps.{TurnsOddBlocksWhere}
+use Rattle.local_run.specs.Turns.{IsStableBlock, TurnsPart}
+use Rattle.local_run.specs.Calm.{AreOddBlocksStable, AreEvenBlocksStable}
+use Rattle.local_run.specs.Live.{AllUnmarkedDead, AreUnmarked}
 use Rattle.local_run.specs.declared.live.LiveMarks.{LiveMarks}
 use Rattle.local_run.proofs.LiveLemmas.{dead_at, dead_calm}
 use Rattle.local_run.specs.Lanes.{HasSize, lane}
@@ -39,7 +40,7 @@ IsInjective f = (n m : ℕ) → f n ≡ f m → n ≡ m
 
 -- nothing changes where the named blocks stay
 named_stay : (w : ℕ) (a b c d : ℕ → ℕ) (P : ℕ → Type 0) (ul ur ll lr : List ℕ) →
-    ((n : ℕ) → P n → IsCalmBlock w (a n) (b n) (c n) (d n) ul ur ll lr) →
+    ((n : ℕ) → P n → IsStableBlock w (a n) (b n) (c n) (d n) ul ur ll lr) →
     TurnsNamed w a b c d P ul ur ll lr ul ur ll lr
 named_stay w a b c d P ul ur ll lr stay = record {
   turned = λ n k is l. let calm = stay n is in calm_turned _ _ _ _ (calm.0 k l) (calm.1 k l);
@@ -123,10 +124,10 @@ named_join w a b c d P Q R ul ur ll lr ul' ur' ll' lr' ul'' ur'' ll'' lr'' apart
 -- ---- blocks whose marks are in one word, and those whose marks are not among the rest of the word
 -- where the mark of block u is cleared, this block is one of them too
 pub record OnePast (first end rest rest' u : ℕ) : Type 0 where
-  pub free : IsPast first end rest u → ⊥
-  pub here : IsPast first end rest' u
-  pub from : (n : ℕ) → n ≢ u → IsPast first end rest' n → IsPast first end rest n
-  pub to : (n : ℕ) → n ≢ u → IsPast first end rest n → IsPast first end rest' n
+  pub free : IsNumberNotInRest first end rest u → ⊥
+  pub here : IsNumberNotInRest first end rest' u
+  pub from : (n : ℕ) → n ≢ u → IsNumberNotInRest first end rest' n → IsNumberNotInRest first end rest n
+  pub to : (n : ℕ) → n ≢ u → IsNumberNotInRest first end rest n → IsNumberNotInRest first end rest' n
 
 pub one_past : (first end rest rest' t : ℕ) → first % 64 ≡ 0 → end ≤ first + 64 → t < 64 → first + t < end →
     bit rest t ≡ true → bit rest' t ≡ false → ((j : ℕ) → j ≢ t → bit rest' j ≡ bit rest j) →
@@ -143,11 +144,11 @@ one_past first end rest rest' t aligned short small le set cleared same = record
 
 -- before the first mark of the rest all are
 pub past_before : (first end rest t n : ℕ) → first % 64 ≡ 0 → end ≤ first + 64 → end ≤ first + t →
-    ((j : ℕ) → j < t → bit rest j ≡ false) → first ≤ n → n < end → IsPast first end rest n
+    ((j : ℕ) → j < t → bit rest j ≡ false) → first ≤ n → n < end → IsNumberNotInRest first end rest n
 past_before first end rest t n aligned short le none l h = (l, h, none (n % 64) (omega arith))
 
 -- and so are all if there is no rest
-pub past_all : (first end rest n : ℕ) → rest ≡ 0 → first ≤ n → n < end → IsPast first end rest n
+pub past_all : (first end rest n : ℕ) → rest ≡ 0 → first ≤ n → n < end → IsNumberNotInRest first end rest n
 past_all first end rest n e l h = (l, h, ap (λ (m : ℕ). bit m (n % 64)) e ∙ bit-zero (n % 64))
 
 -- no block was turned, where their count is not more than none
@@ -159,9 +160,9 @@ self : IsInjective (λ n. n)
 self n m e = e
 
 -- a block without a mark stays, and one of which no cell has a mark
-odd_stays : (p : Planes) (marks : List ℕ) (l : LiveMarks) (n : ℕ) → OddCalm marks p → AllDead l p →
+odd_stays : (p : Planes) (marks : List ℕ) (l : LiveMarks) (n : ℕ) → AreOddBlocksStable marks p → AllUnmarkedDead l p →
     IsUnmarked marks n ⊎ AreUnmarked l n n n n → n < p.stride * p.rows →
-    IsCalmBlock p.words n n n n p.odd.items p.right.items p.down.items p.even.items
+    IsStableBlock p.words n n n n p.odd.items p.right.items p.down.items p.even.items
 odd_stays p marks l n calm dead (inl free) h = calm n h free
 odd_stays p marks l n calm dead (inr free) h =
     let d = dead_at n l p h dead free in
@@ -169,23 +170,24 @@ odd_stays p marks l n calm dead (inr free) h =
     (λ k i. (d k i).1) (λ k i. (d k i).2) (λ k i. (d k i).3)
 
 -- the named blocks have no mark
-pub odd_none : (p : Planes) (marks : List ℕ) (l : LiveMarks) (P : ℕ → Type 0) → OddCalm marks p → AllDead l p →
-    ((n : ℕ) → P n → (n < p.stride * p.rows) × (IsUnmarked marks n ⊎ AreUnmarked l n n n n)) → TurnsOddNamed P p p
+pub odd_none : (p : Planes) (marks : List ℕ) (l : LiveMarks) (P : ℕ → Type 0) → AreOddBlocksStable marks p →
+    AllUnmarkedDead l p →
+    ((n : ℕ) → P n → (n < p.stride * p.rows) × (IsUnmarked marks n ⊎ AreUnmarked l n n n n)) → TurnsOddBlocksWhere P p p
 odd_none p marks l P calm dead free =
     named_stay p.words (λ n. n) (λ n. n) (λ n. n) (λ n. n) P p.odd.items p.right.items p.down.items p.even.items
     (λ n is. let f = free n is in odd_stays p marks l n calm dead f.1 f.0)
 
 pub odd_next : (p q r : Planes) (u : ℕ) (P Q : ℕ → Type 0) → HasSize p.words p.stride p.rows q →
-    TurnsOddNamed P p q → TurnsPart (q.words * u) (q.words * u) (q.words * u) (q.words * u) q.words q.odd.items
+    TurnsOddBlocksWhere P p q → TurnsPart (q.words * u) (q.words * u) (q.words * u) (q.words * u) q.words q.odd.items
     q.right.items q.down.items q.even.items r.odd.items r.right.items r.down.items r.even.items →
-    (P u → ⊥) → Q u → ((n : ℕ) → n ≢ u → Q n → P n) → ((n : ℕ) → n ≢ u → P n → Q n) → TurnsOddNamed Q p r
+    (P u → ⊥) → Q u → ((n : ℕ) → n ≢ u → Q n → P n) → ((n : ℕ) → n ≢ u → P n → Q n) → TurnsOddBlocksWhere Q p r
 odd_next p q r u P Q size first part free here from to =
     let part = rw (size.0) at part in
     named_next p.words u (λ n. n) (λ n. n) (λ n. n) (λ n. n) P Q _ _ _ _ _ _ _ _ _ _ _ _ self self self self free here
     from to first part
 
 pub odd_renamed : (p q : Planes) (P Q : ℕ → Type 0) → ((n : ℕ) → Q n → P n) → ((n : ℕ) → P n → Q n) →
-    TurnsOddNamed P p q → TurnsOddNamed Q p q
+    TurnsOddBlocksWhere P p q → TurnsOddBlocksWhere Q p q
 odd_renamed p q P Q from to t =
     renamed p.words (λ n. n) (λ n. n) (λ n. n) (λ n. n) P Q _ _ _ _ _ _ _ _ from to t
 
@@ -200,7 +202,7 @@ odd_join p q r at end size le s t =
 
 -- the blocks below a number are turned, as far as there are some
 abbrev pub TurnsOddBelow : ℕ → ℕ → Planes → Planes → Type 0
-TurnsOddBelow at cells p q = TurnsOddNamed (λ n. (n < at) × (n < cells)) p q
+TurnsOddBelow at cells p q = TurnsOddBlocksWhere (λ n. (n < at) × (n < cells)) p q
 
 below_end : (k end cells n : ℕ) → (64 * k + 64 ≤ end) ⊎ (cells ≤ end) → n < 64 * (k + 1) → n < cells → n < end
 below_end k end cells n (inl l) below inside = omega arith
@@ -220,7 +222,7 @@ odd_more p q r k end cells size some within short whole s t =
 
 -- and those of a word without marks
 pub odd_more_none : (p q : Planes) (k cells rest : ℕ) → HasSize p.words p.stride p.rows q → 64 * k < cells → rest ≡ 0 →
-    ((end : ℕ) → end ≤ 64 * k + 64 → end ≤ cells → TurnsOddNamed (IsPast (64 * k) end rest) q q) →
+    ((end : ℕ) → end ≤ 64 * k + 64 → end ≤ cells → TurnsOddBlocksWhere (IsNumberNotInRest (64 * k) end rest) q q) →
     TurnsOddBelow (64 * k) cells p q → TurnsOddBelow (64 * (k + 1)) cells p q
 odd_more_none p q k cells rest size some none calm s = by_lt_or_le (64 * k + 64) cells
     (λ l. odd_more p q q k (64 * k + 64) cells size (omega arith) (omega arith) (omega arith) (inl (omega arith)) s
@@ -229,7 +231,7 @@ odd_more_none p q k cells rest size some none calm s = by_lt_or_le (64 * k + 64)
     (turned cells l (omega arith)))
   where
     turned : (end : ℕ) → end ≤ 64 * k + 64 → end ≤ cells → TurnsOdd (64 * k) end q q
-    turned end short within = odd_renamed q q (IsPast (64 * k) end rest) (λ n. (64 * k ≤ n) × (n < end))
+    turned end short within = odd_renamed q q (IsNumberNotInRest (64 * k) end rest) (λ n. (64 * k ≤ n) × (n < end))
         (λ n l. past_all (64 * k) end rest n none l.0 l.1) (λ n is. (is.0, is.1)) (calm end short within)
 
 -- in the end all are
@@ -255,41 +257,43 @@ after_next : (s : ℕ) → IsInjective (λ n. n + s + 1)
 after_next s n m e = omega (arith, e)
 
 -- the named blocks have no mark
-pub even_none : (p : Planes) (marks : List ℕ) (P : ℕ → Type 0) → EvenCalm marks p →
+pub even_none : (p : Planes) (marks : List ℕ) (P : ℕ → Type 0) → AreEvenBlocksStable marks p →
     ((n : ℕ) → P n → (n + p.stride + 1 < p.stride * p.rows) × ((n + 1) % p.stride ≢ 0) × IsUnmarked marks n) →
-    TurnsEvenNamed P p p
+    TurnsEvenBlocksWhere P p p
 even_none p marks P calm free =
     named_stay p.words (λ n. n) (λ n. n + 1) (λ n. n + p.stride) (λ n. n + p.stride + 1) P p.even.items p.down.items
     p.right.items p.odd.items (λ n is. let f = free n is in calm n f.0 f.1 f.2)
 
 even_next : (p q r : Planes) (u : ℕ) (P Q : ℕ → Type 0) → HasSize p.words p.stride p.rows q →
-    TurnsEvenNamed P p q → TurnsPart (q.words * u) (q.words * (u + 1)) (q.words * (u + q.stride))
+    TurnsEvenBlocksWhere P p q → TurnsPart (q.words * u) (q.words * (u + 1)) (q.words * (u + q.stride))
     (q.words * (u + q.stride + 1)) q.words q.even.items
     q.down.items q.right.items q.odd.items r.even.items r.down.items r.right.items r.odd.items →
-    (P u → ⊥) → Q u → ((n : ℕ) → n ≢ u → Q n → P n) → ((n : ℕ) → n ≢ u → P n → Q n) → TurnsEvenNamed Q p r
+    (P u → ⊥) → Q u → ((n : ℕ) → n ≢ u → Q n → P n) → ((n : ℕ) → n ≢ u → P n → Q n) → TurnsEvenBlocksWhere Q p r
 even_next p q r u P Q size first part free here from to =
     let part = rw (size.0, size.1) at part in
     named_next p.words u (λ n. n) (λ n. n + 1) (λ n. n + p.stride) (λ n. n + p.stride + 1) P Q
     _ _ _ _ _ _ _ _ _ _ _ _ self (after 1) (after p.stride) (after_next p.stride) free here from to first part
 
 pub even_renamed : (p q : Planes) (P Q : ℕ → Type 0) → ((n : ℕ) → Q n → P n) → ((n : ℕ) → P n → Q n) →
-    TurnsEvenNamed P p q → TurnsEvenNamed Q p q
+    TurnsEvenBlocksWhere P p q → TurnsEvenBlocksWhere Q p q
 even_renamed p q P Q from to t =
     renamed p.words (λ n. n) (λ n. n + 1) (λ n. n + p.stride) (λ n. n + p.stride + 1) P Q _ _ _ _ _ _ _ _ from to t
 
 -- one more mark is cleared: its block is turned, or is the last one of its row
 pub even_past : (p q r : Planes) (u first end rest rest' : ℕ) → OnePast first end rest rest' u →
-    HasSize p.words p.stride p.rows q → TurnsEvenNamed (IsPastInside p.stride first end rest) p q →
+    HasSize p.words p.stride p.rows q → TurnsEvenBlocksWhere (IsInnerNumberNotInRest p.stride first end rest) p q →
     ((u + 1) % q.stride ≢ 0 → TurnsPart (q.words * u) (q.words * (u + 1)) (q.words * (u + q.stride))
     (q.words * (u + q.stride + 1)) q.words q.even.items q.down.items q.right.items q.odd.items r.even.items r.down.items
     r.right.items r.odd.items) → ((u + 1) % q.stride ≡ 0 → r ≡ q) →
-    TurnsEvenNamed (IsPastInside p.stride first end rest') p r
+    TurnsEvenBlocksWhere (IsInnerNumberNotInRest p.stride first end rest') p r
 even_past p q r u first end rest rest' one size before part last = by_eq_or_not ((u + 1) % p.stride) 0
-    (λ e. subst (λ (o : Planes). TurnsEvenNamed (IsPastInside p.stride first end rest') p o) (sym (last (stride ∙ e)))
-    (even_renamed p q (IsPastInside p.stride first end rest) (IsPastInside p.stride first end rest')
+    (λ e. subst (λ (o : Planes). TurnsEvenBlocksWhere (IsInnerNumberNotInRest p.stride first end rest') p o)
+    (sym (last (stride ∙ e)))
+    (even_renamed p q (IsInnerNumberNotInRest p.stride first end rest) (IsInnerNumberNotInRest p.stride first end rest')
     (λ n is. (one.from n (λ same. is.1 (ap (λ (m : ℕ). (m + 1) % p.stride) same ∙ e)) is.0, is.1))
     (λ n is. (one.to n (λ same. is.1 (ap (λ (m : ℕ). (m + 1) % p.stride) same ∙ e)) is.0, is.1)) before))
-    (λ ne. even_next p q r u (IsPastInside p.stride first end rest) (IsPastInside p.stride first end rest') size before
+    (λ ne. even_next p q r u (IsInnerNumberNotInRest p.stride first end rest)
+    (IsInnerNumberNotInRest p.stride first end rest') size before
     (part (λ e. ne (sym stride ∙ e))) (λ is. one.free is.0) (one.here, ne) (λ n other is. (one.from n other is.0, is.1))
     (λ n other is. (one.to n other is.0, is.1)))
   where
@@ -309,7 +313,7 @@ even_join p q r at end size le s t =
 
 -- the blocks below a number are turned, as far as there are some
 abbrev pub TurnsEvenBelow : ℕ → ℕ → Planes → Planes → Type 0
-TurnsEvenBelow at cells p q = TurnsEvenNamed (λ n. (n < at) × (n < cells) × ((n + 1) % p.stride ≢ 0)) p q
+TurnsEvenBelow at cells p q = TurnsEvenBlocksWhere (λ n. (n < at) × (n < cells) × ((n + 1) % p.stride ≢ 0)) p q
 
 -- so are those of one more word of marks
 pub even_more : (p q r : Planes) (k end cells : ℕ) → HasSize p.words p.stride p.rows q → 64 * k < end → end ≤ cells →
@@ -328,7 +332,7 @@ even_more p q r k end cells size some within short whole s t =
 -- and those of a word without marks
 pub even_more_none : (p q : Planes) (k cells rest : ℕ) → HasSize p.words p.stride p.rows q → 64 * k < cells →
     rest ≡ 0 → ((end : ℕ) → end ≤ 64 * k + 64 → end ≤ cells →
-    TurnsEvenNamed (IsPastInside q.stride (64 * k) end rest) q q) →
+    TurnsEvenBlocksWhere (IsInnerNumberNotInRest q.stride (64 * k) end rest) q q) →
     TurnsEvenBelow (64 * k) cells p q → TurnsEvenBelow (64 * (k + 1)) cells p q
 even_more_none p q k cells rest size some none calm s = by_lt_or_le (64 * k + 64) cells
     (λ l. even_more p q q k (64 * k + 64) cells size (omega arith) (omega arith) (omega arith) (inl (omega arith)) s
@@ -337,7 +341,7 @@ even_more_none p q k cells rest size some none calm s = by_lt_or_le (64 * k + 64
     (turned cells l (omega arith)))
   where
     turned : (end : ℕ) → end ≤ 64 * k + 64 → end ≤ cells → TurnsEven (64 * k) end q q
-    turned end short within = even_renamed q q (IsPastInside q.stride (64 * k) end rest)
+    turned end short within = even_renamed q q (IsInnerNumberNotInRest q.stride (64 * k) end rest)
         (λ n. (64 * k ≤ n) × (n < end) × ((n + 1) % q.stride ≢ 0))
         (λ n l. (past_all (64 * k) end rest n none l.0 l.1, l.2)) (λ n is. (is.0.0, is.0.1, is.1))
         (calm end short within)

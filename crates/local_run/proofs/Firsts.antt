@@ -18,34 +18,35 @@ use Rattle.module_box.specs.declared.schedules.Signal.{Signal}
 use Rattle.module_job.specs.declared.job.Demand.{Demand}
 use Rattle.local_run.specs.declared.fault.Kind.{Kind}
 use Rattle.local_run.specs.declared.fault.Kind.TheVariants.{Edge, Stop, End}
-use Rattle.local_run.specs.Places.{inner}
+use Rattle.local_run.specs.Places.{box_coord}
 use Rattle.module_box.proofs.RingTests.{ring_read}
-use Rattle.local_run.specs.Scans.{IsLeastBelow, IsStride, IsSought, IsFirst, IsFound, IsFree, is_defined, valuation}
+use Rattle.local_run.specs.Scans.{IsLeastBelow, IsScanStride, IsSought, IsFirst, IsDefinedFault, HasNoFaultOfKind}
+use Rattle.local_run.specs.Scans.{is_defined, valuation}
 use Rattle.local_run.specs.declared.values.Values.{Values}
 
 -- ---- numbers of columns and rows
-pub inner_in_span : (c n k : ℕ) → k < n → in_span c n (inner c k) ≡ true
-unfolding inner
+pub inner_in_span : (c n k : ℕ) → k < n → in_span c n (box_coord c k) ≡ true
+unfolding box_coord
 inner_in_span c n k l = span_from c n (c + k) (omega arith) (omega arith)
 
-pub inner_in_box : (b : Box2) (x y : ℕ) → x < b.w → y < b.h → in_box b (inner b.x x) (inner b.y y) ≡ true
+pub inner_in_box : (b : Box2) (x y : ℕ) → x < b.w → y < b.h → in_box b (box_coord b.x x) (box_coord b.y y) ≡ true
 unfolding in_box
 inner_in_box b x y lx ly = and_from _ _ (inner_in_span b.x b.w x lx) (inner_in_span b.y b.h y ly)
 
 pub record At (c n : ℕ) (z : ℤ) : Type 0 where
   pub number : ℕ
   pub below : number < n
-  pub is : z ≡ inner c number
+  pub is : z ≡ box_coord c number
 
 pub span_at : (c n : ℕ) (z : ℤ) → in_span c n z ≡ true → At c n z
-unfolding inner
+unfolding box_coord
 span_at c n (pos k) h =
     let p = span_parts c n k h in
     record { number = k - c; below = omega arith; is = ap pos (omega arith) }
 span_at c n (negsuc k) h = absurd (false≢true (sym (in_span-negsuc c n k) ∙ h))
 
-inner_less : (c k m : ℕ) → inner c k <ℤ inner c m → k < m
-unfolding inner
+inner_less : (c k m : ℕ) → box_coord c k <ℤ box_coord c m → k < m
+unfolding box_coord
 inner_less c k m h = omega (arith, ints, h)
 
 -- ---- the least number
@@ -68,10 +69,11 @@ pub end_least : (j : JobView) (vs : Values) (n : ℕ) (f : ℕ → Bool) (s : Si
     ((v : Valuation) (b : Bool) → b ≡ is_live v s → Meets v d b) →
     ((a : ℕ) → a < n → f a ≡ local_run j (valuation vs a) t x y) →
     IsLeastBelow n (λ a. (is_defined vs a ≡ true) × (f a ≢ is_live (valuation vs a) s)) r →
-    IsLeastBelow n (λ a. IsFound j vs a t k x y) r
+    IsLeastBelow n (λ a. IsDefinedFault j vs a t k x y) r
 end_least j vs n f s d t k x y r e sought inside ed to from same h =
-    subst (λ (k' : Kind). IsLeastBelow n (λ a. IsFound j vs a t k' x y) r) e
-    (least_map n (λ a. (is_defined vs a ≡ true) × (f a ≢ is_live (valuation vs a) s)) (λ a. IsFound j vs a t End x y)
+    subst (λ (k' : Kind). IsLeastBelow n (λ a. IsDefinedFault j vs a t k' x y) r) e
+    (least_map n (λ a. (is_defined vs a ≡ true) × (f a ≢ is_live (valuation vs a) s))
+    (λ a. IsDefinedFault j vs a t End x y)
     (λ a l ne. (
       ne.0,
       record {
@@ -96,10 +98,11 @@ pub edge_least : (j : JobView) (vs : Values) (n : ℕ) (f : ℕ → Bool) (s : S
     (r : Option ℕ) → Edge ≡ k → IsSought j t k → in_ring j.area x y ≡ true →
     s ≡ signal_at j.edges t x y → ((a : ℕ) → a < n → f a ≡ local_run j (valuation vs a) t x y) →
     IsLeastBelow n (λ a. (is_defined vs a ≡ true) × (f a ≢ is_live (valuation vs a) s)) r →
-    IsLeastBelow n (λ a. IsFound j vs a t k x y) r
+    IsLeastBelow n (λ a. IsDefinedFault j vs a t k x y) r
 edge_least j vs n f s t k x y r e sought ring es same h =
-    subst (λ (k' : Kind). IsLeastBelow n (λ a. IsFound j vs a t k' x y) r) e
-    (least_map n (λ a. (is_defined vs a ≡ true) × (f a ≢ is_live (valuation vs a) s)) (λ a. IsFound j vs a t Edge x y)
+    subst (λ (k' : Kind). IsLeastBelow n (λ a. IsDefinedFault j vs a t k' x y) r) e
+    (least_map n (λ a. (is_defined vs a ≡ true) × (f a ≢ is_live (valuation vs a) s))
+    (λ a. IsDefinedFault j vs a t Edge x y)
     (λ a l ne. (
       ne.0,
       record {
@@ -117,7 +120,7 @@ edge_least j vs n f s t k x y r e sought ring es same h =
 
 -- no cell but those of the ring is found
 pub edge_not_found : (j : JobView) (vs : Values) (n t : ℕ) (k : Kind) (x y : ℤ) → Edge ≡ k →
-    in_ring j.area x y ≡ false → IsLeastBelow n (λ a. IsFound j vs a t k x y) None
+    in_ring j.area x y ≡ false → IsLeastBelow n (λ a. IsDefinedFault j vs a t k x y) None
 edge_not_found j vs n t k x y e out a l f = edge_none j n (λ a. valuation vs a) t k x y e out a l f.1
 
 -- ---- cells in order
@@ -129,25 +132,27 @@ fault_in_box j v t Stop x y s f = absurd s
 fault_in_box j v t End x y s f = f.inside
 
 abbrev pub FreeAt : JobView → Values → ℕ → Kind → ℕ → ℕ → ℕ → Type 0
-FreeAt j vs t kind x y a = ¬ IsFound j vs a t kind (inner j.area.x x) (inner j.area.y y)
+FreeAt j vs t kind x y a = ¬ IsDefinedFault j vs a t kind (box_coord j.area.x x) (box_coord j.area.y y)
 
 pub free_from : (j : JobView) (vs : Values) (t : ℕ) (kind : Kind) → IsSought j t kind →
-    ((x y a : ℕ) → x < j.area.w → y < j.area.h → a < assignments j → FreeAt j vs t kind x y a) → IsFree j vs t kind
+    ((x y a : ℕ) → x < j.area.w → y < j.area.h → a < assignments j → FreeAt j vs t kind x y a) →
+    HasNoFaultOfKind j vs t kind
 unfolding in_box
 free_from j vs t kind s free x y a l f =
     let h = and_parts _ _ (fault_in_box j _ t kind x y s f.1) in
     let px = span_at j.area.x j.area.w x h.0 in
     let py = span_at j.area.y j.area.h y h.1 in
     free px.number py.number a px.below py.below l
-    (subst (λ (z : ℤ). IsFound j vs a t kind z (inner j.area.y py.number)) px.is
-    (subst (λ (z : ℤ). IsFound j vs a t kind x z) py.is f))
+    (subst (λ (z : ℤ). IsDefinedFault j vs a t kind z (box_coord j.area.y py.number)) px.is
+    (subst (λ (z : ℤ). IsDefinedFault j vs a t kind x z) py.is f))
 
 pub first_from : (j : JobView) (vs : Values) (t : ℕ) (kind : Kind) (x y a : ℕ) (cx cy : ℤ) → IsSought j t kind →
-    cx ≡ inner j.area.x x → cy ≡ inner j.area.y y →
+    cx ≡ box_coord j.area.x x → cy ≡ box_coord j.area.y y →
     x < j.area.w → y < j.area.h →
     ((x' y' a' : ℕ) → x' < j.area.w → y' < y → a' < assignments j → FreeAt j vs t kind x' y' a') →
     ((x' a' : ℕ) → x' < x → a' < assignments j → FreeAt j vs t kind x' y a') →
-    IsLeastBelow (assignments j) (λ a'. IsFound j vs a' t kind (inner j.area.x x) (inner j.area.y y)) (Some a) →
+    IsLeastBelow (assignments j) (λ a'. IsDefinedFault j vs a' t kind (box_coord j.area.x x) (box_coord j.area.y y))
+    (Some a) →
     IsFirst j vs t kind (record { time = t; kind = kind; cell = record { x = cx; y = cy }; assignment = a })
 unfolding in_box
 first_from j vs t kind x y a cx cy s ex ey lx ly rows cells least = rw (ex, ey) (record {
@@ -160,14 +165,14 @@ first_from j vs t kind x y a cx cy s ex ey lx ly rows cells least = rw (ex, ey) 
       let px = span_at j.area.x j.area.w x' h.0 in
       let py = span_at j.area.y j.area.h y' h.1 in
       rows px.number py.number a' px.below
-      (inner_less j.area.y py.number y (subst (λ (z : ℤ). z <ℤ inner j.area.y y) py.is less)) l
-      (subst (λ (z : ℤ). IsFound j vs a' t kind z (inner j.area.y py.number)) px.is
-      (subst (λ (z : ℤ). IsFound j vs a' t kind x' z) py.is f));
+      (inner_less j.area.y py.number y (subst (λ (z : ℤ). z <ℤ box_coord j.area.y y) py.is less)) l
+      (subst (λ (z : ℤ). IsDefinedFault j vs a' t kind z (box_coord j.area.y py.number)) px.is
+      (subst (λ (z : ℤ). IsDefinedFault j vs a' t kind x' z) py.is f));
   column = λ x' a' l less f.
-      let h = and_parts _ _ (fault_in_box j _ t kind x' (inner j.area.y y) s f.1) in
+      let h = and_parts _ _ (fault_in_box j _ t kind x' (box_coord j.area.y y) s f.1) in
       let px = span_at j.area.x j.area.w x' h.0 in
-      cells px.number a' (inner_less j.area.x px.number x (subst (λ (z : ℤ). z <ℤ inner j.area.x x) px.is less)) l
-      (subst (λ (z : ℤ). IsFound j vs a' t kind z (inner j.area.y y)) px.is f);
+      cells px.number a' (inner_less j.area.x px.number x (subst (λ (z : ℤ). z <ℤ box_coord j.area.x x) px.is less)) l
+      (subst (λ (z : ℤ). IsDefinedFault j vs a' t kind z (box_coord j.area.y y)) px.is f);
   assignment = least.2;
 })
 
@@ -176,35 +181,35 @@ none_of : (b : Bool) → (b && not (true && true)) ≡ false
 none_of true = refl
 none_of false = refl
 
-one_less : (c k : ℕ) → 1 ≤ k → inner c k -ℤ pos 1 ≡ pos (c + (k - 1))
-unfolding inner
+one_less : (c k : ℕ) → 1 ≤ k → box_coord c k -ℤ pos 1 ≡ pos (c + (k - 1))
+unfolding box_coord
 one_less c k l = let e : c + k ≡ 1 + (c + (k - 1)) = omega arith in ap (λ n. pos n -ℤ pos 1) e ∙ less_pos (c + (k - 1))
   where
     less_pos : (n : ℕ) → pos (1 + n) -ℤ pos 1 ≡ pos n
     less_pos n = omega (arith, ints)
 
-one_more : (c k : ℕ) → inner c k +ℤ pos 1 ≡ pos (c + (k + 1))
-unfolding inner
+one_more : (c k : ℕ) → box_coord c k +ℤ pos 1 ≡ pos (c + (k + 1))
+unfolding box_coord
 one_more c k = omega (arith, ints)
 
 both_beside : (c n k : ℕ) → 1 ≤ k → k + 1 < n →
-    (in_span c n (inner c k -ℤ pos 1) && in_span c n (inner c k +ℤ pos 1)) ≡ true
+    (in_span c n (box_coord c k -ℤ pos 1) && in_span c n (box_coord c k +ℤ pos 1)) ≡ true
 both_beside c n k l h = and_from _ _
     (ap (in_span c n) (one_less c k l) ∙ span_from c n (c + (k - 1)) (omega arith) (omega arith))
     (ap (in_span c n) (one_more c k) ∙ span_from c n (c + (k + 1)) (omega arith) (omega arith))
 
 -- a cell between the first and the last one of a row between the first and the last one is not in the ring
 pub not_in_ring : (b : Box2) (x y : ℕ) → 1 ≤ x → x + 1 < b.w → 1 ≤ y → y + 1 < b.h →
-    in_ring b (inner b.x x) (inner b.y y) ≡ false
+    in_ring b (box_coord b.x x) (box_coord b.y y) ≡ false
 not_in_ring b x y lx hx ly hy =
-    sym (ring_read b (inner b.x x) (inner b.y y) _ true true refl (sym (both_beside b.x b.w x lx hx))
+    sym (ring_read b (box_coord b.x x) (box_coord b.y y) _ true true refl (sym (both_beside b.x b.w x lx hx))
     (sym (both_beside b.y b.h y ly hy))) ∙ none_of _
 
 -- where a row is passed over, it is so from its first cell to its last one
 abbrev pub IsAtEnd : ℕ → ℕ → ℕ → Type 0
 IsAtEnd w x stride = (stride ≡ 1) ⊎ ((x ≡ 0) ⊎ (w ≤ x + 1))
 
-pub still_at_end : (kind : Kind) (w h y x stride : ℕ) → IsStride kind w h y stride → IsAtEnd w x stride →
+pub still_at_end : (kind : Kind) (w h y x stride : ℕ) → IsScanStride kind w h y stride → IsAtEnd w x stride →
     IsAtEnd w (x + stride) stride
 still_at_end kind w h y x stride s at = elim s.2 [
   | inl one ↦ inl one
@@ -215,8 +220,8 @@ still_at_end kind w h y x stride s at = elim s.2 [
 ]
 
 pub passed_over : (j : JobView) (u : Valuation) (t : ℕ) (kind : Kind) (x x' y stride : ℕ) →
-    IsStride kind j.area.w j.area.h y stride → IsAtEnd j.area.w x stride →
-    x < x' → x' < x + stride → x' < j.area.w → ¬ IsFaultUnder j u t kind (inner j.area.x x') (inner j.area.y y)
+    IsScanStride kind j.area.w j.area.h y stride → IsAtEnd j.area.w x stride →
+    x < x' → x' < x + stride → x' < j.area.w → ¬ IsFaultUnder j u t kind (box_coord j.area.x x') (box_coord j.area.y y)
 passed_over j u t kind x x' y stride s at after before within f = elim s.2 [
   | inl one ↦ omega arith
   | inr both ↦ let e = both.ends in elim at [

@@ -9,12 +9,13 @@ use Rattle.bbm_rule.specs.Marks.{IsUnmarked}
 use Rattle.bbm_rule.specs.Rows.{cell_at}
 use Rattle.bbm_rule.specs.Words.{AreTurned}
 use Rattle.bbm_rule.proofs.BitLemmas.{by_eq_or_not, by_lt_or_le}
-use Rattle.local_run.specs.Calm.{ChangesCells, EvenCalm, OddCalm}
-use Rattle.local_run.specs.Frozen.{AreWords, Freezes, HasRoomForMarks, IsEvenCalmAt, IsFrozen, IsMarkedBefore}
-use Rattle.local_run.specs.Frozen.{IsOddCalmAt, KeepsFirst}
-use Rattle.local_run.specs.Held.{AreAll, bits_of}
+use Rattle.local_run.specs.Calm.{ChangesCells, AreEvenBlocksStable, AreOddBlocksStable}
+use Rattle.local_run.specs.Frozen.{AreWords, AreFrozenIfFound, HasRoomForMarks, AreMarkedEvenBlocksStable, IsFrozen}
+use Rattle.local_run.specs.Frozen.{IsNumberBeforeMarked}
+use Rattle.local_run.specs.Frozen.{AreMarkedOddBlocksStable, KeepsFirst}
+use Rattle.local_run.specs.Held.{HasValueUnderAll, bits_of}
 use Rattle.local_run.specs.Lanes.{HasSize}
-use Rattle.local_run.specs.Live.{AllDead, AllDead-prop, AreMarkedBut, IsDeadCell}
+use Rattle.local_run.specs.Live.{AllUnmarkedDead, AllUnmarkedDead-prop, AreMarkedUnlessInBoth, IsDeadCell}
 use Rattle.local_run.specs.Sweeps.{TurnsEven, TurnsOdd}
 use Rattle.local_run.specs.Turns.{TurnsPart}
 use Rattle.local_run.specs.declared.frozen.FrozenBlocks.{FrozenBlocks}
@@ -201,7 +202,7 @@ even_stays b p q may f n m = elim (may.blocks n) [
 
 -- the cells of a block of the odd partition that meet their conditions
 upper_left_stays : (b : FrozenBlocks) (p q : Planes) → MayTurnEven p q → IsFrozen b p → (u : ℕ) →
-    IsMarkedBefore b.even.items (p.stride + 1) u →
+    IsNumberBeforeMarked b.even.items (p.stride + 1) u →
     StaysBits p.words (bits_of p.words p.odd.items u) (bits_of p.words q.odd.items u)
 upper_left_stays b p q may f u marked = by_lt_or_le u (p.stride + 1)
     (λ h. same_bits p.words u _ _ (λ k l. may.first.odd u k h l))
@@ -210,7 +211,7 @@ upper_left_stays b p q may f u marked = by_lt_or_le u (p.stride + 1)
     (even_stays b p q may f (u - (p.stride + 1)) (marked (u - (p.stride + 1)) (omega (arith, g)))).lower_right)
 
 upper_right_stays : (b : FrozenBlocks) (p q : Planes) → MayTurnEven p q → IsFrozen b p → (u : ℕ) →
-    IsMarkedBefore b.even.items p.stride u →
+    IsNumberBeforeMarked b.even.items p.stride u →
     StaysBits p.words (bits_of p.words p.right.items u) (bits_of p.words q.right.items u)
 upper_right_stays b p q may f u marked = by_lt_or_le u p.stride
     (λ h. same_bits p.words u _ _ (λ k l. may.first.right u k h l))
@@ -219,7 +220,7 @@ upper_right_stays b p q may f u marked = by_lt_or_le u p.stride
     (even_stays b p q may f (u - p.stride) (marked (u - p.stride) e)).lower_left)
 
 lower_left_stays : (b : FrozenBlocks) (p q : Planes) → MayTurnEven p q → IsFrozen b p → (u : ℕ) →
-    IsMarkedBefore b.even.items 1 u →
+    IsNumberBeforeMarked b.even.items 1 u →
     StaysBits p.words (bits_of p.words p.down.items u) (bits_of p.words q.down.items u)
 lower_left_stays b p q may f u marked = by_lt_or_le u 1
     (λ h. same_bits p.words u _ _ (λ k l. may.first.down u k h l))
@@ -228,7 +229,7 @@ lower_left_stays b p q may f u marked = by_lt_or_le u 1
     (even_stays b p q may f (u - 1) (marked (u - 1) e)).upper_right)
 
 lower_right_stays : (b : FrozenBlocks) (p q : Planes) → MayTurnEven p q → IsFrozen b p → (u : ℕ) →
-    IsMarkedBefore b.even.items 0 u →
+    IsNumberBeforeMarked b.even.items 0 u →
     StaysBits p.words (bits_of p.words p.even.items u) (bits_of p.words q.even.items u)
 lower_right_stays b p q may f u marked = (even_stays b p q may f u (marked u (omega arith))).upper_left
 
@@ -249,12 +250,13 @@ frozen_even b p q size may f = record {
 }
 
 -- ---- steps that pass over frozen blocks
-pub odd_calm_at : (b : FrozenBlocks) (p : Planes) → AreWords p → IsFrozen b p → IsOddCalmAt b.odd.items p
+pub odd_calm_at : (b : FrozenBlocks) (p : Planes) → AreWords p → IsFrozen b p → AreMarkedOddBlocksStable b.odd.items p
 odd_calm_at b p words f u l m =
     held_block p.words u u u u p.odd.items p.right.items p.down.items p.even.items _ _ _ _ (f.odd u l m) words.odd
     words.right words.down words.even
 
-pub even_calm_at : (b : FrozenBlocks) (p : Planes) → AreWords p → IsFrozen b p → IsEvenCalmAt b.even.items p
+pub even_calm_at : (b : FrozenBlocks) (p : Planes) → AreWords p → IsFrozen b p →
+    AreMarkedEvenBlocksStable b.even.items p
 even_calm_at b p words f = record {
   calm = λ n l i m. held_block p.words n (n + 1) (n + p.stride) (n + p.stride + 1) p.even.items p.down.items
       p.right.items p.odd.items _ _ _ _ (f.even n l i m) words.even words.down words.right words.odd;
@@ -263,29 +265,29 @@ even_calm_at b p words f = record {
 
 -- ---- frozen blocks, if they were found
 pub freezes_odd : (b : FrozenBlocks) (p q : Planes) → HasSize p.words p.stride p.rows q → MayTurnOdd p q →
-    Freezes b p → Freezes b q
+    AreFrozenIfFound b p → AreFrozenIfFound b q
 freezes_odd b p q size may f = ∥∥₁_map f (λ h e. frozen_odd b p q size may (h e))
 
 pub freezes_even : (b : FrozenBlocks) (p q : Planes) → HasSize p.words p.stride p.rows q → MayTurnEven p q →
-    Freezes b p → Freezes b q
+    AreFrozenIfFound b p → AreFrozenIfFound b q
 freezes_even b p q size may f = ∥∥₁_map f (λ h e. frozen_even b p q size may (h e))
 
-odd_calm_prop : (marks : List ℕ) (p : Planes) → IsProp (IsOddCalmAt marks p)
+odd_calm_prop : (marks : List ℕ) (p : Planes) → IsProp (AreMarkedOddBlocksStable marks p)
 odd_calm_prop marks p = Prim.hlevel props
 
-even_calm_prop : (marks : List ℕ) (p : Planes) → IsProp (IsEvenCalmAt marks p)
+even_calm_prop : (marks : List ℕ) (p : Planes) → IsProp (AreMarkedEvenBlocksStable marks p)
 even_calm_prop marks p = Prim.hlevel props
 
-pub odd_calm_found : (b : FrozenBlocks) (p : Planes) → AreWords p → Freezes b p → b.is_found ≡ true →
-    IsOddCalmAt b.odd.items p
+pub odd_calm_found : (b : FrozenBlocks) (p : Planes) → AreWords p → AreFrozenIfFound b p → b.is_found ≡ true →
+    AreMarkedOddBlocksStable b.odd.items p
 odd_calm_found b p words f e = ∥∥₁_elim f (odd_calm_prop b.odd.items p) (λ h. odd_calm_at b p words (h e))
 
-pub even_calm_found : (b : FrozenBlocks) (p : Planes) → AreWords p → Freezes b p → b.is_found ≡ true →
-    IsEvenCalmAt b.even.items p
+pub even_calm_found : (b : FrozenBlocks) (p : Planes) → AreWords p → AreFrozenIfFound b p → b.is_found ≡ true →
+    AreMarkedEvenBlocksStable b.even.items p
 even_calm_found b p words f e = ∥∥₁_elim f (even_calm_prop b.even.items p) (λ h. even_calm_at b p words (h e))
 
 -- and the room for their marks
-pub room_found : (b : FrozenBlocks) (p : Planes) → Freezes b p → b.is_found ≡ true → HasRoomForMarks b p
+pub room_found : (b : FrozenBlocks) (p : Planes) → AreFrozenIfFound b p → b.is_found ≡ true → HasRoomForMarks b p
 room_found b p f e = ∥∥₁_elim f (room_prop b p) (λ h. (h e).room)
   where
     room_prop : (b : FrozenBlocks) (p : Planes) → IsProp (HasRoomForMarks b p)
@@ -303,7 +305,8 @@ found_again b v p f = record {
 
 -- ---- a cell of a block of the odd partition that is not frozen changes
 pub freezes_put : (main anti : Bool) (u : ℕ) (b : FrozenBlocks) (p q : Planes) → HasSize p.words p.stride p.rows q →
-    ChangesCells main anti u u u u p q → (b.is_found ≡ true → IsUnmarked b.odd.items u) → Freezes b p → Freezes b q
+    ChangesCells main anti u u u u p q → (b.is_found ≡ true → IsUnmarked b.odd.items u) → AreFrozenIfFound b p →
+    AreFrozenIfFound b q
 freezes_put main anti u b p q size ch free f = ∥∥₁_map f (λ h e. put_kept (free e) (h e))
   where
     others : IsUnmarked b.odd.items u → (v : ℕ) → cell_at b.odd.items v ≡ true → v ≢ u
@@ -342,28 +345,28 @@ freezes_put main anti u b p q size ch free f = ∥∥₁_map f (λ h e. put_kept
 
 -- the blocks are frozen still, if they were not given up
 pub given_up : (b b' : FrozenBlocks) (u : ℕ) (p : Planes) →
-    (b'.is_found ≡ true → (b' ≡ b) × IsUnmarked b.odd.items u) → Freezes b p → Freezes b' p
+    (b'.is_found ≡ true → (b' ≡ b) × IsUnmarked b.odd.items u) → AreFrozenIfFound b p → AreFrozenIfFound b' p
 given_up b b' u p kept f = ∥∥₁_map f (λ h e. let k = kept e in
     subst (λ (z : FrozenBlocks). IsFrozen z p) (sym k.0) (h (sym (ap (λ (z : FrozenBlocks). z.is_found) k.0) ∙ e)))
 
 -- ---- marks on all blocks but the frozen ones, and on all cells but those of the frozen and empty ones
-pub odd_calm_but : (b : FrozenBlocks) (marks : List ℕ) (p : Planes) → AreWords p → Freezes b p →
+pub odd_calm_but : (b : FrozenBlocks) (marks : List ℕ) (p : Planes) → AreWords p → AreFrozenIfFound b p →
     b.is_found ≡ true → ((u : ℕ) → u < p.stride * p.rows → IsUnmarked marks u → cell_at b.odd.items u ≡ true) →
-    OddCalm marks p
+    AreOddBlocksStable marks p
 odd_calm_but b marks p words f e but u l free = odd_calm_found b p words f e u l (but u l free)
 
-pub even_calm_but : (b : FrozenBlocks) (marks : List ℕ) (p : Planes) → AreWords p → Freezes b p →
+pub even_calm_but : (b : FrozenBlocks) (marks : List ℕ) (p : Planes) → AreWords p → AreFrozenIfFound b p →
     b.is_found ≡ true → ((u : ℕ) → u < p.stride * p.rows → IsUnmarked marks u → cell_at b.even.items u ≡ true) →
-    EvenCalm marks p
+    AreEvenBlocksStable marks p
 even_calm_but b marks p words f e but u l inside free =
     (even_calm_found b p words f e).calm u l inside (but u (omega (arith, l)) free)
 
 dead_cell : (w u : ℕ) (cells : List ℕ) → ((k : ℕ) → get_or cells k 0 < 2 ^ 64) →
-    AreAll false w (bits_of w cells u) → IsDeadCell w u cells
+    HasValueUnderAll false w (bits_of w cells u) → IsDeadCell w u cells
 dead_cell w u cells small dead k l = zero_word (get_or cells (w * u + k) 0) (small (w * u + k)) (λ j h. dead k j l h)
 
 dead_but : (b : FrozenBlocks) (l : LiveMarks) (p : Planes) → AreWords p → IsFrozen b p →
-    AreMarkedBut (p.stride * p.rows) b.odd.items b.empty.items l → AllDead l p
+    AreMarkedUnlessInBoth (p.stride * p.rows) b.odd.items b.empty.items l → AllUnmarkedDead l p
 dead_but b l p words f but = (
   λ u h free. let m = (but u h).0 free in dead_cell p.words u p.odd.items words.odd (f.empty u h m.0 m.1).upper_left,
   λ u h free. let m = (but u h).1 free in
@@ -374,7 +377,8 @@ dead_but b l p words f but = (
       dead_cell p.words u p.even.items words.even (f.empty u h m.0 m.1).lower_right,
 )
 
-pub dead_found : (b : FrozenBlocks) (l : LiveMarks) (p : Planes) → AreWords p → Freezes b p → b.is_found ≡ true →
-    (HasRoomForMarks b p → AreMarkedBut (p.stride * p.rows) b.odd.items b.empty.items l) → AllDead l p
+pub dead_found : (b : FrozenBlocks) (l : LiveMarks) (p : Planes) → AreWords p → AreFrozenIfFound b p →
+    b.is_found ≡ true →
+    (HasRoomForMarks b p → AreMarkedUnlessInBoth (p.stride * p.rows) b.odd.items b.empty.items l) → AllUnmarkedDead l p
 dead_found b l p words f e but =
-    ∥∥₁_elim f (AllDead-prop l p) (λ h. dead_but b l p words (h e) (but (h e).room))
+    ∥∥₁_elim f (AllUnmarkedDead-prop l p) (λ h. dead_but b l p words (h e) (but (h e).room))

@@ -8,8 +8,8 @@ use Rattle.bbm_rule.specs.Bits.{bit}
 use Rattle.bbm_rule.specs.Plane.{turned}
 use Rattle.bbm_rule.proofs.BitLemmas.{bit_above, bit-zero, by_lt_or_le}
 use Rattle.bbm_rule.proofs.MarkLemmas.{bit_ones}
-use Rattle.local_run.specs.Turns.{IsCalmBlock}
-use Rattle.local_run.specs.Held.{AreAll, HasLiveDiagonals, IsEmptyBlock, IsHeld, bits_of}
+use Rattle.local_run.specs.Turns.{IsStableBlock}
+use Rattle.local_run.specs.Held.{HasValueUnderAll, HasLiveDiagonals, IsEmptyBlock, IsHeldBlock, bits_of}
 
 -- ---- cells whose words are the same
 pub room_of : (w u n long : ℕ) → u < n → long ≡ w * n → w * u + w ≤ long
@@ -23,11 +23,12 @@ run_room w first end n long l h e =
     omega (arith, m, t, e)
 
 pub all_live : (w at : ℕ) (cells : List ℕ) →
-    ((k : ℕ) → k < w → get_or cells (w * at + k) 0 ≡ 18446744073709551615) → AreAll true w (bits_of w cells at)
+    ((k : ℕ) → k < w → get_or cells (w * at + k) 0 ≡ 18446744073709551615) →
+    HasValueUnderAll true w (bits_of w cells at)
 all_live w at cells same k j lk lj = ap (λ (n : ℕ). bit n j) (same k lk) ∙ bit_ones j lj
 
 pub all_dead : (w at : ℕ) (cells : List ℕ) → ((k : ℕ) → k < w → get_or cells (w * at + k) 0 ≡ 0) →
-    AreAll false w (bits_of w cells at)
+    HasValueUnderAll false w (bits_of w cells at)
 all_dead w at cells same k j lk lj = ap (λ (n : ℕ). bit n j) (same k lk) ∙ bit-zero j
 
 -- ---- the rule on blocks whose diagonals both have a live cell, or none
@@ -51,9 +52,9 @@ none_live : turned false false false false ≡ false
 unfolding turned
 none_live = refl
 
-first_live : (a d : Bool) → a ≡ true → (a || d) ≡ true
-first_live true d e = refl
-first_live false d e = absurd (false≢true e)
+first_live_assignment : (a d : Bool) → a ≡ true → (a || d) ≡ true
+first_live_assignment true d e = refl
+first_live_assignment false d e = absurd (false≢true e)
 
 second_live : (a d : Bool) → d ≡ true → (a || d) ≡ true
 second_live true d e = refl
@@ -105,12 +106,13 @@ calm_dead : (a b c d : Bool) → a ≡ false → b ≡ false → c ≡ false →
 calm_dead a b c d ea eb ec ed = rw (ea, eb, ec, ed)
     (record { upper_left = none_live; upper_right = none_live; lower_left = none_live; lower_right = none_live })
 
-one_live : (w : ℕ) (A D : Type 0) (a d : ℕ → ℕ → Bool) → (A × AreAll true w a) ⊎ (D × AreAll true w d) → (k j : ℕ) →
+one_live : (w : ℕ) (A D : Type 0) (a d : ℕ → ℕ → Bool) →
+    (A × HasValueUnderAll true w a) ⊎ (D × HasValueUnderAll true w d) → (k j : ℕ) →
     k < w → j < 64 → (a k j || d k j) ≡ true
-one_live w A D a d (inl h) k j lk lj = first_live (a k j) (d k j) (h.1 k j lk lj)
+one_live w A D a d (inl h) k j lk lj = first_live_assignment (a k j) (d k j) (h.1 k j lk lj)
 one_live w A D a d (inr h) k j lk lj = second_live (a k j) (d k j) (h.1 k j lk lj)
 
-held_calm : (w : ℕ) (A B C D : Type 0) (a b c d : ℕ → ℕ → Bool) → IsHeld w A B C D a b c d → (k j : ℕ) → k < w →
+held_calm : (w : ℕ) (A B C D : Type 0) (a b c d : ℕ → ℕ → Bool) → IsHeldBlock w A B C D a b c d → (k j : ℕ) → k < w →
     j < 64 → IsCalmAt (a k j) (b k j) (c k j) (d k j)
 held_calm w A B C D a b c d (inl h) k j lk lj =
     calm_live _ _ _ _ (one_live w A D a d h.main k j lk lj) (one_live w B C b c h.anti k j lk lj)
@@ -120,9 +122,9 @@ held_calm w A B C D a b c d (inr h) k j lk lj =
 
 -- a block of words that is held
 pub held_block : (w a b c d : ℕ) (ul ur ll lr : List ℕ) (A B C D : Type 0) →
-    IsHeld w A B C D (bits_of w ul a) (bits_of w ur b) (bits_of w ll c) (bits_of w lr d) →
+    IsHeldBlock w A B C D (bits_of w ul a) (bits_of w ur b) (bits_of w ll c) (bits_of w lr d) →
     ((k : ℕ) → get_or ul k 0 < 2 ^ 64) → ((k : ℕ) → get_or ur k 0 < 2 ^ 64) → ((k : ℕ) → get_or ll k 0 < 2 ^ 64) →
-    ((k : ℕ) → get_or lr k 0 < 2 ^ 64) → IsCalmBlock w a b c d ul ur ll lr
+    ((k : ℕ) → get_or lr k 0 < 2 ^ 64) → IsStableBlock w a b c d ul ur ll lr
 held_block w a b c d ul ur ll lr A B C D held fa fb fc fd = (
   λ k l j. ((calm k j l).upper_left, (calm k j l).lower_right),
   λ k l j. ((calm k j l).upper_right, (calm k j l).lower_left),
@@ -137,7 +139,7 @@ held_block w a b c d ul ur ll lr A B C D held fa fb fc fd = (
         (bit_above _ 64 j (fc (w * c + k)) g) (bit_above _ 64 j (fd (w * d + k)) g))
 
 -- a block that is held stays
-pub held_stays : (w : ℕ) (A B C D : Type 0) (a b c d a' b' c' d' : ℕ → ℕ → Bool) → IsHeld w A B C D a b c d →
+pub held_stays : (w : ℕ) (A B C D : Type 0) (a b c d a' b' c' d' : ℕ → ℕ → Bool) → IsHeldBlock w A B C D a b c d →
     MayTurn w a b c d a' b' c' d' → BlockStays w a b c d a' b' c' d'
 held_stays w A B C D a b c d a' b' c' d' h (inl t) = record {
   upper_left = λ k j lk lj. t.upper_left k j lk lj ∙ (held_calm w A B C D a b c d h k j lk lj).upper_left;
@@ -147,11 +149,13 @@ held_stays w A B C D a b c d a' b' c' d' h (inl t) = record {
 }
 held_stays w A B C D a b c d a' b' c' d' h (inr s) = s
 
-still_all : (w : ℕ) (value : Bool) (a a' : ℕ → ℕ → Bool) → StaysBits w a a' → AreAll value w a → AreAll value w a'
+still_all : (w : ℕ) (value : Bool) (a a' : ℕ → ℕ → Bool) → StaysBits w a a' → HasValueUnderAll value w a →
+    HasValueUnderAll value w a'
 still_all w value a a' same all k j lk lj = same k j lk lj ∙ all k j lk lj
 
 one_still : (w : ℕ) (A D : Type 0) (a d a' d' : ℕ → ℕ → Bool) → (A → StaysBits w a a') → (D → StaysBits w d d') →
-    (A × AreAll true w a) ⊎ (D × AreAll true w d) → (A × AreAll true w a') ⊎ (D × AreAll true w d')
+    (A × HasValueUnderAll true w a) ⊎ (D × HasValueUnderAll true w d) →
+    (A × HasValueUnderAll true w a') ⊎ (D × HasValueUnderAll true w d')
 one_still w A D a d a' d' sa sd (inl h) = inl (h.0, still_all w true a a' (sa h.0) h.1)
 one_still w A D a d a' d' sa sd (inr h) = inr (h.0, still_all w true d d' (sd h.0) h.1)
 
@@ -169,8 +173,8 @@ still_empty w A B C D a b c d a' b' c' d' sa sb sc sd h = record {
 
 -- and a block that is held is held still
 pub still_held : (w : ℕ) (A B C D : Type 0) (a b c d a' b' c' d' : ℕ → ℕ → Bool) → (A → StaysBits w a a') →
-    (B → StaysBits w b b') → (C → StaysBits w c c') → (D → StaysBits w d d') → IsHeld w A B C D a b c d →
-    IsHeld w A B C D a' b' c' d'
+    (B → StaysBits w b b') → (C → StaysBits w c c') → (D → StaysBits w d d') → IsHeldBlock w A B C D a b c d →
+    IsHeldBlock w A B C D a' b' c' d'
 still_held w A B C D a b c d a' b' c' d' sa sb sc sd (inl h) = inl (record {
   main = one_still w A D a d a' d' sa sd h.main;
   anti = one_still w B C b c b' c' sb sc h.anti;
@@ -190,7 +194,8 @@ emptied w A B C D A' B' C' D' a b c d fa fb fc fd h = record {
 }
 
 one_met : (w : ℕ) (A D A' D' : Type 0) (a d : ℕ → ℕ → Bool) → (A → A') → (D → D') →
-    (A × AreAll true w a) ⊎ (D × AreAll true w d) → (A' × AreAll true w a) ⊎ (D' × AreAll true w d)
+    (A × HasValueUnderAll true w a) ⊎ (D × HasValueUnderAll true w d) →
+    (A' × HasValueUnderAll true w a) ⊎ (D' × HasValueUnderAll true w d)
 one_met w A D A' D' a d fa fd (inl h) = inl (fa h.0, h.1)
 one_met w A D A' D' a d fa fd (inr h) = inr (fd h.0, h.1)
 

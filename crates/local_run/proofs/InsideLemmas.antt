@@ -3,7 +3,7 @@ use Rattle.std.proofs.Common.{◌≡◌, ◌≢◌, ℕ, ◌<◌, ◌≤◌, ◌
 use Rattle.std.proofs.Math.Nat.{div-add-mod, mod-eq_of_lt, mod-lt, mul-add-mod_self_left, mul-le-mul_left}
 use Rattle.bbm_rule.specs.Marks.{IsUnmarked}
 use Rattle.bbm_rule.proofs.BitLemmas.{by_lt_or_le}
-use Rattle.local_run.specs.Borders.{AllInner}
+use Rattle.local_run.specs.Borders.{AreUnmarkedAwayFromBorder}
 
 -- the place in its row of the number at column i and row j
 pub in_row : (s j i : ℕ) → i < s → (s * j + i) % s ≡ i
@@ -13,13 +13,14 @@ pub next_in_row : (s j i : ℕ) → i + 1 < s → (s * j + i + 1) % s ≡ i + 1
 next_in_row s j i l = let e : s * j + i + 1 ≡ s * j + (i + 1) = omega arith in ap (λ n. n % s) e ∙ in_row s j (i + 1) l
 
 -- a number without a mark of ring and halo is not the last of its row
-pub not_last : (s r u : ℕ) (marks : List ℕ) → 0 < s → AllInner s r marks → u < s * r → IsUnmarked marks u →
+pub not_last : (s r u : ℕ) (marks : List ℕ) → 0 < s → AreUnmarkedAwayFromBorder s r marks → u < s * r →
+    IsUnmarked marks u →
     (u + 1) % s ≢ 0
-not_last s r u marks ls inner lu free last =
+not_last s r u marks ls box_coord lu free last =
     let at : s * (u / s) + u % s ≡ u = div-add-mod u s in
     let row : u / s < r = by_lt_or_le (u / s) r (λ h. h)
     (λ h. let m : s * r ≤ s * (u / s) = mul-le-mul_left s h in absurd (omega arith)) in
-    let is = inner (u % s) (u / s) (mod-lt u ls) row (subst (IsUnmarked marks) (sym at) free) in
+    let is = box_coord (u % s) (u / s) (mod-lt u ls) row (subst (IsUnmarked marks) (sym at) free) in
     let next : (u + 1) % s ≡ u % s + 1 =
     ap (λ n. (n + 1) % s) (sym at) ∙ next_in_row s (u / s) (u % s) is.1 in
     absurd (omega (arith, next, last))

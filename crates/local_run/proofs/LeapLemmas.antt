@@ -24,8 +24,8 @@ use Rattle.module_box.specs.declared.schedules.Signal.{Signal}
 use Rattle.module_box.proofs.Rising.{all_times_found, all_times_none, event_found, event_none, is_first, moment_total}
 use Rattle.module_job.specs.Jobs.{JobView}
 use Rattle.module_job.specs.Signals.{is_live}
-use Rattle.local_run.specs.Laws.{QuietRunsStay, NoNewEdgeFaults}
-use Rattle.local_run.specs.Leaps.{HasNoEvents, IsOddOf, IsSteady, IsTimeBetween, StaysUpTo}
+use Rattle.local_run.specs.Laws.{QuietRunStaysUnchanged, QuietRunAddsNoEdgeFault}
+use Rattle.local_run.specs.Leaps.{HasNoEvents, IsOddOf, HasSameSignalsAtOddTimes, IsTimeBetween, IsRunUnchangedUntil}
 use Rattle.local_run.specs.Runs.{with_halo, local_run}
 use Rattle.local_run.proofs.LocalRuns.{even_or_odd, local_even, local_odd, step_all_same}
 
@@ -129,8 +129,8 @@ even_of t = elim (even_or_odd t) [
   | inr h ↦ (t + 1, omega arith, omega arith, omega arith)
 ]
 
-after_same : (j : JobView) (u : Valuation) (t o n k : ℕ) → IsOddOf t o → StaysUpTo j u t (t + 2) →
-    IsSteady j.halos o n → t ≤ k → k < n →
+after_same : (j : JobView) (u : Valuation) (t o n k : ℕ) → IsOddOf t o → IsRunUnchangedUntil j u t (t + 2) →
+    HasSameSignalsAtOddTimes j.halos o n → t ≤ k → k < n →
     ((x y : ℤ) → local_run j u k x y ≡ local_run j u t x y) → (x y : ℤ) →
     local_run j u (suc k) x y ≡ local_run j u t x y
 after_same j u t o n k of stays steady from l same x y =
@@ -148,7 +148,8 @@ after_same j u t o n k of stays steady from l same x y =
     ]
 
 -- ---- and so on
-stays_by : (j : JobView) (u : Valuation) (t o n d : ℕ) → IsOddOf t o → StaysUpTo j u t (t + 2) → IsSteady j.halos o n →
+stays_by : (j : JobView) (u : Valuation) (t o n d : ℕ) → IsOddOf t o → IsRunUnchangedUntil j u t (t + 2) →
+    HasSameSignalsAtOddTimes j.halos o n →
     t + d ≤ n →
     (x y : ℤ) → local_run j u (t + d) x y ≡ local_run j u t x y
 stays_by j u t o n zero of stays steady l x y = let e : t + 0 ≡ t = omega arith in ap (λ k. local_run j u k x y) e
@@ -158,12 +159,12 @@ stays_by j u t o n (suc d) of stays steady l x y =
     ∙ after_same j u t o n (t + d) of stays steady (omega arith) (omega arith)
     (stays_by j u t o n d of stays steady (omega arith)) x y
 
-pub quiet_runs : QuietRunsStay
+pub quiet_runs : QuietRunStaysUnchanged
 quiet_runs j u t o n of stays steady k x y from to =
     let e : k ≡ t + (k - t) = omega arith in
     ap (λ k. local_run j u k x y) e ∙ stays_by j u t o n (k - t) of stays steady (omega arith) x y
 
-pub no_new_faults : NoNewEdgeFaults
+pub no_new_faults : QuietRunAddsNoEdgeFault
 no_new_faults j u t o n k x y of stays halos edges from l f =
     let odd = of.odd in
     let low = of.from in
@@ -264,7 +265,7 @@ none_at_all es t low high n b met i e ei from to = by_lt_or_le i low
     none_there i e l ei = let h = slice_get_within es i e ei in omega arith
 
 -- ---- where there are no events, signals stay
-pub steady : (s : Signals) (t n : ℕ) → HasNoEvents s.events t n → IsSteady s t n
+pub steady : (s : Signals) (t n : ℕ) → HasNoEvents s.events t n → HasSameSignalsAtOddTimes s t n
 unfolding signal_at
 steady s t n none k x y from to odd =
     let at : (m : ℕ) → t ≤ m → m < n → event_at s.events m x y ≡ None =
@@ -273,10 +274,11 @@ steady s t n none k x y from to odd =
     ap (λ o. unwrap_or (all_times_at s.all_times x y) (unwrap_or o Zero))
     (at k from to ∙ sym (at t (omega arith) (omega arith)))
 
-pub less_steady : (s : Signals) (t n m : ℕ) → m ≤ n → IsSteady s t n → IsSteady s t m
+pub less_steady : (s : Signals) (t n m : ℕ) → m ≤ n → HasSameSignalsAtOddTimes s t n → HasSameSignalsAtOddTimes s t m
 less_steady s t n m l h k x y from to odd = h k x y from (omega arith) odd
 
 -- signals that are moved are steady where they were
-pub steady_moved : (s : Signals) (dx dy : ℤ) (t n : ℕ) → IsSteady (moved_signals dx dy s) t n → IsSteady s t n
+pub steady_moved : (s : Signals) (dx dy : ℤ) (t n : ℕ) → HasSameSignalsAtOddTimes (moved_signals dx dy s) t n →
+    HasSameSignalsAtOddTimes s t n
 steady_moved s dx dy t n h k x y from to odd =
     sym (signals_moved dx dy s k x y) ∙ h k (x +ℤ dx) (y +ℤ dy) from to odd ∙ signals_moved dx dy s t x y

@@ -8,9 +8,9 @@ use Rattle.bbm_rule.proofs.BitLemmas.{by_lt_or_le, by_eq_or_not}
 use Rattle.module_box.specs.Boxes.{in_box}
 use Rattle.module_job.specs.Jobs.{JobView, IsJob}
 use Rattle.local_run.specs.Faults.{assignments}
-use Rattle.local_run.specs.Leaps.{IsLeap, IsOddOf, IsSteady, StaysUpTo}
+use Rattle.local_run.specs.Leaps.{IsLeap, IsOddOf, HasSameSignalsAtOddTimes, IsRunUnchangedUntil}
 use Rattle.local_run.specs.Runs.{local_run}
-use Rattle.local_run.specs.Places.{inner}
+use Rattle.local_run.specs.Places.{box_coord}
 use Rattle.local_run.specs.Scans.{IsNextStop, IsPassed, IsReady, Shows, valuation}
 use Rattle.local_run.specs.declared.planes.Planes.{Planes}
 use Rattle.local_run.specs.declared.values.Values.{Values}
@@ -36,8 +36,8 @@ same_runs j vs k m p is sk sm a la x y = elim (cases_Bool (in_box j.area x y)) [
       let px = span_at j.area.x j.area.w x h.0 in
       let py = span_at j.area.y j.area.h y h.1 in
       subst (λ (z : ℤ). local_run j (valuation vs a) k z y ≡ local_run j (valuation vs a) m z y) (sym px.is)
-      (subst (λ (z : ℤ). local_run j (valuation vs a) k (inner j.area.x px.number) z
-      ≡ local_run j (valuation vs a) m (inner j.area.x px.number) z) (sym py.is)
+      (subst (λ (z : ℤ). local_run j (valuation vs a) k (box_coord j.area.x px.number) z
+      ≡ local_run j (valuation vs a) m (box_coord j.area.x px.number) z) (sym py.is)
       (sym (sk.cells a px.number py.number la px.below py.below) ∙ sm.cells a px.number py.number la px.below py.below))
 ]
 
@@ -49,7 +49,7 @@ shows_same j vs k m p shows same = record {
 
 -- a run that did not change at the odd time o and at the even time after it
 stays_both : (j : JobView) (vs : Values) (o a : ℕ) → a < assignments j → SameRuns j vs (o + 1) o →
-    SameRuns j vs (o + 2) (o + 1) → StaysUpTo j (valuation vs a) o (o + 2)
+    SameRuns j vs (o + 2) (o + 1) → IsRunUnchangedUntil j (valuation vs a) o (o + 2)
 stays_both j vs o a la first second k x y from to = by_eq_or_not k o
     (λ e. ap (λ m. local_run j (valuation vs a) m x y) e)
     (λ n. by_eq_or_not k (o + 1)
@@ -93,7 +93,8 @@ one_next j vs t old place p q before changed ready run l passed next same = reco
 leap_next : (j : JobView) (vs : Values) (o n place : ℕ) (q : Planes) (changed : Bool) → o % 2 ≡ 1 →
     SameRuns j vs (o + 1) o → SameRuns j vs (o + 2) (o + 1) →
     AreFreeBefore j vs (o + 2) → Shows j vs (o + 2) q → IsNextStop j (o + 2) place → IsNextStop j n place →
-    IsSteady j.edges o n → IsSteady j.halos o n → o + 1 < n → n ≤ j.steps → InRun j vs n place q changed
+    HasSameSignalsAtOddTimes j.edges o n → HasSameSignalsAtOddTimes j.halos o n → o + 1 < n → n ≤ j.steps →
+    InRun j vs n place q changed
 leap_next j vs o n place q changed odd first second free next low high edges halos l last = record {
   shows = shows_same j vs n (o + 2) q next
       (λ a la x y. all a la n x y (omega arith) (omega arith)
@@ -114,10 +115,10 @@ leap_next j vs o n place q changed odd first second free next low high edges hal
   );
 }
   where
-    both : (a : ℕ) → a < assignments j → StaysUpTo j (valuation vs a) o (o + 2)
+    both : (a : ℕ) → a < assignments j → IsRunUnchangedUntil j (valuation vs a) o (o + 2)
     both a la = stays_both j vs o a la first second
 
-    all : (a : ℕ) → a < assignments j → StaysUpTo j (valuation vs a) o n
+    all : (a : ℕ) → a < assignments j → IsRunUnchangedUntil j (valuation vs a) o n
     all a la = quiet_runs j (valuation vs a) o o n (is_odd_of o odd) (both a la) halos
 
 none_or : (a b : Bool) → (a || b) ≡ false → (a ≡ false) × (b ≡ false)

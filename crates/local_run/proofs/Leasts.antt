@@ -24,8 +24,9 @@ use Rattle.local_run.specs.declared.fault.KeepFault.{KeepFault}
 use Rattle.local_run.specs.declared.fault.Kind.{Kind}
 use Rattle.local_run.specs.declared.fault.Kind.TheVariants.{Edge, Stop, End}
 use Rattle.local_run.proofs.Decided.{decided}
-use Rattle.local_run.specs.Laws.{UndefinedHasNoFault}
-use Rattle.local_run.specs.Scans.{HasNoEdgeFault, IsReady, IsFirst, IsFirstAt, IsFound, IsFree, IsLeastBelow}
+use Rattle.local_run.specs.Laws.{NoFaultWhereUndefined}
+use Rattle.local_run.specs.Scans.{HasNoEdgeFault, IsReady, IsFirst, IsFirstAt, IsDefinedFault, HasNoFaultOfKind}
+use Rattle.local_run.specs.Scans.{IsLeastBelow}
 use Rattle.local_run.specs.Scans.{is_defined, valuation}
 use Rattle.local_run.specs.declared.values.Values.{Values}
 
@@ -87,7 +88,7 @@ kind_same End Stop e = absurd (omega arith)
 kind_same End End e = refl
 
 -- where a used gate has no row there is no fault
-pub undefined_no_fault : UndefinedHasNoFault
+pub undefined_no_fault : NoFaultWhereUndefined
 undefined_no_fault j f k ordered u h =
     ∥∥₁_elim h.shown (λ x y. absurd x)
     (λ s. undefined_has_none j.locals.netlist (bit f.assignment) s.values k ordered u s.local)
@@ -99,7 +100,7 @@ rows_at j vs a ready small = ready.rows.each a
 
 -- what a fault is under the values that are given
 pub under : (j : JobView) (vs : Values) (f : Fault) → IsReady j vs → IsFault j f →
-    IsFound j vs f.assignment f.time f.kind f.cell.x f.cell.y
+    IsDefinedFault j vs f.assignment f.time f.kind f.cell.x f.cell.y
 under j vs f ready h =
     let rows = rows_at j vs f.assignment ready h.in_range in
     elim (cases_Bool (is_defined vs f.assignment)) [
@@ -109,7 +110,7 @@ under j vs f ready h =
 
 -- and from them
 shown : (j : JobView) (vs : Values) (f : Fault) → IsReady j vs → f.assignment < assignments j →
-    IsFound j vs f.assignment f.time f.kind f.cell.x f.cell.y → IsFault j f
+    IsDefinedFault j vs f.assignment f.time f.kind f.cell.x f.cell.y → IsFault j f
 shown j vs f ready small h = (decided j f (valuation vs f.assignment) ready.job ready.ordered small
     ((rows_at j vs f.assignment ready small).local h.0)).1 h.1
 
@@ -122,37 +123,37 @@ first_least j vs f ready first earlier lower = (
   (λ g h. not_greater f g (earlier g h) (lower g h)
       (λ et ek l. first.row g.cell.x g.cell.y g.assignment h.in_range l (moved g h et ek))
       (λ et ek ey l. first.column g.cell.x g.assignment h.in_range l
-      (subst (λ (z : ℤ). IsFound j vs g.assignment f.time f.kind g.cell.x z) (sym ey) (moved g h et ek)))
+      (subst (λ (z : ℤ). IsDefinedFault j vs g.assignment f.time f.kind g.cell.x z) (sym ey) (moved g h et ek)))
       (λ et ek ey ex l. first.assignment g.assignment l
-      (subst (λ (z : ℤ). IsFound j vs g.assignment f.time f.kind z f.cell.y) (sym ex)
-      (subst (λ (z : ℤ). IsFound j vs g.assignment f.time f.kind g.cell.x z) (sym ey) (moved g h et ek))))),
+      (subst (λ (z : ℤ). IsDefinedFault j vs g.assignment f.time f.kind z f.cell.y) (sym ex)
+      (subst (λ (z : ℤ). IsDefinedFault j vs g.assignment f.time f.kind g.cell.x z) (sym ey) (moved g h et ek))))),
 )
   where
     moved : (g : Fault) → IsFault j g → f.time ≡ g.time → kind_number f.kind ≡ kind_number g.kind →
-        IsFound j vs g.assignment f.time f.kind g.cell.x g.cell.y
+        IsDefinedFault j vs g.assignment f.time f.kind g.cell.x g.cell.y
     moved g h et ek =
-        subst (λ (t : ℕ). IsFound j vs g.assignment t f.kind g.cell.x g.cell.y) (sym et)
-        (subst (λ (k : Kind). IsFound j vs g.assignment g.time k g.cell.x g.cell.y) (sym (kind_same _ _ ek))
+        subst (λ (t : ℕ). IsDefinedFault j vs g.assignment t f.kind g.cell.x g.cell.y) (sym et)
+        (subst (λ (k : Kind). IsDefinedFault j vs g.assignment g.time k g.cell.x g.cell.y) (sym (kind_same _ _ ek))
         (under j vs g ready h))
 
 -- no time before t has a fault of an edge or of a stop
 pub record AreFreeBefore (j : JobView) (vs : Values) (t : ℕ) : Type 0 where
-  pub edges : (s : ℕ) → s < t → s % 2 ≡ 1 → IsFree j vs s Edge
-  pub stops : (s : ℕ) → s < t → IsFree j vs s Stop
+  pub edges : (s : ℕ) → s < t → s % 2 ≡ 1 → HasNoFaultOfKind j vs s Edge
+  pub stops : (s : ℕ) → s < t → HasNoFaultOfKind j vs s Stop
 
 pub free_more : (j : JobView) (vs : Values) (t : ℕ) → AreFreeBefore j vs t → HasNoEdgeFault j vs t →
-    IsFree j vs t Stop → AreFreeBefore j vs (t + 1)
+    HasNoFaultOfKind j vs t Stop → AreFreeBefore j vs (t + 1)
 free_more j vs t free edges stops = record {
   edges = λ s l odd. by_lt_or_le s t (λ h. free.edges s h odd)
       (λ h. let e : t ≡ s = omega (arith, l, h) in
-      subst (λ (n : ℕ). IsFree j vs n Edge) e (edges (subst (λ (n : ℕ). n % 2 ≡ 1) (sym e) odd)));
+      subst (λ (n : ℕ). HasNoFaultOfKind j vs n Edge) e (edges (subst (λ (n : ℕ). n % 2 ≡ 1) (sym e) odd)));
   stops = λ s l. by_lt_or_le s t (λ h. free.stops s h)
-      (λ h. let e : t ≡ s = omega (arith, l, h) in subst (λ (n : ℕ). IsFree j vs n Stop) e stops);
+      (λ h. let e : t ≡ s = omega (arith, l, h) in subst (λ (n : ℕ). HasNoFaultOfKind j vs n Stop) e stops);
 }
 
 -- then there is no fault before t, where the last time is not before
 before_free : (j : JobView) (vs : Values) (t : ℕ) → t ≤ j.steps → AreFreeBefore j vs t →
-    (s : ℕ) (k : Kind) (x y : ℤ) (a : ℕ) → a < assignments j → IsFound j vs a s k x y → ¬ (s < t)
+    (s : ℕ) (k : Kind) (x y : ℤ) (a : ℕ) → a < assignments j → IsDefinedFault j vs a s k x y → ¬ (s < t)
 before_free j vs t early free s Edge x y a small d l = free.edges s l d.1.odd x y a small d
 before_free j vs t early free s Stop x y a small d l = free.stops s l x y a small d
 before_free j vs t early free s End x y a small d l = let e = d.1.last in omega arith
@@ -171,21 +172,22 @@ is_first j vs t k f first =
 -- from the first fault of a kind at a time, where the kinds before it have no fault at the time
 least_at : (j : JobView) (vs : Values) (t : ℕ) (k : Kind) (f : Fault) → IsReady j vs → t ≤ j.steps →
     AreFreeBefore j vs t → IsFirst j vs t k f →
-    ((l : Kind) (x y : ℤ) (a : ℕ) → a < assignments j → IsFound j vs a t l x y → ¬ (kind_number l < kind_number k)) →
+    ((l : Kind) (x y : ℤ) (a : ℕ) → a < assignments j → IsDefinedFault j vs a t l x y →
+    ¬ (kind_number l < kind_number k)) →
     IsLeastFault j (Some f)
 least_at j vs t k f ready early free first lower = first_least j vs f ready (is_first j vs t k f first)
     (λ g h l. none_before j vs t ready early free g h (subst (λ (n : ℕ). g.time < n) first.at_time l))
     (λ g h e l. lower g.kind g.cell.x g.cell.y g.assignment h.in_range
-    (subst (λ (n : ℕ). IsFound j vs g.assignment n g.kind g.cell.x g.cell.y) (sym e ∙ first.at_time)
+    (subst (λ (n : ℕ). IsDefinedFault j vs g.assignment n g.kind g.cell.x g.cell.y) (sym e ∙ first.at_time)
     (under j vs g ready h))
     (subst (λ (q : Kind). kind_number g.kind < kind_number q) first.same_kind l))
 
 none_below_edge : (j : JobView) (vs : Values) (t : ℕ) (l : Kind) (x y : ℤ) (a : ℕ) → a < assignments j →
-    IsFound j vs a t l x y → ¬ (kind_number l < 0)
+    IsDefinedFault j vs a t l x y → ¬ (kind_number l < 0)
 none_below_edge j vs t l x y a small d h = omega (arith, h)
 
 none_below_stop : (j : JobView) (vs : Values) (t : ℕ) → HasNoEdgeFault j vs t → (l : Kind) (x y : ℤ) (a : ℕ) →
-    a < assignments j → IsFound j vs a t l x y → ¬ (kind_number l < 1)
+    a < assignments j → IsDefinedFault j vs a t l x y → ¬ (kind_number l < 1)
 none_below_stop j vs t edges Edge x y a small d h = edges d.1.odd x y a small d
 none_below_stop j vs t edges Stop x y a small d h = omega (arith, h)
 none_below_stop j vs t edges End x y a small d h = omega (arith, h)
@@ -194,8 +196,8 @@ none_below_stop j vs t edges End x y a small d h = omega (arith, h)
 no_last_edge : (j : JobView) (vs : Values) → HasNoEdgeFault j vs j.steps
 no_last_edge j vs odd x y a small d = let e = d.1.early in omega (arith, e)
 
-none_below_end : (j : JobView) (vs : Values) → IsFree j vs j.steps Stop → (l : Kind) (x y : ℤ) (a : ℕ) →
-    a < assignments j → IsFound j vs a j.steps l x y → ¬ (kind_number l < 2)
+none_below_end : (j : JobView) (vs : Values) → HasNoFaultOfKind j vs j.steps Stop → (l : Kind) (x y : ℤ) (a : ℕ) →
+    a < assignments j → IsDefinedFault j vs a j.steps l x y → ¬ (kind_number l < 2)
 none_below_end j vs stops Edge x y a small d h = no_last_edge j vs d.1.odd x y a small d
 none_below_end j vs stops Stop x y a small d h = stops x y a small d
 none_below_end j vs stops End x y a small d h = omega (arith, h)
@@ -215,9 +217,9 @@ last_stop_least j vs f ready free first =
     least_at j vs j.steps Stop f ready (omega arith) free first (none_below_stop j vs j.steps (no_last_edge j vs))
 
 -- no fault at all
-none_left : (j : JobView) (vs : Values) → AreFreeBefore j vs j.steps → IsFree j vs j.steps Stop →
-    IsFree j vs j.steps End → All (λ s. s.at.time ≤ j.steps) j.stops →
-    (t : ℕ) (k : Kind) (x y : ℤ) (a : ℕ) → a < assignments j → ¬ IsFound j vs a t k x y
+none_left : (j : JobView) (vs : Values) → AreFreeBefore j vs j.steps → HasNoFaultOfKind j vs j.steps Stop →
+    HasNoFaultOfKind j vs j.steps End → All (λ s. s.at.time ≤ j.steps) j.stops →
+    (t : ℕ) (k : Kind) (x y : ℤ) (a : ℕ) → a < assignments j → ¬ IsDefinedFault j vs a t k x y
 none_left j vs free stops ends timed t Edge x y a small d = free.edges t d.1.early d.1.odd x y a small d
 none_left j vs free stops ends timed t Stop x y a small d =
     by_lt_or_le t j.steps (λ h. free.stops t h x y a small d)
@@ -226,14 +228,14 @@ none_left j vs free stops ends timed t Stop x y a small d =
     subst (λ (s : listed.Stop). s.at.time ≤ j.steps) d.1.is_listed.2 (timed d.1.is_listed.0 d.1.stop d.1.is_listed.1) in
     let time = d.1.time in
     let e : t ≡ j.steps = omega (arith, here, time, h) in
-    stops x y a small (subst (λ (n : ℕ). IsFound j vs a n Stop x y) e d))
+    stops x y a small (subst (λ (n : ℕ). IsDefinedFault j vs a n Stop x y) e d))
 none_left j vs free stops ends timed t End x y a small d =
-    ends x y a small (subst (λ (n : ℕ). IsFound j vs a n End x y) d.1.last d)
+    ends x y a small (subst (λ (n : ℕ). IsDefinedFault j vs a n End x y) d.1.last d)
 
 -- the first fault of a demand, or none
 pub end_least_fault : (j : JobView) (vs : Values) (o : Option Fault) → IsReady j vs → AreFreeBefore j vs j.steps →
-    IsFree j vs j.steps Stop →
-    MatchOption o (IsFree j vs j.steps End) (λ f. IsFirst j vs j.steps End f) → IsLeastFault j o
+    HasNoFaultOfKind j vs j.steps Stop →
+    MatchOption o (HasNoFaultOfKind j vs j.steps End) (λ f. IsFirst j vs j.steps End f) → IsLeastFault j o
 end_least_fault j vs (Some f) ready free stops first =
     least_at j vs j.steps End f ready (omega arith) free first (none_below_end j vs stops)
 end_least_fault j vs None ready free stops ends = λ g h.

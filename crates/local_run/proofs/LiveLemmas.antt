@@ -7,10 +7,11 @@ use Rattle.bbm_rule.specs.Bits.{bit}
 use Rattle.bbm_rule.specs.Plane.{turned}
 use Rattle.bbm_rule.specs.Words.{AreTurned}
 use Rattle.bbm_rule.proofs.BitLemmas.{bit-zero, by_lt_or_le}
-use Rattle.local_run.specs.Calm.{AreDead, ChangesCells, EvenCalm, IsDeadAt, OddCalm}
+use Rattle.local_run.specs.Calm.{AreDead, ChangesCells, AreEvenBlocksStable, IsDeadAt, AreOddBlocksStable}
 use Rattle.local_run.specs.Lanes.{HasSize}
-use Rattle.local_run.specs.Live.{AllDead, AreMarked, AreUnmarked, DeadBut, DropsDead, IsDeadCell, MarksCell, TakesMark}
-use Rattle.local_run.specs.Turns.{DiagonalStays, IsCalmBlock, SameBeside, SwapsPart, TurnsPart}
+use Rattle.local_run.specs.Live.{AllUnmarkedDead, AreMarked, AreUnmarked, AreUnmarkedCellsDead, UnmarksIfDead}
+use Rattle.local_run.specs.Live.{IsDeadCell, MarksCell, TakesMark}
+use Rattle.local_run.specs.Turns.{DiagonalStays, IsStableBlock, SameBeside, SwapsPart, TurnsPart}
 use Rattle.local_run.specs.declared.live.LiveMarks.{LiveMarks}
 use Rattle.local_run.specs.declared.planes.Planes.{Planes}
 use Rattle.local_run.proofs.CalmLemmas.{other_cell}
@@ -53,7 +54,7 @@ none_stays : (a b c d : ℕ) → a ≡ 0 → b ≡ 0 → c ≡ 0 → d ≡ 0 →
 none_stays a b c d ea eb ec ed j = rw (ea, eb, ec, ed, bit-zero j) (none_turned, none_turned)
 
 pub dead_calm : (w a b c d : ℕ) (ul ur ll lr : List ℕ) → IsDeadCell w a ul → IsDeadCell w b ur → IsDeadCell w c ll →
-    IsDeadCell w d lr → IsCalmBlock w a b c d ul ur ll lr
+    IsDeadCell w d lr → IsStableBlock w a b c d ul ur ll lr
 dead_calm w a b c d ul ur ll lr da db dc dd = (
   (λ k l. none_stays _ _ _ _ (da k l) (dd k l) (db k l) (dc k l)),
   (λ k l. none_stays _ _ _ _ (db k l) (dc k l) (da k l) (dd k l)),
@@ -158,9 +159,10 @@ anti_cells odd right down even p q s eo ee = record {
 
 -- ---- which cells are dead afterwards
 -- those whose marks and words changed places
-swap_dead : (w n a b : ℕ) (m o m' xs ys xs' : List ℕ) → b < n → DeadBut w n m xs → DeadBut w n o ys →
+swap_dead : (w n a b : ℕ) (m o m' xs ys xs' : List ℕ) → b < n → AreUnmarkedCellsDead w n m xs →
+    AreUnmarkedCellsDead w n o ys →
     TakesMark a b m o m' → SameBeside (w * a) w xs xs' →
-    ((k : ℕ) → k < w → get_or xs' (w * a + k) 0 ≡ get_or ys (w * b + k) 0) → DeadBut w n m' xs'
+    ((k : ℕ) → k < w → get_or xs' (w * a + k) 0 ≡ get_or ys (w * b + k) 0) → AreUnmarkedCellsDead w n m' xs'
 swap_dead w n a b m o m' xs ys xs' lb dead others takes beside moved v l free k h = elim (takes v free) [
   | inl kept ↦ other_cell w a v k xs xs' beside h kept.0 ∙ dead v l kept.1 k h
   | inr taken ↦ subst (λ (z : ℕ). get_or xs' (w * z + k) 0 ≡ 0) (sym taken.0) (moved k h ∙ others b lb taken.1 k h)
@@ -171,8 +173,9 @@ pub main_dead : (odd even : ℕ) (l l' : LiveMarks) (p q : Planes) → HasSize p
     SwapsPart (p.words * odd) (p.words * even) p.words p.odd.items p.even.items q.odd.items q.even.items →
     q.right ≡ p.right → q.down ≡ p.down →
     TakesMark odd even l.odd.items l.even.items l'.odd.items →
-    TakesMark even odd l.even.items l.odd.items l'.even.items → l'.right ≡ l.right → l'.down ≡ l.down → AllDead l p →
-    AllDead l' q
+    TakesMark even odd l.even.items l.odd.items l'.even.items → l'.right ≡ l.right → l'.down ≡ l.down →
+    AllUnmarkedDead l p →
+    AllUnmarkedDead l' q
 main_dead odd even l l' p q size lo le s er ed to te mr md dead = rw (size.0, size.1, size.2, er, ed, mr, md) (
   swap_dead p.words (p.stride * p.rows) odd even l.odd.items l.even.items l'.odd.items p.odd.items p.even.items
       q.odd.items le dead.0 dead.3 to s.first_beside s.first,
@@ -187,8 +190,9 @@ pub anti_dead : (right down : ℕ) (l l' : LiveMarks) (p q : Planes) → HasSize
     SwapsPart (p.words * right) (p.words * down) p.words p.right.items p.down.items q.right.items q.down.items →
     q.odd ≡ p.odd → q.even ≡ p.even →
     TakesMark right down l.right.items l.down.items l'.right.items →
-    TakesMark down right l.down.items l.right.items l'.down.items → l'.odd ≡ l.odd → l'.even ≡ l.even → AllDead l p →
-    AllDead l' q
+    TakesMark down right l.down.items l.right.items l'.down.items → l'.odd ≡ l.odd → l'.even ≡ l.even →
+    AllUnmarkedDead l p →
+    AllUnmarkedDead l' q
 anti_dead right down l l' p q size lr ld s eo ee tr td mo me dead = rw (size.0, size.1, size.2, eo, ee, mo, me) (
   dead.0,
   swap_dead p.words (p.stride * p.rows) right down l.right.items l.down.items l'.right.items p.right.items p.down.items
@@ -201,15 +205,16 @@ anti_dead right down l l' p q size lr ld s eo ee tr td mo me dead = rw (size.0, 
 -- those of a block that was turned, where the cells that may have changed have marks
 kept_dead : (changes : Bool) (w n c : ℕ) (m m' xs ys : List ℕ) → MarksCell changes c m m' →
     ((u k : ℕ) → k < w → (changes ≡ true → u ≢ c) → get_or ys (w * u + k) 0 ≡ get_or xs (w * u + k) 0) →
-    DeadBut w n m xs → DeadBut w n m' ys
+    AreUnmarkedCellsDead w n m xs → AreUnmarkedCellsDead w n m' ys
 kept_dead changes w n c m m' xs ys marks same dead u l free k h = let f = marks u free in
     same u k h f.1 ∙ dead u l f.0 k h
 
 pub cells_dead : (main anti : Bool) (odd right down even : ℕ) (l l' : LiveMarks) (p q : Planes) →
     HasSize p.words p.stride p.rows q → ChangesCells main anti odd right down even p q →
     MarksCell main odd l.odd.items l'.odd.items → MarksCell anti right l.right.items l'.right.items →
-    MarksCell anti down l.down.items l'.down.items → MarksCell main even l.even.items l'.even.items → AllDead l p →
-    AllDead l' q
+    MarksCell anti down l.down.items l'.down.items → MarksCell main even l.even.items l'.even.items →
+    AllUnmarkedDead l p →
+    AllUnmarkedDead l' q
 cells_dead main anti odd right down even l l' p q size ch mo mr md me dead = rw (size.0, size.1, size.2) (
   kept_dead main p.words (p.stride * p.rows) odd l.odd.items l'.odd.items p.odd.items q.odd.items mo ch.odd_same dead.0,
   kept_dead anti p.words (p.stride * p.rows) right l.right.items l'.right.items p.right.items q.right.items mr
@@ -221,26 +226,27 @@ cells_dead main anti odd right down even l l' p q size ch mo mr md me dead = rw 
 )
 
 -- those without a mark, after marks were taken off dead ones
-drop_dead : (w n c : ℕ) (m m' xs : List ℕ) → DropsDead w c xs m m' → DeadBut w n m xs → DeadBut w n m' xs
-drop_dead w n c m m' xs drops dead u l free k h = elim (drops u free) [
+unmark_dead_cells : (w n c : ℕ) (m m' xs : List ℕ) → UnmarksIfDead w c xs m m' → AreUnmarkedCellsDead w n m xs →
+    AreUnmarkedCellsDead w n m' xs
+unmark_dead_cells w n c m m' xs drops dead u l free k h = elim (drops u free) [
   | inl kept ↦ dead u l kept k h
   | inr dropped ↦ subst (λ (z : ℕ). get_or xs (w * z + k) 0 ≡ 0) (sym dropped.0) (dropped.1 k h)
 ]
 
 pub drops_dead : (odd right down even : ℕ) (l l' : LiveMarks) (p : Planes) →
-    DropsDead p.words odd p.odd.items l.odd.items l'.odd.items →
-    DropsDead p.words right p.right.items l.right.items l'.right.items →
-    DropsDead p.words down p.down.items l.down.items l'.down.items →
-    DropsDead p.words even p.even.items l.even.items l'.even.items → AllDead l p → AllDead l' p
+    UnmarksIfDead p.words odd p.odd.items l.odd.items l'.odd.items →
+    UnmarksIfDead p.words right p.right.items l.right.items l'.right.items →
+    UnmarksIfDead p.words down p.down.items l.down.items l'.down.items →
+    UnmarksIfDead p.words even p.even.items l.even.items l'.even.items → AllUnmarkedDead l p → AllUnmarkedDead l' p
 drops_dead odd right down even l l' p od rd dd ed dead = (
-  drop_dead p.words (p.stride * p.rows) odd l.odd.items l'.odd.items p.odd.items od dead.0,
-  drop_dead p.words (p.stride * p.rows) right l.right.items l'.right.items p.right.items rd dead.1,
-  drop_dead p.words (p.stride * p.rows) down l.down.items l'.down.items p.down.items dd dead.2,
-  drop_dead p.words (p.stride * p.rows) even l.even.items l'.even.items p.even.items ed dead.3,
+  unmark_dead_cells p.words (p.stride * p.rows) odd l.odd.items l'.odd.items p.odd.items od dead.0,
+  unmark_dead_cells p.words (p.stride * p.rows) right l.right.items l'.right.items p.right.items rd dead.1,
+  unmark_dead_cells p.words (p.stride * p.rows) down l.down.items l'.down.items p.down.items dd dead.2,
+  unmark_dead_cells p.words (p.stride * p.rows) even l.even.items l'.even.items p.even.items ed dead.3,
 )
 
 -- none, where all have marks
-pub marked_dead : (n : ℕ) (l : LiveMarks) (p : Planes) → p.stride * p.rows ≤ n → AreMarked n l → AllDead l p
+pub marked_dead : (n : ℕ) (l : LiveMarks) (p : Planes) → p.stride * p.rows ≤ n → AreMarked n l → AllUnmarkedDead l p
 marked_dead n l p room all = (
   λ u h free. absurd ((all u (omega (arith, room, h))).0 free),
   λ u h free. absurd ((all u (omega (arith, room, h))).1 free),
@@ -249,7 +255,7 @@ marked_dead n l p room all = (
 )
 
 -- and whichever have marks, where all cells are dead
-pub dead_all : (l : LiveMarks) (p : Planes) → AreDead p → AllDead l p
+pub dead_all : (l : LiveMarks) (p : Planes) → AreDead p → AllUnmarkedDead l p
 dead_all l p dead = (
   (λ u h free k i. (dead u k i).0),
   (λ u h free k i. (dead u k i).1),
@@ -258,15 +264,16 @@ dead_all l p dead = (
 )
 
 -- the four cells with a number, where none has a mark
-pub dead_at : (u : ℕ) (l : LiveMarks) (p : Planes) → u < p.stride * p.rows → AllDead l p → AreUnmarked l u u u u →
+pub dead_at : (u : ℕ) (l : LiveMarks) (p : Planes) → u < p.stride * p.rows → AllUnmarkedDead l p →
+    AreUnmarked l u u u u →
     IsDeadAt u p
 dead_at u l p h dead free k i =
     (dead.0 u h free.0 k i, dead.1 u h free.1 k i, dead.2 u h free.2 k i, dead.3 u h free.3 k i)
 
 -- a block of the even partition of which no cell has a mark
-pub dead_block : (u : ℕ) (l : LiveMarks) (p : Planes) → u + p.stride + 1 < p.stride * p.rows → AllDead l p →
+pub dead_block : (u : ℕ) (l : LiveMarks) (p : Planes) → u + p.stride + 1 < p.stride * p.rows → AllUnmarkedDead l p →
     AreUnmarked l (u + p.stride + 1) (u + p.stride) (u + 1) u →
-    IsCalmBlock p.words u (u + 1) (u + p.stride)
+    IsStableBlock p.words u (u + 1) (u + p.stride)
     (u + p.stride + 1) p.even.items p.down.items p.right.items p.odd.items
 dead_block u l p room dead free =
     dead_calm p.words u (u + 1) (u + p.stride) (u + p.stride + 1) p.even.items p.down.items p.right.items p.odd.items
@@ -274,11 +281,11 @@ dead_block u l p room dead free =
     (dead.0 (u + p.stride + 1) (omega arith) free.0)
 
 -- each block stays, where all cells are dead
-pub dead_odd : (marks : List ℕ) (p : Planes) → AreDead p → OddCalm marks p
+pub dead_odd : (marks : List ℕ) (p : Planes) → AreDead p → AreOddBlocksStable marks p
 dead_odd marks p dead u l free = dead_calm p.words u u u u p.odd.items p.right.items p.down.items p.even.items
     (λ k h. (dead u k h).0) (λ k h. (dead u k h).1) (λ k h. (dead u k h).2) (λ k h. (dead u k h).3)
 
-pub dead_even : (marks : List ℕ) (p : Planes) → AreDead p → EvenCalm marks p
+pub dead_even : (marks : List ℕ) (p : Planes) → AreDead p → AreEvenBlocksStable marks p
 dead_even marks p dead u l inside free = dead_calm p.words u (u + 1) (u + p.stride) (u + p.stride + 1) p.even.items
     p.down.items p.right.items p.odd.items (λ k h. (dead u k h).3) (λ k h. (dead (u + 1) k h).2)
     (λ k h. (dead (u + p.stride) k h).1) (λ k h. (dead (u + p.stride + 1) k h).0)

@@ -14,7 +14,7 @@ use Rattle.module_box.proofs.BoxSteps.{even_stays}
 use Rattle.module_job.specs.Jobs.{JobView, NamesOwnWires}
 use Rattle.module_job.specs.Signals.{is_live, IsBelow}
 use Rattle.local_run.specs.Runs.{with_halo, local_step, local_run}
-use Rattle.local_run.specs.Laws.{StaysInBox}
+use Rattle.local_run.specs.Laws.{LocalRunStaysInBox}
 use Rattle.local_run.proofs.OwnWires.{start_below, halo_below, start_outside}
 
 pub even_or_odd : (t : ℕ) → (t % 2 ≡ 0) ⊎ (t % 2 ≡ 1)
@@ -31,7 +31,7 @@ unfolding local_step
 local_odd j u t s x y e = cond-false _ _ _ (ne_eqb (t % 2) 0 (λ h. omega arith))
 
 -- ---- no cell outside the box is live
-pub stays : StaysInBox
+pub stays : LocalRunStaysInBox
 unfolding local_run
 stays j u zero is x y out = ap (is_live u) (start_outside j x y out)
 stays j u (suc t) is x y out = elim (even_or_odd t) [

@@ -14,7 +14,7 @@ use Rattle.bbm_rule.proofs.Moving.{parity_moved, step_moved}
 use Rattle.circuit.specs.Meaning.{IsUndefined, Netlist, Satisfies, Valuation}
 use Rattle.module_box.specs.Boxes.{IsEven, in_box, in_ring}
 use Rattle.module_box.specs.Locals.{is_among}
-use Rattle.module_box.specs.Moves.{BoxMovesAlong, IsMovedBox, IsNear, IsSmallShift, moved_cell, moved_signals}
+use Rattle.module_box.specs.Moves.{BoxMovesAlong, IsMovedBox, IsInShiftRange, IsSmallShift, moved_cell, moved_signals}
 use Rattle.module_box.specs.Schedules.{Signals, signal_at}
 use Rattle.module_box.specs.declared.boxes.Box2.{Box2}
 use Rattle.module_box.specs.declared.schedules.Signal.TheVariants.{Zero}
@@ -28,7 +28,8 @@ use Rattle.module_job.specs.declared.job.Demand.TheVariants as Demanded
 use Rattle.module_job.specs.declared.job.Stop as listed
 use Rattle.module_job.proofs.ShapeParts.{back_forth, stops_back}
 use Rattle.local_run.specs.Faults.{HasFault, IsFault, IsFaultUnder, IsKeepFault}
-use Rattle.local_run.specs.Moves.{FaultsMoveAlong, LeastFaultMovesAlong, LeastKeepFaultStays, columns_between, fault_on}
+use Rattle.local_run.specs.Moves.{FaultsMoveWithJob, LeastFaultMovesWithJob, SameShapeSameLeastKeepFault}
+use Rattle.local_run.specs.Moves.{columns_between, fault_moved_to_job}
 use Rattle.local_run.specs.Moves.{rows_between}
 use Rattle.local_run.specs.Order.{fault_cmp, kind_number}
 use Rattle.local_run.specs.Runs.{local_run, with_halo}
@@ -239,7 +240,7 @@ alike j k ej ek same =
           ∙ stops_twice j.area.x k.area.x j.area.y k.area.y j.stops;
     }
 
-pub faults_moved : FaultsMoveAlong
+pub faults_moved : FaultsMoveWithJob
 unfolding moved_fault
 faults_moved j k f is_j is_k same is =
     fault_alike (columns_between j k) (rows_between j k) j k (alike j k is_j.even is_k.even same) f is
@@ -248,7 +249,7 @@ faults_moved j k f is_j is_k same is =
 there_and_back : (a b : ℕ) → (pos b -ℤ pos a) +ℤ (pos a -ℤ pos b) ≡ pos 0
 there_and_back a b = omega (arith, ints)
 
-fault_back : (j k : JobView) (f : Fault) → fault_on j k (fault_on k j f) ≡ f
+fault_back : (j k : JobView) (f : Fault) → fault_moved_to_job j k (fault_moved_to_job k j f) ≡ f
 fault_back j k f = λ i. record {
   time = f.time;
   kind = f.kind;
@@ -257,19 +258,21 @@ fault_back j k f = λ i. record {
   assignment = f.assignment;
 }
 
-cmp_on : (j k : JobView) (f g : Fault) → fault_cmp (fault_on j k f) (fault_on j k g) ≡ fault_cmp f g
+cmp_on : (j k : JobView) (f g : Fault) → fault_cmp (fault_moved_to_job j k f) (fault_moved_to_job j k g) ≡ fault_cmp f g
 unfolding fault_cmp
 cmp_on j k f g = λ i.
     ordering_then (nat_cmp f.time g.time) (ordering_then (nat_cmp (kind_number f.kind) (kind_number g.kind))
     (ordering_then (cell_cmp_moved (columns_between j k) (rows_between j k) f.cell g.cell i)
     (nat_cmp f.assignment g.assignment)))
 
-pub least_moved : LeastFaultMovesAlong
-least_moved j k None is_j is_k same least = λ f is. least (fault_on k j f) (faults_moved k j f is_k is_j (sym same) is)
+pub least_moved : LeastFaultMovesWithJob
+least_moved j k None is_j is_k same least =
+    λ f is. least (fault_moved_to_job k j f) (faults_moved k j f is_k is_j (sym same) is)
 least_moved j k (Some f) is_j is_k same least = (
   faults_moved j k f is_j is_k same least.0,
-  λ g is greater. least.1 (fault_on k j g) (faults_moved k j g is_k is_j (sym same) is)
-      (sym (cmp_on j k f (fault_on k j g)) ∙ ap (fault_cmp (fault_on j k f)) (fault_back j k g) ∙ greater),
+  λ g is greater. least.1 (fault_moved_to_job k j g) (faults_moved k j g is_k is_j (sym same) is)
+      (sym (cmp_on j k f (fault_moved_to_job k j g)) ∙ ap (fault_cmp (fault_moved_to_job j k f)) (fault_back j k g)
+      ∙ greater),
 )
 
 -- ---- keep faults say nothing of places
@@ -283,7 +286,7 @@ keep_stays j k f same is =
       shown = subst (λ (n : Netlist). ∥ IsUndefined n (bit f.assignment) f.gate ∥₁) netlist is.shown;
     }
 
-pub least_keep_stays : LeastKeepFaultStays
+pub least_keep_stays : SameShapeSameLeastKeepFault
 least_keep_stays j k None same least = λ f is. least f (keep_stays k j f (sym same) is)
 least_keep_stays j k (Some f) same least =
     (keep_stays j k f same least.0, λ g is. least.1 g (keep_stays k j g (sym same) is))
@@ -307,7 +310,7 @@ fault_inside j f is fault = ∥∥₁_elim fault.shown (Prim.hlevel props)
 small_number : (z : ℤ) (n m w : ℕ) → z ≡ pos n → n < m + w → m + w ≤ 512 → IsSmallShift z
 small_number z n m w e lt few = (omega (arith, ints, e), omega (arith, ints, e, lt, few))
 
-pub fault_near : (j : JobView) (f : Fault) → IsJob j → IsFault j f → IsNear f.cell
+pub fault_near : (j : JobView) (f : Fault) → IsJob j → IsFault j f → IsInShiftRange f.cell
 fault_near j f is fault =
     let p = in_box_nats j.area f.cell.x f.cell.y (fault_inside j f is fault) in
     let px = p.0 in let py = p.1 in (

@@ -12,9 +12,9 @@ use Rattle.module_job.specs.Signals.{is_live}
 use Rattle.module_job.specs.declared.job.Demand.TheVariants as Demanded
 use Rattle.local_run.specs.Faults.{assignments}
 use Rattle.local_run.specs.Lanes.{lane}
-use Rattle.local_run.specs.Places.{inner}
+use Rattle.local_run.specs.Places.{box_coord}
 use Rattle.local_run.specs.Runs.{local_run}
-use Rattle.local_run.specs.Scans.{IsReady, IsSought, IsStride, Shows}
+use Rattle.local_run.specs.Scans.{IsReady, IsSought, IsScanStride, Shows}
 use Rattle.local_run.specs.declared.fault.Kind.{Kind}
 use Rattle.local_run.specs.declared.fault.Kind.TheVariants.{Edge, End}
 use Rattle.local_run.specs.declared.planes.Planes.{Planes}
@@ -28,22 +28,22 @@ either true s t e = e
 either false s t e = refl
 
 -- the place of a cell, row by row
-placed : (b : Box2) (x y : ℕ) → place_in b (inner b.x x) (inner b.y y) ≡ b.w * y + x
-unfolding inner
+placed : (b : Box2) (x y : ℕ) → place_in b (box_coord b.x x) (box_coord b.y y) ≡ b.w * y + x
+unfolding box_coord
 placed b x y =
     let column : b.x + x - b.x ≡ x = omega arith in
     let row : b.y + y - b.y ≡ y = omega arith in
     ap₂ (λ (k l : ℕ). k * b.w + l) row column ∙ omega arith
 
 pub start_dead : (j : JobView) (x y : ℕ) → unwrap_or (slice_get j.starts (j.area.w * y + x)) Zero ≡ Zero →
-    job_start j (inner j.area.x x) (inner j.area.y y) ≡ Zero
+    job_start j (box_coord j.area.x x) (box_coord j.area.y y) ≡ Zero
 unfolding job_start
 start_dead j x y none =
     either _ _ _ (ap (λ (p : ℕ). unwrap_or (slice_get j.starts p) Zero) (placed j.area x y) ∙ none)
 
 pub demand_dead : (j : JobView) (x y : ℕ) →
     unwrap_or (slice_get j.demands (j.area.w * y + x)) Demanded.Dead ≡ Demanded.Dead →
-    job_demand j (inner j.area.x x) (inner j.area.y y) ≡ Demanded.Dead
+    job_demand j (box_coord j.area.x x) (box_coord j.area.y y) ≡ Demanded.Dead
 unfolding job_demand
 demand_dead j x y none =
     either _ _ _ (ap (λ (p : ℕ). unwrap_or (slice_get j.demands p) Demanded.Dead) (placed j.area x y) ∙ none)
@@ -57,7 +57,7 @@ dead_start j u x y none = sym (ap (is_live u) none) ∙ run_start j u x y
 -- a dead cell that must be dead has no fault
 end_free : (j : JobView) (vs : Values) (t : ℕ) (kind : Kind) (x y : ℕ) (p : Planes) → IsReady j vs →
     IsSought j t kind → Shows j vs t p → x < j.area.w → y < j.area.h → kind ≡ End →
-    job_demand j (inner j.area.x x) (inner j.area.y y) ≡ Demanded.Dead →
+    job_demand j (box_coord j.area.x x) (box_coord j.area.y y) ≡ Demanded.Dead →
     ((a : ℕ) → a < 64 * p.words → lane p a (1 + x) (1 + y) ≡ false) →
     (a : ℕ) → a < assignments j → FreeAt j vs t kind x y a
 end_free j vs t kind x y p ready sought shows lx ly end must dead =
@@ -72,7 +72,7 @@ end_free j vs t kind x y p ready sought shows lx ly end must dead =
 pub free_to : (j : JobView) (vs : Values) (t : ℕ) (kind : Kind) (x next y : ℕ) (p : Planes) → IsReady j vs →
     IsSought j t kind → Shows j vs t p → y < j.area.h →
     ((k a : ℕ) → k < x → k < j.area.w → a < assignments j → FreeAt j vs t kind k y a) → (x < next → kind ≡ End) →
-    ((k : ℕ) → x ≤ k → k < next → job_demand j (inner j.area.x k) (inner j.area.y y) ≡ Demanded.Dead) →
+    ((k : ℕ) → x ≤ k → k < next → job_demand j (box_coord j.area.x k) (box_coord j.area.y y) ≡ Demanded.Dead) →
     ((a k : ℕ) → a < 64 * p.words → x ≤ k → k < next → lane p a (1 + k) (1 + y) ≡ false) →
     (k a : ℕ) → k < next → k < j.area.w → a < assignments j → FreeAt j vs t kind k y a
 free_to j vs t kind x next y p ready sought shows ly before end must dead k a lk lw la = by_lt_or_le k x
@@ -81,7 +81,7 @@ free_to j vs t kind x next y p ready sought shows ly before end must dead k a lk
     (λ b lb. dead b k lb g lk) a la)
 
 -- only at the last time are cells passed over, and there the next one is looked at after each
-pub next_at_end : (kind : Kind) (w h y x next stride : ℕ) → IsStride kind w h y stride → x ≤ next →
+pub next_at_end : (kind : Kind) (w h y x next stride : ℕ) → IsScanStride kind w h y stride → x ≤ next →
     (x < next → kind ≡ End) → IsAtEnd w x stride → IsAtEnd w next stride
 next_at_end kind w h y x next stride s le end at = by_eq_or_not next x
     (λ same. subst (λ (n : ℕ). IsAtEnd w n stride) (sym same) at)

@@ -13,15 +13,16 @@ use Rattle.module_box.specs.Moves.{moved_signals}
 use Rattle.module_box.proofs.MovedBoxes.{signals_moved}
 use Rattle.module_box.proofs.Rising.{all_times_none, event_none}
 use Rattle.module_job.specs.Shapes.{shift_to_origin}
-use Rattle.local_run.specs.Places.{inner, outer}
+use Rattle.local_run.specs.Places.{box_coord, halo_coord}
 use Rattle.bbm_rule.specs.Marks.{MarksOne}
 use Rattle.local_run.specs.Leaps.{IsTimeBetween}
-use Rattle.local_run.specs.Quiet.{AreAllTimesMarked, IsCellMarked, IsQuietIn, KeepsMarks, LacksLine, line_at, number_at}
+use Rattle.local_run.specs.Quiet.{AreAllTimesCellsMarked, IsCellMarked, IsZeroAtUnmarked, KeepsMarks, LacksCellMark}
+use Rattle.local_run.specs.Quiet.{cell_mark_number_at, number_at}
 use Rattle.bbm_rule.proofs.BitLemmas.{by_lt_or_le}
 use Rattle.local_run.proofs.LaneLemmas.{place_below}
 
-pub outer_same : (c a b : ℕ) → outer c a ≡ outer c b → a ≡ b
-unfolding outer
+pub outer_same : (c a b : ℕ) → halo_coord c a ≡ halo_coord c b → a ≡ b
+unfolding halo_coord
 outer_same c a b e = omega (arith, ints, e)
 
 pub number_below : (b : Box2) (x y : ℕ) → b.w % 2 ≡ 0 → b.h % 2 ≡ 0 → x < b.w + 2 → y < b.h + 2 →
@@ -30,19 +31,21 @@ number_below b x y ew eh lx ly =
     let h = place_below 1 (b.w / 2 + 1) (b.h / 2 + 1) (x / 2) (y / 2) 0 (omega arith) (omega arith) (omega arith) in
     omega arith
 
-pub cell_marked : (b : Box2) (c : Cell) (x y : ℕ) (old middle new : List ℕ) → c.x ≡ outer b.x x → c.y ≡ outer b.y y →
-    MarksOne (number_at b x y) old middle → MarksOne (line_at b x y) middle new → IsCellMarked b c new
+pub cell_marked : (b : Box2) (c : Cell) (x y : ℕ) (old middle new : List ℕ) → c.x ≡ halo_coord b.x x →
+    c.y ≡ halo_coord b.y y →
+    MarksOne (number_at b x y) old middle → MarksOne (cell_mark_number_at b x y) middle new → IsCellMarked b c new
 cell_marked b c x y old middle new ex ey one own x' y' lx ly ex' ey' free =
     let hx : x' ≡ x = outer_same b.x x' x (sym ex' ∙ ex) in
     let hy : y' ≡ y = outer_same b.y y' y (sym ey' ∙ ey) in
     elim free [
       | inl number ↦ (one (number_at b x' y') (own (number_at b x' y') number).0).1 (ap₂ (number_at b) hx hy)
-      | inr line ↦ (own (line_at b x' y') line).1 (ap₂ (line_at b) hx hy)
+      | inr line ↦ (own (cell_mark_number_at b x' y') line).1 (ap₂ (cell_mark_number_at b) hx hy)
     ]
 
-lacks_line : (b : Box2) (x y : ℕ) (old new : List ℕ) → KeepsMarks old new → LacksLine b x y new → LacksLine b x y old
+lacks_line : (b : Box2) (x y : ℕ) (old new : List ℕ) → KeepsMarks old new → LacksCellMark b x y new →
+    LacksCellMark b x y old
 lacks_line b x y old new keeps (inl free) = inl (keeps (number_at b x y) free)
-lacks_line b x y old new keeps (inr free) = inr (keeps (line_at b x y) free)
+lacks_line b x y old new keeps (inr free) = inr (keeps (cell_mark_number_at b x y) free)
 
 pub still_marked : (b : Box2) (c : Cell) (old new : List ℕ) → KeepsMarks old new → IsCellMarked b c old →
     IsCellMarked b c new
@@ -66,18 +69,20 @@ zero_signal s t x y all_times events =
     refl' : Zero ≡ Zero
     refl' = cc
 
-pub still_all_times : (s : Signals) (b : Box2) (old new : List ℕ) → KeepsMarks old new → AreAllTimesMarked s b old →
-    AreAllTimesMarked s b new
+pub still_all_times : (s : Signals) (b : Box2) (old new : List ℕ) → KeepsMarks old new →
+    AreAllTimesCellsMarked s b old →
+    AreAllTimesCellsMarked s b new
 still_all_times s b old new keeps all_times i h at = still_marked b h.cell old new keeps (all_times i h at)
 
-pub quiet_in : (s : Signals) (b : Box2) (t : ℕ) (marks : List ℕ) → AreAllTimesMarked s b marks →
+pub quiet_in : (s : Signals) (b : Box2) (t : ℕ) (marks : List ℕ) → AreAllTimesCellsMarked s b marks →
     ((i : ℕ) (e : TimedSignal) → slice_get s.events i ≡ Some e → e.at.time ≡ t → IsCellMarked b e.at.cell marks) →
-    IsQuietIn s b t marks
-quiet_in s b t marks all_times events x y lx ly free = zero_signal s t (outer b.x x) (outer b.y y)
+    IsZeroAtUnmarked s b t marks
+quiet_in s b t marks all_times events x y lx ly free = zero_signal s t (halo_coord b.x x) (halo_coord b.y y)
     (λ i h at e. all_times i h at x y lx ly e.0 e.1 free) (λ i v at same e. events i v at same x y lx ly e.0 e.1 free)
 
-pub still_quiet : (s : Signals) (b : Box2) (t : ℕ) (old new : List ℕ) → KeepsMarks old new → IsQuietIn s b t old →
-    IsQuietIn s b t new
+pub still_quiet : (s : Signals) (b : Box2) (t : ℕ) (old new : List ℕ) → KeepsMarks old new →
+    IsZeroAtUnmarked s b t old →
+    IsZeroAtUnmarked s b t new
 still_quiet s b t old new keeps quiet x y lx ly free = quiet x y lx ly (lacks_line b x y old new keeps free)
 
 -- the events from the first one of a time up to the first one of the next
@@ -90,41 +95,41 @@ events_between es t m n P from to have i e at same =
     by_lt_or_le i n (λ l. have i e after l at) (λ past. let h = to.above i e past at in absurd (omega arith)))
 
 -- ---- signals counted from the corner of the box
-outer_back : (c k : ℕ) → outer c k +ℤ shift_to_origin c ≡ outer 0 k
-unfolding outer
+outer_back : (c k : ℕ) → halo_coord c k +ℤ shift_to_origin c ≡ halo_coord 0 k
+unfolding halo_coord
 outer_back c k = omega (arith, ints)
 
 pub quiet_moved : (s : Signals) (b : Box2) (t : ℕ) (marks : List ℕ) →
-    IsQuietIn (moved_signals (shift_to_origin b.x) (shift_to_origin b.y) s)
+    IsZeroAtUnmarked (moved_signals (shift_to_origin b.x) (shift_to_origin b.y) s)
     (record { x = 0; y = 0; w = b.w; h = b.h }) t marks →
-    IsQuietIn s b t marks
+    IsZeroAtUnmarked s b t marks
 quiet_moved s b t marks quiet x y lx ly free =
-    sym (signals_moved (shift_to_origin b.x) (shift_to_origin b.y) s t (outer b.x x) (outer b.y y))
+    sym (signals_moved (shift_to_origin b.x) (shift_to_origin b.y) s t (halo_coord b.x x) (halo_coord b.y y))
     ∙ ap₂ (signal_at (moved_signals (shift_to_origin b.x) (shift_to_origin b.y) s) t) (outer_back b.x x)
     (outer_back b.y y)
     ∙ quiet x y lx ly free
 
 -- what a shape carries at a cell, counted from its corner or from its halo, is what the job carries there
-inner_back : (c k : ℕ) → inner c k +ℤ shift_to_origin c ≡ pos k
-unfolding inner
+inner_back : (c k : ℕ) → box_coord c k +ℤ shift_to_origin c ≡ pos k
+unfolding box_coord
 inner_back c k = omega (arith, ints)
 
 pub inner_signal : (s : Signals) (b : Box2) (t x y : ℕ) →
     signal_at (moved_signals (shift_to_origin b.x) (shift_to_origin b.y) s) t (pos x) (pos y)
-    ≡ signal_at s t (inner b.x x) (inner b.y y)
+    ≡ signal_at s t (box_coord b.x x) (box_coord b.y y)
 inner_signal s b t x y =
     sym (ap₂ (signal_at (moved_signals (shift_to_origin b.x) (shift_to_origin b.y) s) t) (inner_back b.x x)
     (inner_back b.y y))
-    ∙ signals_moved (shift_to_origin b.x) (shift_to_origin b.y) s t (inner b.x x) (inner b.y y)
+    ∙ signals_moved (shift_to_origin b.x) (shift_to_origin b.y) s t (box_coord b.x x) (box_coord b.y y)
 
-from_halo : (c k : ℕ) → outer c k +ℤ shift_to_origin c ≡ pos k -ℤ pos 1
-unfolding outer
+from_halo : (c k : ℕ) → halo_coord c k +ℤ shift_to_origin c ≡ pos k -ℤ pos 1
+unfolding halo_coord
 from_halo c k = omega (arith, ints)
 
 pub outer_signal : (s : Signals) (b : Box2) (t x y : ℕ) →
     signal_at (moved_signals (shift_to_origin b.x) (shift_to_origin b.y) s) t (pos x -ℤ pos 1) (pos y -ℤ pos 1)
-    ≡ signal_at s t (outer b.x x) (outer b.y y)
+    ≡ signal_at s t (halo_coord b.x x) (halo_coord b.y y)
 outer_signal s b t x y =
     sym (ap₂ (signal_at (moved_signals (shift_to_origin b.x) (shift_to_origin b.y) s) t) (from_halo b.x x)
     (from_halo b.y y))
-    ∙ signals_moved (shift_to_origin b.x) (shift_to_origin b.y) s t (outer b.x x) (outer b.y y)
+    ∙ signals_moved (shift_to_origin b.x) (shift_to_origin b.y) s t (halo_coord b.x x) (halo_coord b.y y)

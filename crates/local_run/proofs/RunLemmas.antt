@@ -5,7 +5,7 @@ use Rattle.std.proofs.Math.Nat.{mul-le-mul_left}
 use Rattle.bbm_rule.specs.Rows.{cell_at}
 use Rattle.bbm_rule.specs.Words.{AreTurned}
 use Rattle.bbm_rule.proofs.BitLemmas.{by_lt_or_le}
-use Rattle.local_run.specs.Frozen.{IsEvenCalmAt, IsOddCalmAt, KeepsFirst}
+use Rattle.local_run.specs.Frozen.{AreMarkedEvenBlocksStable, AreMarkedOddBlocksStable, KeepsFirst}
 use Rattle.local_run.specs.Lanes.{HasSize}
 use Rattle.local_run.specs.Sweeps.{TurnsEven, TurnsOdd}
 use Rattle.local_run.specs.Turns.{SameBeside, TurnsPart}
@@ -55,7 +55,8 @@ odd_part p q first len end e part = record {
 }
 
 -- the blocks up to a place are turned, and those from it on to another stay
-pub odd_skip : (p q : Planes) (marks : List ℕ) (at end : ℕ) → IsOddCalmAt marks p → end ≤ p.stride * p.rows →
+pub odd_skip : (p q : Planes) (marks : List ℕ) (at end : ℕ) → AreMarkedOddBlocksStable marks p →
+    end ≤ p.stride * p.rows →
     ((n : ℕ) → at ≤ n → n < end → cell_at marks n ≡ true) → TurnsOdd 0 at p q → at ≤ end → TurnsOdd 0 end p q
 odd_skip p q marks at end calm room marked t le = record {
   turned = λ n k is l. by_lt_or_le n at (λ h. t.turned n k (is.0, h) l) (λ g.
@@ -112,7 +113,7 @@ even_part p q first len end e inside part = record {
     in_run : (n : ℕ) → first ≤ n → n < end → (first ≤ n) × (n < end) × ((n + 1) % p.stride ≢ 0)
     in_run n g h = (g, h, inside n g h)
 
-pub even_skip : (p q : Planes) (marks : List ℕ) (at end : ℕ) → IsEvenCalmAt marks p →
+pub even_skip : (p q : Planes) (marks : List ℕ) (at end : ℕ) → AreMarkedEvenBlocksStable marks p →
     end + p.stride + 1 ≤ p.stride * p.rows → ((n : ℕ) → at ≤ n → n < end → cell_at marks n ≡ true) →
     TurnsEven 0 at p q → at ≤ end → TurnsEven 0 end p q
 even_skip p q marks at end calm room marked t le = record {

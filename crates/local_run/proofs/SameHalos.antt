@@ -13,7 +13,7 @@ use Rattle.module_job.specs.Jobs.{JobView, job_demand, job_start}
 use Rattle.module_job.specs.Signals.{Meets, is_live}
 use Rattle.module_job.specs.declared.job.Stop as listed
 use Rattle.local_run.specs.Faults.{HasFault, IsFaultUnder}
-use Rattle.local_run.specs.Laws.{JobsWithSameHalosAgree, SayTheSame}
+use Rattle.local_run.specs.Laws.{JobsWithSameHalosAgree, HasSameHaloSignals}
 use Rattle.local_run.specs.Runs.{local_run, with_halo}
 use Rattle.local_run.specs.declared.fault.Kind.{Kind}
 use Rattle.local_run.specs.declared.fault.Kind.TheVariants.{Edge, Stop, End}
@@ -24,7 +24,7 @@ stop_time : (j : JobView) (ss : List listed.Stop) (s : listed.Stop) → All (λ 
     Contains ss s → s.at.time ≤ j.steps
 stop_time j ss s all (k, lt, is) = subst (λ (x : listed.Stop). x.at.time ≤ j.steps) is (all k s lt)
 
-module _ (j : JobView) (halos : Signals) (same : SayTheSame j halos) where
+module _ (j : JobView) (halos : Signals) (same : HasSameHaloSignals j halos) where
   abbrev k : JobView
   k = record j { halos = halos }
 

@@ -16,7 +16,7 @@ use Rattle.module_box.specs.declared.schedules.Signal.TheVariants.{Zero, One, Wi
 use Rattle.std.proofs.Math.Nat.{mul-le-mul_left}
 use Rattle.std.proofs.Math.Bool.{and-true}
 use Rattle.module_box.specs.LocalValues.{bit_of_row, value_of}
-use Rattle.local_run.specs.Scans.{HasRow, IsShown, is_defined, valuation}
+use Rattle.local_run.specs.Scans.{HasValueRow, IsCellAsSignal, is_defined, valuation}
 use Rattle.local_run.specs.Lanes.{lane, plane_of, SetsWord}
 use Rattle.local_run.specs.declared.planes.Planes.{Planes}
 use Rattle.local_run.specs.declared.values.Values.{Values}
@@ -134,7 +134,7 @@ differs_bits vs p x y k s cells wanted defined d are should room is b l =
 -- a cell is as the signal says, where each of its words is
 pub shown_all : (vs : Values) (p : Planes) (x y : ℕ) (s : Signal) (n : ℕ) →
     ((k b : ℕ) → k < n → b < 64 → lane p (64 * k + b) x y ≡ is_live (valuation vs (64 * k + b)) s) →
-    IsShown vs p x y s n
+    IsCellAsSignal vs p x y s n
 shown_all vs p x y s n same a l =
     let e : 64 * (a / 64) + a % 64 ≡ a = omega arith in
     subst (λ (m : ℕ). lane p m x y ≡ is_live (valuation vs m) s) e (same (a / 64) (a % 64) (omega arith) (omega arith))
@@ -162,7 +162,7 @@ differs_not vs p x y s a e h =
 
 -- ---- the row of a signal
 pub row_from : (vs : Values) (n : ℕ) (s : Signal) → IsBelow n s → vs.words * n ≤ length vs.rows.values.items →
-    HasRow vs s
+    HasValueRow vs s
 row_from vs n Zero b l = tt
 row_from vs n One b l = tt
 row_from vs n (Wire w) b l = let m : vs.words * (w + 1) ≤ vs.words * n = mul-le-mul_left vs.words (omega arith) in

@@ -13,18 +13,19 @@ use Rattle.std.proofs.Math.Nat.{mul-le-mul_left}
 use Rattle.bbm_rule.proofs.BitLemmas.{by_eq_or_not, by_lt_or_le, bit-zero}
 use Rattle.module_job.specs.Jobs.{JobView}
 use Rattle.module_job.specs.Signals.{is_live}
-use Rattle.local_run.specs.Borders.{ArePassed}
+use Rattle.local_run.specs.Borders.{AreSkippable}
 use Rattle.local_run.specs.Calm.{IsDeadAt}
 use Rattle.local_run.specs.Faults.{assignments}
 use Rattle.local_run.specs.Runs.{local_run}
 use Rattle.local_run.specs.Lanes.{lane}
-use Rattle.local_run.specs.Places.{inner, outer}
+use Rattle.local_run.specs.Places.{box_coord, halo_coord}
 use Rattle.bbm_rule.specs.Marks.{IsUnmarked}
 use Rattle.local_run.specs.Quiet.{AreLines, number_at}
-use Rattle.local_run.specs.Scans.{HasEdgeAt, HasEdgesIn, HasHaloAt, HasHaloIn, IsFound, IsLeastBelow, IsOuter, IsReady}
+use Rattle.local_run.specs.Scans.{IsEdgeCorrectAt, AreEdgesCorrectIn, IsHaloSetAt, IsHaloSetIn, IsDefinedFault}
+use Rattle.local_run.specs.Scans.{IsLeastBelow, IsOutsideBox, IsReady}
 use Rattle.local_run.specs.Scans.{IsSilent, Shows, is_defined, valuation}
 use Rattle.local_run.specs.declared.fault.Kind.TheVariants.{Edge}
-use Rattle.local_run.specs.Live.{AllDead}
+use Rattle.local_run.specs.Live.{AllUnmarkedDead}
 use Rattle.local_run.specs.declared.live.LiveMarks.{LiveMarks}
 use Rattle.local_run.specs.declared.planes.Planes.{Planes}
 use Rattle.local_run.specs.declared.values.Values.{Values}
@@ -49,19 +50,20 @@ dead_lane p x y a dead l =
 
 -- a cell of the box is in the planes as in the run
 shown_at : (j : JobView) (vs : Values) (p : Planes) (t x y a : ℕ) → Shows j vs t p → a < assignments j →
-    in_box j.area (outer j.area.x x) (outer j.area.y y) ≡ true →
-    lane p a x y ≡ local_run j (valuation vs a) t (outer j.area.x x) (outer j.area.y y)
+    in_box j.area (halo_coord j.area.x x) (halo_coord j.area.y y) ≡ true →
+    lane p a x y ≡ local_run j (valuation vs a) t (halo_coord j.area.x x) (halo_coord j.area.y y)
 unfolding in_box
 shown_at j vs p t x y a shows la inside =
-    let h = and_parts (in_span j.area.x j.area.w (outer j.area.x x))
-    (in_span j.area.y j.area.h (outer j.area.y y)) inside in
-    let px = span_at j.area.x j.area.w (outer j.area.x x) h.0 in
-    let py = span_at j.area.y j.area.h (outer j.area.y y) h.1 in
+    let h = and_parts (in_span j.area.x j.area.w (halo_coord j.area.x x))
+    (in_span j.area.y j.area.h (halo_coord j.area.y y)) inside in
+    let px = span_at j.area.x j.area.w (halo_coord j.area.x x) h.0 in
+    let py = span_at j.area.y j.area.h (halo_coord j.area.y y) h.1 in
     let ex : x ≡ 1 + px.number = outer_same j.area.x x (1 + px.number) (px.is ∙ sym (outer_inner j.area.x px.number)) in
     let ey : y ≡ 1 + py.number = outer_same j.area.y y (1 + py.number) (py.is ∙ sym (outer_inner j.area.y py.number)) in
-    subst (λ (m : ℕ). lane p a m y ≡ local_run j (valuation vs a) t (outer j.area.x m) (outer j.area.y y)) (sym ex)
+    subst (λ (m : ℕ). lane p a m y ≡ local_run j (valuation vs a) t (halo_coord j.area.x m) (halo_coord j.area.y y))
+    (sym ex)
     (subst (λ (m : ℕ). lane p a (1 + px.number) m
-    ≡ local_run j (valuation vs a) t (outer j.area.x (1 + px.number)) (outer j.area.y m)) (sym ey)
+    ≡ local_run j (valuation vs a) t (halo_coord j.area.x (1 + px.number)) (halo_coord j.area.y m)) (sym ey)
     (shows.cells a px.number py.number la px.below py.below
     ∙ ap₂ (local_run j (valuation vs a) t) (sym (outer_inner j.area.x px.number))
     (sym (outer_inner j.area.y py.number))))
@@ -72,7 +74,7 @@ ring_in_box b x y h = (and_parts _ _ h).0
 
 -- silent cells have no edge fault
 pub silent_edges : (j : JobView) (vs : Values) (p : Planes) (t column row : ℕ) → IsReady j vs → Shows j vs t p →
-    column < p.stride → IsSilent j t p (p.stride * row + column) → HasEdgesIn j vs t column row
+    column < p.stride → IsSilent j t p (p.stride * row + column) → AreEdgesCorrectIn j vs t column row
 silent_edges j vs p t column row ready shows lc silent x y lx ly ex ey a l f =
     let room = ready.room in
     let count = ready.count in
@@ -85,7 +87,7 @@ silent_edges j vs p t column row ready shows lc silent x y lx ly ex ey a l f =
 
 -- and what their signals say comes to those of them in the halo
 pub silent_halo : (j : JobView) (vs : Values) (p : Planes) (t column row : ℕ) → IsReady j vs → Shows j vs t p →
-    IsSilent j t p (p.stride * row + column) → HasHaloIn j vs t p column row
+    IsSilent j t p (p.stride * row + column) → IsHaloSetIn j vs t p column row
 silent_halo j vs p t column row ready shows silent x y lx ly ex ey a l outside =
     let room = ready.room in
     let count = ready.count in
@@ -104,28 +106,29 @@ silent_from j p t u marks es dead lines free = record {
 }
 
 -- ---- cells outside the box have no edge fault
-pub outer_edge : (j : JobView) (vs : Values) (t x y : ℕ) → IsOuter j.area x y → HasEdgeAt j vs t x y
+pub outer_edge : (j : JobView) (vs : Values) (t x y : ℕ) → IsOutsideBox j.area x y → IsEdgeCorrectAt j vs t x y
 outer_edge j vs t x y out a l f = false≢true (sym (box_out j.area x y out) ∙ ring_in_box j.area _ _ f.1.ring)
 
 pub inner_edge : (j : JobView) (vs : Values) (t x y : ℕ) → 1 ≤ x → 1 ≤ y →
-    IsLeastBelow (assignments j) (λ a. IsFound j vs a t Edge (inner j.area.x (x - 1)) (inner j.area.y (y - 1))) None →
-    HasEdgeAt j vs t x y
+    IsLeastBelow (assignments j) (λ a.
+    IsDefinedFault j vs a t Edge (box_coord j.area.x (x - 1)) (box_coord j.area.y (y - 1))) None →
+    IsEdgeCorrectAt j vs t x y
 inner_edge j vs t x y lx ly none a l f =
-    let ex : outer j.area.x x ≡ inner j.area.x (x - 1) =
-    ap (outer j.area.x) (next x lx) ∙ outer_inner j.area.x (x - 1) in
-    let ey : outer j.area.y y ≡ inner j.area.y (y - 1) =
-    ap (outer j.area.y) (next y ly) ∙ outer_inner j.area.y (y - 1) in
-    none a l (subst (λ (z : ℤ). IsFound j vs a t Edge z (inner j.area.y (y - 1))) ex
-    (subst (λ (z : ℤ). IsFound j vs a t Edge (outer j.area.x x) z) ey f))
+    let ex : halo_coord j.area.x x ≡ box_coord j.area.x (x - 1) =
+    ap (halo_coord j.area.x) (next x lx) ∙ outer_inner j.area.x (x - 1) in
+    let ey : halo_coord j.area.y y ≡ box_coord j.area.y (y - 1) =
+    ap (halo_coord j.area.y) (next y ly) ∙ outer_inner j.area.y (y - 1) in
+    none a l (subst (λ (z : ℤ). IsDefinedFault j vs a t Edge z (box_coord j.area.y (y - 1))) ex
+    (subst (λ (z : ℤ). IsDefinedFault j vs a t Edge (halo_coord j.area.x x) z) ey f))
   where
     next : (k : ℕ) → 1 ≤ k → k ≡ 1 + (k - 1)
     next k l = omega arith
 
 -- nor does a cell that is as its signal says
 pub right_edge : (j : JobView) (vs : Values) (p : Planes) (t x y : ℕ) (s : Signal) → Shows j vs t p →
-    s ≡ signal_at j.edges t (outer j.area.x x) (outer j.area.y y) →
+    s ≡ signal_at j.edges t (halo_coord j.area.x x) (halo_coord j.area.y y) →
     IsLeastBelow (assignments j) (λ a. (is_defined vs a ≡ true) × (lane p a x y ≢ is_live (valuation vs a) s)) None →
-    HasEdgeAt j vs t x y
+    IsEdgeCorrectAt j vs t x y
 right_edge j vs p t x y s shows es none a l f =
     let inside = ring_in_box j.area _ _ f.1.ring in
     none a l (
@@ -135,8 +138,8 @@ right_edge j vs p t x y s shows es none a l f =
     )
 
 -- a place in the box, counted from the halo
-pub inner_is_outer : (c k : ℕ) → 1 ≤ k → inner c (k - 1) ≡ outer c k
-inner_is_outer c k l = sym (ap (outer c) (next k l) ∙ outer_inner c (k - 1))
+pub inner_is_outer : (c k : ℕ) → 1 ≤ k → box_coord c (k - 1) ≡ halo_coord c k
+inner_is_outer c k l = sym (ap (halo_coord c) (next k l) ∙ outer_inner c (k - 1))
   where
     next : (k : ℕ) → 1 ≤ k → k ≡ 1 + (k - 1)
     next k l = omega arith
@@ -145,7 +148,7 @@ inner_is_outer c k l = sym (ap (outer c) (next k l) ∙ outer_inner c (k - 1))
 pub unsaid_edge : (j : JobView) (vs : Values) (p : Planes) (t x y : ℕ) (marks : List ℕ) → IsReady j vs →
     Shows j vs t p → AreLines j t marks → x < j.area.w + 2 → y < j.area.h + 2 →
     IsUnmarked marks (p.stride * (y / 2) + x / 2 + 1152 * (1 + 2 * (y % 2) + x % 2)) →
-    ((a : ℕ) → a < 64 * p.words → lane p a x y ≡ false) → HasEdgeAt j vs t x y
+    ((a : ℕ) → a < 64 * p.words → lane p a x y ≡ false) → IsEdgeCorrectAt j vs t x y
 unsaid_edge j vs p t x y marks ready shows lines lx ly free dead a l f =
     let room = ready.room in
     let count = ready.count in
@@ -159,7 +162,7 @@ unsaid_edge j vs p t x y marks ready shows lines lx ly free dead a l f =
 pub unsaid_halo : (j : JobView) (vs : Values) (p : Planes) (t x y : ℕ) (marks : List ℕ) → IsReady j vs →
     Shows j vs t p → AreLines j t marks → x < j.area.w + 2 → y < j.area.h + 2 →
     IsUnmarked marks (p.stride * (y / 2) + x / 2 + 1152 * (1 + 2 * (y % 2) + x % 2)) →
-    ((a : ℕ) → a < 64 * p.words → lane p a x y ≡ false) → HasHaloAt j vs t p x y
+    ((a : ℕ) → a < 64 * p.words → lane p a x y ≡ false) → IsHaloSetAt j vs t p x y
 unsaid_halo j vs p t x y marks ready shows lines lx ly free dead a l out =
     let room = ready.room in
     let count = ready.count in
@@ -172,28 +175,29 @@ small_number : (s r x y : ℕ) → x / 2 < s → y / 2 < r → s * (y / 2) + x /
 small_number s r x y lx ly = let m : s * (y / 2 + 1) ≤ s * r = mul-le-mul_left s (omega arith) in omega arith
 
 pub dead_odd : (l : LiveMarks) (p : Planes) (x y a : ℕ) → x % 2 ≡ 0 → y % 2 ≡ 0 → x / 2 < p.stride → y / 2 < p.rows →
-    AllDead l p → IsUnmarked l.odd.items (p.stride * (y / 2) + x / 2) → a < 64 * p.words → lane p a x y ≡ false
+    AllUnmarkedDead l p → IsUnmarked l.odd.items (p.stride * (y / 2) + x / 2) → a < 64 * p.words → lane p a x y ≡ false
 unfolding lane
 dead_odd l p x y a ex ey lx ly dead free la =
     rw (plane_odd p x y ex ey, dead.0 _ (small_number p.stride p.rows x y lx ly) free (a / 64) (omega arith))
     (bit-zero (a % 64))
 
 pub dead_down : (l : LiveMarks) (p : Planes) (x y a : ℕ) → x % 2 ≡ 0 → y % 2 ≡ 1 → x / 2 < p.stride → y / 2 < p.rows →
-    AllDead l p → IsUnmarked l.down.items (p.stride * (y / 2) + x / 2) → a < 64 * p.words → lane p a x y ≡ false
+    AllUnmarkedDead l p → IsUnmarked l.down.items (p.stride * (y / 2) + x / 2) → a < 64 * p.words → lane p a x y ≡ false
 unfolding lane
 dead_down l p x y a ex ey lx ly dead free la =
     rw (plane_down p x y ex ey, dead.2 _ (small_number p.stride p.rows x y lx ly) free (a / 64) (omega arith))
     (bit-zero (a % 64))
 
 pub dead_right : (l : LiveMarks) (p : Planes) (x y a : ℕ) → x % 2 ≡ 1 → y % 2 ≡ 0 → x / 2 < p.stride → y / 2 < p.rows →
-    AllDead l p → IsUnmarked l.right.items (p.stride * (y / 2) + x / 2) → a < 64 * p.words → lane p a x y ≡ false
+    AllUnmarkedDead l p → IsUnmarked l.right.items (p.stride * (y / 2) + x / 2) → a < 64 * p.words →
+    lane p a x y ≡ false
 unfolding lane
 dead_right l p x y a ex ey lx ly dead free la =
     rw (plane_right p x y ex ey, dead.1 _ (small_number p.stride p.rows x y lx ly) free (a / 64) (omega arith))
     (bit-zero (a % 64))
 
 pub dead_even : (l : LiveMarks) (p : Planes) (x y a : ℕ) → x % 2 ≡ 1 → y % 2 ≡ 1 → x / 2 < p.stride → y / 2 < p.rows →
-    AllDead l p → IsUnmarked l.even.items (p.stride * (y / 2) + x / 2) → a < 64 * p.words → lane p a x y ≡ false
+    AllUnmarkedDead l p → IsUnmarked l.even.items (p.stride * (y / 2) + x / 2) → a < 64 * p.words → lane p a x y ≡ false
 unfolding lane
 dead_even l p x y a ex ey lx ly dead free la =
     rw (plane_even p x y ex ey, dead.3 _ (small_number p.stride p.rows x y lx ly) free (a / 64) (omega arith))
@@ -212,12 +216,12 @@ four_cells c r P first second third fourth x y ex ey = by_eq_or_not x (2 * c)
 
 -- nor have cells between the ring's columns and rows
 pub between_edges : (j : JobView) (vs : Values) (t x y : ℕ) → 2 ≤ x → x < j.area.w → 2 ≤ y → y < j.area.h →
-    HasEdgeAt j vs t x y
+    IsEdgeCorrectAt j vs t x y
 between_edges j vs t x y lx hx ly hy a l f =
-    let ex : outer j.area.x x ≡ inner j.area.x (x - 1) =
-    ap (outer j.area.x) (next x (omega arith)) ∙ outer_inner j.area.x (x - 1) in
-    let ey : outer j.area.y y ≡ inner j.area.y (y - 1) =
-    ap (outer j.area.y) (next y (omega arith)) ∙ outer_inner j.area.y (y - 1) in
+    let ex : halo_coord j.area.x x ≡ box_coord j.area.x (x - 1) =
+    ap (halo_coord j.area.x) (next x (omega arith)) ∙ outer_inner j.area.x (x - 1) in
+    let ey : halo_coord j.area.y y ≡ box_coord j.area.y (y - 1) =
+    ap (halo_coord j.area.y) (next y (omega arith)) ∙ outer_inner j.area.y (y - 1) in
     false≢true (sym (not_in_ring j.area (x - 1) (y - 1) (omega arith) (omega arith) (omega arith) (omega arith))
     ∙ sym (ap₂ (in_ring j.area) ex ey) ∙ f.1.ring)
   where
@@ -230,8 +234,9 @@ number_in : (j : JobView) (vs : Values) (t : ℕ) (p : Planes) (x y : ℕ) → S
 number_in j vs t p x y shows = ap (λ s. s * (y / 2) + x / 2) (sym shows.size.1)
 
 pub passed_edges : (j : JobView) (vs : Values) (p : Planes) (t from to x y : ℕ) (marks : List ℕ) → IsReady j vs →
-    Shows j vs t p → AreLines j t marks → ArePassed from to marks p →
-    x < j.area.w + 2 → y < j.area.h + 2 → from ≤ number_at j.area x y → number_at j.area x y < to → HasEdgeAt j vs t x y
+    Shows j vs t p → AreLines j t marks → AreSkippable from to marks p →
+    x < j.area.w + 2 → y < j.area.h + 2 → from ≤ number_at j.area x y → number_at j.area x y < to →
+    IsEdgeCorrectAt j vs t x y
 passed_edges j vs p t from to x y marks ready shows lines passed lx ly after before =
     let s1 = shows.size.1 in
     let s2 = shows.size.2 in
@@ -239,16 +244,16 @@ passed_edges j vs p t from to x y marks ready shows lines passed lx ly after bef
     let even_h = ready.job.even.h in
     let e = number_in j vs t p x y shows in
     elim (passed (x / 2) (y / 2) (omega arith) (omega arith) (omega (arith, e, after)) (omega (arith, e, before))) [
-      | inl inner ↦ let i0 = inner.0 in let i1 = inner.1 in let i2 = inner.2 in let i3 = inner.3 in
+      | inl box_coord ↦ let i0 = box_coord.0 in let i1 = box_coord.1 in let i2 = box_coord.2 in let i3 = box_coord.3 in
           between_edges j vs t x y (omega arith) (omega arith) (omega arith) (omega arith)
       | inr silent ↦ silent_edges j vs p t (x / 2) (y / 2) ready shows (omega arith)
           (silent_from j p t (p.stride * (y / 2) + x / 2) marks s1 silent.0 lines silent.1) x y lx ly refl refl
     ]
 
 pub passed_halo : (j : JobView) (vs : Values) (p : Planes) (t from to x y : ℕ) (marks : List ℕ) → IsReady j vs →
-    Shows j vs t p → AreLines j t marks → ArePassed from to marks p →
+    Shows j vs t p → AreLines j t marks → AreSkippable from to marks p →
     x < j.area.w + 2 → y < j.area.h + 2 → from ≤ number_at j.area x y → number_at j.area x y < to →
-    HasHaloAt j vs t p x y
+    IsHaloSetAt j vs t p x y
 passed_halo j vs p t from to x y marks ready shows lines passed lx ly after before =
     let s1 = shows.size.1 in
     let s2 = shows.size.2 in
@@ -256,7 +261,7 @@ passed_halo j vs p t from to x y marks ready shows lines passed lx ly after befo
     let even_h = ready.job.even.h in
     let e = number_in j vs t p x y shows in
     elim (passed (x / 2) (y / 2) (omega arith) (omega arith) (omega (arith, e, after)) (omega (arith, e, before))) [
-      | inl inner ↦ let i0 = inner.0 in let i1 = inner.1 in let i2 = inner.2 in let i3 = inner.3 in
+      | inl box_coord ↦ let i0 = box_coord.0 in let i1 = box_coord.1 in let i2 = box_coord.2 in let i3 = box_coord.3 in
           λ a l out. absurd (out (omega arith, omega arith, omega arith, omega arith))
       | inr silent ↦ silent_halo j vs p t (x / 2) (y / 2) ready shows
           (silent_from j p t (p.stride * (y / 2) + x / 2) marks s1 silent.0 lines silent.1) x y lx ly refl refl

@@ -18,10 +18,10 @@ use Rattle.module_job.specs.Signals.{is_live}
 use Rattle.module_box.specs.Schedules.{signal_at}
 use Rattle.module_job.specs.Jobs.{JobView, job_start}
 use Rattle.local_run.specs.Runs.{with_halo, local_run}
-use Rattle.local_run.specs.Places.{inner, outer}
-use Rattle.local_run.specs.Lanes.{lane, HasSize, SameInside}
+use Rattle.local_run.specs.Places.{box_coord, halo_coord}
+use Rattle.local_run.specs.Lanes.{lane, HasSize, AreSameInBox}
 use Rattle.local_run.specs.Faults.{assignments}
-use Rattle.local_run.specs.Scans.{IsReady, Shows, HasHalo, IsOuter, valuation}
+use Rattle.local_run.specs.Scans.{IsReady, Shows, IsHaloSet, IsOutsideBox, valuation}
 use Rattle.local_run.specs.declared.values.Values.{Values}
 use Rattle.local_run.proofs.LocalRuns.{local_even, local_odd, stays}
 use Rattle.local_run.specs.declared.planes.Planes.{Planes}
@@ -58,8 +58,8 @@ less_plus n = omega (arith, ints)
 less_none : pos 0 -ℤ pos 1 ≡ negsuc 0
 less_none = omega (arith, ints)
 
-partner_inner : (c t x : ℕ) → c % 2 ≡ 0 → t % 2 ≡ 0 → partner t (inner c x) ≡ inner c (mate x)
-unfolding inner
+partner_inner : (c t x : ℕ) → c % 2 ≡ 0 → t % 2 ≡ 0 → partner t (box_coord c x) ≡ box_coord c (mate x)
+unfolding box_coord
 partner_inner c t x ec et = by_eq_or_not (x % 2) 0
     (λ e. let m : c + mate x ≡ 1 + (c + x) = omega (arith, mate_even x e) in
     up_pos t (c + x) (omega arith) ∙ ap pos (sym m))
@@ -76,8 +76,8 @@ outer_up t (suc m) et en = ap (partner t) (less_one m) ∙ up_pos t m (omega ari
 outer_down : (t n : ℕ) → t % 2 ≡ 1 → n % 2 ≡ 0 → partner t (pos (1 + n) -ℤ pos 1) ≡ pos n -ℤ pos 1
 outer_down t n et en = ap (partner t) (less_plus n) ∙ down_pos t n (omega arith)
 
-partner_outer : (c t x : ℕ) → c % 2 ≡ 0 → t % 2 ≡ 1 → partner t (outer c x) ≡ outer c (mate x)
-unfolding outer
+partner_outer : (c t x : ℕ) → c % 2 ≡ 0 → t % 2 ≡ 1 → partner t (halo_coord c x) ≡ halo_coord c (mate x)
+unfolding halo_coord
 partner_outer c t x ec et = by_eq_or_not (x % 2) 0
     (λ e. let m : 1 + (c + x) ≡ c + mate x = omega (arith, mate_even x e) in
     outer_up t (c + x) et (omega arith) ∙ ap (λ n. pos n -ℤ pos 1) m)
@@ -86,8 +86,8 @@ partner_outer c t x ec et = by_eq_or_not (x % 2) 0
     let q : c + x ≡ 1 + (c + mate x) = omega arith in
     ap (λ n. partner t (pos n -ℤ pos 1)) q ∙ outer_down t (c + mate x) et (omega arith))
 
-pub outer_inner : (c x : ℕ) → outer c (1 + x) ≡ inner c x
-unfolding outer inner
+pub outer_inner : (c x : ℕ) → halo_coord c (1 + x) ≡ box_coord c x
+unfolding halo_coord box_coord
 outer_inner c x = omega (arith, ints)
 
 -- ---- the run of the definition
@@ -123,8 +123,8 @@ even_shows j vs t p q ready even shows size turns = record {
       let mx : mate x < j.area.w = mate_below j.area.w x ew lx in
       let my : mate y < j.area.h = mate_below j.area.h y eh ly in
       turns a x y (omega arith) (omega arith) (omega arith)
-      ∙ block t (local_run j u t) (inner j.area.x x) (inner j.area.y y) (inner j.area.x (mate x))
-      (inner j.area.y (mate y)) _ _ _ _
+      ∙ block t (local_run j u t) (box_coord j.area.x x) (box_coord j.area.y y) (box_coord j.area.x (mate x))
+      (box_coord j.area.y (mate y)) _ _ _ _
       (partner_inner j.area.x t x ready.job.even.x even) (partner_inner j.area.y t y ready.job.even.y even)
       (shows.cells a x y la lx ly) (shows.cells a (mate x) (mate y) la mx my) (shows.cells a (mate x) y la mx ly)
       (shows.cells a x (mate y) la lx my)
@@ -133,7 +133,7 @@ even_shows j vs t p q ready even shows size turns = record {
 
 -- the cells of the box stayed
 pub inside_shows : (j : JobView) (vs : Values) (t : ℕ) (p q : Planes) → IsReady j vs → Shows j vs t p →
-    HasSize p.words p.stride p.rows q → SameInside p q → Shows j vs t q
+    HasSize p.words p.stride p.rows q → AreSameInBox p q → Shows j vs t q
 inside_shows j vs t p q ready shows size same = record {
   size = (size.0 ∙ shows.size.0, size.1 ∙ shows.size.1, size.2 ∙ shows.size.2);
   cells = λ a x y la lx ly.
@@ -151,8 +151,8 @@ inside_shows j vs t p q ready shows size same = record {
 pub odd_shows : (j : JobView) (vs : Values) (t : ℕ) (p q : Planes) → IsReady j vs → t % 2 ≡ 1 →
     HasSize vs.words (j.area.w / 2 + 1) (j.area.h / 2 + 1) p →
     ((a x y : ℕ) → a < assignments j → x < j.area.w + 2 → y < j.area.h + 2 →
-    lane p a x y ≡ with_halo j (valuation vs a) t (local_run j (valuation vs a) t) (outer j.area.x x)
-    (outer j.area.y y)) →
+    lane p a x y ≡ with_halo j (valuation vs a) t (local_run j (valuation vs a) t) (halo_coord j.area.x x)
+    (halo_coord j.area.y y)) →
     HasSize p.words p.stride p.rows q →
     ((a x y : ℕ) → a < 64 * p.words → x < 2 * p.stride → y < 2 * p.rows →
     lane q a x y ≡ turned (lane p a x y) (lane p a (mate x) (mate y)) (lane p a (mate x) y) (lane p a x (mate y))) →
@@ -174,8 +174,8 @@ odd_shows j vs t p q ready odd sized halo size turns = record {
       let mx : mate (1 + x) < j.area.w + 2 = mate_below (j.area.w + 2) (1 + x) (omega arith) bx in
       let my : mate (1 + y) < j.area.h + 2 = mate_below (j.area.h + 2) (1 + y) (omega arith) by in
       turns a (1 + x) (1 + y) (omega arith) (omega arith) (omega arith)
-      ∙ block t s (outer j.area.x (1 + x)) (outer j.area.y (1 + y)) (outer j.area.x (mate (1 + x)))
-      (outer j.area.y (mate (1 + y))) _ _ _ _
+      ∙ block t s (halo_coord j.area.x (1 + x)) (halo_coord j.area.y (1 + y)) (halo_coord j.area.x (mate (1 + x)))
+      (halo_coord j.area.y (mate (1 + y))) _ _ _ _
       (partner_outer j.area.x t (1 + x) ready.job.even.x odd) (partner_outer j.area.y t (1 + y) ready.job.even.y odd)
       (halo a (1 + x) (1 + y) la bx by) (halo a (mate (1 + x)) (mate (1 + y)) la mx my)
       (halo a (mate (1 + x)) (1 + y) la mx by) (halo a (1 + x) (mate (1 + y)) la bx my)
@@ -184,8 +184,8 @@ odd_shows j vs t p q ready odd sized halo size turns = record {
 }
 
 -- ---- the cells around the box
-span_outer_parts : (c n x : ℕ) → in_span c n (outer c x) ≡ true → (1 ≤ x) × (x ≤ n)
-unfolding outer
+span_outer_parts : (c n x : ℕ) → in_span c n (halo_coord c x) ≡ true → (1 ≤ x) × (x ≤ n)
+unfolding halo_coord
 span_outer_parts c n x h = outer_case (c + x) refl h
   where
     outer_case : (m : ℕ) → c + x ≡ m → in_span c n (pos m -ℤ pos 1) ≡ true → (1 ≤ x) × (x ≤ n)
@@ -193,9 +193,9 @@ span_outer_parts c n x h = outer_case (c + x) refl h
     outer_case (suc m) e k = let p = span_parts c n m (sym (ap (in_span c n) (less_one m)) ∙ k) in
         (omega arith, omega arith)
 
-pub box_out : (b : Box2) (x y : ℕ) → IsOuter b x y → in_box b (outer b.x x) (outer b.y y) ≡ false
+pub box_out : (b : Box2) (x y : ℕ) → IsOutsideBox b x y → in_box b (halo_coord b.x x) (halo_coord b.y y) ≡ false
 unfolding in_box
-box_out b x y m = elim (cases_Bool (in_span b.x b.w (outer b.x x) && in_span b.y b.h (outer b.y y))) [
+box_out b x y m = elim (cases_Bool (in_span b.x b.w (halo_coord b.x x) && in_span b.y b.h (halo_coord b.y y))) [
   | inr h ↦ h
   | inl h ↦
       let p = and_parts _ _ h in
@@ -220,8 +220,9 @@ less_more : (n : ℕ) → pos n -ℤ pos 1 +ℤ pos 1 ≡ pos n
 less_more n = omega (arith, ints)
 
 near_span : (c n x : ℕ) → x < n + 2 → 2 ≤ n →
-    (in_span c n (outer c x -ℤ pos 1) || in_span c n (outer c x) || in_span c n (outer c x +ℤ pos 1)) ≡ true
-unfolding outer
+    (in_span c n (halo_coord c x -ℤ pos 1) || in_span c n (halo_coord c x) || in_span c n (halo_coord c x +ℤ pos 1))
+    ≡ true
+unfolding halo_coord
 near_span c n x l two = by_lt_or_le n x
     (λ above. let e : c + x ≡ 2 + (c + (n - 1)) = omega arith in
     or_first (in_span c n (pos (c + x) -ℤ pos 1 -ℤ pos 1)) (in_span c n (pos (c + x) -ℤ pos 1))
@@ -238,10 +239,10 @@ near_span c n x l two = by_lt_or_le n x
     (ap (λ m. in_span c n (pos m -ℤ pos 1)) e ∙ ap (in_span c n) (less_plus (c + (x - 1)))
     ∙ span_from c n (c + (x - 1)) (omega arith) (omega arith))))
 
-margin_halo : (b : Box2) (x y : ℕ) → 2 ≤ b.w → 2 ≤ b.h → x < b.w + 2 → y < b.h + 2 → IsOuter b x y →
-    in_halo b (outer b.x x) (outer b.y y) ≡ true
+margin_halo : (b : Box2) (x y : ℕ) → 2 ≤ b.w → 2 ≤ b.h → x < b.w + 2 → y < b.h + 2 → IsOutsideBox b x y →
+    in_halo b (halo_coord b.x x) (halo_coord b.y y) ≡ true
 margin_halo b x y tw th lx ly m =
-    sym (halo_read b (outer b.x x) (outer b.y y) _ _ _ refl refl refl)
+    sym (halo_read b (halo_coord b.x x) (halo_coord b.y y) _ _ _ refl refl refl)
     ∙ and_from _ _ (not_from_false _ (box_out b x y m))
     (and_from _ _ (near_span b.x b.w x lx tw) (near_span b.y b.h y ly th))
 
@@ -262,9 +263,10 @@ unfolding with_halo
 with_halo_outside j u t s x y dead h =
     ap₂ (λ p q. p || (q && is_live u (signal_at j.halos t x y))) dead h
 
-pub halo_cells : (j : JobView) (vs : Values) (t : ℕ) (p : Planes) → IsReady j vs → Shows j vs t p → HasHalo j vs t p →
+pub halo_cells : (j : JobView) (vs : Values) (t : ℕ) (p : Planes) → IsReady j vs → Shows j vs t p → IsHaloSet j vs t p →
     (a x y : ℕ) → a < assignments j → x < j.area.w + 2 → y < j.area.h + 2 →
-    lane p a x y ≡ with_halo j (valuation vs a) t (local_run j (valuation vs a) t) (outer j.area.x x) (outer j.area.y y)
+    lane p a x y ≡ with_halo j (valuation vs a) t (local_run j (valuation vs a) t) (halo_coord j.area.x x)
+    (halo_coord j.area.y y)
 halo_cells j vs t p ready shows halo a x y la lx ly =
     by_lt_or_le x 1 (λ l. margin (λ m. no_less l m.0)) (λ x1.
     by_lt_or_le j.area.w x (λ l. margin (λ m. no_less l m.1)) (λ xw.
@@ -272,8 +274,8 @@ halo_cells j vs t p ready shows halo a x y la lx ly =
     by_lt_or_le j.area.h y (λ l. margin (λ m. no_less l m.3)) (λ yh.
     let ex : 1 + (x - 1) ≡ x = omega arith in
     let ey : 1 + (y - 1) ≡ y = omega arith in
-    subst (λ (m : ℕ). lane p a m y ≡ s (outer j.area.x m) (outer j.area.y y)) ex
-    (subst (λ (m : ℕ). lane p a (1 + (x - 1)) m ≡ s (outer j.area.x (1 + (x - 1))) (outer j.area.y m)) ey
+    subst (λ (m : ℕ). lane p a m y ≡ s (halo_coord j.area.x m) (halo_coord j.area.y y)) ex
+    (subst (λ (m : ℕ). lane p a (1 + (x - 1)) m ≡ s (halo_coord j.area.x (1 + (x - 1))) (halo_coord j.area.y m)) ey
     (inside (x - 1) (y - 1) (omega arith) (omega arith)))))))
   where
     u : Valuation
@@ -285,13 +287,13 @@ halo_cells j vs t p ready shows halo a x y la lx ly =
     no_less : {m n : ℕ} → m < n → n ≤ m → ⊥
     no_less l h = omega arith
 
-    margin : IsOuter j.area x y → lane p a x y ≡ s (outer j.area.x x) (outer j.area.y y)
+    margin : IsOutsideBox j.area x y → lane p a x y ≡ s (halo_coord j.area.x x) (halo_coord j.area.y y)
     margin m = halo x y lx ly a la m
         ∙ sym (with_halo_outside j u t (local_run j u t) _ _ (stays j u t ready.job _ _ (box_out j.area x y m))
         (margin_halo j.area x y ready.job.width.0 ready.job.height.0 lx ly m))
 
     inside : (x0 y0 : ℕ) → x0 < j.area.w → y0 < j.area.h →
-        lane p a (1 + x0) (1 + y0) ≡ s (outer j.area.x (1 + x0)) (outer j.area.y (1 + y0))
+        lane p a (1 + x0) (1 + y0) ≡ s (halo_coord j.area.x (1 + x0)) (halo_coord j.area.y (1 + y0))
     inside x0 y0 l0 l1 = shows.cells a x0 y0 la l0 l1
         ∙ sym (with_halo_inside j u t (local_run j u t) _ _ (inner_in_box j.area x0 y0 l0 l1))
         ∙ sym (ap₂ s (outer_inner j.area.x x0) (outer_inner j.area.y y0))

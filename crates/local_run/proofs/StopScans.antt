@@ -14,7 +14,8 @@ use Rattle.module_job.specs.Jobs.{JobView, stop_moment}
 use Rattle.module_job.specs.declared.job.Stop as listed
 use Rattle.local_run.specs.Faults.{IsStopFault, assignments}
 use Rattle.local_run.specs.Runs.{local_run}
-use Rattle.local_run.specs.Scans.{IsFirst, IsFree, IsLeastBelow, IsMissed, IsNextStop, is_defined, valuation}
+use Rattle.local_run.specs.Scans.{IsFirst, HasNoFaultOfKind, IsLeastBelow, IsStopMissed, IsNextStop, is_defined}
+use Rattle.local_run.specs.Scans.{valuation}
 use Rattle.local_run.specs.declared.fault.Kind.TheVariants.{Stop}
 use Rattle.local_run.specs.declared.values.Values.{Values}
 use Rattle.local_run.proofs.Numbers.{three_ways}
@@ -64,7 +65,7 @@ pub record AreTried (j : JobView) (vs : Values) (t place : ℕ) : Type 0 where
   pub from : (k : ℕ) (s : listed.Stop) → place ≤ k → slice_get j.stops k ≡ Some s → t ≤ s.at.time
   pub free : (k : ℕ) (s : listed.Stop) (a : ℕ) → k < place → slice_get j.stops k ≡ Some s → s.at.time ≡ t →
       a < assignments j →
-      ¬ IsMissed j vs a s
+      ¬ IsStopMissed j vs a s
 
 pub none_tried : (j : JobView) (vs : Values) (t place : ℕ) → IsNextStop j t place → AreTried j vs t place
 none_tried j vs t place next = record {
@@ -80,7 +81,7 @@ below_or_there k n l = grind arith
 -- a stop more
 pub one_more : (j : JobView) (vs : Values) (t place : ℕ) (s : listed.Stop) → AreTried j vs t place →
     slice_get j.stops place ≡ Some s → s.at.time ≡ t →
-    IsLeastBelow (assignments j) (λ b. IsMissed j vs b s) None → AreTried j vs t (place + 1)
+    IsLeastBelow (assignments j) (λ b. IsStopMissed j vs b s) None → AreTried j vs t (place + 1)
 one_more j vs t place s tried e at none = record {
   within = (let lt = slice_get_within j.stops place s e in omega (arith, lt));
   before = λ k r l h. elim (below_or_there k place l) [
@@ -93,7 +94,7 @@ one_more j vs t place s tried e at none = record {
     | inl lt ↦ tried.free k r a lt h time la
     | inr same ↦
         let is : s ≡ r = same_Some _ _ (sym e ∙ ap (slice_get j.stops) (sym same) ∙ h) in
-        subst (λ (x : listed.Stop). ¬ IsMissed j vs a x) is (none a la)
+        subst (λ (x : listed.Stop). ¬ IsStopMissed j vs a x) is (none a la)
   ];
 }
 
@@ -144,7 +145,7 @@ not_itself x y (inr p) = less_itself x p.1
 
 pub stop_first : (j : JobView) (vs : Values) (t place a : ℕ) (s : listed.Stop) →
     IsRising moment_cmp stop_moment j.stops → AreTried j vs t place → slice_get j.stops place ≡ Some s →
-    s.at.time ≡ t → IsLeastBelow (assignments j) (λ b. IsMissed j vs b s) (Some a) →
+    s.at.time ≡ t → IsLeastBelow (assignments j) (λ b. IsStopMissed j vs b s) (Some a) →
     IsFirst j vs t Stop (record { time = t; kind = Stop; cell = s.at.cell; assignment = a })
 stop_first j vs t place a s rising tried e at least = record {
   at_time = refl;
@@ -212,7 +213,7 @@ before_later j vs t place s rising tried e other k r l h = elim (three_ways k pl
 ]
 
 pub record AreAllTried (j : JobView) (vs : Values) (t place : ℕ) : Type 0 where
-  pub free : IsFree j vs t Stop
+  pub free : HasNoFaultOfKind j vs t Stop
   pub next : IsNextStop j (t + 1) place
 
 all_tried : (j : JobView) (vs : Values) (t place : ℕ) → AreTried j vs t place → NoneLeft j t place →
@@ -252,7 +253,7 @@ past_these j vs t place s rising tried e other =
 -- ---- times without stops
 -- where a place is that of the next stop at two times there is none between them
 pub none_between : (j : JobView) (vs : Values) (t n place k : ℕ) → IsNextStop j t place → IsNextStop j n place →
-    t ≤ k → k < n → IsFree j vs k Stop
+    t ≤ k → k < n → HasNoFaultOfKind j vs k Stop
 none_between j vs t n place k low high from to x y a la found =
     let f : IsStopFault j (valuation vs a) k x y = found.1 in
     let at : slice_get j.stops f.is_listed.0 ≡ Some f.stop = stop_at j (valuation vs a) k x y f in

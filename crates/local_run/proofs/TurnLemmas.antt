@@ -14,7 +14,7 @@ use Rattle.bbm_rule.specs.Bits.{bit}
 use Rattle.bbm_rule.specs.Words.{AreTurned, AreTurnedAt}
 use Rattle.bbm_rule.proofs.BitLemmas.{xor, zero_or_one, bit-is, bit-xor, bit-zero}
 use Rattle.bbm_rule.proofs.Turning.{words_turned, flip_main_of, flip_anti_of}
-use Rattle.local_run.specs.Turns.{DiagonalStays, IsCalmBlock, SameBeside, TurnsPart}
+use Rattle.local_run.specs.Turns.{DiagonalStays, IsStableBlock, SameBeside, TurnsPart}
 use Rattle.local_run.proofs.LaneLemmas.{part_read, part_written}
 
 -- ---- words without a difference
@@ -141,7 +141,7 @@ anti_words ul ur ll lr ul' ur' ll' lr' stays t =
     (word_of_bits ur' ur (λ j. t.upper_right j ∙ (stays j).0), word_of_bits ll' ll (λ j. t.lower_left j ∙ (stays j).1))
 
 -- one block that stays
-pub calm_block : (w a b c d : ℕ) (ul ur ll lr : List ℕ) → IsCalmBlock w a b c d ul ur ll lr →
+pub calm_block : (w a b c d : ℕ) (ul ur ll lr : List ℕ) → IsStableBlock w a b c d ul ur ll lr →
     TurnsPart (w * a) (w * b) (w * c) (w * d) w ul ur ll lr ul ur ll lr
 calm_block w a b c d ul ur ll lr calm = record {
   turned = λ k l. calm_turned _ _ _ _ (calm.0 k l) (calm.1 k l);

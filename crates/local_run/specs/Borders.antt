@@ -6,22 +6,23 @@ use Rattle.local_run.specs.Calm.{IsDeadAt}
 use Rattle.local_run.specs.declared.planes.Planes.{Planes}
 
 -- the cells in this column and row of planes of this many columns and rows are neither in the ring nor in the halo
-abbrev pub IsInner : ℕ → ℕ → ℕ → ℕ → Type 0
-IsInner stride rows column row = (0 < column) × (column + 1 < stride) × (0 < row) × (row + 1 < rows)
+abbrev pub IsAwayFromBorder : ℕ → ℕ → ℕ → ℕ → Type 0
+IsAwayFromBorder stride rows column row = (0 < column) × (column + 1 < stride) × (0 < row) × (row + 1 < rows)
 
 -- so are those of all numbers, but for those with a mark
-abbrev pub AllInner : ℕ → ℕ → List ℕ → Type 0
-AllInner stride rows marks = (column row : ℕ) → column < stride → row < rows →
-    IsUnmarked marks (stride * row + column) → IsInner stride rows column row
+abbrev pub AreUnmarkedAwayFromBorder : ℕ → ℕ → List ℕ → Type 0
+AreUnmarkedAwayFromBorder stride rows marks = (column row : ℕ) → column < stride → row < rows →
+    IsUnmarked marks (stride * row + column) → IsAwayFromBorder stride rows column row
 
 -- from one number to another, each has cells that are neither in the ring nor in the halo, or that are dead and have no
 -- mark
-abbrev pub ArePassed : ℕ → ℕ → List ℕ → Planes → Type 0
-ArePassed from to marks p = (column row : ℕ) → column < p.stride → row < p.rows → from ≤ p.stride * row + column →
+abbrev pub AreSkippable : ℕ → ℕ → List ℕ → Planes → Type 0
+AreSkippable from to marks p = (column row : ℕ) → column < p.stride → row < p.rows → from ≤ p.stride * row + column →
     p.stride * row + column < to →
-    IsInner p.stride p.rows column row
+    IsAwayFromBorder p.stride p.rows column row
     ⊎ (IsDeadAt (p.stride * row + column) p × IsUnmarked marks (p.stride * row + column))
 
--- any two proofs of `AllInner` are equal
-pub AllInner-prop : (stride rows : ℕ) (marks : List ℕ) → IsProp (AllInner stride rows marks)
-AllInner-prop stride rows marks = Prim.hlevel props
+-- any two proofs of `AreUnmarkedAwayFromBorder` are equal
+pub AreUnmarkedAwayFromBorder-prop : (stride rows : ℕ) (marks : List ℕ) →
+    IsProp (AreUnmarkedAwayFromBorder stride rows marks)
+AreUnmarkedAwayFromBorder-prop stride rows marks = Prim.hlevel props

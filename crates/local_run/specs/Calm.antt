@@ -2,18 +2,20 @@
 use Rattle.std.specs.Prelude.{◌≡◌, ◌≢◌, Bool, true, ℕ, ◌+◌, ◌*◌, ◌%◌, ◌<◌, List, slice_index}
 use Rattle.std.proofs.Props.{props}
 use Rattle.bbm_rule.specs.Marks.{IsUnmarked}
-use Rattle.local_run.specs.Turns.{IsCalmBlock}
+use Rattle.local_run.specs.Turns.{IsStableBlock}
 use Rattle.local_run.specs.declared.planes.Planes.{Planes}
 
 -- the blocks of the odd partition stay, but for those with a mark
-abbrev pub OddCalm : List ℕ → Planes → Type 0
-OddCalm marks p = (u : ℕ) → u < p.stride * p.rows → IsUnmarked marks u →
-    IsCalmBlock p.words u u u u p.odd.items p.right.items p.down.items p.even.items
+abbrev pub AreOddBlocksStable : List ℕ → Planes → Type 0
+AreOddBlocksStable marks p = (u : ℕ) → u < p.stride * p.rows → IsUnmarked marks u →
+    IsStableBlock p.words u u u u p.odd.items p.right.items p.down.items p.even.items
 
 -- so do those of the even partition inside the box: the last block of a row is not
-abbrev pub EvenCalm : List ℕ → Planes → Type 0
-EvenCalm marks p = (u : ℕ) → u + p.stride + 1 < p.stride * p.rows → (u + 1) % p.stride ≢ 0 → IsUnmarked marks u →
-    IsCalmBlock p.words u (u + 1) (u + p.stride) (u + p.stride + 1) p.even.items p.down.items p.right.items p.odd.items
+abbrev pub AreEvenBlocksStable : List ℕ → Planes → Type 0
+AreEvenBlocksStable marks p =
+    (u : ℕ) → u + p.stride + 1 < p.stride * p.rows → (u + 1) % p.stride ≢ 0 → IsUnmarked marks u →
+    IsStableBlock p.words u (u + 1) (u + p.stride)
+    (u + p.stride + 1) p.even.items p.down.items p.right.items p.odd.items
 
 -- the cells with a number are dead under each assignment, one in each plane
 abbrev pub IsDeadAt : ℕ → Planes → Type 0
@@ -26,12 +28,12 @@ abbrev pub AreDead : Planes → Type 0
 AreDead p = (u : ℕ) → IsDeadAt u p
 
 -- any two proofs of these are equal
-pub OddCalm-prop : (marks : List ℕ) (p : Planes) → IsProp (OddCalm marks p)
-OddCalm-prop marks p = Prim.hlevel props
+pub AreOddBlocksStable-prop : (marks : List ℕ) (p : Planes) → IsProp (AreOddBlocksStable marks p)
+AreOddBlocksStable-prop marks p = Prim.hlevel props
 
 -- any two proofs that the blocks of the even partition are calm are equal, as a ghost field needs
-pub EvenCalm-prop : (marks : List ℕ) (p : Planes) → IsProp (EvenCalm marks p)
-EvenCalm-prop marks p = Prim.hlevel props
+pub AreEvenBlocksStable-prop : (marks : List ℕ) (p : Planes) → IsProp (AreEvenBlocksStable marks p)
+AreEvenBlocksStable-prop marks p = Prim.hlevel props
 
 -- In each plane the words of one cell may change, and no others. Cells are numbered row by row. Those of the planes odd
 -- and even may change only if `main`, those of the other two only if `anti`

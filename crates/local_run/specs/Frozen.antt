@@ -1,33 +1,34 @@
 -- Blocks that no step changes, whatever becomes of the other cells
 use Rattle.std.specs.Prelude.{◌≡◌, ◌≢◌, true, ℕ, ◌+◌, ◌*◌, ◌%◌, ◌^◌, ◌<◌, ◌≤◌, List, slice_index, vec_len}
 use Rattle.bbm_rule.specs.Rows.{cell_at}
-use Rattle.local_run.specs.Held.{IsEmptyBlock, IsHeld, bits_of}
-use Rattle.local_run.specs.Turns.{IsCalmBlock}
+use Rattle.local_run.specs.Held.{IsEmptyBlock, IsHeldBlock, bits_of}
+use Rattle.local_run.specs.Turns.{IsStableBlock}
 use Rattle.local_run.specs.declared.frozen.FrozenBlocks.{FrozenBlocks}
 use Rattle.local_run.specs.declared.planes.Planes.{Planes}
 
 -- the number that is less by the distance has a mark, if there is one
-abbrev pub IsMarkedBefore : List ℕ → ℕ → ℕ → Type 0
-IsMarkedBefore marks distance u = (n : ℕ) → n + distance ≡ u → cell_at marks n ≡ true
+abbrev pub IsNumberBeforeMarked : List ℕ → ℕ → ℕ → Type 0
+IsNumberBeforeMarked marks distance u = (n : ℕ) → n + distance ≡ u → cell_at marks n ≡ true
 
 -- a block of the odd partition is held by cells whose blocks of the even partition have marks, where they have one
-abbrev pub IsOddHeld : List ℕ → Planes → ℕ → Type 0
-IsOddHeld marks p u =
-    IsHeld p.words (IsMarkedBefore marks (p.stride + 1) u) (IsMarkedBefore marks p.stride u) (IsMarkedBefore marks 1 u)
-    (IsMarkedBefore marks 0 u) (bits_of p.words p.odd.items u) (bits_of p.words p.right.items u)
+abbrev pub IsOddBlockHeld : List ℕ → Planes → ℕ → Type 0
+IsOddBlockHeld marks p u =
+    IsHeldBlock p.words (IsNumberBeforeMarked marks (p.stride + 1) u) (IsNumberBeforeMarked marks p.stride u)
+    (IsNumberBeforeMarked marks 1 u)
+    (IsNumberBeforeMarked marks 0 u) (bits_of p.words p.odd.items u) (bits_of p.words p.right.items u)
     (bits_of p.words p.down.items u) (bits_of p.words p.even.items u)
 
 -- it is held, and empty
-abbrev pub IsOddEmpty : List ℕ → Planes → ℕ → Type 0
-IsOddEmpty marks p u =
-    IsEmptyBlock p.words (IsMarkedBefore marks (p.stride + 1) u) (IsMarkedBefore marks p.stride u)
-    (IsMarkedBefore marks 1 u) (IsMarkedBefore marks 0 u) (bits_of p.words p.odd.items u)
+abbrev pub IsOddBlockEmpty : List ℕ → Planes → ℕ → Type 0
+IsOddBlockEmpty marks p u =
+    IsEmptyBlock p.words (IsNumberBeforeMarked marks (p.stride + 1) u) (IsNumberBeforeMarked marks p.stride u)
+    (IsNumberBeforeMarked marks 1 u) (IsNumberBeforeMarked marks 0 u) (bits_of p.words p.odd.items u)
     (bits_of p.words p.right.items u) (bits_of p.words p.down.items u) (bits_of p.words p.even.items u)
 
 -- a block of the even partition is held by cells whose blocks of the odd partition have marks
-abbrev pub IsEvenHeld : List ℕ → Planes → ℕ → Type 0
-IsEvenHeld marks p n =
-    IsHeld p.words (cell_at marks n ≡ true) (cell_at marks (n + 1) ≡ true) (cell_at marks (n + p.stride) ≡ true)
+abbrev pub IsEvenBlockHeld : List ℕ → Planes → ℕ → Type 0
+IsEvenBlockHeld marks p n =
+    IsHeldBlock p.words (cell_at marks n ≡ true) (cell_at marks (n + 1) ≡ true) (cell_at marks (n + p.stride) ≡ true)
     (cell_at marks (n + p.stride + 1) ≡ true) (bits_of p.words p.even.items n) (bits_of p.words p.down.items (n + 1))
     (bits_of p.words p.right.items (n + p.stride)) (bits_of p.words p.odd.items (n + p.stride + 1))
 
@@ -41,16 +42,16 @@ pub record HasRoomForMarks (b : FrozenBlocks) (p : Planes) : Type 0 where
 -- blocks of the rows of the even partition, which are not turned, have marks
 pub record IsFrozen (b : FrozenBlocks) (p : Planes) : Type 0 where
   pub room : HasRoomForMarks b p
-  pub odd : (u : ℕ) → u < p.stride * p.rows → cell_at b.odd.items u ≡ true → IsOddHeld b.even.items p u
+  pub odd : (u : ℕ) → u < p.stride * p.rows → cell_at b.odd.items u ≡ true → IsOddBlockHeld b.even.items p u
   pub empty : (u : ℕ) → u < p.stride * p.rows → cell_at b.odd.items u ≡ true → cell_at b.empty.items u ≡ true →
-      IsOddEmpty b.even.items p u
+      IsOddBlockEmpty b.even.items p u
   pub even : (n : ℕ) → n + p.stride + 1 < p.stride * p.rows → (n + 1) % p.stride ≢ 0 →
-      cell_at b.even.items n ≡ true → IsEvenHeld b.odd.items p n
+      cell_at b.even.items n ≡ true → IsEvenBlockHeld b.odd.items p n
   pub last : (n : ℕ) → n + p.stride + 1 < p.stride * p.rows → (n + 1) % p.stride ≡ 0 → cell_at b.even.items n ≡ true
 
 -- the blocks with marks are frozen, if they were found
-abbrev pub Freezes : FrozenBlocks → Planes → Type 0
-Freezes b p = ∥ (b.is_found ≡ true → IsFrozen b p) ∥₁
+abbrev pub AreFrozenIfFound : FrozenBlocks → Planes → Type 0
+AreFrozenIfFound b p = ∥ (b.is_found ≡ true → IsFrozen b p) ∥₁
 
 -- the words of the planes are words
 pub record AreWords (p : Planes) : Type 0 where
@@ -60,14 +61,14 @@ pub record AreWords (p : Planes) : Type 0 where
   pub even : (k : ℕ) → slice_index p.even.items k < 2 ^ 64
 
 -- the blocks of the odd partition with marks stay
-abbrev pub IsOddCalmAt : List ℕ → Planes → Type 0
-IsOddCalmAt marks p = (u : ℕ) → u < p.stride * p.rows → cell_at marks u ≡ true →
-    IsCalmBlock p.words u u u u p.odd.items p.right.items p.down.items p.even.items
+abbrev pub AreMarkedOddBlocksStable : List ℕ → Planes → Type 0
+AreMarkedOddBlocksStable marks p = (u : ℕ) → u < p.stride * p.rows → cell_at marks u ≡ true →
+    IsStableBlock p.words u u u u p.odd.items p.right.items p.down.items p.even.items
 
 -- so do those of the even partition, and the last ones of the rows have marks
-pub record IsEvenCalmAt (marks : List ℕ) (p : Planes) : Type 0 where
+pub record AreMarkedEvenBlocksStable (marks : List ℕ) (p : Planes) : Type 0 where
   pub calm : (n : ℕ) → n + p.stride + 1 < p.stride * p.rows → (n + 1) % p.stride ≢ 0 → cell_at marks n ≡ true →
-      IsCalmBlock p.words n (n + 1) (n + p.stride) (n + p.stride + 1) p.even.items p.down.items p.right.items
+      IsStableBlock p.words n (n + 1) (n + p.stride) (n + p.stride + 1) p.even.items p.down.items p.right.items
       p.odd.items
   pub last : (n : ℕ) → n + p.stride + 1 < p.stride * p.rows → (n + 1) % p.stride ≡ 0 → cell_at marks n ≡ true
 

@@ -24,6 +24,6 @@ pub record SetsWord (x y k word : ℕ) (p q : Planes) : Type 0 where
       lane q a x' y' ≡ lane p a x' y'
 
 -- the cells of the box do not change, if the planes have one more cell on each side
-abbrev pub SameInside : Planes → Planes → Type 0
-SameInside p q = (a x y : ℕ) → a < 64 * p.words → x + 2 < 2 * p.stride → y + 2 < 2 * p.rows →
+abbrev pub AreSameInBox : Planes → Planes → Type 0
+AreSameInBox p q = (a x y : ℕ) → a < 64 * p.words → x + 2 < 2 * p.stride → y + 2 < 2 * p.rows →
     lane q a (1 + x) (1 + y) ≡ lane p a (1 + x) (1 + y)

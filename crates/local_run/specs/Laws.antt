@@ -9,7 +9,7 @@ use Rattle.module_box.specs.Schedules.{Signals, signal_at}
 use Rattle.module_job.specs.Jobs.{JobView, IsJob}
 use Rattle.local_run.specs.Faults.{IsEdgeFault, IsFault, IsFaultUnder, IsKeepFault, IsLeastFault, IsLeastKeepFault}
 use Rattle.local_run.specs.Faults.{assignments}
-use Rattle.local_run.specs.Leaps.{IsOddOf, IsSteady, StaysUpTo}
+use Rattle.local_run.specs.Leaps.{IsOddOf, HasSameSignalsAtOddTimes, IsRunUnchangedUntil}
 use Rattle.local_run.specs.Runs.{local_run}
 use Rattle.local_run.specs.Shown.{job_of, fault_of, keep_of}
 use Rattle.local_run.specs.declared.fault.Fault.{Fault}
@@ -17,16 +17,16 @@ use Rattle.local_run.specs.declared.fault.KeepFault.{KeepFault}
 use Rattle.local_run.specs.declared.finding.Finding.{Finding}
 
 -- two findings of one job have one fault
-abbrev pub FindingsAgree : Type 0
-FindingsAgree = (f g : Finding) → job_of f ≡ job_of g → fault_of f ≡ fault_of g
+abbrev pub FindingsAgreeOnFaults : Type 0
+FindingsAgreeOnFaults = (f g : Finding) → job_of f ≡ job_of g → fault_of f ≡ fault_of g
 
 -- a finding without a fault says that its job has none
 abbrev pub NoneMeansNoFault : Type 0
 NoneMeansNoFault = (f : Finding) (x : Fault) → fault_of f ≡ None → ¬ IsFault (job_of f) x
 
 -- and one keep fault
-abbrev pub FindingsAgreeOnKeeps : Type 0
-FindingsAgreeOnKeeps = (f g : Finding) → job_of f ≡ job_of g → keep_of f ≡ keep_of g
+abbrev pub FindingsAgreeOnKeepFaults : Type 0
+FindingsAgreeOnKeepFaults = (f g : Finding) → job_of f ≡ job_of g → keep_of f ≡ keep_of g
 
 -- a finding without a keep fault says that its job has none
 abbrev pub NoneMeansNoKeepFault : Type 0
@@ -37,8 +37,8 @@ abbrev pub LeastKeepFaultIsUnique : Type 0
 LeastKeepFaultIsUnique = (j : JobView) (f g : Option KeepFault) → IsLeastKeepFault j f → IsLeastKeepFault j g → f ≡ g
 
 -- if some used gate has no row under an assignment, the job has no fault under it
-abbrev pub UndefinedHasNoFault : Type 0
-UndefinedHasNoFault = (j : JobView) (f : Fault) (k : ℕ) → AreOrdered j.locals.netlist.given j.locals.netlist.gates →
+abbrev pub NoFaultWhereUndefined : Type 0
+NoFaultWhereUndefined = (j : JobView) (f : Fault) (k : ℕ) → AreOrdered j.locals.netlist.given j.locals.netlist.gates →
     IsLocallyUndefined j.locals f.assignment k → ¬ IsFault j f
 
 -- a job has one least fault, or none
@@ -47,34 +47,35 @@ LeastFaultIsUnique = (j : JobView) (f g : Option Fault) → IsLeastFault j f →
 
 -- If no gate uses a wire before it is defined, any one local valuation under an assignment decides whether the job has
 -- a fault under it.
-abbrev pub FaultsAreDecided : Type 0
-FaultsAreDecided = (j : JobView) (f : Fault) (u : Valuation) → IsJob j →
+abbrev pub OneValuationDecidesFault : Type 0
+OneValuationDecidesFault = (j : JobView) (f : Fault) (u : Valuation) → IsJob j →
     AreOrdered j.locals.netlist.given j.locals.netlist.gates →
     f.assignment < assignments j → IsLocalValuation j.locals f.assignment u →
     IsFault j f ↔ IsFaultUnder j u f.time f.kind f.cell.x f.cell.y
 
 -- at each odd time below the steps these say the same of each cell of the halo as the job
-abbrev pub SayTheSame : JobView → Signals → Type 0
-SayTheSame j halos = (t : ℕ) (x y : ℤ) → t % 2 ≡ 1 → t < j.steps → IsTrue (in_halo j.area x y) →
+abbrev pub HasSameHaloSignals : JobView → Signals → Type 0
+HasSameHaloSignals j halos = (t : ℕ) (x y : ℤ) → t % 2 ≡ 1 → t < j.steps → IsTrue (in_halo j.area x y) →
     signal_at j.halos t x y ≡ signal_at halos t x y
 
 -- so the job has the same faults if they are its halos, if its stops are at times up to the last one
 abbrev pub JobsWithSameHalosAgree : Type 0
 JobsWithSameHalosAgree = (j : JobView) (halos : Signals) (f : Fault) → All (λ s. s.at.time ≤ j.steps) j.stops →
-    SayTheSame j halos → IsFault j f → IsFault (record j { halos = halos }) f
+    HasSameHaloSignals j halos → IsFault j f → IsFault (record j { halos = halos }) f
 
 -- no cell outside the box is ever live
-abbrev pub StaysInBox : Type 0
-StaysInBox = (j : JobView) (u : Valuation) (t : ℕ) → IsJob j → LiesInBox j.area (local_run j u t)
+abbrev pub LocalRunStaysInBox : Type 0
+LocalRunStaysInBox = (j : JobView) (u : Valuation) (t : ℕ) → IsJob j → LiesInBox j.area (local_run j u t)
 
 -- A run that does not change in two steps does not change until time n, if the signals of the halo do not either
-abbrev pub QuietRunsStay : Type 0
-QuietRunsStay = (j : JobView) (u : Valuation) (t o n : ℕ) → IsOddOf t o → StaysUpTo j u t (t + 2) →
-    IsSteady j.halos o n → StaysUpTo j u t n
+abbrev pub QuietRunStaysUnchanged : Type 0
+QuietRunStaysUnchanged = (j : JobView) (u : Valuation) (t o n : ℕ) → IsOddOf t o → IsRunUnchangedUntil j u t (t + 2) →
+    HasSameSignalsAtOddTimes j.halos o n → IsRunUnchangedUntil j u t n
 
 -- If the signals of the ring do not change either, an edge fault before time n was there at the odd one of the two
 -- times.
-abbrev pub NoNewEdgeFaults : Type 0
-NoNewEdgeFaults = (j : JobView) (u : Valuation) (t o n k : ℕ) (x y : ℤ) → IsOddOf t o → StaysUpTo j u t (t + 2) →
-    IsSteady j.halos o n → IsSteady j.edges o n →
+abbrev pub QuietRunAddsNoEdgeFault : Type 0
+QuietRunAddsNoEdgeFault = (j : JobView) (u : Valuation) (t o n k : ℕ) (x y : ℤ) → IsOddOf t o →
+    IsRunUnchangedUntil j u t (t + 2) →
+    HasSameSignalsAtOddTimes j.halos o n → HasSameSignalsAtOddTimes j.edges o n →
     t ≤ k → k < n → IsEdgeFault j u k x y → IsEdgeFault j u o x y

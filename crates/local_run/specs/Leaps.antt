@@ -7,12 +7,12 @@ use Rattle.module_job.specs.Jobs.{JobView}
 use Rattle.local_run.specs.Runs.{local_run}
 
 -- the run at each time from t up to n is that at time t
-abbrev pub StaysUpTo : JobView → Valuation → ℕ → ℕ → Type 0
-StaysUpTo j u t n = (k : ℕ) (x y : ℤ) → t ≤ k → k ≤ n → local_run j u k x y ≡ local_run j u t x y
+abbrev pub IsRunUnchangedUntil : JobView → Valuation → ℕ → ℕ → Type 0
+IsRunUnchangedUntil j u t n = (k : ℕ) (x y : ℤ) → t ≤ k → k ≤ n → local_run j u k x y ≡ local_run j u t x y
 
 -- the signals of a schedule at each odd time from t on, before n, are those at time t
-abbrev pub IsSteady : Signals → ℕ → ℕ → Type 0
-IsSteady s t n = (k : ℕ) (x y : ℤ) → t ≤ k → k < n → k % 2 ≡ 1 → signal_at s k x y ≡ signal_at s t x y
+abbrev pub HasSameSignalsAtOddTimes : Signals → ℕ → ℕ → Type 0
+HasSameSignalsAtOddTimes s t n = (k : ℕ) (x y : ℤ) → t ≤ k → k < n → k % 2 ≡ 1 → signal_at s k x y ≡ signal_at s t x y
 
 -- o is the odd one of two times that follow one another, of which t is the first
 pub record IsOddOf (t o : ℕ) : Type 0 where
@@ -35,5 +35,5 @@ pub record IsLeap (j : JobView) (t : ℕ) (changed : Bool) (n : ℕ) : Type 0 wh
   pub unchanged : changed ≡ false
   pub even : t % 2 ≡ 0
   pub later : 1 ≤ t
-  pub edges : IsSteady j.edges (t - 1) n
-  pub halos : IsSteady j.halos (t - 1) n
+  pub edges : HasSameSignalsAtOddTimes j.edges (t - 1) n
+  pub halos : HasSameSignalsAtOddTimes j.halos (t - 1) n

@@ -7,8 +7,8 @@ use Rattle.local_run.specs.declared.live.LiveMarks.{LiveMarks}
 use Rattle.local_run.specs.declared.planes.Planes.{Planes}
 
 -- there is room for the marks of n cells of each plane
-abbrev pub HasMarks : ℕ → LiveMarks → Type 0
-HasMarks n l = (n ≤ 64 * vec_len l.odd) × (n ≤ 64 * vec_len l.right) × (n ≤ 64 * vec_len l.down)
+abbrev pub HasRoomForCellMarks : ℕ → LiveMarks → Type 0
+HasRoomForCellMarks n l = (n ≤ 64 * vec_len l.odd) × (n ≤ 64 * vec_len l.right) × (n ≤ 64 * vec_len l.down)
     × (n ≤ 64 * vec_len l.even)
 
 -- the marks of each plane have as much room
@@ -27,8 +27,8 @@ abbrev pub IsInBoth : List ℕ → List ℕ → ℕ → Type 0
 IsInBoth first second u = (cell_at first u ≡ true) × (cell_at second u ≡ true)
 
 -- the first n cells of each plane have marks, but for those whose number has a mark in both lists
-abbrev pub AreMarkedBut : ℕ → List ℕ → List ℕ → LiveMarks → Type 0
-AreMarkedBut n first second l = (u : ℕ) → u < n →
+abbrev pub AreMarkedUnlessInBoth : ℕ → List ℕ → List ℕ → LiveMarks → Type 0
+AreMarkedUnlessInBoth n first second l = (u : ℕ) → u < n →
     (IsUnmarked l.odd.items u → IsInBoth first second u) × (IsUnmarked l.right.items u → IsInBoth first second u)
     × (IsUnmarked l.down.items u → IsInBoth first second u) × (IsUnmarked l.even.items u → IsInBoth first second u)
 
@@ -42,19 +42,19 @@ AreZeroAt at p = (slice_index p.odd.items at ≡ 0) × (slice_index p.right.item
     × (slice_index p.down.items at ≡ 0) × (slice_index p.even.items at ≡ 0)
 
 -- the cells of a plane are dead, but for those with a mark
-abbrev pub DeadBut : ℕ → ℕ → List ℕ → List ℕ → Type 0
-DeadBut words count marks cells = (u : ℕ) → u < count → IsUnmarked marks u → IsDeadCell words u cells
+abbrev pub AreUnmarkedCellsDead : ℕ → ℕ → List ℕ → List ℕ → Type 0
+AreUnmarkedCellsDead words count marks cells = (u : ℕ) → u < count → IsUnmarked marks u → IsDeadCell words u cells
 
 -- so are those of all planes
-abbrev pub AllDead : LiveMarks → Planes → Type 0
-AllDead l p = DeadBut p.words (p.stride * p.rows) l.odd.items p.odd.items
-    × DeadBut p.words (p.stride * p.rows) l.right.items p.right.items
-    × DeadBut p.words (p.stride * p.rows) l.down.items p.down.items
-    × DeadBut p.words (p.stride * p.rows) l.even.items p.even.items
+abbrev pub AllUnmarkedDead : LiveMarks → Planes → Type 0
+AllUnmarkedDead l p = AreUnmarkedCellsDead p.words (p.stride * p.rows) l.odd.items p.odd.items
+    × AreUnmarkedCellsDead p.words (p.stride * p.rows) l.right.items p.right.items
+    × AreUnmarkedCellsDead p.words (p.stride * p.rows) l.down.items p.down.items
+    × AreUnmarkedCellsDead p.words (p.stride * p.rows) l.even.items p.even.items
 
 -- any two proofs of this are equal
-pub AllDead-prop : (l : LiveMarks) (p : Planes) → IsProp (AllDead l p)
-AllDead-prop l p = Prim.hlevel props
+pub AllUnmarkedDead-prop : (l : LiveMarks) (p : Planes) → IsProp (AllUnmarkedDead l p)
+AllUnmarkedDead-prop l p = Prim.hlevel props
 
 -- one more cell is marked, if the diagonal that it is on changes
 abbrev pub MarksCell : Bool → ℕ → List ℕ → List ℕ → Type 0
@@ -66,8 +66,8 @@ TakesMark at other old others new =
     (u : ℕ) → IsUnmarked new u → ((u ≢ at) × IsUnmarked old u) ⊎ ((u ≡ at) × IsUnmarked others other)
 
 -- no mark is taken off, but that of a cell if it is dead
-abbrev pub DropsDead : ℕ → ℕ → List ℕ → List ℕ → List ℕ → Type 0
-DropsDead words at cells old new =
+abbrev pub UnmarksIfDead : ℕ → ℕ → List ℕ → List ℕ → List ℕ → Type 0
+UnmarksIfDead words at cells old new =
     (u : ℕ) → IsUnmarked new u → IsUnmarked old u ⊎ ((u ≡ at) × IsDeadCell words at cells)
 
 -- The cells of a block by their numbers in the planes: none but one at most of the diagonal of odd and even has a mark
@@ -89,7 +89,7 @@ AreUnmarked l odd right down even =
     × IsUnmarked l.even.items even
 
 -- the numbers of the cells of a block are among those that have marks
-abbrev pub HasCells : LiveMarks → ℕ → ℕ → ℕ → ℕ → Type 0
-HasCells l odd right down even =
+abbrev pub HasRoomForBlockCells : LiveMarks → ℕ → ℕ → ℕ → ℕ → Type 0
+HasRoomForBlockCells l odd right down even =
     (odd < 64 * vec_len l.odd) × (right < 64 * vec_len l.right) × (down < 64 * vec_len l.down)
     × (even < 64 * vec_len l.even)

@@ -17,8 +17,8 @@ abbrev pub rows_between : JobView → JobView → ℤ
 rows_between j k = pos k.area.y -ℤ pos j.area.y
 
 -- the fault at the place in the box of k that f has in the box of j
-abbrev pub fault_on : JobView → JobView → Fault → Fault
-fault_on j k f = record {
+abbrev pub fault_moved_to_job : JobView → JobView → Fault → Fault
+fault_moved_to_job j k f = record {
   time = f.time;
   kind = f.kind;
   cell = moved_cell (columns_between j k) (rows_between j k) f.cell;
@@ -27,16 +27,16 @@ fault_on j k f = record {
 
 -- ---- laws: jobs of the same shape have the same faults but for where they lie, and the least one moves along
 -- Jobs of one shape have the same faults, moved to where each job lies.
-abbrev pub FaultsMoveAlong : Type 0
-FaultsMoveAlong = (j k : JobView) (f : Fault) → IsJob j → IsJob k → shape_of j ≡ shape_of k → IsFault j f →
-    IsFault k (fault_on j k f)
+abbrev pub FaultsMoveWithJob : Type 0
+FaultsMoveWithJob = (j k : JobView) (f : Fault) → IsJob j → IsJob k → shape_of j ≡ shape_of k → IsFault j f →
+    IsFault k (fault_moved_to_job j k f)
 
 -- The least fault of a job is that of another job of its shape, moved.
-abbrev pub LeastFaultMovesAlong : Type 0
-LeastFaultMovesAlong = (j k : JobView) (o : Option Fault) → IsJob j → IsJob k → shape_of j ≡ shape_of k →
-    IsLeastFault j o → IsLeastFault k (option_map (fault_on j k) o)
+abbrev pub LeastFaultMovesWithJob : Type 0
+LeastFaultMovesWithJob = (j k : JobView) (o : Option Fault) → IsJob j → IsJob k → shape_of j ≡ shape_of k →
+    IsLeastFault j o → IsLeastFault k (option_map (fault_moved_to_job j k) o)
 
 -- and they have the same least keep fault
-abbrev pub LeastKeepFaultStays : Type 0
-LeastKeepFaultStays = (j k : JobView) (o : Option KeepFault) → shape_of j ≡ shape_of k → IsLeastKeepFault j o →
+abbrev pub SameShapeSameLeastKeepFault : Type 0
+SameShapeSameLeastKeepFault = (j k : JobView) (o : Option KeepFault) → shape_of j ≡ shape_of k → IsLeastKeepFault j o →
     IsLeastKeepFault k o

@@ -3,12 +3,12 @@ use Rattle.std.specs.Prelude.{ℕ, ℤ, pos, ◌+◌, ◌-ℤ◌, ◌≤◌}
 use Rattle.module_box.specs.declared.boxes.Box2.{Box2}
 
 -- number k of the columns or rows of a box whose first is c
-unfoldable pub inner : ℕ → ℕ → ℤ
-inner c k = pos (c + k)
+unfoldable pub box_coord : ℕ → ℕ → ℤ
+box_coord c k = pos (c + k)
 
 -- the same, if the one before the first has number 0
-unfoldable pub outer : ℕ → ℕ → ℤ
-outer c k = pos (c + k) -ℤ pos 1
+unfoldable pub halo_coord : ℕ → ℕ → ℤ
+halo_coord c k = pos (c + k) -ℤ pos 1
 
 -- the box is near the plane's corner, and so is the place
 abbrev pub IsNearCorner : Box2 → ℕ → ℕ → Type 0

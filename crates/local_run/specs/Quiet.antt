@@ -8,7 +8,7 @@ use Rattle.module_box.specs.declared.schedules.AllTimes.{AllTimes}
 use Rattle.module_box.specs.declared.schedules.Signal.TheVariants.{Zero}
 use Rattle.module_job.specs.Jobs.{JobView}
 use Rattle.module_job.specs.Shapes.{ShapeView}
-use Rattle.local_run.specs.Places.{outer}
+use Rattle.local_run.specs.Places.{halo_coord}
 use Rattle.bbm_rule.specs.Marks.{IsUnmarked}
 
 -- the number of a cell in its plane, for a column and row counted from the halo
@@ -17,12 +17,12 @@ number_at b x y = (b.w / 2 + 1) * (y / 2) + x / 2
 
 -- The number of a cell among the marks on lines. These begin with a mark for each number in the planes, and then have
 -- four parts of 1152 marks, one for each plane, by the parities of column and row: no plane has more cells
-abbrev pub line_at : Box2 → ℕ → ℕ → ℕ
-line_at b x y = number_at b x y + 1152 * (1 + 2 * (y % 2) + x % 2)
+abbrev pub cell_mark_number_at : Box2 → ℕ → ℕ → ℕ
+cell_mark_number_at b x y = number_at b x y + 1152 * (1 + 2 * (y % 2) + x % 2)
 
 -- one of the two marks of a cell is missing
-abbrev pub LacksLine : Box2 → ℕ → ℕ → List ℕ → Type 0
-LacksLine b x y marks = IsUnmarked marks (number_at b x y) ⊎ IsUnmarked marks (line_at b x y)
+abbrev pub LacksCellMark : Box2 → ℕ → ℕ → List ℕ → Type 0
+LacksCellMark b x y marks = IsUnmarked marks (number_at b x y) ⊎ IsUnmarked marks (cell_mark_number_at b x y)
 
 -- there is room for the numbers of all cells of a box and its halo
 abbrev pub HasRoom : Box2 → List ℕ → Type 0
@@ -31,34 +31,35 @@ HasRoom b marks = (b.x ≤ 512) × (b.y ≤ 512) × (b.w ≤ 64) × (b.h ≤ 64)
 
 -- the cell has both marks, where it is in the box or its halo
 abbrev pub IsCellMarked : Box2 → Cell → List ℕ → Type 0
-IsCellMarked b c marks = (x y : ℕ) → x < b.w + 2 → y < b.h + 2 → c.x ≡ outer b.x x → c.y ≡ outer b.y y →
-    LacksLine b x y marks → ⊥
+IsCellMarked b c marks = (x y : ℕ) → x < b.w + 2 → y < b.h + 2 → c.x ≡ halo_coord b.x x → c.y ≡ halo_coord b.y y →
+    LacksCellMark b x y marks → ⊥
 
 -- no mark is taken off
 abbrev pub KeepsMarks : List ℕ → List ℕ → Type 0
 KeepsMarks old new = (u : ℕ) → IsUnmarked new u → IsUnmarked old u
 
 -- the cells of signals at all times have marks
-abbrev pub AreAllTimesMarked : Signals → Box2 → List ℕ → Type 0
-AreAllTimesMarked s b marks = (i : ℕ) (h : AllTimes) → slice_get s.all_times i ≡ Some h → IsCellMarked b h.cell marks
+abbrev pub AreAllTimesCellsMarked : Signals → Box2 → List ℕ → Type 0
+AreAllTimesCellsMarked s b marks =
+    (i : ℕ) (h : AllTimes) → slice_get s.all_times i ≡ Some h → IsCellMarked b h.cell marks
 
 -- the box of a shape, with its corner at (0, 0)
-abbrev pub at_corner : ShapeView → Box2
-at_corner s = record { x = 0; y = 0; w = s.width; h = s.height }
+abbrev pub box_at_origin : ShapeView → Box2
+box_at_origin s = record { x = 0; y = 0; w = s.width; h = s.height }
 
 -- marks, a word for 64, that leave no cell out of which a line of a shape says something at all times
 pub record AreAllTimesMarks (s : ShapeView) (marks : List ℕ) : Type 0 where
   pub long : length marks ≡ div_ceil ((s.width / 2 + 1) * (s.height / 2 + 1)) 64 + 72
-  pub room : HasRoom (at_corner s) marks
-  pub edges : AreAllTimesMarked s.edges (at_corner s) marks
-  pub halos : AreAllTimesMarked s.halos (at_corner s) marks
+  pub room : HasRoom (box_at_origin s) marks
+  pub edges : AreAllTimesCellsMarked s.edges (box_at_origin s) marks
+  pub halos : AreAllTimesCellsMarked s.halos (box_at_origin s) marks
 
 -- at cells that lack a mark the signal of a schedule at time t is `Zero`
-abbrev pub IsQuietIn : Signals → Box2 → ℕ → List ℕ → Type 0
-IsQuietIn s b t marks = (x y : ℕ) → x < b.w + 2 → y < b.h + 2 → LacksLine b x y marks →
-    signal_at s t (outer b.x x) (outer b.y y) ≡ Zero
+abbrev pub IsZeroAtUnmarked : Signals → Box2 → ℕ → List ℕ → Type 0
+IsZeroAtUnmarked s b t marks = (x y : ℕ) → x < b.w + 2 → y < b.h + 2 → LacksCellMark b x y marks →
+    signal_at s t (halo_coord b.x x) (halo_coord b.y y) ≡ Zero
 
 -- marks that leave no cell out of which an edge or halo line of a job says something at time t
 pub record AreLines (j : JobView) (t : ℕ) (marks : List ℕ) : Type 0 where
-  pub edges : IsQuietIn j.edges j.area t marks
-  pub halos : IsQuietIn j.halos j.area t marks
+  pub edges : IsZeroAtUnmarked j.edges j.area t marks
+  pub halos : IsZeroAtUnmarked j.halos j.area t marks

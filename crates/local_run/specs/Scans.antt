@@ -13,7 +13,7 @@ use Rattle.module_job.specs.Signals.{is_live}
 use Rattle.module_job.specs.declared.job.Stop as listed
 use Rattle.local_run.specs.Faults.{IsFaultUnder, assignments}
 use Rattle.local_run.specs.Lanes.{HasSize, lane}
-use Rattle.local_run.specs.Places.{inner, outer}
+use Rattle.local_run.specs.Places.{box_coord, halo_coord}
 use Rattle.local_run.specs.Quiet.{AreAllTimesMarks, number_at}
 use Rattle.local_run.specs.Runs.{local_run}
 use Rattle.local_run.specs.declared.fault.Fault.{Fault}
@@ -37,25 +37,25 @@ is_defined vs a = bit_of_row vs.rows.defined.items a
 
 -- if each used gate has a row, the values of the wires stay: in rows of words, with the row of the assignments that
 -- are so
-abbrev pub KeepsDefined : List ℕ → List ℕ → List ℕ → Type 0
-KeepsDefined defined old new =
+abbrev pub KeepsDefinedValues : List ℕ → List ℕ → List ℕ → Type 0
+KeepsDefinedValues defined old new =
     (a w : ℕ) → a < 64 * length defined → bit_of_row defined a ≡ true →
     value_of (length defined) new a w ≡ value_of (length defined) old a w
 
 -- each used gate has a row under assignment a, and the job has the fault
-abbrev pub IsFound : JobView → Values → ℕ → ℕ → Kind → ℤ → ℤ → Type 0
-IsFound j vs a t kind x y = (is_defined vs a ≡ true) × IsFaultUnder j (valuation vs a) t kind x y
+abbrev pub IsDefinedFault : JobView → Values → ℕ → ℕ → Kind → ℤ → ℤ → Type 0
+IsDefinedFault j vs a t kind x y = (is_defined vs a ≡ true) × IsFaultUnder j (valuation vs a) t kind x y
 
 -- each used gate has a row under assignment a, and at the stop's time its cell is not as its wire
-abbrev pub IsMissed : JobView → Values → ℕ → listed.Stop → Type 0
-IsMissed j vs a s = (is_defined vs a ≡ true)
+abbrev pub IsStopMissed : JobView → Values → ℕ → listed.Stop → Type 0
+IsStopMissed j vs a s = (is_defined vs a ≡ true)
     × (local_run j (valuation vs a) s.at.time s.at.cell.x s.at.cell.y ≢ valuation vs a s.wire)
 
 -- there is a row for the wire that it names
-abbrev pub HasRow : Values → Signal → Type 0
-HasRow vs Zero = Unit {0}
-HasRow vs One = Unit {0}
-HasRow vs (Wire w) = vs.words * w + vs.words ≤ length vs.rows.values.items
+abbrev pub HasValueRow : Values → Signal → Type 0
+HasValueRow vs Zero = Unit {0}
+HasValueRow vs One = Unit {0}
+HasValueRow vs (Wire w) = vs.words * w + vs.words ≤ length vs.rows.values.items
 
 -- what a run needs of a job and of the values of its wires
 pub record IsReady (j : JobView) (vs : Values) : Type 0 where
@@ -72,7 +72,7 @@ pub record IsReady (j : JobView) (vs : Values) : Type 0 where
 pub record Shows (j : JobView) (vs : Values) (t : ℕ) (p : Planes) : Type 0 where
   pub size : HasSize vs.words (j.area.w / 2 + 1) (j.area.h / 2 + 1) p
   pub cells : (a x y : ℕ) → a < assignments j → x < j.area.w → y < j.area.h →
-      lane p a (1 + x) (1 + y) ≡ local_run j (valuation vs a) t (inner j.area.x x) (inner j.area.y y)
+      lane p a (1 + x) (1 + y) ≡ local_run j (valuation vs a) t (box_coord j.area.x x) (box_coord j.area.y y)
 
 -- whether faults of the kind are sought at the time, cell by cell
 abbrev pub IsSought : JobView → ℕ → Kind → Type 0
@@ -88,26 +88,26 @@ pub record HasBothEnds (kind : Kind) (w h y stride : ℕ) : Type 0 where
   pub ends : stride + 1 ≡ w
 
 -- a distance at which a scan of row y looks at each cell that can have a fault of the kind
-abbrev pub IsStride : Kind → ℕ → ℕ → ℕ → ℕ → Type 0
-IsStride kind w h y stride = (1 ≤ stride) × (stride ≤ 64) × ((stride ≡ 1) ⊎ HasBothEnds kind w h y stride)
+abbrev pub IsScanStride : Kind → ℕ → ℕ → ℕ → ℕ → Type 0
+IsScanStride kind w h y stride = (1 ≤ stride) × (stride ≤ 64) × ((stride ≡ 1) ⊎ HasBothEnds kind w h y stride)
 
 -- f comes first among the faults of a kind at a time
 pub record IsFirst (j : JobView) (vs : Values) (t : ℕ) (kind : Kind) (f : Fault) : Type 0 where
   pub at_time : f.time ≡ t
   pub same_kind : f.kind ≡ kind
   pub small : f.assignment < assignments j
-  pub fault : IsFound j vs f.assignment t kind f.cell.x f.cell.y
-  pub row : (x y : ℤ) (a : ℕ) → a < assignments j → y <ℤ f.cell.y → ¬ IsFound j vs a t kind x y
-  pub column : (x : ℤ) (a : ℕ) → a < assignments j → x <ℤ f.cell.x → ¬ IsFound j vs a t kind x f.cell.y
-  pub assignment : (a : ℕ) → a < f.assignment → ¬ IsFound j vs a t kind f.cell.x f.cell.y
+  pub fault : IsDefinedFault j vs f.assignment t kind f.cell.x f.cell.y
+  pub row : (x y : ℤ) (a : ℕ) → a < assignments j → y <ℤ f.cell.y → ¬ IsDefinedFault j vs a t kind x y
+  pub column : (x : ℤ) (a : ℕ) → a < assignments j → x <ℤ f.cell.x → ¬ IsDefinedFault j vs a t kind x f.cell.y
+  pub assignment : (a : ℕ) → a < f.assignment → ¬ IsDefinedFault j vs a t kind f.cell.x f.cell.y
 
 -- there is no fault of the kind at the time
-abbrev pub IsFree : JobView → Values → ℕ → Kind → Type 0
-IsFree j vs t kind = (x y : ℤ) (a : ℕ) → a < assignments j → ¬ IsFound j vs a t kind x y
+abbrev pub HasNoFaultOfKind : JobView → Values → ℕ → Kind → Type 0
+HasNoFaultOfKind j vs t kind = (x y : ℤ) (a : ℕ) → a < assignments j → ¬ IsDefinedFault j vs a t kind x y
 
 -- a cell, counted from the halo, is what the signal says under the assignments of this many words
-abbrev pub IsShown : Values → Planes → ℕ → ℕ → Signal → ℕ → Type 0
-IsShown vs p x y signal words = (a : ℕ) → a < 64 * words → lane p a x y ≡ is_live (valuation vs a) signal
+abbrev pub IsCellAsSignal : Values → Planes → ℕ → ℕ → Signal → ℕ → Type 0
+IsCellAsSignal vs p x y signal words = (a : ℕ) → a < 64 * words → lane p a x y ≡ is_live (valuation vs a) signal
 
 -- a cell, counted from the halo, becomes what the signal says, and no other changes
 pub record PutsCell (vs : Values) (x y : ℕ) (signal : Signal) (p q : Planes) : Type 0 where
@@ -117,17 +117,17 @@ pub record PutsCell (vs : Values) (x y : ℕ) (signal : Signal) (p q : Planes) :
       lane q a x' y' ≡ lane p a x' y'
 
 -- whether a cell, counted from the halo, is outside the box
-abbrev pub IsOuter : Box2 → ℕ → ℕ → Type 0
-IsOuter b x y = (1 ≤ x) × (x ≤ b.w) × (1 ≤ y) × (y ≤ b.h) → ⊥
+abbrev pub IsOutsideBox : Box2 → ℕ → ℕ → Type 0
+IsOutsideBox b x y = (1 ≤ x) × (x ≤ b.w) × (1 ≤ y) × (y ≤ b.h) → ⊥
 
 -- the cell of the halo is what its signal says, under each assignment
-abbrev pub HasHaloAt : JobView → Values → ℕ → Planes → ℕ → ℕ → Type 0
-HasHaloAt j vs t p x y = (a : ℕ) → a < assignments j → IsOuter j.area x y →
-    lane p a x y ≡ is_live (valuation vs a) (signal_at j.halos t (outer j.area.x x) (outer j.area.y y))
+abbrev pub IsHaloSetAt : JobView → Values → ℕ → Planes → ℕ → ℕ → Type 0
+IsHaloSetAt j vs t p x y = (a : ℕ) → a < assignments j → IsOutsideBox j.area x y →
+    lane p a x y ≡ is_live (valuation vs a) (signal_at j.halos t (halo_coord j.area.x x) (halo_coord j.area.y y))
 
 -- all cells of the halo are
-abbrev pub HasHalo : JobView → Values → ℕ → Planes → Type 0
-HasHalo j vs t p = (x y : ℕ) → x < j.area.w + 2 → y < j.area.h + 2 → HasHaloAt j vs t p x y
+abbrev pub IsHaloSet : JobView → Values → ℕ → Planes → Type 0
+IsHaloSet j vs t p = (x y : ℕ) → x < j.area.w + 2 → y < j.area.h + 2 → IsHaloSetAt j vs t p x y
 
 -- no cell changes but the one at (x, y), counted from the halo
 abbrev pub SameElsewhere : JobView → Planes → Planes → ℕ → ℕ → Type 0
@@ -142,7 +142,7 @@ pub record IsNextStop (j : JobView) (t place : ℕ) : Type 0 where
 
 -- a cell has a fault of its edge at the time if that is odd; so it has none if the time is even
 abbrev pub HasNoEdgeFault : JobView → Values → ℕ → Type 0
-HasNoEdgeFault j vs t = t % 2 ≡ 1 → IsFree j vs t Edge
+HasNoEdgeFault j vs t = t % 2 ≡ 1 → HasNoFaultOfKind j vs t Edge
 
 -- f comes first among all faults at a time before the last
 abbrev pub IsFirstAt : JobView → Values → ℕ → Fault → Type 0
@@ -152,7 +152,7 @@ IsFirstAt j vs t f = ((t % 2 ≡ 1) × IsFirst j vs t Edge f) ⊎ (HasNoEdgeFaul
 pub record IsPassed (j : JobView) (vs : Values) (t place : ℕ) : Type 0 where
   pub next : IsNextStop j (t + 1) place
   pub edges : HasNoEdgeFault j vs t
-  pub stops : IsFree j vs t Stop
+  pub stops : HasNoFaultOfKind j vs t Stop
 
 -- The cells of box and halo with this number, one in each plane, are dead under each assignment, and their signals at
 -- time t are `Zero`
@@ -160,14 +160,14 @@ pub record IsSilent (j : JobView) (t : ℕ) (p : Planes) (u : ℕ) : Type 0 wher
   pub dead : (a x y : ℕ) → a < 64 * p.words → x < j.area.w + 2 → y < j.area.h + 2 → number_at j.area x y ≡ u →
       lane p a x y ≡ false
   pub edge : (x y : ℕ) → x < j.area.w + 2 → y < j.area.h + 2 → number_at j.area x y ≡ u →
-      signal_at j.edges t (outer j.area.x x) (outer j.area.y y) ≡ Zero
+      signal_at j.edges t (halo_coord j.area.x x) (halo_coord j.area.y y) ≡ Zero
   pub halo : (x y : ℕ) → x < j.area.w + 2 → y < j.area.h + 2 → number_at j.area x y ≡ u →
-      signal_at j.halos t (outer j.area.x x) (outer j.area.y y) ≡ Zero
+      signal_at j.halos t (halo_coord j.area.x x) (halo_coord j.area.y y) ≡ Zero
 
 -- the cells of the halo in this column and row of the planes are what their signals say
-abbrev pub HasHaloIn : JobView → Values → ℕ → Planes → ℕ → ℕ → Type 0
-HasHaloIn j vs t p column row =
-    (x y : ℕ) → x < j.area.w + 2 → y < j.area.h + 2 → x / 2 ≡ column → y / 2 ≡ row → HasHaloAt j vs t p x y
+abbrev pub IsHaloSetIn : JobView → Values → ℕ → Planes → ℕ → ℕ → Type 0
+IsHaloSetIn j vs t p column row =
+    (x y : ℕ) → x < j.area.w + 2 → y < j.area.h + 2 → x / 2 ≡ column → y / 2 ≡ row → IsHaloSetAt j vs t p x y
 
 -- no cell changes but those in this column and row of the planes
 abbrev pub SameButIn : JobView → Planes → Planes → ℕ → ℕ → Type 0
@@ -175,9 +175,9 @@ SameButIn j p q column row = (a x y : ℕ) → a < assignments j → x < j.area.
     ((x / 2 ≡ column) × (y / 2 ≡ row) → ⊥) → lane q a x y ≡ lane p a x y
 
 -- the cells of the halo with the numbers from one to another are what their signals say
-abbrev pub HasHaloFrom : JobView → Values → ℕ → ℕ → ℕ → Planes → Type 0
-HasHaloFrom j vs t from end p = (x y : ℕ) → x < j.area.w + 2 → y < j.area.h + 2 → from ≤ number_at j.area x y →
-    number_at j.area x y < end → HasHaloAt j vs t p x y
+abbrev pub IsHaloSetBetween : JobView → Values → ℕ → ℕ → ℕ → Planes → Type 0
+IsHaloSetBetween j vs t from end p = (x y : ℕ) → x < j.area.w + 2 → y < j.area.h + 2 → from ≤ number_at j.area x y →
+    number_at j.area x y < end → IsHaloSetAt j vs t p x y
 
 -- no cell changes whose number is before this one
 abbrev pub SameBefore : JobView → Planes → Planes → ℕ → Type 0
@@ -185,15 +185,16 @@ SameBefore j p q end = (a x y : ℕ) → a < assignments j → x < j.area.w + 2 
     lane q a x y ≡ lane p a x y
 
 -- a cell, counted from the halo, is outside the ring or carries what its signal says, wherever each used gate has a row
-abbrev pub HasEdgeAt : JobView → Values → ℕ → ℕ → ℕ → Type 0
-HasEdgeAt j vs t x y = (a : ℕ) → a < assignments j → ¬ IsFound j vs a t Edge (outer j.area.x x) (outer j.area.y y)
+abbrev pub IsEdgeCorrectAt : JobView → Values → ℕ → ℕ → ℕ → Type 0
+IsEdgeCorrectAt j vs t x y = (a : ℕ) → a < assignments j →
+    ¬ IsDefinedFault j vs a t Edge (halo_coord j.area.x x) (halo_coord j.area.y y)
 
 -- so do the cells with the numbers from one to another
-abbrev pub HasEdgesFrom : JobView → Values → ℕ → ℕ → ℕ → Type 0
-HasEdgesFrom j vs t from end = (x y : ℕ) → x < j.area.w + 2 → y < j.area.h + 2 → from ≤ number_at j.area x y →
-    number_at j.area x y < end → HasEdgeAt j vs t x y
+abbrev pub AreEdgesCorrectBetween : JobView → Values → ℕ → ℕ → ℕ → Type 0
+AreEdgesCorrectBetween j vs t from end = (x y : ℕ) → x < j.area.w + 2 → y < j.area.h + 2 → from ≤ number_at j.area x y →
+    number_at j.area x y < end → IsEdgeCorrectAt j vs t x y
 
 -- so do the cells in this column and row of the planes
-abbrev pub HasEdgesIn : JobView → Values → ℕ → ℕ → ℕ → Type 0
-HasEdgesIn j vs t column row =
-    (x y : ℕ) → x < j.area.w + 2 → y < j.area.h + 2 → x / 2 ≡ column → y / 2 ≡ row → HasEdgeAt j vs t x y
+abbrev pub AreEdgesCorrectIn : JobView → Values → ℕ → ℕ → ℕ → Type 0
+AreEdgesCorrectIn j vs t column row =
+    (x y : ℕ) → x < j.area.w + 2 → y < j.area.h + 2 → x / 2 ≡ column → y / 2 ≡ row → IsEdgeCorrectAt j vs t x y

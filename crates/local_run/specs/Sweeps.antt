@@ -18,29 +18,29 @@ pub record TurnsNamed (w : ℕ) (a b c d : ℕ → ℕ) (IsNamed : ℕ → Type 
     pub lower_right : (n k : ℕ) → (IsNamed n → ⊥) → k < w → slice_index lr' (w * d n + k) ≡ slice_index lr (w * d n + k)
 
 -- the named blocks of the odd partition are turned
-abbrev pub TurnsOddNamed : (ℕ → Type 0) → Planes → Planes → Type 0
-TurnsOddNamed IsNamed p q =
+abbrev pub TurnsOddBlocksWhere : (ℕ → Type 0) → Planes → Planes → Type 0
+TurnsOddBlocksWhere IsNamed p q =
     TurnsNamed p.words (λ n. n) (λ n. n) (λ n. n) (λ n. n) IsNamed p.odd.items p.right.items p.down.items p.even.items
     q.odd.items q.right.items q.down.items q.even.items
 
 -- the named blocks of the even partition are turned
-abbrev pub TurnsEvenNamed : (ℕ → Type 0) → Planes → Planes → Type 0
-TurnsEvenNamed IsNamed p q =
+abbrev pub TurnsEvenBlocksWhere : (ℕ → Type 0) → Planes → Planes → Type 0
+TurnsEvenBlocksWhere IsNamed p q =
     TurnsNamed p.words (λ n. n) (λ n. n + 1) (λ n. n + p.stride) (λ n. n + p.stride + 1) IsNamed p.even.items
     p.down.items p.right.items p.odd.items q.even.items q.down.items q.right.items q.odd.items
 
 -- the blocks of the odd partition from one number to another are turned
 abbrev pub TurnsOdd : ℕ → ℕ → Planes → Planes → Type 0
-TurnsOdd from end p q = TurnsOddNamed (λ n. (from ≤ n) × (n < end)) p q
+TurnsOdd from end p q = TurnsOddBlocksWhere (λ n. (from ≤ n) × (n < end)) p q
 
 -- those of the even partition are turned, but for the last ones of the rows, which are not in the box
 abbrev pub TurnsEven : ℕ → ℕ → Planes → Planes → Type 0
-TurnsEven from end p q = TurnsEvenNamed (λ n. (from ≤ n) × (n < end) × ((n + 1) % p.stride ≢ 0)) p q
+TurnsEven from end p q = TurnsEvenBlocksWhere (λ n. (from ≤ n) × (n < end) × ((n + 1) % p.stride ≢ 0)) p q
 
 -- the numbers from one to another whose marks, in one word, are not among the rest of that word
-abbrev pub IsPast : ℕ → ℕ → ℕ → ℕ → Type 0
-IsPast first end rest n = (first ≤ n) × (n < end) × (bit rest (n % 64) ≡ false)
+abbrev pub IsNumberNotInRest : ℕ → ℕ → ℕ → ℕ → Type 0
+IsNumberNotInRest first end rest n = (first ≤ n) × (n < end) × (bit rest (n % 64) ≡ false)
 
 -- the same, but for the last blocks of the rows
-abbrev pub IsPastInside : ℕ → ℕ → ℕ → ℕ → ℕ → Type 0
-IsPastInside s first end rest n = IsPast first end rest n × ((n + 1) % s ≢ 0)
+abbrev pub IsInnerNumberNotInRest : ℕ → ℕ → ℕ → ℕ → ℕ → Type 0
+IsInnerNumberNotInRest s first end rest n = IsNumberNotInRest first end rest n × ((n + 1) % s ≢ 0)

@@ -6,8 +6,8 @@ use Rattle.bbm_rule.specs.Plane.{turned}
 use Rattle.bbm_rule.specs.Words.{AreTurned}
 
 -- whether a cell, counted from the halo, is on the main diagonal of its block of the odd partition
-abbrev pub is_main : ℕ → ℕ → Bool
-is_main x y = x % 2 == y % 2
+abbrev pub is_on_main_diagonal : ℕ → ℕ → Bool
+is_on_main_diagonal x y = x % 2 == y % 2
 
 -- A block has two diagonals: its upper left and lower right cells, and the other two. For the first cells of a diagonal
 -- and their others, then those of the other diagonal: under no assignment does a turn change a cell of the diagonal
@@ -30,8 +30,8 @@ AntiStays w a b c d ul ur ll lr =
     (slice_index ul (w * a + k)) (slice_index lr (w * d + k))
 
 -- and of one that stays
-abbrev pub IsCalmBlock : ℕ → ℕ → ℕ → ℕ → ℕ → List ℕ → List ℕ → List ℕ → List ℕ → Type 0
-IsCalmBlock w a b c d ul ur ll lr = MainStays w a b c d ul ur ll lr × AntiStays w a b c d ul ur ll lr
+abbrev pub IsStableBlock : ℕ → ℕ → ℕ → ℕ → ℕ → List ℕ → List ℕ → List ℕ → List ℕ → Type 0
+IsStableBlock w a b c d ul ur ll lr = MainStays w a b c d ul ur ll lr × AntiStays w a b c d ul ur ll lr
 
 -- the words from place a on, as many as `long`, may change, and no others
 pub record SameBeside (a long : ℕ) (old new : List ℕ) : Type 0 where
@@ -59,13 +59,13 @@ pub record TurnsPart (a b c d long : ℕ) (ul ur ll lr ul' ur' ll' lr' : List �
 
 -- marks are made at blocks of the even partition that share a cell with block `at` of the odd partition: a cell of its
 -- main diagonal if that changes, and one of the other diagonal if that does
-abbrev pub MarksAround : Bool → Bool → ℕ → ℕ → List ℕ → List ℕ → Type 0
-MarksAround main anti stride at old new =
+abbrev pub MarksEvenNeighbours : Bool → Bool → ℕ → ℕ → List ℕ → List ℕ → Type 0
+MarksEvenNeighbours main anti stride at old new =
     (u : ℕ) → IsUnmarked new u → IsUnmarked old u × (main ≡ true → (u ≢ at) × (u + stride + 1 ≢ at))
     × (anti ≡ true → (u + 1 ≢ at) × (u + stride ≢ at))
 
 -- so they are at the blocks of the odd partition that share such a cell with block `at` of the even partition
-abbrev pub MarksCorners : Bool → Bool → ℕ → ℕ → List ℕ → List ℕ → Type 0
-MarksCorners main anti stride at old new =
+abbrev pub MarksOddNeighbours : Bool → Bool → ℕ → ℕ → List ℕ → List ℕ → Type 0
+MarksOddNeighbours main anti stride at old new =
     (u : ℕ) → IsUnmarked new u → IsUnmarked old u × (main ≡ true → (u ≢ at) × (u ≢ at + stride + 1))
     × (anti ≡ true → (u ≢ at + 1) × (u ≢ at + stride))

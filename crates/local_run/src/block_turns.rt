@@ -4,7 +4,7 @@ ghost use Rattle.local_run.specs.Turns.{AntiStays, MainStays, SwapsPart, TurnsPa
 ghost use Rattle.std.specs.Prelude.{◌≡◌, ◌+◌, ◌-◌, ◌*◌, ◌/◌, ◌<◌, false};
 
 use crate::live::LiveMarks;
-use crate::marks::drop_if_dead;
+use crate::marks::unmark_if_dead;
 use crate::planes::Planes;
 use crate::words::{Changes, Places, part_changes, swap_part, turn_part, turn_word, word_changes};
 
@@ -161,7 +161,7 @@ impl Planes {
 
 impl Planes {
     ghost use Rattle.local_run.specs.Lanes.{HasSize};
-    ghost use Rattle.local_run.specs.Live.{DropsDead, HasCells, HasSameRoom};
+    ghost use Rattle.local_run.specs.Live.{UnmarksIfDead, HasRoomForBlockCells, HasSameRoom};
 
     /// Exchanges the cells with these numbers of the planes `odd` and `even`, which are on the main diagonal of a
     /// block.
@@ -205,7 +205,7 @@ impl Planes {
     }
 
     /// Takes the marks off the cells of a block that are dead.
-    pub fn drop_dead(
+    pub fn unmark_dead_cells(
         &self,
         live: &mut LiveMarks,
         odd: usize,
@@ -213,24 +213,24 @@ impl Planes {
         down: usize,
         even: usize,
     )
-        requires marks { HasCells live.old odd right down even }
+        requires marks { HasRoomForBlockCells live.old odd right down even }
         requires main { (odd < self.now.stride * self.now.rows)
             × (even < self.now.stride * self.now.rows) }
         requires anti { (right < self.now.stride * self.now.rows)
             × (down < self.now.stride * self.now.rows) }
-        ensures odd { DropsDead self.now.words odd self.now.odd.items live.old.odd.items
+        ensures odd { UnmarksIfDead self.now.words odd self.now.odd.items live.old.odd.items
             live.new.odd.items }
-        ensures right { DropsDead self.now.words right self.now.right.items live.old.right.items
+        ensures right { UnmarksIfDead self.now.words right self.now.right.items live.old.right.items
             live.new.right.items }
-        ensures down { DropsDead self.now.words down self.now.down.items live.old.down.items
+        ensures down { UnmarksIfDead self.now.words down self.now.down.items live.old.down.items
             live.new.down.items }
-        ensures even { DropsDead self.now.words even self.now.even.items live.old.even.items
+        ensures even { UnmarksIfDead self.now.words even self.now.even.items live.old.even.items
             live.new.even.items }
         ensures same_room { HasSameRoom live.old live.new }
     {
-        drop_if_dead(&mut live.odd, odd, &self.odd, self.words);
-        drop_if_dead(&mut live.right, right, &self.right, self.words);
-        drop_if_dead(&mut live.down, down, &self.down, self.words);
-        drop_if_dead(&mut live.even, even, &self.even, self.words);
+        unmark_if_dead(&mut live.odd, odd, &self.odd, self.words);
+        unmark_if_dead(&mut live.right, right, &self.right, self.words);
+        unmark_if_dead(&mut live.down, down, &self.down, self.words);
+        unmark_if_dead(&mut live.even, even, &self.even, self.words);
     }
 }

@@ -1,14 +1,14 @@
 //! The cells of ring and halo at an odd time.
 ghost use Rattle.std.specs.Prelude.{ℕ, ◌≡◌, ◌+◌, ◌*◌, ◌/◌, ◌%◌, ◌<◌, ◌≤◌, true, false};
 ghost use Rattle.bbm_rule.specs.Bits.{bit};
-ghost use Rattle.local_run.specs.Borders.{ArePassed};
+ghost use Rattle.local_run.specs.Borders.{AreSkippable};
 ghost use Rattle.circuit.specs.Meaning.{wires};
 ghost use Rattle.module_box.specs.Schedules.{signal_at};
 ghost use Rattle.module_job.specs.Jobs.{IsJob};
 ghost use Rattle.module_job.specs.Signals.{IsBelow};
-ghost use Rattle.local_run.specs.Places.{outer};
+ghost use Rattle.local_run.specs.Places.{halo_coord};
 ghost use Rattle.local_run.specs.Quiet.{AreLines};
-ghost use Rattle.local_run.specs.Scans.{HasEdgeAt, HasEdgesFrom, HasEdgesIn, HasHalo, HasHaloAt, HasHaloFrom, HasHaloIn, IsFree, IsOuter, IsReady, IsSought, SameBefore, SameButIn, SameElsewhere, Shows};
+ghost use Rattle.local_run.specs.Scans.{IsEdgeCorrectAt, AreEdgesCorrectBetween, AreEdgesCorrectIn, IsHaloSet, IsHaloSetAt, IsHaloSetBetween, IsHaloSetIn, HasNoFaultOfKind, IsOutsideBox, IsReady, IsSought, SameBefore, SameButIn, SameElsewhere, Shows};
 
 use crate::fault::Kind;
 use crate::marked_planes::MarkedPlanes;
@@ -27,7 +27,7 @@ fn halo_signal(marked_planes: &MarkedPlanes, job: &Job, time: u32, x: usize, y: 
     requires lines { AreLines job.now time marked_planes.now.line_marks.items }
     requires place { (x < job.now.area.w + 2) × (y < job.now.area.h + 2) }
     ensures signal_is_exact { result
-        ≡ signal_at job.now.halos time (outer job.now.area.x x) (outer job.now.area.y y) }
+        ≡ signal_at job.now.halos time (halo_coord job.now.area.x x) (halo_coord job.now.area.y y) }
     ensures below { IsBelow (wires job.now.locals.netlist) result }
 {
     if marked_planes.has_line(x, y) {
@@ -47,7 +47,7 @@ fn edge_signal(marked_planes: &MarkedPlanes, job: &Job, time: u32, x: usize, y: 
     requires column { (1 ≤ x) × (x ≤ job.now.area.w) }
     requires row { (1 ≤ y) × (y ≤ job.now.area.h) }
     ensures signal_is_exact { result
-        ≡ signal_at job.now.edges time (outer job.now.area.x x) (outer job.now.area.y y) }
+        ≡ signal_at job.now.edges time (halo_coord job.now.area.x x) (halo_coord job.now.area.y y) }
     ensures below { IsBelow (wires job.now.locals.netlist) result }
 {
     if marked_planes.has_line(x, y) {
@@ -60,7 +60,7 @@ fn edge_signal(marked_planes: &MarkedPlanes, job: &Job, time: u32, x: usize, y: 
 // Whether a cell of the box, counted from the halo, carries what its edge signal says, if it is in the ring; only
 // `true` is proved to be right.
 #[tactic(auto, using(crate::proofs::Scans::row_from))]
-fn is_edge_right(
+fn is_edge_correct(
     marked_planes: &MarkedPlanes,
     values: &Values,
     job: &Job,
@@ -73,7 +73,7 @@ fn is_edge_right(
     requires lines { AreLines job.now time marked_planes.now.line_marks.items }
     requires column { (1 ≤ x) × (x ≤ job.now.area.w) }
     requires row { (1 ≤ y) × (y ≤ job.now.area.h) }
-    ensures { result ≡ true → HasEdgeAt job.now values.now time x y }
+    ensures { result ≡ true → IsEdgeCorrectAt job.now values.now time x y }
 {
     let area = job.area();
     if 2 <= x && x < area.w as usize && 2 <= y && y < area.h as usize {
@@ -99,10 +99,10 @@ fn set_halo_cell(
     requires shows { Shows job.now values.now time marked_planes.old.planes }
     requires lines { AreLines job.now time marked_planes.old.line_marks.items }
     requires place { (x < job.now.area.w + 2) × (y < job.now.area.h + 2) }
-    requires outer { IsOuter job.now.area x y }
+    requires halo_coord { IsOutsideBox job.now.area x y }
     ensures shows { Shows job.now values.now time marked_planes.new.planes }
     ensures lines { marked_planes.new.line_marks ≡ marked_planes.old.line_marks }
-    ensures here { HasHaloAt job.now values.now time marked_planes.new.planes x y }
+    ensures here { IsHaloSetAt job.now values.now time marked_planes.new.planes x y }
     ensures rest { SameElsewhere job.now marked_planes.old.planes marked_planes.new.planes x y }
 {
     let signal = halo_signal(marked_planes, job, time, x, y);
@@ -114,7 +114,7 @@ fn set_halo_cell(
 // Sets a cell of box or halo, counted from the halo, to what its halo signal says, if it is in the halo. Returns
 // whether it carries what its edge signal says, if it is in the ring; only `true` is proved to be right.
 #[inline(always)]
-fn set_border_cell(
+fn set_or_test_cell(
     marked_planes: &mut MarkedPlanes,
     values: &Values,
     job: &Job,
@@ -129,8 +129,8 @@ fn set_border_cell(
     requires place { (x < job.now.area.w + 2) × (y < job.now.area.h + 2) }
     ensures shows { Shows job.now values.now time marked_planes.new.planes }
     ensures lines { marked_planes.new.line_marks ≡ marked_planes.old.line_marks }
-    ensures edge { result ≡ true → HasEdgeAt job.now values.now time x y }
-    ensures halo { HasHaloAt job.now values.now time marked_planes.new.planes x y }
+    ensures edge { result ≡ true → IsEdgeCorrectAt job.now values.now time x y }
+    ensures halo { IsHaloSetAt job.now values.now time marked_planes.new.planes x y }
     ensures rest { SameElsewhere job.now marked_planes.old.planes marked_planes.new.planes x y }
 {
     let area = job.area();
@@ -139,14 +139,14 @@ fn set_border_cell(
         return true;
     }
     if 1 <= x && x <= area.w as usize && 1 <= y && y <= area.h as usize {
-        return is_edge_right(marked_planes, values, job, time, x, y);
+        return is_edge_correct(marked_planes, values, job, time, x, y);
     }
     set_halo_cell(marked_planes, values, job, time, x, y);
     true
 }
 
 // Does the same for the four cells in a column and row of the planes.
-fn set_border_cells(
+fn set_or_test_cells(
     marked_planes: &mut MarkedPlanes,
     values: &Values,
     job: &Job,
@@ -161,16 +161,16 @@ fn set_border_cells(
     requires place { (column < job.now.area.w / 2 + 1) × (row < job.now.area.h / 2 + 1) }
     ensures shows { Shows job.now values.now time marked_planes.new.planes }
     ensures lines { marked_planes.new.line_marks ≡ marked_planes.old.line_marks }
-    ensures edges { result ≡ true → HasEdgesIn job.now values.now time column row }
-    ensures halo { HasHaloIn job.now values.now time marked_planes.new.planes column row }
+    ensures edges { result ≡ true → AreEdgesCorrectIn job.now values.now time column row }
+    ensures halo { IsHaloSetIn job.now values.now time marked_planes.new.planes column row }
     ensures rest { SameButIn job.now marked_planes.old.planes marked_planes.new.planes column row }
 {
     let x = 2 * column;
     let y = 2 * row;
-    let first = set_border_cell(marked_planes, values, job, time, x, y);
-    let second = set_border_cell(marked_planes, values, job, time, x + 1, y);
-    let third = set_border_cell(marked_planes, values, job, time, x, y + 1);
-    let fourth = set_border_cell(marked_planes, values, job, time, x + 1, y + 1);
+    let first = set_or_test_cell(marked_planes, values, job, time, x, y);
+    let second = set_or_test_cell(marked_planes, values, job, time, x + 1, y);
+    let third = set_or_test_cell(marked_planes, values, job, time, x, y + 1);
+    let fourth = set_or_test_cell(marked_planes, values, job, time, x + 1, y + 1);
     first & second & third & fourth
 }
 
@@ -179,7 +179,7 @@ fn set_border_cells(
 //
 // The numbers without a mark in the word need no look. It was read before: a cell that is set changes live marks of its
 // own number alone.
-fn set_border_word(
+fn set_or_test_word(
     marked_planes: &mut MarkedPlanes,
     values: &Values,
     job: &Job,
@@ -194,12 +194,13 @@ fn set_border_word(
     requires first { (first % 64 ≡ 0) × (first < marked_planes.old.planes.stride
         * marked_planes.old.planes.rows) }
     requires passed { (u : ℕ) → u / 64 ≡ first / 64 → bit word (u % 64) ≡ false →
-        ArePassed u (u + 1) marked_planes.old.line_marks.items marked_planes.old.planes }
+        AreSkippable u (u + 1) marked_planes.old.line_marks.items marked_planes.old.planes }
     ensures shows { Shows job.now values.now time marked_planes.new.planes }
     ensures lines { marked_planes.new.line_marks ≡ marked_planes.old.line_marks }
-    ensures halo { HasHaloFrom job.now values.now time first (first + 64)
+    ensures halo { IsHaloSetBetween job.now values.now time first (first + 64)
         marked_planes.new.planes }
-    ensures edges { result ≡ true → HasEdgesFrom job.now values.now time first (first + 64) }
+    ensures edges { result ≡ true →
+        AreEdgesCorrectBetween job.now values.now time first (first + 64) }
     ensures rest { SameBefore job.now marked_planes.old.planes marked_planes.new.planes first }
 {
     let cells = marked_planes.planes().cells();
@@ -213,21 +214,26 @@ fn set_border_word(
         }
         rest = others;
         let (column, row) = marked_planes.planes().place(u);
-        is_right &= set_border_cells(marked_planes, values, job, time, column, row);
+        is_right &= set_or_test_cells(marked_planes, values, job, time, column, row);
     }
     is_right
 }
 
 /// Sets the cells of the halo to what their signals say, and returns whether the cells of the ring carry what their
 /// edge signals say. Only `true` is proved to be right.
-pub fn set_border(marked_planes: &mut MarkedPlanes, values: &Values, job: &Job, time: u32) -> bool
+pub fn set_halo_check_ring(
+    marked_planes: &mut MarkedPlanes,
+    values: &Values,
+    job: &Job,
+    time: u32,
+) -> bool
     requires ready { IsReady job.now values.now }
     requires shows { Shows job.now values.now time marked_planes.old.planes }
     requires lines { AreLines job.now time marked_planes.old.line_marks.items }
     requires sought { IsSought job.now time Kind.Edge }
     ensures shows { Shows job.now values.now time marked_planes.new.planes }
-    ensures halo { HasHalo job.now values.now time marked_planes.new.planes }
-    ensures edges { result ≡ true → IsFree job.now values.now time Kind.Edge }
+    ensures halo { IsHaloSet job.now values.now time marked_planes.new.planes }
+    ensures edges { result ≡ true → HasNoFaultOfKind job.now values.now time Kind.Edge }
 {
     let _area = job.area();
     let cells = marked_planes.planes().cells();
@@ -237,7 +243,7 @@ pub fn set_border(marked_planes: &mut MarkedPlanes, values: &Values, job: &Job, 
         if word == 0 {
             continue;
         }
-        is_right &= set_border_word(marked_planes, values, job, time, 64 * k, word);
+        is_right &= set_or_test_word(marked_planes, values, job, time, 64 * k, word);
     }
     is_right
 }

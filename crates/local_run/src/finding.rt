@@ -5,7 +5,7 @@ ghost use Rattle.std.specs.Option.{option_map};
 ghost use Rattle.module_job.specs.Jobs.{IsJob};
 ghost use Rattle.module_job.specs.Shapes.{shape_of};
 ghost use Rattle.local_run.specs.Faults.{IsFault, IsLeastFault, IsLeastFault-prop, IsLeastKeepFault, IsLeastKeepFault-prop};
-ghost use Rattle.local_run.specs.Moves.{fault_on};
+ghost use Rattle.local_run.specs.Moves.{fault_moved_to_job};
 
 use crate::fault::{Fault, KeepFault};
 use module_box::moved_cell;
@@ -28,9 +28,9 @@ pub struct Finding {
 }
 
 // The fault at the place in the box of `to` that the fault has in the box of `from`.
-fn fault_on(from: &Job, to: &Job, fault: Fault) -> Fault
+fn fault_moved_to_job(from: &Job, to: &Job, fault: Fault) -> Fault
     requires { IsFault from.now fault }
-    ensures { result ≡ fault_on from.now to.now fault }
+    ensures { result ≡ fault_moved_to_job from.now to.now fault }
 {
     let here = from.area();
     let there = to.area();
@@ -45,16 +45,16 @@ fn fault_on(from: &Job, to: &Job, fault: Fault) -> Fault
 }
 
 // The least fault of a job is that of each job of the same shape, moved.
-fn least_on(from: &Job, to: &Job, fault: Option<Fault>) -> Option<Fault>
+fn least_fault_moved(from: &Job, to: &Job, fault: Option<Fault>) -> Option<Fault>
     requires least { IsLeastFault from.now fault }
     requires same_shape { shape_of from.now ≡ shape_of to.now }
-    ensures moved { result ≡ option_map (fault_on from.now to.now) fault }
+    ensures moved { result ≡ option_map (fault_moved_to_job from.now to.now) fault }
     ensures least { IsLeastFault to.now result }
 {
     let _from = from.area();
     let _to = to.area();
     match fault {
-        Some(fault) => Some(fault_on(from, to, fault)),
+        Some(fault) => Some(fault_moved_to_job(from, to, fault)),
         None => None,
     }
 }
@@ -134,14 +134,15 @@ impl Finding {
         ensures job { IfSome result (λ f. job_of f ≡ arc_value job) }
         ensures keep { IfSome result (λ f. keep_of f ≡ keep_of self.now) }
         ensures fault { IfSome result (λ f. fault_of f
-            ≡ option_map (fault_on (job_of self.now) (arc_value job)) (fault_of self.now)) }
+            ≡ option_map (fault_moved_to_job (job_of self.now) (arc_value job))
+            (fault_of self.now)) }
     {
         let own: &Job = &self.job;
         let same = **own.shape() == **job.shape();
         if !same {
             return None;
         }
-        let fault = least_on(own, &job, self.fault);
+        let fault = least_fault_moved(own, &job, self.fault);
         Some(Finding::new(self.digest, number, job, fault, self.keep))
     }
 }

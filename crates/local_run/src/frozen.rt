@@ -6,7 +6,7 @@
 
 ghost use Rattle.bbm_rule.specs.Marks.{IsUnmarked};
 ghost use Rattle.bbm_rule.specs.Rows.{cell_at};
-ghost use Rattle.local_run.specs.Frozen.{Freezes, HasRoomForMarks, IsEvenHeld, IsFrozen, IsMarkedBefore, IsOddEmpty, IsOddHeld};
+ghost use Rattle.local_run.specs.Frozen.{AreFrozenIfFound, HasRoomForMarks, IsEvenBlockHeld, IsFrozen, IsNumberBeforeMarked, IsOddBlockEmpty, IsOddBlockHeld};
 ghost use Rattle.std.specs.Prelude.{ℕ, ◌≡◌, ◌≢◌, ◌+◌, ◌*◌, ◌/◌, ◌%◌, ◌<◌, ◌≤◌, length, vec_len, true, false};
 
 use crate::held_cells::Corners;
@@ -27,7 +27,7 @@ pub struct FrozenBlocks {
     // and for those blocks of the odd partition that are empty
     pub(crate) empty: Vec<u64>,
     // about how many blocks of a partition have no mark
-    pub(crate) active: usize,
+    pub(crate) active_block_count: usize,
 }
 
 // Up to how many times all blocks are looked at. In a box of 64 by 64 cells with walls 20 times are enough.
@@ -43,9 +43,9 @@ fn fill(marks: &mut Vec<u64>, long: usize, word: u64) -> bool
 
 // Whether the number that is less than `at` by the distance has a mark, if there is one.
 #[inline(always)]
-fn is_marked_before(marks: &[u64], at: usize, distance: usize) -> bool
+fn is_number_before_marked(marks: &[u64], at: usize, distance: usize) -> bool
     requires { at / 64 < length marks.now }
-    ensures { result ≡ true → IsMarkedBefore marks.now distance at }
+    ensures { result ≡ true → IsNumberBeforeMarked marks.now distance at }
 {
     at < distance || is_marked(marks, at - distance)
 }
@@ -60,7 +60,7 @@ impl FrozenBlocks {
             odd: Vec::new(alloc),
             even: Vec::new(alloc),
             empty: Vec::new(alloc),
-            active: 0,
+            active_block_count: 0,
         }
     }
 
@@ -72,11 +72,11 @@ impl FrozenBlocks {
     }
 
     /// Returns about how many of that many blocks of a partition may change.
-    pub fn active(&self, cells: usize) -> usize
+    pub fn active_block_count(&self, cells: usize) -> usize
         ensures { result ≤ cells }
     {
         if self.is_found {
-            self.active.min(cells)
+            self.active_block_count.min(cells)
         } else {
             cells
         }
@@ -108,7 +108,7 @@ impl FrozenBlocks {
 
     /// Looks for the set. If there is no memory for its marks, it is not found.
     pub fn find(&mut self, planes: &Planes)
-        ensures { Freezes self.new planes.now }
+        ensures { AreFrozenIfFound self.new planes.now }
     {
         self.is_found = false;
         let long = planes.cells().div_ceil(64);
@@ -121,7 +121,7 @@ impl FrozenBlocks {
             }
         }
         self.mark_empty(planes);
-        self.is_found = self.are_held(planes);
+        self.is_found = self.are_marked_blocks_held(planes);
     }
 
     /// Marks all blocks, in as many words, and none as empty. Returns whether there was memory for it.
@@ -140,45 +140,47 @@ impl FrozenBlocks {
         requires room { HasRoomForMarks self.now planes.now }
         requires place { u < planes.now.stride * planes.now.rows }
         ensures upper_left { result.upper_left ≡ true →
-            IsMarkedBefore self.now.even.items (planes.now.stride + 1) u }
+            IsNumberBeforeMarked self.now.even.items (planes.now.stride + 1) u }
         ensures upper_right { result.upper_right ≡ true →
-            IsMarkedBefore self.now.even.items planes.now.stride u }
-        ensures lower_left { result.lower_left ≡ true → IsMarkedBefore self.now.even.items 1 u }
-        ensures lower_right { result.lower_right ≡ true → IsMarkedBefore self.now.even.items 0 u }
+            IsNumberBeforeMarked self.now.even.items planes.now.stride u }
+        ensures lower_left { result.lower_left ≡ true →
+            IsNumberBeforeMarked self.now.even.items 1 u }
+        ensures lower_right { result.lower_right ≡ true →
+            IsNumberBeforeMarked self.now.even.items 0 u }
     {
         let stride = planes.stride();
         Corners {
-            upper_left: is_marked_before(&self.even, u, stride + 1),
-            upper_right: is_marked_before(&self.even, u, stride),
-            lower_left: is_marked_before(&self.even, u, 1),
-            lower_right: is_marked_before(&self.even, u, 0),
+            upper_left: is_number_before_marked(&self.even, u, stride + 1),
+            upper_right: is_number_before_marked(&self.even, u, stride),
+            lower_left: is_number_before_marked(&self.even, u, 1),
+            lower_right: is_number_before_marked(&self.even, u, 0),
         }
     }
 
     // Whether block u of the odd partition is empty, and stays so if the blocks with marks stay.
-    fn is_odd_empty(&self, planes: &Planes, u: usize) -> bool
+    fn is_odd_block_empty(&self, planes: &Planes, u: usize) -> bool
         requires room { HasRoomForMarks self.now planes.now }
         requires place { u < planes.now.stride * planes.now.rows }
-        ensures { result ≡ true → IsOddEmpty self.now.even.items planes.now u }
+        ensures { result ≡ true → IsOddBlockEmpty self.now.even.items planes.now u }
     {
-        planes.is_odd_empty(u, self.odd_corners(planes, u))
+        planes.is_odd_block_empty(u, self.odd_corners(planes, u))
     }
 
     // Whether block u of the odd partition stays if the blocks with marks stay.
-    fn is_odd_held(&self, planes: &Planes, u: usize) -> bool
+    fn is_odd_block_held(&self, planes: &Planes, u: usize) -> bool
         requires room { HasRoomForMarks self.now planes.now }
         requires place { u < planes.now.stride * planes.now.rows }
-        ensures { result ≡ true → IsOddHeld self.now.even.items planes.now u }
+        ensures { result ≡ true → IsOddBlockHeld self.now.even.items planes.now u }
     {
         let corners = self.odd_corners(planes, u);
-        planes.has_odd_diagonals(u, corners) || planes.is_odd_empty(u, corners)
+        planes.has_live_odd_diagonals(u, corners) || planes.is_odd_block_empty(u, corners)
     }
 
     // Whether block n of the even partition stays if the blocks with marks stay.
-    fn is_even_held(&self, planes: &Planes, n: usize) -> bool
+    fn is_even_block_held(&self, planes: &Planes, n: usize) -> bool
         requires room { HasRoomForMarks self.now planes.now }
         requires place { n + planes.now.stride + 1 < planes.now.stride * planes.now.rows }
-        ensures { result ≡ true → IsEvenHeld self.now.odd.items planes.now n }
+        ensures { result ≡ true → IsEvenBlockHeld self.now.odd.items planes.now n }
     {
         let stride = planes.stride();
         let corners = Corners {
@@ -187,7 +189,7 @@ impl FrozenBlocks {
             lower_left: is_marked(&self.odd, n + stride),
             lower_right: is_marked(&self.odd, n + stride + 1),
         };
-        planes.has_even_diagonals(n, corners) || planes.is_even_empty(n, corners)
+        planes.has_live_even_diagonals(n, corners) || planes.is_even_block_empty(n, corners)
     }
 
     // Takes the marks off the blocks that are not held, and returns whether there were some.
@@ -209,7 +211,7 @@ impl FrozenBlocks {
     {
         let mut is_some = false;
         for u in 0..planes.cells() {
-            if is_marked(&self.odd, u) && !self.is_odd_held(planes, u) {
+            if is_marked(&self.odd, u) && !self.is_odd_block_held(planes, u) {
                 unmark(&mut self.odd, u);
                 is_some = true;
             }
@@ -225,16 +227,16 @@ impl FrozenBlocks {
     {
         let stride = planes.stride();
         let mut is_some = false;
-        let mut active = 0;
+        let mut active_block_count = 0;
         for n in 0..planes.cells() - stride - 1 {
             if !is_marked(&self.even, n) {
-                active += 1;
-            } else if (n + 1) % stride != 0 && !self.is_even_held(planes, n) {
+                active_block_count += 1;
+            } else if (n + 1) % stride != 0 && !self.is_even_block_held(planes, n) {
                 unmark(&mut self.even, n);
                 is_some = true;
             }
         }
-        self.active = active;
+        self.active_block_count = active_block_count;
         is_some
     }
 
@@ -245,7 +247,7 @@ impl FrozenBlocks {
         ensures found { self.new.is_found ≡ self.old.is_found }
     {
         for u in 0..planes.cells() {
-            if is_marked(&self.odd, u) && self.is_odd_empty(planes, u) {
+            if is_marked(&self.odd, u) && self.is_odd_block_empty(planes, u) {
                 mark(&mut self.empty, u);
             }
         }
@@ -253,58 +255,58 @@ impl FrozenBlocks {
 
     // Whether block u of the odd partition stays if those with marks do, where it has a mark, and is empty then, where
     // it is marked as empty.
-    fn is_odd_right(&self, planes: &Planes, u: usize) -> bool
+    fn is_odd_mark_correct(&self, planes: &Planes, u: usize) -> bool
         requires room { HasRoomForMarks self.now planes.now }
         requires place { u < planes.now.stride * planes.now.rows }
         ensures held { result ≡ true → cell_at self.now.odd.items u ≡ true →
-            IsOddHeld self.now.even.items planes.now u }
+            IsOddBlockHeld self.now.even.items planes.now u }
         ensures empty { result ≡ true → cell_at self.now.empty.items u ≡ true →
-            IsOddEmpty self.now.even.items planes.now u }
+            IsOddBlockEmpty self.now.even.items planes.now u }
     {
-        if is_marked(&self.odd, u) && !self.is_odd_held(planes, u) {
+        if is_marked(&self.odd, u) && !self.is_odd_block_held(planes, u) {
             return false;
         }
-        !is_marked(&self.empty, u) || self.is_odd_empty(planes, u)
+        !is_marked(&self.empty, u) || self.is_odd_block_empty(planes, u)
     }
 
     // Whether block n of the even partition stays if those with marks do, where it has a mark, and has one if it is the
     // last of its row.
-    fn is_even_right(&self, planes: &Planes, n: usize) -> bool
+    fn is_even_mark_correct(&self, planes: &Planes, n: usize) -> bool
         requires room { HasRoomForMarks self.now planes.now }
         requires place { n + planes.now.stride + 1 < planes.now.stride * planes.now.rows }
         ensures held { result ≡ true → (n + 1) % planes.now.stride ≢ 0 →
-            cell_at self.now.even.items n ≡ true → IsEvenHeld self.now.odd.items planes.now n }
+            cell_at self.now.even.items n ≡ true → IsEvenBlockHeld self.now.odd.items planes.now n }
         ensures last { result ≡ true → (n + 1) % planes.now.stride ≡ 0 →
             cell_at self.now.even.items n ≡ true }
     {
         if (n + 1) % planes.stride() == 0 {
             return is_marked(&self.even, n);
         }
-        !is_marked(&self.even, n) || self.is_even_held(planes, n)
+        !is_marked(&self.even, n) || self.is_even_block_held(planes, n)
     }
 
     // Whether each block with a mark is frozen.
-    fn are_held(&self, planes: &Planes) -> bool
+    fn are_marked_blocks_held(&self, planes: &Planes) -> bool
         requires { HasRoomForMarks self.now planes.now }
         ensures { result ≡ true → IsFrozen self.now planes.now }
     {
-        if !self.are_odd_held(planes) {
+        if !self.are_odd_blocks_held(planes) {
             return false;
         }
-        self.are_even_held(planes)
+        self.are_even_blocks_held(planes)
     }
 
     // Whether each block of the odd partition with a mark stays if those of the even partition do.
-    fn are_odd_held(&self, planes: &Planes) -> bool
+    fn are_odd_blocks_held(&self, planes: &Planes) -> bool
         requires { HasRoomForMarks self.now planes.now }
         ensures held { result ≡ true → (u : ℕ) → u < planes.now.stride * planes.now.rows →
-            cell_at self.now.odd.items u ≡ true → IsOddHeld self.now.even.items planes.now u }
+            cell_at self.now.odd.items u ≡ true → IsOddBlockHeld self.now.even.items planes.now u }
         ensures empty { result ≡ true → (u : ℕ) → u < planes.now.stride * planes.now.rows →
             cell_at self.now.odd.items u ≡ true → cell_at self.now.empty.items u ≡ true →
-            IsOddEmpty self.now.even.items planes.now u }
+            IsOddBlockEmpty self.now.even.items planes.now u }
     {
         for u in 0..planes.cells() {
-            if !self.is_odd_right(planes, u) {
+            if !self.is_odd_mark_correct(planes, u) {
                 return false;
             }
         }
@@ -313,18 +315,18 @@ impl FrozenBlocks {
 
     // Whether each block of the even partition with a mark stays if those of the odd partition do, and the last ones of
     // the rows have marks.
-    fn are_even_held(&self, planes: &Planes) -> bool
+    fn are_even_blocks_held(&self, planes: &Planes) -> bool
         requires { HasRoomForMarks self.now planes.now }
         ensures held { result ≡ true → (n : ℕ) →
             n + planes.now.stride + 1 < planes.now.stride * planes.now.rows →
             (n + 1) % planes.now.stride ≢ 0 → cell_at self.now.even.items n ≡ true →
-            IsEvenHeld self.now.odd.items planes.now n }
+            IsEvenBlockHeld self.now.odd.items planes.now n }
         ensures last { result ≡ true → (n : ℕ) →
             n + planes.now.stride + 1 < planes.now.stride * planes.now.rows →
             (n + 1) % planes.now.stride ≡ 0 → cell_at self.now.even.items n ≡ true }
     {
         for n in 0..planes.cells() - planes.stride() - 1 {
-            if !self.is_even_right(planes, n) {
+            if !self.is_even_mark_correct(planes, n) {
                 return false;
             }
         }

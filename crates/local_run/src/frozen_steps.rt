@@ -2,31 +2,31 @@
 
 ghost use Rattle.bbm_rule.specs.Plane.{turned};
 ghost use Rattle.bbm_rule.specs.Rows.{mate};
-ghost use Rattle.local_run.specs.Calm.{EvenCalm, OddCalm};
-ghost use Rattle.local_run.specs.Frozen.{Freezes};
+ghost use Rattle.local_run.specs.Calm.{AreEvenBlocksStable, AreOddBlocksStable};
+ghost use Rattle.local_run.specs.Frozen.{AreFrozenIfFound};
 ghost use Rattle.local_run.specs.Lanes.{HasSize, lane};
-ghost use Rattle.local_run.specs.Live.{AllDead, HasMarks, HasSameRoom};
+ghost use Rattle.local_run.specs.Live.{AllUnmarkedDead, HasRoomForCellMarks, HasSameRoom};
 ghost use Rattle.std.specs.Prelude.{ℕ, ◌≡◌, ◌+◌, ◌*◌, ◌/◌, ◌<◌, ◌≤◌, length};
 
 use crate::frozen::FrozenBlocks;
 use crate::live::LiveMarks;
-use crate::marks::mark_lacking;
+use crate::marks::mark_unless_in_both;
 use crate::planes::Planes;
 use bbm_rule::marks::mark_all;
 
 impl FrozenBlocks {
     /// Marks the blocks of both partitions, but for the frozen ones.
-    pub fn mark_blocks(&self, planes: &Planes, odd_marks: &mut [u64], even_marks: &mut [u64])
-        requires frozen { Freezes self.now planes.now }
+    pub fn mark_active_blocks(&self, planes: &Planes, odd_marks: &mut [u64], even_marks: &mut [u64])
+        requires frozen { AreFrozenIfFound self.now planes.now }
         requires odd_room { planes.now.stride * planes.now.rows ≤ 64 * length odd_marks.old }
         requires even_room { planes.now.stride * planes.now.rows ≤ 64 * length even_marks.old }
-        ensures odd { OddCalm odd_marks.new planes.now }
-        ensures even { EvenCalm even_marks.new planes.now }
+        ensures odd { AreOddBlocksStable odd_marks.new planes.now }
+        ensures even { AreEvenBlocksStable even_marks.new planes.now }
     {
         if self.is_found {
-            planes.show_words();
-            mark_lacking(odd_marks, &self.odd, &self.odd);
-            mark_lacking(even_marks, &self.even, &self.even);
+            planes.prove_planes_are_words();
+            mark_unless_in_both(odd_marks, &self.odd, &self.odd);
+            mark_unless_in_both(even_marks, &self.even, &self.even);
         } else {
             mark_all(odd_marks);
             mark_all(even_marks);
@@ -35,14 +35,14 @@ impl FrozenBlocks {
 
     /// Marks the cells that may be live, which those of the frozen and empty blocks are not.
     pub fn mark_live(&self, planes: &Planes, live: &mut LiveMarks)
-        requires frozen { Freezes self.now planes.now }
-        requires room { HasMarks (planes.now.stride * planes.now.rows) live.old }
-        ensures dead { AllDead live.new planes.now }
+        requires frozen { AreFrozenIfFound self.now planes.now }
+        requires room { HasRoomForCellMarks (planes.now.stride * planes.now.rows) live.old }
+        ensures dead { AllUnmarkedDead live.new planes.now }
         ensures same_room { HasSameRoom live.old live.new }
     {
         if self.is_found {
-            planes.show_words();
-            live.mark_lacking(&self.odd, &self.empty);
+            planes.prove_planes_are_words();
+            live.mark_unless_in_both(&self.odd, &self.empty);
         } else {
             live.mark_all();
         }
@@ -50,17 +50,17 @@ impl FrozenBlocks {
 
     /// Turns the blocks of the odd partition, and passes over the frozen ones.
     pub fn odd_step(&self, planes: &mut Planes)
-        requires frozen { Freezes self.now planes.old }
+        requires frozen { AreFrozenIfFound self.now planes.old }
         ensures turned { (a x y : ℕ) → a < 64 * planes.old.words → x < 2 * planes.old.stride →
             y < 2 * planes.old.rows → lane planes.new a x y
             ≡ turned (lane planes.old a x y) (lane planes.old a (mate x) (mate y))
             (lane planes.old a (mate x) y) (lane planes.old a x (mate y)) }
         ensures size { HasSize planes.old.words planes.old.stride planes.old.rows planes.new }
-        ensures frozen { Freezes self.now planes.new }
+        ensures frozen { AreFrozenIfFound self.now planes.new }
     {
         if self.is_found {
-            planes.show_words();
-            planes.odd_step_between(&self.odd);
+            planes.prove_planes_are_words();
+            planes.odd_step_between_marks(&self.odd);
         } else {
             planes.odd_step();
         }
@@ -68,18 +68,18 @@ impl FrozenBlocks {
 
     /// Turns the blocks of the even partition in the box, and passes over the frozen ones.
     pub fn even_step(&self, planes: &mut Planes)
-        requires frozen { Freezes self.now planes.old }
+        requires frozen { AreFrozenIfFound self.now planes.old }
         ensures turned { (a x y : ℕ) → a < 64 * planes.old.words → x + 2 < 2 * planes.old.stride →
             y + 2 < 2 * planes.old.rows → lane planes.new a (1 + x) (1 + y)
             ≡ turned (lane planes.old a (1 + x) (1 + y))
             (lane planes.old a (1 + mate x) (1 + mate y))
             (lane planes.old a (1 + mate x) (1 + y)) (lane planes.old a (1 + x) (1 + mate y)) }
         ensures size { HasSize planes.old.words planes.old.stride planes.old.rows planes.new }
-        ensures frozen { Freezes self.now planes.new }
+        ensures frozen { AreFrozenIfFound self.now planes.new }
     {
         if self.is_found {
-            planes.show_words();
-            planes.even_step_between(&self.even);
+            planes.prove_planes_are_words();
+            planes.even_step_between_marks(&self.even);
         } else {
             planes.even_step();
         }

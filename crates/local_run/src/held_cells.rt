@@ -1,11 +1,11 @@
 //! Cells that are always the same, and runs of blocks between the blocks that they hold.
 
-ghost use Rattle.local_run.specs.Held.{AreAll, HasLiveDiagonals, IsEmptyBlock, bits_of};
+ghost use Rattle.local_run.specs.Held.{HasValueUnderAll, HasLiveDiagonals, IsEmptyBlock, bits_of};
 ghost use Rattle.local_run.specs.Turns.{TurnsPart};
 ghost use Rattle.std.specs.Prelude.{ℕ, ◌≡◌, ◌+◌, ◌-◌, ◌*◌, ◌/◌, ◌^◌, ◌<◌, ◌≤◌, length, slice_index, false, true};
 
 use crate::planes::Planes;
-use crate::words::{Places, is_some_other, turn_part};
+use crate::words::{Places, has_other_word, turn_part};
 use bbm_rule::marks::{next_marked, next_unmarked};
 
 /// For each corner of a block whether its cell meets a condition.
@@ -23,7 +23,7 @@ pub struct Corners {
 
 // Shows that words have 64 bits each. It does nothing.
 #[inline(always)]
-fn show_cells(cells: &[u64])
+fn prove_cells_are_words(cells: &[u64])
     ensures { (k : ℕ) → slice_index cells.now k < 2 ^ 64 }
 {
     let _long = cells.len();
@@ -34,9 +34,9 @@ fn show_cells(cells: &[u64])
 fn is_always_live(is_met: bool, cells: &[u64], at: usize, words: usize) -> bool
     requires { words * at + words ≤ length cells.now }
     ensures { result ≡ true →
-        (is_met ≡ true) × AreAll true words (bits_of words cells.now at) }
+        (is_met ≡ true) × HasValueUnderAll true words (bits_of words cells.now at) }
 {
-    is_met && !is_some_other(cells, words * at, 0xFFFF_FFFF_FFFF_FFFF, words)
+    is_met && !has_other_word(cells, words * at, 0xFFFF_FFFF_FFFF_FFFF, words)
 }
 
 // Whether a cell meets its condition and is dead under each assignment.
@@ -44,19 +44,19 @@ fn is_always_live(is_met: bool, cells: &[u64], at: usize, words: usize) -> bool
 fn is_always_dead(is_met: bool, cells: &[u64], at: usize, words: usize) -> bool
     requires { words * at + words ≤ length cells.now }
     ensures { result ≡ true →
-        (is_met ≡ true) × AreAll false words (bits_of words cells.now at) }
+        (is_met ≡ true) × HasValueUnderAll false words (bits_of words cells.now at) }
 {
-    is_met && !is_some_other(cells, words * at, 0, words)
+    is_met && !has_other_word(cells, words * at, 0, words)
 }
 
 impl Planes {
-    ghost use Rattle.local_run.specs.Frozen.{AreWords, IsEvenCalmAt, IsOddCalmAt, KeepsFirst};
+    ghost use Rattle.local_run.specs.Frozen.{AreWords, AreMarkedEvenBlocksStable, AreMarkedOddBlocksStable, KeepsFirst};
     ghost use Rattle.local_run.specs.Lanes.{HasSize};
     ghost use Rattle.local_run.specs.Sweeps.{TurnsEven, TurnsOdd};
 
     /// Returns whether each diagonal of block u of the odd partition has a cell that meets its condition and is live
     /// under each assignment.
-    pub fn has_odd_diagonals(&self, u: usize, met: Corners) -> bool
+    pub fn has_live_odd_diagonals(&self, u: usize, met: Corners) -> bool
         requires { u < self.now.stride * self.now.rows }
         ensures { result ≡ true → HasLiveDiagonals self.now.words (met.upper_left ≡ true)
             (met.upper_right ≡ true) (met.lower_left ≡ true) (met.lower_right ≡ true)
@@ -74,7 +74,7 @@ impl Planes {
 
     /// Returns whether the cells of block u of the odd partition meet their conditions and are dead under each
     /// assignment.
-    pub fn is_odd_empty(&self, u: usize, met: Corners) -> bool
+    pub fn is_odd_block_empty(&self, u: usize, met: Corners) -> bool
         requires { u < self.now.stride * self.now.rows }
         ensures { result ≡ true → IsEmptyBlock self.now.words (met.upper_left ≡ true)
             (met.upper_right ≡ true) (met.lower_left ≡ true) (met.lower_right ≡ true)
@@ -90,8 +90,8 @@ impl Planes {
             && is_always_dead(met.lower_right, &self.even, u, words)
     }
 
-    /// Returns the same as [`Planes::has_odd_diagonals`] of block n of the even partition.
-    pub fn has_even_diagonals(&self, n: usize, met: Corners) -> bool
+    /// Returns the same as [`Planes::has_live_odd_diagonals`] of block n of the even partition.
+    pub fn has_live_even_diagonals(&self, n: usize, met: Corners) -> bool
         requires { n + self.now.stride + 1 < self.now.stride * self.now.rows }
         ensures { result ≡ true → HasLiveDiagonals self.now.words (met.upper_left ≡ true)
             (met.upper_right ≡ true) (met.lower_left ≡ true) (met.lower_right ≡ true)
@@ -108,8 +108,8 @@ impl Planes {
                 || is_always_live(met.lower_left, &self.right, n + stride, words))
     }
 
-    /// Returns the same as [`Planes::is_odd_empty`] of block n of the even partition.
-    pub fn is_even_empty(&self, n: usize, met: Corners) -> bool
+    /// Returns the same as [`Planes::is_odd_block_empty`] of block n of the even partition.
+    pub fn is_even_block_empty(&self, n: usize, met: Corners) -> bool
         requires { n + self.now.stride + 1 < self.now.stride * self.now.rows }
         ensures { result ≡ true → IsEmptyBlock self.now.words (met.upper_left ≡ true)
             (met.upper_right ≡ true) (met.lower_left ≡ true) (met.lower_right ≡ true)
@@ -128,17 +128,17 @@ impl Planes {
 
     /// Shows that the words of the planes have 64 bits each. It does nothing.
     #[inline(always)]
-    pub fn show_words(&self)
+    pub fn prove_planes_are_words(&self)
         ensures { AreWords self.now }
     {
-        show_cells(&self.odd);
-        show_cells(&self.right);
-        show_cells(&self.down);
-        show_cells(&self.even);
+        prove_cells_are_words(&self.odd);
+        prove_cells_are_words(&self.right);
+        prove_cells_are_words(&self.down);
+        prove_cells_are_words(&self.even);
     }
 
     // Turns the blocks of the odd partition from `first` on to below `end`.
-    fn turn_odd_run(&mut self, first: usize, end: usize)
+    fn turn_odd_range(&mut self, first: usize, end: usize)
         requires { (first ≤ end) × (end ≤ self.old.stride * self.old.rows) }
         ensures part { let at = self.old.words * first in
             TurnsPart at at at at (self.old.words * (end - first)) self.old.odd.items
@@ -163,7 +163,7 @@ impl Planes {
     }
 
     // Turns the blocks of the even partition from `first` on to below `end`.
-    fn turn_even_run(&mut self, first: usize, end: usize)
+    fn turn_even_range(&mut self, first: usize, end: usize)
         requires { (first ≤ end) × (end + self.old.stride + 1 ≤ self.old.stride * self.old.rows) }
         ensures part { let w = self.old.words in TurnsPart (w * first) (w * (first + 1))
             (w * (first + self.old.stride)) (w * (first + self.old.stride + 1)) (w * (end - first))
@@ -189,9 +189,9 @@ impl Planes {
     }
 
     /// Turns the blocks of the odd partition. Those with a mark stay, and are passed over.
-    pub fn odd_step_between(&mut self, marks: &[u64])
+    pub fn odd_step_between_marks(&mut self, marks: &[u64])
         requires room { self.old.stride * self.old.rows ≤ 64 * length marks.now }
-        requires calm { IsOddCalmAt marks.now self.old }
+        requires calm { AreMarkedOddBlocksStable marks.now self.old }
         ensures turned { TurnsOdd 0 (self.old.stride * self.old.rows) self.old self.new }
         ensures size { HasSize self.old.words self.old.stride self.old.rows self.new }
     {
@@ -199,15 +199,15 @@ impl Planes {
         let mut at = next_unmarked(marks, 0, cells);
         'runs: while at < cells {
             let end = next_marked(marks, at, cells);
-            self.turn_odd_run(at, end);
+            self.turn_odd_range(at, end);
             at = next_unmarked(marks, end, cells);
         }
     }
 
     /// Turns the blocks of the even partition in the box. Those with a mark stay, and are passed over.
-    pub fn even_step_between(&mut self, marks: &[u64])
+    pub fn even_step_between_marks(&mut self, marks: &[u64])
         requires room { self.old.stride * self.old.rows ≤ 64 * length marks.now }
-        requires calm { IsEvenCalmAt marks.now self.old }
+        requires calm { AreMarkedEvenBlocksStable marks.now self.old }
         ensures turned { (n : ℕ) → n + self.old.stride + 1 ≡ self.old.stride * self.old.rows →
             TurnsEven 0 n self.old self.new }
         ensures first { KeepsFirst self.old self.new }
@@ -217,7 +217,7 @@ impl Planes {
         let mut at = next_unmarked(marks, 0, cells);
         'runs: while at < cells {
             let end = next_marked(marks, at, cells);
-            self.turn_even_run(at, end);
+            self.turn_even_range(at, end);
             at = next_unmarked(marks, end, cells);
         }
     }

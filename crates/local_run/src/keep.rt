@@ -9,7 +9,7 @@ use module_job::Job;
 /// Returns the least keep fault of a job, by gate and assignment, if there is one.
 ///
 /// Each assignment counts, also one under which an earlier gate has no row and the run looks for no faults.
-pub fn least_keep(values: &Values, job: &Job) -> Option<KeepFault>
+pub fn find_least_keep_fault(values: &Values, job: &Job) -> Option<KeepFault>
     requires { IsReady job.now values.now }
     ensures { IsLeastKeepFault job.now result }
 {

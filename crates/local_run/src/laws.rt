@@ -1,11 +1,11 @@
 //! Laws of findings.
-ghost use Rattle.local_run.specs.Laws.{FindingsAgree, FindingsAgreeOnKeeps, NoneMeansNoFault, NoneMeansNoKeepFault, LeastFaultIsUnique, LeastKeepFaultIsUnique, UndefinedHasNoFault, FaultsAreDecided, JobsWithSameHalosAgree, StaysInBox, QuietRunsStay, NoNewEdgeFaults};
-ghost use Rattle.local_run.specs.Moves.{FaultsMoveAlong, LeastFaultMovesAlong, LeastKeepFaultStays};
+ghost use Rattle.local_run.specs.Laws.{FindingsAgreeOnFaults, FindingsAgreeOnKeepFaults, NoneMeansNoFault, NoneMeansNoKeepFault, LeastFaultIsUnique, LeastKeepFaultIsUnique, NoFaultWhereUndefined, OneValuationDecidesFault, JobsWithSameHalosAgree, LocalRunStaysInBox, QuietRunStaysUnchanged, QuietRunAddsNoEdgeFault};
+ghost use Rattle.local_run.specs.Moves.{FaultsMoveWithJob, LeastFaultMovesWithJob, SameShapeSameLeastKeepFault};
 
 /// States that two findings of one job have one fault, and one keep fault.
-pub fn findings_agree()
-    ensures faults { FindingsAgree }
-    ensures keeps { FindingsAgreeOnKeeps }
+pub fn findings_of_one_job_agree()
+    ensures faults { FindingsAgreeOnFaults }
+    ensures keeps { FindingsAgreeOnKeepFaults }
 {}
 
 /// States that the job of a finding without a fault has none, and the same of keep faults.
@@ -21,13 +21,13 @@ pub fn least_fault_is_unique()
 {}
 
 /// States that a job has no fault under an assignment at which some used gate has no row.
-pub fn undefined_has_no_fault()
-    ensures { UndefinedHasNoFault }
+pub fn no_fault_where_undefined()
+    ensures { NoFaultWhereUndefined }
 {}
 
 /// States that any one local valuation under an assignment decides whether the job has a fault under it.
-pub fn faults_are_decided()
-    ensures { FaultsAreDecided }
+pub fn one_valuation_decides_fault()
+    ensures { OneValuationDecidesFault }
 {}
 
 /// States that jobs that differ in their halos alone have the same faults, if the halos agree at each odd time below
@@ -37,25 +37,25 @@ pub fn jobs_with_same_halos_agree()
 {}
 
 /// States that no cell outside the box is ever live.
-pub fn stays_in_box()
-    ensures { StaysInBox }
+pub fn local_run_stays_in_box()
+    ensures { LocalRunStaysInBox }
 {}
 
 /// States that jobs of the same shape have the same faults but for their place.
 ///
 /// The least fault of one is that of the other, moved. Their least keep fault is the same.
-pub fn faults_move_along()
-    ensures faults { FaultsMoveAlong }
-    ensures least { LeastFaultMovesAlong }
-    ensures keep { LeastKeepFaultStays }
+pub fn faults_move_with_job()
+    ensures faults { FaultsMoveWithJob }
+    ensures least { LeastFaultMovesWithJob }
+    ensures keep { SameShapeSameLeastKeepFault }
 {}
 
 /// States that a run that does not change in two steps does not change until a signal of its halo does.
-pub fn quiet_runs_stay()
-    ensures { QuietRunsStay }
+pub fn quiet_run_stays_unchanged()
+    ensures { QuietRunStaysUnchanged }
 {}
 
 /// States that no edge fault comes up while the run, the signals of its halo and those of its ring stay as they are.
-pub fn no_new_edge_faults()
-    ensures { NoNewEdgeFaults }
+pub fn quiet_run_adds_no_edge_fault()
+    ensures { QuietRunAddsNoEdgeFault }
 {}

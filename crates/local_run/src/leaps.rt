@@ -3,7 +3,7 @@
 ghost use Rattle.std.specs.Prelude.{◌≡◌, ◌+◌, ◌<◌, ◌≤◌, ◌⊎◌, length};
 ghost use Rattle.module_box.specs.Moments.{moment_cmp};
 ghost use Rattle.module_box.specs.Schedules.{IsRising, moment_of};
-ghost use Rattle.local_run.specs.Leaps.{HasNoEvents, IsLeap, IsSteady, IsTimeBetween};
+ghost use Rattle.local_run.specs.Leaps.{HasNoEvents, IsLeap, HasSameSignalsAtOddTimes, IsTimeBetween};
 ghost use Rattle.local_run.specs.Scans.{IsNextStop};
 
 use module_box::{Schedule, TimedSignal};
@@ -29,7 +29,7 @@ pub fn first_event(events: &[TimedSignal], time: u32) -> usize
 }
 
 // A place before which all events are earlier than the time: the one that is asked about, if it is such, or the first.
-fn sure_place(events: &[TimedSignal], place: usize, time: u32) -> usize
+fn valid_start_place(events: &[TimedSignal], place: usize, time: u32) -> usize
     requires rising { IsRising moment_cmp moment_of events.now }
     ensures range { result ≤ length events.now }
     ensures below { IsTimeBetween events.now time result (length events.now) }
@@ -49,7 +49,7 @@ pub fn first_event_from(events: &[TimedSignal], place: usize, time: u32) -> usiz
     ensures range { result ≤ length events.now }
     ensures first { IsTimeBetween events.now time result result }
 {
-    let mut low = sure_place(events, place, time);
+    let mut low = valid_start_place(events, place, time);
     let mut high = events.len();
     'search: while low < high {
         if events[low].at.time < time {
@@ -62,7 +62,7 @@ pub fn first_event_from(events: &[TimedSignal], place: usize, time: u32) -> usiz
 }
 
 // The first time from `time` on at which there is an event, or `end`, whichever comes first.
-fn next_event(events: &[TimedSignal], time: u32, end: u32) -> u32
+fn next_event_time(events: &[TimedSignal], time: u32, end: u32) -> u32
     requires rising { IsRising moment_cmp moment_of events.now }
     requires range { time ≤ end }
     ensures range { (time ≤ result) × (result ≤ end) }
@@ -79,29 +79,29 @@ fn next_event(events: &[TimedSignal], time: u32, end: u32) -> u32
 }
 
 // A time, `end` at most, before which no event of the schedule stands from `time` on.
-fn steady_until(schedule: &Schedule, time: u32, end: u32) -> u32
+fn same_signals_until(schedule: &Schedule, time: u32, end: u32) -> u32
     requires { time ≤ end }
     ensures range { (time ≤ result) × (result ≤ end) }
-    ensures steady { IsSteady schedule.now time result }
+    ensures steady { HasSameSignalsAtOddTimes schedule.now time result }
 {
-    next_event(schedule.events(), time, end)
+    next_event_time(schedule.events(), time, end)
 }
 
 // A time, `end` at most, before which the signals of ring and halo at odd times from `time` on are those at `time`.
 fn quiet_until(job: &Job, time: u32, end: u32) -> u32
     requires { time ≤ end }
     ensures range { (time ≤ result) × (result ≤ end) }
-    ensures edges { IsSteady job.now.edges time result }
-    ensures halos { IsSteady job.now.halos time result }
+    ensures edges { HasSameSignalsAtOddTimes job.now.edges time result }
+    ensures halos { HasSameSignalsAtOddTimes job.now.halos time result }
 {
     let _area = job.area();
     let shape: &Shape = job.shape();
-    let edges = steady_until(shape.edges(), time, end);
-    steady_until(shape.halos(), time, edges)
+    let edges = same_signals_until(shape.edges(), time, end);
+    same_signals_until(shape.halos(), time, edges)
 }
 
 // A time, `end` at most, before which there is no stop from `time` on, where `next` is the place of the first one.
-fn stop_until(job: &Job, next: usize, time: u32, end: u32) -> u32
+fn no_stop_until(job: &Job, next: usize, time: u32, end: u32) -> u32
     requires next { IsNextStop job.now time next }
     requires range { time ≤ end }
     ensures range { (time ≤ result) × (result ≤ end) }
@@ -136,5 +136,5 @@ pub fn next_time(job: &Job, time: u32, steps: u32, changed: bool, next: usize) -
     if quiet <= time {
         return time + 1;
     }
-    stop_until(job, next, time + 1, quiet)
+    no_stop_until(job, next, time + 1, quiet)
 }

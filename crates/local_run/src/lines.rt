@@ -4,8 +4,8 @@ ghost use Rattle.module_job.specs.Jobs.{IsJob};
 ghost use Rattle.module_job.specs.Shapes.{shape_of};
 ghost use Rattle.module_box.specs.Moments.{moment_cmp};
 ghost use Rattle.module_box.specs.Schedules.{IsRising, all_times_at, event_at, moment_of, signal_at};
-ghost use Rattle.local_run.specs.Quiet.{AreAllTimesMarks, AreAllTimesMarked, AreLines, at_corner, HasRoom, IsCellMarked, IsQuietIn, KeepsMarks};
-ghost use Rattle.local_run.specs.Places.{outer};
+ghost use Rattle.local_run.specs.Quiet.{AreAllTimesMarks, AreAllTimesCellsMarked, AreLines, box_at_origin, HasRoom, IsCellMarked, IsZeroAtUnmarked, KeepsMarks};
+ghost use Rattle.local_run.specs.Places.{halo_coord};
 ghost use Rattle.std.specs.Prelude.{ℕ, ◌≢◌, MatchOption, ◌≡◌, ◌<◌, ◌+◌, ◌*◌, ◌/◌, ◌%◌, ◌^◌, ◌≤◌, length, slice_index, slice_get, Some, IfOk, IfSome};
 
 use crate::leaps::first_event_from;
@@ -16,11 +16,11 @@ use module_job::{Job, Shape};
 use std::alloc::{AllocError, Global};
 
 // The column or row of a coordinate, counted from the halo of a span of `count` numbers, if it is there.
-#[tactic(auto, unfolding(crate::specs::Places::outer))]
-fn outer_number(coordinate: i32, first: u32, count: u32) -> Option<usize>
+#[tactic(auto, unfolding(crate::specs::Places::halo_coord))]
+fn number_from_halo(coordinate: i32, first: u32, count: u32) -> Option<usize>
     requires { (first ≤ 512) × (count ≤ 64) }
-    ensures { MatchOption result ((k : ℕ) → k < count + 2 → coordinate ≢ outer first k)
-        (λ k. (k < count + 2) × (coordinate ≡ outer first k)) }
+    ensures { MatchOption result ((k : ℕ) → k < count + 2 → coordinate ≢ halo_coord first k)
+        (λ k. (k < count + 2) × (coordinate ≡ halo_coord first k)) }
 {
     let before = first as i32 - 1;
     if coordinate < before || before + count as i32 + 1 < coordinate {
@@ -34,7 +34,7 @@ pub const CELL_WORDS: usize = 72;
 
 /// Returns the number of a cell's own mark, where `number` is that of its cells in the planes.
 #[inline(always)]
-pub fn line_number(number: usize, x: usize, y: usize) -> usize
+pub fn cell_mark_number(number: usize, x: usize, y: usize) -> usize
     requires { number < 2 ^ 32 }
     ensures { result ≡ number + 1152 * (1 + 2 * (y % 2) + x % 2) }
 {
@@ -47,19 +47,19 @@ fn mark_cell(marks: &mut [u64], area: Box2, cell: Cell)
     ensures keeps { KeepsMarks marks.old marks.new }
     ensures marked { IsCellMarked area cell marks.new }
 {
-    let Some(x) = outer_number(cell.x, area.x, area.w) else {
+    let Some(x) = number_from_halo(cell.x, area.x, area.w) else {
         return;
     };
-    let Some(y) = outer_number(cell.y, area.y, area.h) else {
+    let Some(y) = number_from_halo(cell.y, area.y, area.h) else {
         return;
     };
     let number = (area.w as usize / 2 + 1) * (y / 2) + x / 2;
     mark(marks, number);
-    mark(marks, line_number(number, x, y));
+    mark(marks, cell_mark_number(number, x, y));
 }
 
 // Marks the cells of signals at all times.
-fn mark_all_times(marks: &mut [u64], area: Box2, list: &[AllTimes])
+fn mark_all_times_cells(marks: &mut [u64], area: Box2, list: &[AllTimes])
     requires { HasRoom area marks.old }
     ensures keeps { KeepsMarks marks.old marks.new }
     ensures marked { (i : ℕ) (h : AllTimes) → slice_get list.now i ≡ Some h →
@@ -115,16 +115,16 @@ fn mark_schedule(
 ) -> EventPlaces
     requires room_for_marks { HasRoom area marks.old }
     requires range { time < 65536 }
-    requires all_times { AreAllTimesMarked schedule.now area marks.old }
+    requires all_times { AreAllTimesCellsMarked schedule.now area marks.old }
     ensures keeps { KeepsMarks marks.old marks.new }
-    ensures quiet { IsQuietIn schedule.now area time marks.new }
+    ensures quiet { IsZeroAtUnmarked schedule.now area time marks.new }
 {
     mark_events_at(marks, area, schedule.events(), place, time)
 }
 
 // The box of a shape, with its corner at (0, 0).
 fn box_of(shape: &Shape) -> Box2
-    ensures { result ≡ at_corner shape.now }
+    ensures { result ≡ box_at_origin shape.now }
 {
     Box2 {
         x: 0,
@@ -185,7 +185,7 @@ fn event_near(events: &[TimedSignal], moment: Moment, near: EventPlaces) -> Opti
 }
 
 // The signal that a cell has at all times, which is sought one by one.
-fn first_all_times(all_times: &[AllTimes], cell: Cell) -> Option<Signal>
+fn find_all_times_signal(all_times: &[AllTimes], cell: Cell) -> Option<Signal>
     ensures { result ≡ all_times_at all_times.now cell.x cell.y }
 {
     for k in 0..all_times.len() {
@@ -204,7 +204,7 @@ pub fn signal_near(schedule: &Schedule, moment: Moment, near: EventPlaces) -> Si
 {
     let all_times = schedule.all_times();
     if all_times.len() <= MOST_NEAR_LINES {
-        if let Some(signal) = first_all_times(all_times, moment.cell) {
+        if let Some(signal) = find_all_times_signal(all_times, moment.cell) {
             return signal;
         }
         if let Some(signal) = event_near(schedule.events(), moment, near) {
@@ -229,15 +229,15 @@ pub fn mark_lines(marks: &mut [u64], places: &mut LinePlaces, job: &Job, time: u
 }
 
 // Marks the cells of which an edge or halo line says something at all times.
-fn mark_all_all_times(marks: &mut [u64], shape: &Shape)
-    requires { HasRoom (at_corner shape.now) marks.old }
+fn mark_all_times_of_shape(marks: &mut [u64], shape: &Shape)
+    requires { HasRoom (box_at_origin shape.now) marks.old }
     ensures keeps { KeepsMarks marks.old marks.new }
-    ensures edges { AreAllTimesMarked shape.now.edges (at_corner shape.now) marks.new }
-    ensures halos { AreAllTimesMarked shape.now.halos (at_corner shape.now) marks.new }
+    ensures edges { AreAllTimesCellsMarked shape.now.edges (box_at_origin shape.now) marks.new }
+    ensures halos { AreAllTimesCellsMarked shape.now.halos (box_at_origin shape.now) marks.new }
 {
     let area = box_of(shape);
-    mark_all_times(marks, area, shape.edges().all_times());
-    mark_all_times(marks, area, shape.halos().all_times());
+    mark_all_times_cells(marks, area, shape.edges().all_times());
+    mark_all_times_cells(marks, area, shape.halos().all_times());
 }
 
 /// Marks the cells of which an edge or halo line says something at all times, and their numbers in the planes.
@@ -248,6 +248,6 @@ pub fn all_times_cells(alloc: Global, job: &Job) -> Result<Vec<u64>, AllocError>
     let area = job.area();
     let cells = (area.w as usize / 2 + 1) * (area.h as usize / 2 + 1);
     let mut marks = vec![in alloc; 0u64; cells.div_ceil(64) + CELL_WORDS]?;
-    mark_all_all_times(&mut marks, job.shape());
+    mark_all_times_of_shape(&mut marks, job.shape());
     Ok(marks)
 }

@@ -6,10 +6,10 @@
 
 ghost use Rattle.bbm_rule.specs.Bits.{bit};
 ghost use Rattle.bbm_rule.specs.Marks.{IsUnmarked};
-ghost use Rattle.local_run.specs.Live.{AreMarked, AreMarkedBut, AreUnmarked, HasCells, HasMarks, HasSameRoom, IsLoneAnti, IsLoneMain, MarksCell, TakesMark};
+ghost use Rattle.local_run.specs.Live.{AreMarked, AreMarkedUnlessInBoth, AreUnmarked, HasRoomForBlockCells, HasRoomForCellMarks, HasSameRoom, IsLoneAnti, IsLoneMain, MarksCell, TakesMark};
 ghost use Rattle.std.specs.Prelude.{ℕ, ◌≡◌, ◌/◌, ◌<◌, ◌≤◌, ◌%◌, ◌+◌, ◌*◌, ◌^◌, ◌⊎◌, length, vec_len, IfOk, true, false};
 
-use crate::marks::{is_marked, mark_if, mark_lacking, next_in_either, swap_marks};
+use crate::marks::{is_marked, mark_if, mark_unless_in_both, next_in_either, swap_marks};
 use crate::words::Changes;
 use bbm_rule::marks::mark_all;
 use std::alloc::{AllocError, Global};
@@ -31,7 +31,7 @@ impl LiveMarks {
     /// Marks on no cell, in `long` words for each plane.
     pub fn new(alloc: Global, long: usize) -> Result<LiveMarks, AllocError>
         requires { long ≤ 64 }
-        ensures size { IfOk result (λ l. HasMarks (64 * long) l) }
+        ensures size { IfOk result (λ l. HasRoomForCellMarks (64 * long) l) }
         ensures none { IfOk result (λ l. (u : ℕ) → AreUnmarked l u u u u) }
     {
         Ok(LiveMarks {
@@ -45,7 +45,7 @@ impl LiveMarks {
     /// Marks all cells.
     pub fn mark_all(&mut self)
         ensures same_room { HasSameRoom self.old self.new }
-        ensures all { (n : ℕ) → HasMarks n self.old → AreMarked n self.new }
+        ensures all { (n : ℕ) → HasRoomForCellMarks n self.old → AreMarked n self.new }
     {
         mark_all(&mut self.odd);
         mark_all(&mut self.right);
@@ -54,21 +54,21 @@ impl LiveMarks {
     }
 
     /// Marks all cells but those whose number has a mark in both lists.
-    pub fn mark_lacking(&mut self, first: &[u64], second: &[u64])
+    pub fn mark_unless_in_both(&mut self, first: &[u64], second: &[u64])
         ensures same_room { HasSameRoom self.old self.new }
-        ensures marked { (n : ℕ) → HasMarks n self.old → n ≤ 64 * length first.now →
-            n ≤ 64 * length second.now → AreMarkedBut n first.now second.now self.new }
+        ensures marked { (n : ℕ) → HasRoomForCellMarks n self.old → n ≤ 64 * length first.now →
+            n ≤ 64 * length second.now → AreMarkedUnlessInBoth n first.now second.now self.new }
     {
-        mark_lacking(&mut self.odd, first, second);
-        mark_lacking(&mut self.right, first, second);
-        mark_lacking(&mut self.down, first, second);
-        mark_lacking(&mut self.even, first, second);
+        mark_unless_in_both(&mut self.odd, first, second);
+        mark_unless_in_both(&mut self.right, first, second);
+        mark_unless_in_both(&mut self.down, first, second);
+        mark_unless_in_both(&mut self.even, first, second);
     }
 
     /// Returns a word of marks on the numbers of which a cell has a mark.
     #[inline(always)]
     pub fn word(&self, k: usize) -> u64
-        requires { HasCells self.now (64 * k) (64 * k) (64 * k) (64 * k) }
+        requires { HasRoomForBlockCells self.now (64 * k) (64 * k) (64 * k) (64 * k) }
         ensures { (u : ℕ) → u / 64 ≡ k → bit result (u % 64) ≡ false →
             AreUnmarked self.now u u u u }
     {
@@ -80,7 +80,7 @@ impl LiveMarks {
     /// Only cells in rows with the parity of row y count.
     pub fn next_in_row(&self, y: usize, from: usize, end: usize) -> usize
         requires within { (from ≤ end) × (end < 2 ^ 32) }
-        requires room { HasMarks end self.now }
+        requires room { HasRoomForCellMarks end self.now }
         ensures range { (from ≤ result) × (result ≤ end) }
         ensures upper { y % 2 ≡ 0 → (u : ℕ) → from ≤ u → u < result →
             IsUnmarked self.now.odd.items u × IsUnmarked self.now.right.items u }
@@ -96,7 +96,7 @@ impl LiveMarks {
     /// Returns whether no cell of a block has a mark.
     #[inline(always)]
     pub fn are_dead(&self, odd: usize, right: usize, down: usize, even: usize) -> bool
-        requires { HasCells self.now odd right down even }
+        requires { HasRoomForBlockCells self.now odd right down even }
         ensures { result ≡ true → AreUnmarked self.now odd right down even }
     {
         !is_marked(&self.odd, odd)
@@ -108,7 +108,7 @@ impl LiveMarks {
     /// Returns whether no cell of a block has a mark but one of its main diagonal.
     #[inline(always)]
     pub fn is_lone_main(&self, odd: usize, right: usize, down: usize, even: usize) -> bool
-        requires { HasCells self.now odd right down even }
+        requires { HasRoomForBlockCells self.now odd right down even }
         ensures { result ≡ true → IsLoneMain self.now odd right down even }
     {
         !is_marked(&self.right, right)
@@ -119,7 +119,7 @@ impl LiveMarks {
     /// Returns whether no cell of a block has a mark but one of its other diagonal.
     #[inline(always)]
     pub fn is_lone_anti(&self, odd: usize, right: usize, down: usize, even: usize) -> bool
-        requires { HasCells self.now odd right down even }
+        requires { HasRoomForBlockCells self.now odd right down even }
         ensures { result ≡ true → IsLoneAnti self.now odd right down even }
     {
         !is_marked(&self.odd, odd)
@@ -136,7 +136,7 @@ impl LiveMarks {
         even: usize,
         changes: Changes,
     )
-        requires { HasCells self.old odd right down even }
+        requires { HasRoomForBlockCells self.old odd right down even }
         ensures odd { MarksCell changes.main odd self.old.odd.items self.new.odd.items }
         ensures right { MarksCell changes.anti right self.old.right.items self.new.right.items }
         ensures down { MarksCell changes.anti down self.old.down.items self.new.down.items }

@@ -3,7 +3,7 @@
 ghost use Rattle.std.specs.Prelude.{◌≡◌, ◌≢◌, ◌+◌, ◌*◌, ◌/◌, ◌%◌, ◌<◌, ◌≤◌, true, false};
 
 use crate::marked_planes::MarkedPlanes;
-use crate::marks::{is_marked, mark_around, mark_corners};
+use crate::marks::{is_marked, mark_even_neighbours, mark_odd_neighbours};
 use crate::words::Changes;
 use bbm_rule::marks::{mark, unmark};
 
@@ -20,7 +20,7 @@ impl MarkedPlanes {
 
     // Counts a block that may have two live cells, and three times if it was turned: all that are turned in a step are
     // taken off twice at its end.
-    fn count_full(&mut self, is_turned: bool)
+    fn count_crowded_block(&mut self, is_turned: bool)
         ensures { self.new.planes ≡ self.old.planes }
     {
         self.crowd = self.crowd.saturating_add(1);
@@ -31,7 +31,7 @@ impl MarkedPlanes {
 
     /// Counts the blocks that a step turned: each with one live cell, and the dead one that this cell left in the step
     /// before. If most blocks have two live cells, it costs less to read their words at once.
-    pub(crate) fn count_lone(&mut self, turned: usize)
+    pub(crate) fn settle_crowd_count(&mut self, turned: usize)
         requires { turned ≤ 4096 }
         ensures { self.new.planes ≡ self.old.planes }
     {
@@ -56,7 +56,7 @@ impl MarkedPlanes {
     {
         let stride = self.planes.stride();
         mark(&mut self.odd_marks, u);
-        mark_around(&mut self.even_marks, u, stride, Changes::MAIN);
+        mark_even_neighbours(&mut self.even_marks, u, stride, Changes::MAIN);
         self.live_marks.swap_main(u, u);
         self.planes.swap_main(u, u);
     }
@@ -74,20 +74,20 @@ impl MarkedPlanes {
     {
         let stride = self.planes.stride();
         mark(&mut self.odd_marks, u);
-        mark_around(&mut self.even_marks, u, stride, Changes::ANTI);
+        mark_even_neighbours(&mut self.even_marks, u, stride, Changes::ANTI);
         self.live_marks.swap_anti(u, u);
         self.planes.swap_anti(u, u);
     }
 
     // Takes the mark off block n of the even partition, if its cells are known to be dead.
     #[inline(always)]
-    fn unmark_dead_even(&mut self, n: usize)
+    fn unmark_even_block_if_dead(&mut self, n: usize)
         requires { n + self.old.planes.stride + 1 < self.old.planes.stride * self.old.planes.rows }
         ensures planes { self.new.planes ≡ self.old.planes }
         ensures odd { self.new.odd_marks ≡ self.old.odd_marks }
         ensures live { self.new.live_marks ≡ self.old.live_marks }
     {
-        if self.is_dead_even(n) {
+        if self.is_even_block_dead(n) {
             unmark(&mut self.even_marks, n);
         }
     }
@@ -95,7 +95,7 @@ impl MarkedPlanes {
     // Takes the mark off the block of the even partition that a cell of the main diagonal of block u of the odd
     // partition has left, if nothing else is in it. So the next step does not come to it.
     #[inline(always)]
-    fn leave_main(&mut self, u: usize)
+    fn unmark_block_left_by_main(&mut self, u: usize)
         requires { u < self.old.planes.stride * self.old.planes.rows }
         ensures planes { self.new.planes ≡ self.old.planes }
         ensures odd { self.new.odd_marks ≡ self.old.odd_marks }
@@ -104,16 +104,16 @@ impl MarkedPlanes {
         let stride = self.planes.stride();
         if is_marked(&self.live_marks.odd, u) {
             if u + stride + 1 < self.planes.cells() {
-                self.unmark_dead_even(u);
+                self.unmark_even_block_if_dead(u);
             }
         } else if u > stride {
-            self.unmark_dead_even(u - stride - 1);
+            self.unmark_even_block_if_dead(u - stride - 1);
         }
     }
 
     // The same for a cell of the other diagonal.
     #[inline(always)]
-    fn leave_anti(&mut self, u: usize)
+    fn unmark_block_left_by_anti(&mut self, u: usize)
         requires { u < self.old.planes.stride * self.old.planes.rows }
         ensures planes { self.new.planes ≡ self.old.planes }
         ensures odd { self.new.odd_marks ≡ self.old.odd_marks }
@@ -123,10 +123,10 @@ impl MarkedPlanes {
         let cells = self.planes.cells();
         if is_marked(&self.live_marks.right, u) {
             if u > 0 && u + stride < cells {
-                self.unmark_dead_even(u - 1);
+                self.unmark_even_block_if_dead(u - 1);
             }
         } else if u >= stride && u + 1 < cells {
-            self.unmark_dead_even(u - stride);
+            self.unmark_even_block_if_dead(u - stride);
         }
     }
 
@@ -148,22 +148,22 @@ impl MarkedPlanes {
         }
         let stride = self.planes.stride();
         mark(&mut self.odd_marks, u);
-        mark_around(&mut self.even_marks, u, stride, changes);
+        mark_even_neighbours(&mut self.even_marks, u, stride, changes);
         self.live_marks.mark_cells(u, u, u, u, changes);
         self.planes.turn_odd(u);
         true
     }
 
     // Takes the marks off the dead cells of block u of the odd partition after its words were read, and counts it.
-    fn finish_odd(&mut self, u: usize, is_turned: bool)
+    fn unmark_and_count_odd(&mut self, u: usize, is_turned: bool)
         requires { u < self.old.planes.stride * self.old.planes.rows }
         ensures { self.new.planes ≡ self.old.planes }
     {
         if self.busy == 0 {
-            self.drop_dead(u, u, u, u);
-            self.count_full(is_turned);
-        } else if !is_turned && !self.planes.is_live_at_first(u) {
-            self.drop_dead(u, u, u, u);
+            self.unmark_dead_cells(u, u, u, u);
+            self.count_crowded_block(is_turned);
+        } else if !is_turned && !self.planes.is_live_in_first_word(u) {
+            self.unmark_dead_cells(u, u, u, u);
         }
     }
 
@@ -182,16 +182,16 @@ impl MarkedPlanes {
     {
         if self.is_exact && self.live_marks.is_lone_main(u, u, u, u) {
             self.move_odd_main(u);
-            self.leave_main(u);
+            self.unmark_block_left_by_main(u);
             return true;
         }
         if self.is_exact && self.live_marks.is_lone_anti(u, u, u, u) {
             self.move_odd_anti(u);
-            self.leave_anti(u);
+            self.unmark_block_left_by_anti(u);
             return true;
         }
         let is_turned = self.turn_odd_words(u);
-        self.finish_odd(u, is_turned);
+        self.unmark_and_count_odd(u, is_turned);
         is_turned
     }
 
@@ -212,7 +212,7 @@ impl MarkedPlanes {
     {
         let stride = self.planes.stride();
         mark(&mut self.even_marks, u);
-        mark_corners(&mut self.odd_marks, u, stride, Changes::MAIN);
+        mark_odd_neighbours(&mut self.odd_marks, u, stride, Changes::MAIN);
         self.live_marks.swap_main(u + stride + 1, u);
         self.planes.swap_main(u + stride + 1, u);
     }
@@ -234,7 +234,7 @@ impl MarkedPlanes {
     {
         let stride = self.planes.stride();
         mark(&mut self.even_marks, u);
-        mark_corners(&mut self.odd_marks, u, stride, Changes::ANTI);
+        mark_odd_neighbours(&mut self.odd_marks, u, stride, Changes::ANTI);
         self.live_marks.swap_anti(u + stride, u + 1);
         self.planes.swap_anti(u + stride, u + 1);
     }
@@ -260,7 +260,7 @@ impl MarkedPlanes {
         }
         let stride = self.planes.stride();
         mark(&mut self.even_marks, u);
-        mark_corners(&mut self.odd_marks, u, stride, changes);
+        mark_odd_neighbours(&mut self.odd_marks, u, stride, changes);
         self.live_marks
             .mark_cells(u + stride + 1, u + stride, u + 1, u, changes);
         self.planes.turn_even(u);
@@ -285,7 +285,7 @@ impl MarkedPlanes {
         let stride = self.planes.stride();
         let (odd, right, down) = (u + stride + 1, u + stride, u + 1);
         if self.is_exact && self.live_marks.is_lone_main(odd, right, down, u) {
-            if self.is_dead_even(u) {
+            if self.is_even_block_dead(u) {
                 unmark(&mut self.even_marks, u);
                 return false;
             }
@@ -298,8 +298,8 @@ impl MarkedPlanes {
         }
         let is_turned = self.turn_even_words(u);
         if self.busy == 0 {
-            self.drop_dead(odd, right, down, u);
-            self.count_full(is_turned);
+            self.unmark_dead_cells(odd, right, down, u);
+            self.count_crowded_block(is_turned);
         }
         is_turned
     }
@@ -307,7 +307,7 @@ impl MarkedPlanes {
     // Whether block u of the even partition is the last of its row. A division takes long, so most blocks are known to
     // be others by their lack of a mark.
     #[inline(always)]
-    fn is_last(&self, u: usize) -> bool
+    fn is_last_of_row(&self, u: usize) -> bool
         requires { u < self.now.planes.stride * self.now.planes.rows }
         ensures last { result ≡ true → (u + 1) % self.now.planes.stride ≡ 0 }
         ensures other { result ≡ false → (u + 1) % self.now.planes.stride ≢ 0 }
@@ -317,7 +317,7 @@ impl MarkedPlanes {
 
     // Whether each cell of block u of the even partition is known to be dead.
     #[inline(always)]
-    fn is_dead_even(&self, u: usize) -> bool
+    fn is_even_block_dead(&self, u: usize) -> bool
         requires { u + self.now.planes.stride + 1 < self.now.planes.stride * self.now.planes.rows }
         ensures { result ≡ true → let s = self.now.planes.stride in
             AreUnmarked self.now.live_marks (u + s + 1) (u + s) (u + 1) u }
@@ -344,7 +344,7 @@ impl MarkedPlanes {
         ensures last { (u + 1) % self.old.planes.stride ≡ 0 → self.new.planes ≡ self.old.planes }
         ensures stays { result ≡ false → self.new.planes ≡ self.old.planes }
     {
-        if self.is_last(u) {
+        if self.is_last_of_row(u) {
             unmark(&mut self.even_marks, u);
             return false;
         }

@@ -5,18 +5,18 @@
 //! looks only at the blocks near cells that changed. It turns word by word only blocks in which two cells may be live.
 //! After a step in which many blocks change, some steps turn whole planes.
 
-ghost use Rattle.local_run.specs.Borders.{AllInner, AllInner-prop, ArePassed};
-ghost use Rattle.local_run.specs.Calm.{OddCalm, OddCalm-prop, EvenCalm, EvenCalm-prop};
-ghost use Rattle.local_run.specs.Frozen.{Freezes};
-ghost use Rattle.local_run.specs.Live.{AllDead, AllDead-prop, HasMarks};
+ghost use Rattle.local_run.specs.Borders.{AreUnmarkedAwayFromBorder, AreUnmarkedAwayFromBorder-prop, AreSkippable};
+ghost use Rattle.local_run.specs.Calm.{AreOddBlocksStable, AreOddBlocksStable-prop, AreEvenBlocksStable, AreEvenBlocksStable-prop};
+ghost use Rattle.local_run.specs.Frozen.{AreFrozenIfFound};
+ghost use Rattle.local_run.specs.Live.{AllUnmarkedDead, AllUnmarkedDead-prop, HasRoomForCellMarks};
 ghost use Rattle.std.specs.Int.{div_ceil};
 ghost use Rattle.std.specs.Prelude.{ℕ, ◌≡◌, ◌+◌, ◌*◌, ◌/◌, ◌%◌, ◌<◌, ◌≤◌, vec_len, IfOk, true, false};
 
 use crate::frozen::FrozenBlocks;
-use crate::lines::{CELL_WORDS, LinePlaces, line_number, mark_lines};
+use crate::lines::{CELL_WORDS, LinePlaces, cell_mark_number, mark_lines};
 use crate::live::LiveMarks;
 use crate::marked_steps::STEPS_TO_SEARCH;
-use crate::marks::{is_marked, mark_around, mark_border, word_marked_in};
+use crate::marks::{is_marked, mark_border, mark_even_neighbours, word_marked_in};
 use crate::phases::WholePlaneSteps;
 use crate::planes::Planes;
 use crate::values::Values;
@@ -56,14 +56,14 @@ pub struct MarkedPlanes {
     pub(crate) searches: u32,
     ghost odd_room: { planes.stride * planes.rows ≤ 64 * vec_len odd_marks },
     ghost even_room: { planes.stride * planes.rows ≤ 64 * vec_len even_marks },
-    ghost live_room: { HasMarks (planes.stride * planes.rows) live_marks },
+    ghost live_room: { HasRoomForCellMarks (planes.stride * planes.rows) live_marks },
     ghost border_room: { planes.stride * planes.rows ≤ 64 * vec_len border_marks },
     ghost line_long: { vec_len line_marks ≡ div_ceil (planes.stride * planes.rows) 64 + 72 },
-    ghost odd_calm: { OddCalm odd_marks.items planes } by { OddCalm-prop odd_marks.items planes },
-    ghost even_calm: { EvenCalm even_marks.items planes } by { EvenCalm-prop even_marks.items planes },
-    ghost all_dead: { AllDead live_marks planes } by { AllDead-prop live_marks planes },
-    ghost freezes: { Freezes frozen planes },
-    ghost all_inner: { AllInner planes.stride planes.rows border_marks.items } by { AllInner-prop planes.stride planes.rows border_marks.items },
+    ghost odd_calm: { AreOddBlocksStable odd_marks.items planes } by { AreOddBlocksStable-prop odd_marks.items planes },
+    ghost even_calm: { AreEvenBlocksStable even_marks.items planes } by { AreEvenBlocksStable-prop even_marks.items planes },
+    ghost all_dead: { AllUnmarkedDead live_marks planes } by { AllUnmarkedDead-prop live_marks planes },
+    ghost freezes: { AreFrozenIfFound frozen planes },
+    ghost all_inner: { AreUnmarkedAwayFromBorder planes.stride planes.rows border_marks.items } by { AreUnmarkedAwayFromBorder-prop planes.stride planes.rows border_marks.items },
 }
 
 const SEARCHES: u32 = 4;
@@ -121,7 +121,7 @@ impl MarkedPlanes {
     }
 
     /// Marks the cells of which an edge or halo line of the job says something at a time.
-    pub fn look_at(&mut self, values: &Values, job: &Job, time: u32)
+    pub fn mark_lines_at(&mut self, values: &Values, job: &Job, time: u32)
         requires ready { IsReady job.now values.now }
         requires size { HasSize values.now.words (job.now.area.w / 2 + 1) (job.now.area.h / 2 + 1)
             self.old.planes }
@@ -129,13 +129,13 @@ impl MarkedPlanes {
         ensures planes { self.new.planes ≡ self.old.planes }
         ensures lines { AreLines job.now time self.new.line_marks.items }
     {
-        self.count_down();
+        self.count_busy_time();
         self.line_marks.copy_from_slice(values.all_times_marks());
         mark_lines(&mut self.line_marks, &mut self.line_places, job, time);
     }
 
     // Counts the times at which the words of all blocks are read.
-    fn count_down(&mut self)
+    fn count_busy_time(&mut self)
         ensures { self.new.planes ≡ self.old.planes }
     {
         if self.busy == 0 {
@@ -143,7 +143,7 @@ impl MarkedPlanes {
         }
         self.busy -= 1;
         if self.busy == 0 {
-            self.drop_all();
+            self.unmark_all_dead();
         }
     }
 
@@ -155,7 +155,7 @@ impl MarkedPlanes {
     pub fn border_word(&self, k: usize) -> u64
         requires { 64 * k < self.now.planes.stride * self.now.planes.rows }
         ensures passed { (u : ℕ) → u / 64 ≡ k → bit result (u % 64) ≡ false →
-            ArePassed u (u + 1) self.now.line_marks.items self.now.planes }
+            AreSkippable u (u + 1) self.now.line_marks.items self.now.planes }
     {
         word_marked_in(&self.border_marks, &self.live_marks, &self.line_marks, k)
     }
@@ -171,7 +171,7 @@ impl MarkedPlanes {
     {
         is_marked(
             &self.line_marks,
-            line_number(self.planes.number(x, y), x, y),
+            cell_mark_number(self.planes.number(x, y), x, y),
         )
     }
 
@@ -212,7 +212,7 @@ impl MarkedPlanes {
     }
 
     /// Takes the marks off the cells of a block that are dead.
-    pub(crate) fn drop_dead(&mut self, odd: usize, right: usize, down: usize, even: usize)
+    pub(crate) fn unmark_dead_cells(&mut self, odd: usize, right: usize, down: usize, even: usize)
         requires main { (odd < self.old.planes.stride * self.old.planes.rows)
             × (even < self.old.planes.stride * self.old.planes.rows) }
         requires anti { (right < self.old.planes.stride * self.old.planes.rows)
@@ -221,28 +221,28 @@ impl MarkedPlanes {
         ensures lines { self.new.line_marks ≡ self.old.line_marks }
     {
         self.planes
-            .drop_dead(&mut self.live_marks, odd, right, down, even);
+            .unmark_dead_cells(&mut self.live_marks, odd, right, down, even);
     }
 
     // Takes the marks off all cells that are dead.
-    fn drop_all(&mut self)
+    fn unmark_all_dead(&mut self)
         ensures planes { self.new.planes ≡ self.old.planes }
     {
         for u in 0..self.planes.cells() {
-            self.drop_dead(u, u, u, u);
+            self.unmark_dead_cells(u, u, u, u);
         }
         self.is_exact = true;
     }
 }
 
 impl MarkedPlanes {
-    ghost use Rattle.local_run.specs.Scans.{HasRow, PutsCell};
+    ghost use Rattle.local_run.specs.Scans.{HasValueRow, PutsCell};
 
     /// Sets a cell, counted from the halo, to what the signal says.
     pub fn put(&mut self, values: &Values, x: usize, y: usize, signal: Signal)
         requires place { (x / 2 < self.old.planes.stride) × (y / 2 < self.old.planes.rows) }
         requires words { (values.now.words ≡ self.old.planes.words) × (values.now.words ≤ 64) }
-        requires row { HasRow values.now signal }
+        requires row { HasValueRow values.now signal }
         ensures put { PutsCell values.now x y signal self.old.planes self.new.planes }
         ensures lines { self.new.line_marks ≡ self.old.line_marks }
     {
@@ -251,9 +251,9 @@ impl MarkedPlanes {
         mark(&mut self.odd_marks, u);
         let changes = Changes::of_cell(x, y);
         self.live_marks.mark_cells(u, u, u, u, changes);
-        mark_around(&mut self.even_marks, u, stride, changes);
+        mark_even_neighbours(&mut self.even_marks, u, stride, changes);
         self.frozen.give_up_at(u);
         values.put(&mut self.planes, x, y, signal);
-        self.drop_dead(u, u, u, u);
+        self.unmark_dead_cells(u, u, u, u);
     }
 }

@@ -6,29 +6,30 @@ ghost use Rattle.std.specs.Prelude.{ℕ, ◌≡◌, ◌+◌, ◌*◌, ◌/◌, �
 
 use crate::marked_planes::MarkedPlanes;
 use crate::marks::take_first;
-use crate::phases::{WholePlaneSteps, are_many};
+use crate::phases::{WholePlaneSteps, is_turning_all_cheaper};
 
 /// In how many steps many blocks must change before those that no step changes are looked for: a search costs as much
 /// as some of these steps. And how often they are looked for again after they were given up.
 pub(crate) const STEPS_TO_SEARCH: u32 = 128;
 
-// So many blocks are few for `are_many`, in boxes of 16 by 16 cells or more. In smaller ones all steps cost little.
+// So many blocks are few for `is_turning_all_cheaper`, in boxes of 16 by 16 cells or more. In smaller ones all steps
+// cost little.
 const ALWAYS_FEW: usize = 4;
 
 impl MarkedPlanes {
-    ghost use Rattle.local_run.specs.Sweeps.{IsPast, IsPastInside, TurnsEven, TurnsEvenNamed, TurnsOdd, TurnsOddNamed};
-    ghost use Rattle.local_run.specs.Lanes.{HasSize, SameInside, lane};
+    ghost use Rattle.local_run.specs.Sweeps.{IsNumberNotInRest, IsInnerNumberNotInRest, TurnsEven, TurnsEvenBlocksWhere, TurnsOdd, TurnsOddBlocksWhere};
+    ghost use Rattle.local_run.specs.Lanes.{HasSize, AreSameInBox, lane};
 
     // Looks whether the next steps are to turn whole planes, after a step by marks in which so many blocks changed.
     // Where few did, they are not, even if most blocks are frozen.
     #[inline(always)]
-    fn finish_step(&mut self, changed: usize)
+    fn plan_next_steps(&mut self, changed: usize)
         requires { changed ≤ 4096 }
         ensures { self.new.planes ≡ self.old.planes }
     {
-        self.count_lone(changed);
+        self.settle_crowd_count(changed);
         if changed > ALWAYS_FEW
-            && are_many(
+            && is_turning_all_cheaper(
                 changed,
                 self.planes.cells() / 4,
                 self.planes.words(),
@@ -46,23 +47,23 @@ impl MarkedPlanes {
         requires { changed ≤ 4096 }
         ensures { self.new.planes ≡ self.old.planes }
     {
-        self.count_dense(1);
+        self.count_dense_steps(1);
         let cells = self.planes.cells();
-        if are_many(
+        if is_turning_all_cheaper(
             changed,
-            self.frozen.active(cells),
+            self.frozen.active_block_count(cells),
             self.planes.words(),
             self.frozen.active_rows(self.planes.columns_and_rows()),
         ) {
             self.whole_plane_steps = self.whole_plane_steps.next_phase();
-            self.count_dense(self.whole_plane_steps.left);
+            self.count_dense_steps(self.whole_plane_steps.left);
         } else {
             self.whole_plane_steps = WholePlaneSteps::NONE;
         }
     }
 
     // Counts steps in which many blocks change, and looks for the blocks that no step changes after enough of them.
-    fn count_dense(&mut self, steps: u32)
+    fn count_dense_steps(&mut self, steps: u32)
         ensures { self.new.planes ≡ self.old.planes }
     {
         if self.frozen.is_found() || self.searches == 0 {
@@ -79,11 +80,12 @@ impl MarkedPlanes {
 
     // Returns a word of marks on the blocks of the odd partition that may change.
     #[inline(always)]
-    fn odd_word(&self, k: usize) -> u64
+    fn odd_blocks_to_turn(&self, k: usize) -> u64
         requires { 64 * k < self.now.planes.stride * self.now.planes.rows }
         ensures calm { (end : ℕ) → end ≤ 64 * k + 64 →
             end ≤ self.now.planes.stride * self.now.planes.rows →
-            TurnsOddNamed (IsPast (64 * k) end result) self.now.planes self.now.planes }
+            TurnsOddBlocksWhere (IsNumberNotInRest (64 * k) end result) self.now.planes
+            self.now.planes }
     {
         self.odd_marks[k] & self.live_marks.word(k)
     }
@@ -93,10 +95,11 @@ impl MarkedPlanes {
     //
     // The word was read before: the turn of a block changes marks of its partition and live marks at its own number
     // alone.
-    fn turn_odd_word(&mut self, word: u64, first: usize, end: usize) -> usize
+    fn turn_marked_odd_blocks(&mut self, word: u64, first: usize, end: usize) -> usize
         requires word { (first % 64 ≡ 0) × (first < end) × (end ≤ first + 64) }
         requires within { end ≤ self.old.planes.stride * self.old.planes.rows }
-        requires calm { TurnsOddNamed (IsPast first end word) self.old.planes self.old.planes }
+        requires calm { TurnsOddBlocksWhere (IsNumberNotInRest first end word) self.old.planes
+            self.old.planes }
         ensures turned { TurnsOdd first end self.old.planes self.new.planes }
         ensures size { HasSize self.old.planes.words self.old.planes.stride self.old.planes.rows
             self.new.planes }
@@ -121,12 +124,12 @@ impl MarkedPlanes {
 
     // Returns a word of marks on the blocks of the even partition that may change.
     #[inline(always)]
-    fn even_word(&self, k: usize) -> u64
+    fn even_blocks_to_turn(&self, k: usize) -> u64
         requires { 64 * k + self.now.planes.stride + 1 < self.now.planes.stride
             * self.now.planes.rows }
         ensures calm { (end : ℕ) → end ≤ 64 * k + 64 →
             end + self.now.planes.stride + 1 ≤ self.now.planes.stride * self.now.planes.rows →
-            TurnsEvenNamed (IsPastInside self.now.planes.stride (64 * k) end result)
+            TurnsEvenBlocksWhere (IsInnerNumberNotInRest self.now.planes.stride (64 * k) end result)
             self.now.planes self.now.planes }
     {
         self.even_marks[k]
@@ -134,12 +137,13 @@ impl MarkedPlanes {
 
     // Turns the blocks of the even partition from `first` on to below `end` that have a mark in a word, where the
     // others stay, and returns how many it turned.
-    fn turn_even_word(&mut self, word: u64, first: usize, end: usize) -> usize
+    fn turn_marked_even_blocks(&mut self, word: u64, first: usize, end: usize) -> usize
         requires word { (first % 64 ≡ 0) × (first < end) × (end ≤ first + 64) }
         requires within { end + self.old.planes.stride + 1 ≤ self.old.planes.stride
             * self.old.planes.rows }
-        requires calm { TurnsEvenNamed (IsPastInside self.old.planes.stride first end word)
-            self.old.planes self.old.planes }
+        requires calm { TurnsEvenBlocksWhere
+            (IsInnerNumberNotInRest self.old.planes.stride first end word) self.old.planes
+            self.old.planes }
         ensures turned { TurnsEven first end self.old.planes self.new.planes }
         ensures size { HasSize self.old.planes.words self.old.planes.stride self.old.planes.rows
             self.new.planes }
@@ -179,23 +183,23 @@ impl MarkedPlanes {
             self.is_exact = false;
             self.frozen.odd_step(&mut self.planes);
             self.frozen
-                .mark_blocks(&self.planes, &mut self.odd_marks, &mut self.even_marks);
+                .mark_active_blocks(&self.planes, &mut self.odd_marks, &mut self.even_marks);
             self.frozen.mark_live(&self.planes, &mut self.live_marks);
             return true;
         }
         let cells = self.planes.cells();
         let mut changed = 0;
         'words: for k in 0..cells.div_ceil(64) {
-            let word = self.odd_word(k);
+            let word = self.odd_blocks_to_turn(k);
             if word == 0 {
                 continue;
             }
             let end = (64 * k + 64).min(cells);
-            changed += self.turn_odd_word(word, 64 * k, end);
+            changed += self.turn_marked_odd_blocks(word, 64 * k, end);
         }
         // Where nothing was known all blocks had marks, and these fill box and halo.
         self.is_exact = self.busy == 0;
-        self.finish_step(changed);
+        self.plan_next_steps(changed);
         changed > 0
     }
 
@@ -212,28 +216,28 @@ impl MarkedPlanes {
             (lane self.old.planes a (1 + x) (1 + mate y)) }
         ensures size { HasSize self.old.planes.words self.old.planes.stride self.old.planes.rows
             self.new.planes }
-        ensures stays { result ≡ false → SameInside self.old.planes self.new.planes }
+        ensures stays { result ≡ false → AreSameInBox self.old.planes self.new.planes }
     {
         if self.whole_plane_steps.left > 0 {
             self.whole_plane_steps.left -= 1;
             self.is_exact = false;
             self.frozen.even_step(&mut self.planes);
             self.frozen
-                .mark_blocks(&self.planes, &mut self.odd_marks, &mut self.even_marks);
+                .mark_active_blocks(&self.planes, &mut self.odd_marks, &mut self.even_marks);
             self.frozen.mark_live(&self.planes, &mut self.live_marks);
             return true;
         }
         let cells = self.planes.cells() - self.planes.stride() - 1;
         let mut changed = 0;
         'words: for k in 0..cells.div_ceil(64) {
-            let word = self.even_word(k);
+            let word = self.even_blocks_to_turn(k);
             if word == 0 {
                 continue;
             }
             let end = (64 * k + 64).min(cells);
-            changed += self.turn_even_word(word, 64 * k, end);
+            changed += self.turn_marked_even_blocks(word, 64 * k, end);
         }
-        self.finish_step(changed);
+        self.plan_next_steps(changed);
         changed > 0
     }
 }

@@ -3,15 +3,15 @@
 ghost use Rattle.bbm_rule.specs.Bits.{bit};
 ghost use Rattle.bbm_rule.specs.Marks.{IsUnmarked};
 ghost use Rattle.bbm_rule.specs.Rows.{cell_at};
-ghost use Rattle.local_run.specs.Borders.{AllInner};
-ghost use Rattle.local_run.specs.Live.{AreUnmarked, DropsDead, HasMarks, HasCells, IsDeadCell, MarksCell, TakesMark};
-ghost use Rattle.local_run.specs.Turns.{MarksAround, MarksCorners};
+ghost use Rattle.local_run.specs.Borders.{AreUnmarkedAwayFromBorder};
+ghost use Rattle.local_run.specs.Live.{AreUnmarked, UnmarksIfDead, HasRoomForCellMarks, HasRoomForBlockCells, IsDeadCell, MarksCell, TakesMark};
+ghost use Rattle.local_run.specs.Turns.{MarksEvenNeighbours, MarksOddNeighbours};
 ghost use Rattle.std.specs.Int.{trailing_zeros, w64};
 ghost use Rattle.std.specs.Prelude.{ℕ, ◌≡◌, ◌≢◌, ◌+◌, ◌*◌, ◌/◌, ◌%◌, ◌^◌, ◌<◌, ◌≤◌, ◌⊎◌, ◌&&◌, length, not, true, false};
 
 use crate::live::LiveMarks;
 use crate::words::Changes;
-use bbm_rule::marks::{mark, mark_before, next_marked, unmark};
+use bbm_rule::marks::{mark, mark_number_before, next_marked, unmark};
 
 /// Returns whether a number has a mark.
 #[inline(always)]
@@ -34,7 +34,7 @@ pub fn mark_if(marks: &mut [u64], at: usize, changes: bool)
 }
 
 /// Marks the numbers that have no mark in one of two other lists, as far as both lists reach, and unmarks the others.
-pub fn mark_lacking(marks: &mut [u64], first: &[u64], second: &[u64])
+pub fn mark_unless_in_both(marks: &mut [u64], first: &[u64], second: &[u64])
     ensures { (u : ℕ) → u / 64 < length marks.old → u / 64 < length first.now →
         u / 64 < length second.now →
         cell_at marks.new u ≡ not (cell_at first.now u && cell_at second.now u) }
@@ -89,10 +89,10 @@ fn is_dead(cells: &[u64], at: usize, words: usize) -> bool
 
 /// Takes the mark off a cell, if it is dead.
 #[inline(always)]
-pub fn drop_if_dead(marks: &mut [u64], at: usize, cells: &[u64], words: usize)
+pub fn unmark_if_dead(marks: &mut [u64], at: usize, cells: &[u64], words: usize)
     requires mark { at / 64 < length marks.old }
     requires cell { words * at + words ≤ length cells.now }
-    ensures { DropsDead words at cells.now marks.old marks.new }
+    ensures { UnmarksIfDead words at cells.now marks.old marks.new }
 {
     if is_marked(marks, at) && is_dead(cells, at, words) {
         unmark(marks, at);
@@ -100,24 +100,24 @@ pub fn drop_if_dead(marks: &mut [u64], at: usize, cells: &[u64], words: usize)
 }
 
 /// Marks the blocks of the even partition that share a cell of a changed diagonal with block `at` of the odd partition.
-pub fn mark_around(marks: &mut [u64], at: usize, stride: usize, changes: Changes)
+pub fn mark_even_neighbours(marks: &mut [u64], at: usize, stride: usize, changes: Changes)
     requires { (at / 64 < length marks.old) × (stride ≤ 64) }
-    ensures { MarksAround changes.main changes.anti stride at marks.old marks.new }
+    ensures { MarksEvenNeighbours changes.main changes.anti stride at marks.old marks.new }
 {
     if changes.main {
         mark(marks, at);
-        mark_before(marks, at, stride + 1);
+        mark_number_before(marks, at, stride + 1);
     }
     if changes.anti {
-        mark_before(marks, at, 1);
-        mark_before(marks, at, stride);
+        mark_number_before(marks, at, 1);
+        mark_number_before(marks, at, stride);
     }
 }
 
 /// Marks the blocks of the odd partition that share a cell of a changed diagonal with block `at` of the even partition.
-pub fn mark_corners(marks: &mut [u64], at: usize, stride: usize, changes: Changes)
+pub fn mark_odd_neighbours(marks: &mut [u64], at: usize, stride: usize, changes: Changes)
     requires { ((at + stride + 1) / 64 < length marks.old) × (at + stride + 1 < 2 ^ 32) }
-    ensures { MarksCorners changes.main changes.anti stride at marks.old marks.new }
+    ensures { MarksOddNeighbours changes.main changes.anti stride at marks.old marks.new }
 {
     if changes.main {
         mark(marks, at);
@@ -133,7 +133,7 @@ pub fn mark_corners(marks: &mut [u64], at: usize, stride: usize, changes: Change
 pub fn mark_border(marks: &mut [u64], stride: usize, rows: usize)
     requires room_for_marks { stride * rows ≤ 64 * length marks.old }
     requires size { (2 ≤ stride) × (stride ≤ 64) × (2 ≤ rows) × (rows ≤ 64) }
-    ensures { AllInner stride rows marks.new }
+    ensures { AreUnmarkedAwayFromBorder stride rows marks.new }
 {
     'rows: for row in 0..rows {
         mark(marks, stride * row);
@@ -149,7 +149,7 @@ pub fn mark_border(marks: &mut [u64], stride: usize, rows: usize)
 /// of live cells.
 #[inline(always)]
 pub fn word_marked_in(first: &[u64], live: &LiveMarks, others: &[u64], k: usize) -> u64
-    requires live { HasCells live.now (64 * k) (64 * k) (64 * k) (64 * k) }
+    requires live { HasRoomForBlockCells live.now (64 * k) (64 * k) (64 * k) (64 * k) }
     requires room { (k < length first.now) × (k < length others.now) }
     ensures { (u : ℕ) → u / 64 ≡ k → bit result (u % 64) ≡ false →
         IsUnmarked first.now u ⊎ (AreUnmarked live.now u u u u × IsUnmarked others.now u) }

@@ -47,7 +47,12 @@ const WHOLE_ROW_COST: usize = 48;
 /// A block that changes has up to four others looked at, two for each of its diagonals that changes. If all are turned,
 /// only cells of frozen and empty blocks are known to be dead. Then the other cells of ring and halo are looked up at
 /// odd times.
-pub(crate) fn are_many(changed: usize, cells: usize, words: usize, columns_and_rows: usize) -> bool
+pub(crate) fn is_turning_all_cheaper(
+    changed: usize,
+    cells: usize,
+    words: usize,
+    columns_and_rows: usize,
+) -> bool
     requires { (changed ≤ 4096) × (cells ≤ 4096) × (words ≤ 64) × (columns_and_rows ≤ 128) }
 {
     changed * (MARKED_BLOCK_COST + MARKED_WORD_COST * words)

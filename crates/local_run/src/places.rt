@@ -5,7 +5,7 @@ ghost use Rattle.module_box.specs.Boxes.{in_box, in_ring};
 ghost use Rattle.module_box.specs.Schedules.{signal_at};
 ghost use Rattle.module_job.specs.Jobs.{job_demand, job_start};
 ghost use Rattle.module_job.specs.Signals.{IsBelow, IsDemandBelow};
-ghost use Rattle.local_run.specs.Places.{inner, outer, IsNearCorner};
+ghost use Rattle.local_run.specs.Places.{box_coord, halo_coord, IsNearCorner};
 
 use crate::lines::{EventPlaces, signal_near};
 use bbm_rule::Cell;
@@ -15,11 +15,11 @@ use module_job::{Demand, Job, Shape};
 /// Returns the cell at a column and row of the box.
 ///
 /// Columns and rows are below 67, and the box's corner has coordinates of at most 512.
-#[tactic(auto, unfolding(crate::specs::Places::inner))]
+#[tactic(auto, unfolding(crate::specs::Places::box_coord))]
 pub fn inner_cell(area: Box2, x: usize, y: usize) -> Cell
     requires { IsNearCorner area x y }
-    ensures x { result.x ≡ inner area.x x }
-    ensures y { result.y ≡ inner area.y y }
+    ensures x { result.x ≡ box_coord area.x x }
+    ensures y { result.y ≡ box_coord area.y y }
 {
     Cell {
         x: (area.x as usize + x) as i32,
@@ -52,10 +52,10 @@ fn halo_cell(x: usize, y: usize) -> Cell
 }
 
 /// Returns what the cell at a column and row of the box carries at time 0.
-pub fn start_at(job: &Job, x: usize, y: usize) -> Signal
+pub fn start_signal_at(job: &Job, x: usize, y: usize) -> Signal
     requires { (x < job.now.area.w) × (y < job.now.area.h) }
     ensures start_is_exact { result
-        ≡ job_start job.now (inner job.now.area.x x) (inner job.now.area.y y) }
+        ≡ job_start job.now (box_coord job.now.area.x x) (box_coord job.now.area.y y) }
     ensures below { IsBelow (wires job.now.locals.netlist) result }
 {
     job.start(inner_cell(job.area(), x, y))
@@ -68,7 +68,7 @@ pub fn skip_dead_starts(job: &Job, x: usize, y: usize) -> usize
     requires { (x ≤ job.now.area.w) × (y < job.now.area.h) }
     ensures range { (x ≤ result) × (result ≤ job.now.area.w) }
     ensures dead { (k : ℕ) → x ≤ k → k < result →
-        job_start job.now (inner job.now.area.x k) (inner job.now.area.y y) ≡ Signal.Zero }
+        job_start job.now (box_coord job.now.area.x k) (box_coord job.now.area.y y) ≡ Signal.Zero }
 {
     let width = job.area().w as usize;
     let first = width * y;
@@ -80,7 +80,7 @@ pub fn skip_dead_starts(job: &Job, x: usize, y: usize) -> usize
 pub fn demand_at(job: &Job, x: usize, y: usize) -> Demand
     requires { (x < job.now.area.w) × (y < job.now.area.h) }
     ensures demand_is_exact { result
-        ≡ job_demand job.now (inner job.now.area.x x) (inner job.now.area.y y) }
+        ≡ job_demand job.now (box_coord job.now.area.x x) (box_coord job.now.area.y y) }
     ensures below { IsDemandBelow (wires job.now.locals.netlist) result }
 {
     job.demand(inner_cell(job.area(), x, y))
@@ -94,7 +94,7 @@ pub fn skip_dead_demands(job: &Job, x: usize, y: usize) -> usize
     requires { (x ≤ job.now.area.w) × (y < job.now.area.h) }
     ensures range { (x ≤ result) × (result ≤ job.now.area.w) }
     ensures dead { (k : ℕ) → x ≤ k → k < result →
-        job_demand job.now (inner job.now.area.x k) (inner job.now.area.y y) ≡ Demand.Dead }
+        job_demand job.now (box_coord job.now.area.x k) (box_coord job.now.area.y y) ≡ Demand.Dead }
 {
     let width = job.area().w as usize;
     let first = width * y;
@@ -107,7 +107,7 @@ pub fn skip_dead_demands(job: &Job, x: usize, y: usize) -> usize
 pub fn edge_at(job: &Job, time: u32, x: usize, y: usize, near: EventPlaces) -> Signal
     requires { (x < job.now.area.w) × (y < job.now.area.h) }
     ensures signal_is_exact { result
-        ≡ signal_at job.now.edges time (inner job.now.area.x x) (inner job.now.area.y y) }
+        ≡ signal_at job.now.edges time (box_coord job.now.area.x x) (box_coord job.now.area.y y) }
     ensures below { IsBelow (wires job.now.locals.netlist) result }
 {
     let _area = job.area();
@@ -121,7 +121,7 @@ pub fn edge_at(job: &Job, time: u32, x: usize, y: usize, near: EventPlaces) -> S
 pub fn halo_at(job: &Job, time: u32, x: usize, y: usize, near: EventPlaces) -> Signal
     requires { (x < job.now.area.w + 2) × (y < job.now.area.h + 2) }
     ensures signal_is_exact { result
-        ≡ signal_at job.now.halos time (outer job.now.area.x x) (outer job.now.area.y y) }
+        ≡ signal_at job.now.halos time (halo_coord job.now.area.x x) (halo_coord job.now.area.y y) }
     ensures below { IsBelow (wires job.now.locals.netlist) result }
 {
     let _area = job.area();
@@ -133,7 +133,8 @@ pub fn halo_at(job: &Job, time: u32, x: usize, y: usize, near: EventPlaces) -> S
 /// Returns whether the cell at a column and row of the box is in its ring.
 pub fn is_ring(job: &Job, x: usize, y: usize) -> bool
     requires { (x < job.now.area.w) × (y < job.now.area.h) }
-    ensures { result ≡ in_ring job.now.area (inner job.now.area.x x) (inner job.now.area.y y) }
+    ensures { result
+        ≡ in_ring job.now.area (box_coord job.now.area.x x) (box_coord job.now.area.y y) }
 {
     let area = job.area();
     area.in_ring(inner_cell(area, x, y))
@@ -142,8 +143,8 @@ pub fn is_ring(job: &Job, x: usize, y: usize) -> bool
 /// Returns the column and row of a cell of the box.
 pub fn place_of(job: &Job, cell: Cell) -> (usize, usize)
     requires { IsTrue (in_box job.now.area cell.x cell.y) }
-    ensures column { (result.0 < job.now.area.w) × (cell.x ≡ inner job.now.area.x result.0) }
-    ensures row { (result.1 < job.now.area.h) × (cell.y ≡ inner job.now.area.y result.1) }
+    ensures column { (result.0 < job.now.area.w) × (cell.x ≡ box_coord job.now.area.x result.0) }
+    ensures row { (result.1 < job.now.area.h) × (cell.y ≡ box_coord job.now.area.y result.1) }
 {
     let area = job.area();
     let x = cell.x.unsigned_abs() - area.x;

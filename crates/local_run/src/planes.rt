@@ -6,10 +6,10 @@
 ghost use Rattle.bbm_rule.specs.Plane.{turned};
 ghost use Rattle.bbm_rule.specs.Rows.{mate};
 ghost use Rattle.local_run.specs.Across.{TurnsAcross};
-ghost use Rattle.local_run.specs.Turns.{is_main};
+ghost use Rattle.local_run.specs.Turns.{is_on_main_diagonal};
 ghost use Rattle.std.specs.Prelude.{ℕ, ◌≡◌, ◌+◌, ◌-◌, ◌*◌, ◌/◌, ◌%◌, ◌<◌, ◌≤◌, ◌↔◌, length, slice_index, vec_len, IfOk, false, not};
 
-use crate::words::{are_different, is_some_other};
+use crate::words::{are_different, has_other_word};
 use bbm_rule::turn_lanes;
 use std::alloc::{AllocError, Global};
 
@@ -193,7 +193,7 @@ impl Planes {
     }
 
     /// Returns whether some cell with number u is live under one of the first 64 assignments.
-    pub fn is_live_at_first(&self, u: usize) -> bool
+    pub fn is_live_in_first_word(&self, u: usize) -> bool
         requires { u < self.now.stride * self.now.rows }
         ensures { (result ≡ false) ↔ AreZeroAt (self.now.words * u) self.now }
     {
@@ -258,14 +258,14 @@ impl Planes {
         let at = words * (self.stride * (y / 2) + x / 2);
         if x % 2 == 0 {
             if y % 2 == 0 {
-                is_some_other(&self.odd, at, word, words)
+                has_other_word(&self.odd, at, word, words)
             } else {
-                is_some_other(&self.down, at, word, words)
+                has_other_word(&self.down, at, word, words)
             }
         } else if y % 2 == 0 {
-            is_some_other(&self.right, at, word, words)
+            has_other_word(&self.right, at, word, words)
         } else {
-            is_some_other(&self.even, at, word, words)
+            has_other_word(&self.even, at, word, words)
         }
     }
 
@@ -273,8 +273,8 @@ impl Planes {
     pub fn set_word(&mut self, x: usize, y: usize, k: usize, word: u64)
         requires { (x / 2 < self.old.stride) × (y / 2 < self.old.rows) × (k < self.old.words) }
         ensures set { SetsWord x y k word self.old self.new }
-        ensures cells { let u = self.old.stride * (y / 2) + x / 2 in
-            ChangesCells (is_main x y) (not (is_main x y)) u u u u self.old self.new }
+        ensures cells { let u = self.old.stride * (y / 2) + x / 2 in ChangesCells
+            (is_on_main_diagonal x y) (not (is_on_main_diagonal x y)) u u u u self.old self.new }
         ensures size { HasSize self.old.words self.old.stride self.old.rows self.new }
     {
         let at = self.words * (self.stride * (y / 2) + x / 2) + k;

@@ -2,18 +2,18 @@
 ghost use Rattle.std.specs.Prelude.{◌≡◌, ◌+◌, ◌%◌, ◌<◌, IfOk, MatchOption, false};
 ghost use Rattle.std.specs.Arc.{arc_value};
 ghost use Rattle.local_run.specs.Faults.{IsLeastFault, IsLeastKeepFault};
-ghost use Rattle.local_run.specs.Scans.{HasHalo, IsFirst, IsFirstAt, IsFree, IsNextStop, IsPassed, IsReady, IsSought, Shows};
+ghost use Rattle.local_run.specs.Scans.{IsHaloSet, IsFirst, IsFirstAt, HasNoFaultOfKind, IsNextStop, IsPassed, IsReady, IsSought, Shows};
 ghost use Rattle.local_run.specs.Shown.{digest_of, number_of, job_of, fault_of, keep_of};
 
-use crate::border::set_border;
+use crate::border::set_halo_check_ring;
 use crate::fault::{Fault, KeepFault, Kind};
 use crate::finding::Finding;
-use crate::keep::least_keep;
+use crate::keep::find_least_keep_fault;
 use crate::leaps::next_time;
 use crate::marked_planes::MarkedPlanes;
 use crate::planes::Planes;
 use crate::scan::{first_fault, first_stop_fault};
-use crate::steps::{even_time, odd_time, put_start};
+use crate::steps::{make_even_step, make_odd_step, put_start};
 use crate::values::Values;
 use module_job::Job;
 use std::alloc::{AllocError, Global};
@@ -30,12 +30,12 @@ fn edge_fault(
     requires sought { IsSought job.now time Kind.Edge }
     requires shows { Shows job.now values.now time marked_planes.old.planes }
     ensures shows { Shows job.now values.now time marked_planes.new.planes }
-    ensures halo { HasHalo job.now values.now time marked_planes.new.planes }
-    ensures fault { MatchOption result (IsFree job.now values.now time Kind.Edge)
+    ensures halo { IsHaloSet job.now values.now time marked_planes.new.planes }
+    ensures fault { MatchOption result (HasNoFaultOfKind job.now values.now time Kind.Edge)
         (λ f. IsFirst job.now values.now time Kind.Edge f) }
 {
-    marked_planes.look_at(values, job, time);
-    if set_border(marked_planes, values, job, time) {
+    marked_planes.mark_lines_at(values, job, time);
+    if set_halo_check_ring(marked_planes, values, job, time) {
         return None;
     }
     first_fault(marked_planes, values, job, time, Kind::Edge)
@@ -56,7 +56,7 @@ fn time_fault(
     requires shows { Shows job.now values.now time marked_planes.old.planes }
     requires next { IsNextStop job.now time next.old }
     ensures shows { Shows job.now values.now time marked_planes.new.planes }
-    ensures halo { time % 2 ≡ 1 → HasHalo job.now values.now time marked_planes.new.planes }
+    ensures halo { time % 2 ≡ 1 → IsHaloSet job.now values.now time marked_planes.new.planes }
     ensures fault { MatchOption result (IsPassed job.now values.now time next.new)
         (λ f. IsFirstAt job.now values.now time f) }
 {
@@ -72,14 +72,14 @@ fn time_fault(
 fn one_step(marked_planes: &mut MarkedPlanes, values: &Values, job: &Job, time: u32) -> bool
     requires ready { IsReady job.now values.now }
     requires shows { Shows job.now values.now time marked_planes.old.planes }
-    requires halo { time % 2 ≡ 1 → HasHalo job.now values.now time marked_planes.old.planes }
+    requires halo { time % 2 ≡ 1 → IsHaloSet job.now values.now time marked_planes.old.planes }
     ensures next { Shows job.now values.now (time + 1) marked_planes.new.planes }
     ensures stays { result ≡ false → Shows job.now values.now time marked_planes.new.planes }
 {
     if time % 2 == 0 {
-        even_time(marked_planes, values, job, time)
+        make_even_step(marked_planes, values, job, time)
     } else {
-        odd_time(marked_planes, values, job, time)
+        make_odd_step(marked_planes, values, job, time)
     }
 }
 
@@ -113,7 +113,7 @@ fn least_fault(alloc: Global, values: &Values, job: &Job) -> Result<Option<Fault
 }
 
 // The least fault of the job. If a used gate lacks a row under every assignment, the job has no fault and is not run.
-fn fault_where_defined(
+fn least_fault_if_defined(
     alloc: Global,
     values: &Values,
     job: &Job,
@@ -135,8 +135,8 @@ fn least_faults(alloc: Global, job: &Job) -> Result<(Option<Fault>, Option<KeepF
 {
     let _area = job.area();
     let values = Values::of(alloc, job)?;
-    let fault = fault_where_defined(alloc, &values, job)?;
-    let keep = least_keep(&values, job);
+    let fault = least_fault_if_defined(alloc, &values, job)?;
+    let keep = find_least_keep_fault(&values, job);
     Ok((fault, keep))
 }
 

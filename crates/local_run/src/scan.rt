@@ -3,11 +3,11 @@ ghost use Rattle.std.specs.Prelude.{ℕ, ◌≡◌, ◌≢◌, ◌+◌, ◌*◌,
 ghost use Rattle.circuit.specs.Meaning.{wires};
 ghost use Rattle.module_box.specs.Boxes.{in_box};
 ghost use Rattle.local_run.specs.Faults.{assignments};
-ghost use Rattle.local_run.specs.Places.{inner};
+ghost use Rattle.local_run.specs.Places.{box_coord};
 ghost use Rattle.local_run.specs.Lanes.{lane};
 ghost use Rattle.module_job.specs.Jobs.{job_demand};
 ghost use Rattle.module_job.specs.Signals.{is_live};
-ghost use Rattle.local_run.specs.Scans.{IsFirst, IsFound, IsFree, IsLeastBelow, IsMissed, IsNextStop, IsReady, IsSought, IsStride, Shows, is_defined, valuation};
+ghost use Rattle.local_run.specs.Scans.{IsFirst, IsDefinedFault, HasNoFaultOfKind, IsLeastBelow, IsStopMissed, IsNextStop, IsReady, IsSought, IsScanStride, Shows, is_defined, valuation};
 
 use crate::fault::{Fault, Kind};
 use crate::marked_planes::MarkedPlanes;
@@ -17,7 +17,12 @@ use module_box::Signal;
 use module_job::{Demand, Job, Stop};
 
 // The least assignment at which each used gate has a row and a cell, counted from the halo, is live.
-fn first_live(marked_planes: &MarkedPlanes, values: &Values, x: usize, y: usize) -> Option<u32>
+fn first_live_assignment(
+    marked_planes: &MarkedPlanes,
+    values: &Values,
+    x: usize,
+    y: usize,
+) -> Option<u32>
     requires place { (x / 2 < marked_planes.now.planes.stride)
         × (y / 2 < marked_planes.now.planes.rows) }
     requires words { (values.now.words ≡ marked_planes.now.planes.words) × (values.now.words ≤ 64) }
@@ -35,7 +40,7 @@ fn first_live(marked_planes: &MarkedPlanes, values: &Values, x: usize, y: usize)
 }
 
 /// Returns the least assignment under which the cell at a column and row of the box has a fault of the kind.
-pub fn cell_fault(
+pub fn cell_fault_assignment(
     marked_planes: &MarkedPlanes,
     values: &Values,
     job: &Job,
@@ -49,8 +54,8 @@ pub fn cell_fault(
     requires sought { IsSought job.now time kind }
     requires place { (x < job.now.area.w) × (y < job.now.area.h) }
     ensures { IsLeastBelow (assignments job.now)
-        (λ a. IsFound job.now values.now a time kind (inner job.now.area.x x)
-        (inner job.now.area.y y)) result }
+        (λ a. IsDefinedFault job.now values.now a time kind (box_coord job.now.area.x x)
+        (box_coord job.now.area.y y)) result }
 {
     let planes = marked_planes.planes();
     match kind {
@@ -63,7 +68,7 @@ pub fn cell_fault(
         }
         Kind::Stop => None,
         Kind::End => match demand_at(job, x, y) {
-            Demand::Dead => first_live(marked_planes, values, 1 + x, 1 + y),
+            Demand::Dead => first_live_assignment(marked_planes, values, 1 + x, 1 + y),
             Demand::Live => values.first_difference(planes, 1 + x, 1 + y, Signal::One),
             Demand::Wire(wire) => {
                 values.first_difference(planes, 1 + x, 1 + y, Signal::Wire(wire))
@@ -75,9 +80,9 @@ pub fn cell_fault(
 
 // How far apart the cells of row y are that can have a fault of the kind. Only cells of the ring have edge faults: of
 // the rows between the first and the last one these are the first and the last cell.
-fn stride_of(kind: Kind, width: usize, height: usize, y: usize) -> usize
+fn scan_stride(kind: Kind, width: usize, height: usize, y: usize) -> usize
     requires { (2 ≤ width) × (width ≤ 64) × (y < height) × (height ≤ 64) }
-    ensures { IsStride kind width height y result }
+    ensures { IsScanStride kind width height y result }
 {
     match kind {
         Kind::Edge if 0 < y && y + 1 < height => width - 1,
@@ -94,7 +99,7 @@ fn next_column(marked_planes: &MarkedPlanes, job: &Job, kind: Kind, x: usize, y:
     ensures range { x ≤ result }
     ensures at_end { x < result → kind ≡ Kind.End }
     ensures demands { (k : ℕ) → x ≤ k → k < result →
-        job_demand job.now (inner job.now.area.x k) (inner job.now.area.y y) ≡ Demand.Dead }
+        job_demand job.now (box_coord job.now.area.x k) (box_coord job.now.area.y y) ≡ Demand.Dead }
     ensures dead { (a k : ℕ) → a < 64 * marked_planes.now.planes.words → x ≤ k → k < result →
         lane marked_planes.now.planes a (1 + k) (1 + y) ≡ false }
 {
@@ -118,21 +123,29 @@ pub fn first_fault(
     requires ready { IsReady job.now values.now }
     requires shows { Shows job.now values.now time marked_planes.now.planes }
     requires sought { IsSought job.now time kind }
-    ensures { MatchOption result (IsFree job.now values.now time kind)
+    ensures { MatchOption result (HasNoFaultOfKind job.now values.now time kind)
         (λ f. IsFirst job.now values.now time kind f) }
 {
     let area = job.area();
     let width = area.w as usize;
     let height = area.h as usize;
     'rows: for y in 0..height {
-        let stride = stride_of(kind, width, height, y);
+        let stride = scan_stride(kind, width, height, y);
         let mut x = 0;
         'cells: while x < width {
             x = next_column(marked_planes, job, kind, x, y);
             if x >= width {
                 break;
             }
-            if let Some(assignment) = cell_fault(marked_planes, values, job, time, kind, x, y) {
+            if let Some(assignment) = cell_fault_assignment(
+                marked_planes,
+                values,
+                job,
+                time,
+                kind,
+                x,
+                y,
+            ) {
                 let cell = inner_cell(area, x, y);
                 return Some(Fault {
                     time,
@@ -148,12 +161,18 @@ pub fn first_fault(
 }
 
 // The least assignment under which the cell of a stop is not as its wire, at the stop's time.
-fn stop_fault(marked_planes: &MarkedPlanes, values: &Values, job: &Job, stop: Stop) -> Option<u32>
+fn stop_fault_assignment(
+    marked_planes: &MarkedPlanes,
+    values: &Values,
+    job: &Job,
+    stop: Stop,
+) -> Option<u32>
     requires ready { IsReady job.now values.now }
     requires shows { Shows job.now values.now stop.at.time marked_planes.now.planes }
     requires inside { IsTrue (in_box job.now.area stop.at.cell.x stop.at.cell.y) }
     requires own_wire { stop.wire < wires job.now.locals.netlist }
-    ensures { IsLeastBelow (assignments job.now) (λ a. IsMissed job.now values.now a stop) result }
+    ensures { IsLeastBelow (assignments job.now) (λ a. IsStopMissed job.now values.now a stop)
+        result }
 {
     let (x, y) = place_of(job, stop.at.cell);
     values.first_difference(
@@ -179,7 +198,8 @@ pub fn first_stop_fault(
     requires shows { Shows job.now values.now time marked_planes.now.planes }
     requires next { IsNextStop job.now time next.old }
     ensures { MatchOption result
-        (IsFree job.now values.now time Kind.Stop × IsNextStop job.now (time + 1) next.new)
+        (HasNoFaultOfKind job.now values.now time Kind.Stop
+        × IsNextStop job.now (time + 1) next.new)
         (λ f. IsFirst job.now values.now time Kind.Stop f) }
 {
     let mut place = *next;
@@ -188,7 +208,7 @@ pub fn first_stop_fault(
         if stop.at.time != time {
             break;
         }
-        if let Some(assignment) = stop_fault(marked_planes, values, job, stop) {
+        if let Some(assignment) = stop_fault_assignment(marked_planes, values, job, stop) {
             return Some(Fault {
                 time,
                 kind: Kind::Stop,

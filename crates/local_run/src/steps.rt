@@ -3,11 +3,11 @@ ghost use Rattle.std.specs.Prelude.{ℕ, ◌≡◌, ◌+◌, ◌*◌, ◌/◌, �
 ghost use Rattle.module_job.specs.Jobs.{job_start};
 ghost use Rattle.local_run.specs.Calm.{AreDead};
 ghost use Rattle.local_run.specs.Lanes.{HasSize, lane};
-ghost use Rattle.local_run.specs.Places.{inner};
-ghost use Rattle.local_run.specs.Scans.{HasHalo, IsReady, PutsCell, Shows};
+ghost use Rattle.local_run.specs.Places.{box_coord};
+ghost use Rattle.local_run.specs.Scans.{IsHaloSet, IsReady, PutsCell, Shows};
 
 use crate::marked_planes::MarkedPlanes;
-use crate::places::{skip_dead_starts, start_at};
+use crate::places::{skip_dead_starts, start_signal_at};
 use crate::values::Values;
 use module_box::Signal;
 use module_job::Job;
@@ -22,10 +22,10 @@ fn put_start_cell(marked_planes: &mut MarkedPlanes, values: &Values, job: &Job, 
     requires dead { (a : ℕ) → a < 64 * values.now.words →
         lane marked_planes.old.planes a (1 + x) (1 + y) ≡ false }
     ensures { PutsCell values.now (1 + x) (1 + y)
-        (job_start job.now (inner job.now.area.x x) (inner job.now.area.y y))
+        (job_start job.now (box_coord job.now.area.x x) (box_coord job.now.area.y y))
         marked_planes.old.planes marked_planes.new.planes }
 {
-    let signal = start_at(job, x, y);
+    let signal = start_signal_at(job, x, y);
     if let Signal::Zero = signal {
         return;
     }
@@ -52,11 +52,16 @@ pub fn put_start(marked_planes: &mut MarkedPlanes, values: &Values, job: &Job)
 
 /// Makes an odd step, on the box and its halo, whose cells are what their signals say. Returns whether a cell of the
 /// box may have changed.
-pub fn odd_time(marked_planes: &mut MarkedPlanes, values: &Values, job: &Job, time: u32) -> bool
+pub fn make_odd_step(
+    marked_planes: &mut MarkedPlanes,
+    values: &Values,
+    job: &Job,
+    time: u32,
+) -> bool
     requires ready { IsReady job.now values.now }
     requires odd { time % 2 ≡ 1 }
     requires shows { Shows job.now values.now time marked_planes.old.planes }
-    requires halo { HasHalo job.now values.now time marked_planes.old.planes }
+    requires halo { IsHaloSet job.now values.now time marked_planes.old.planes }
     ensures next { Shows job.now values.now (time + 1) marked_planes.new.planes }
     ensures stays { result ≡ false → Shows job.now values.now time marked_planes.new.planes }
 {
@@ -64,7 +69,12 @@ pub fn odd_time(marked_planes: &mut MarkedPlanes, values: &Values, job: &Job, ti
 }
 
 /// Makes an even step, inside the box. Returns whether a cell of the box may have changed.
-pub fn even_time(marked_planes: &mut MarkedPlanes, values: &Values, job: &Job, time: u32) -> bool
+pub fn make_even_step(
+    marked_planes: &mut MarkedPlanes,
+    values: &Values,
+    job: &Job,
+    time: u32,
+) -> bool
     requires ready { IsReady job.now values.now }
     requires even { time % 2 ≡ 0 }
     requires shows { Shows job.now values.now time marked_planes.old.planes }

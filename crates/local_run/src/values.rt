@@ -4,9 +4,9 @@ ghost use Rattle.bbm_rule.specs.Bits.{bit};
 ghost use Rattle.module_job.specs.Jobs.{IsJob};
 ghost use Rattle.module_job.specs.Signals.{is_live};
 ghost use Rattle.local_run.specs.Calm.{ChangesCells};
-ghost use Rattle.local_run.specs.Turns.{is_main};
+ghost use Rattle.local_run.specs.Turns.{is_on_main_diagonal};
 ghost use Rattle.local_run.specs.Lanes.{lane};
-ghost use Rattle.local_run.specs.Scans.{HasRow, IsLeastBelow, IsReady, IsShown, KeepsDefined, PutsCell, is_defined, valuation};
+ghost use Rattle.local_run.specs.Scans.{HasValueRow, IsLeastBelow, IsReady, IsCellAsSignal, KeepsDefinedValues, PutsCell, is_defined, valuation};
 ghost use Rattle.module_box.specs.LocalValues.{value_of};
 
 use crate::lines::all_times_cells;
@@ -21,7 +21,7 @@ fn without_undefined(rows: ValueRows) -> ValueRows
     ensures defined { result.defined ≡ rows.defined }
     ensures undefined { result.undefined ≡ rows.undefined }
     ensures long { length result.values.items ≡ length rows.values.items }
-    ensures keeps { KeepsDefined rows.defined.items rows.values.items result.values.items }
+    ensures keeps { KeepsDefinedValues rows.defined.items rows.values.items result.values.items }
 {
     let ValueRows {
         values,
@@ -42,7 +42,7 @@ fn without_undefined(rows: ValueRows) -> ValueRows
 fn clear_undefined(values: &mut [u64], defined: &[u64])
     requires wide { 0 < length defined.now }
     ensures long { length values.new ≡ length values.old }
-    ensures keeps { KeepsDefined defined.now values.old values.new }
+    ensures keeps { KeepsDefinedValues defined.now values.old values.new }
 {
     if defined.iter().all(|word| *word == 0xFFFF_FFFF_FFFF_FFFF) {
         return;
@@ -104,7 +104,7 @@ impl Values {
 
     /// Returns word k of a signal: bit b is whether it is true under assignment 64 k + b.
     pub fn word(&self, signal: Signal, k: usize) -> u64
-        requires { (k < self.now.words) × HasRow self.now signal }
+        requires { (k < self.now.words) × HasValueRow self.now signal }
         ensures { (b : ℕ) → b < 64 →
             bit result b ≡ is_live (valuation self.now (64 * k + b)) signal }
     {
@@ -129,7 +129,7 @@ impl Values {
         requires place { (x / 2 < planes.now.stride) × (y / 2 < planes.now.rows) }
         requires words { (self.now.words ≡ planes.now.words) × (self.now.words ≤ 64) }
         requires room_for_assignments { self.now.count ≤ 64 * self.now.words }
-        requires row { HasRow self.now signal }
+        requires row { HasValueRow self.now signal }
         requires defined { self.now.words ≤ length self.now.rows.defined.items }
         ensures { IsLeastBelow self.now.count
             (λ a. (is_defined self.now a ≡ true)
@@ -147,7 +147,7 @@ impl Values {
         requires place { (x / 2 < planes.now.stride) × (y / 2 < planes.now.rows) }
         requires words { (self.now.words ≡ planes.now.words) × (self.now.words ≤ 64) }
         requires room_for_assignments { self.now.count ≤ 64 * self.now.words }
-        requires row { HasRow self.now signal }
+        requires row { HasValueRow self.now signal }
         requires defined { self.now.words ≤ length self.now.rows.defined.items }
         ensures { IsLeastBelow self.now.count
             (λ a. (is_defined self.now a ≡ true)
@@ -174,8 +174,8 @@ impl Values {
     pub fn is_different(&self, planes: &Planes, x: usize, y: usize, signal: Signal) -> bool
         requires place { (x / 2 < planes.now.stride) × (y / 2 < planes.now.rows) }
         requires words { (self.now.words ≡ planes.now.words) × (self.now.words ≤ 64) }
-        requires row { HasRow self.now signal }
-        ensures { result ≡ false → IsShown self.now planes.now x y signal self.now.words }
+        requires row { HasValueRow self.now signal }
+        ensures { result ≡ false → IsCellAsSignal self.now planes.now x y signal self.now.words }
     {
         match signal {
             Signal::Zero => planes.differs_from_word(x, y, 0),
@@ -227,10 +227,11 @@ impl Values {
     pub fn put(&self, planes: &mut Planes, x: usize, y: usize, signal: Signal)
         requires place { (x / 2 < planes.old.stride) × (y / 2 < planes.old.rows) }
         requires words { (self.now.words ≡ planes.old.words) × (self.now.words ≤ 64) }
-        requires row { HasRow self.now signal }
+        requires row { HasValueRow self.now signal }
         ensures put { PutsCell self.now x y signal planes.old planes.new }
-        ensures cells { let u = planes.old.stride * (y / 2) + x / 2 in
-            ChangesCells (is_main x y) (not (is_main x y)) u u u u planes.old planes.new }
+        ensures cells { let u = planes.old.stride * (y / 2) + x / 2 in ChangesCells
+            (is_on_main_diagonal x y) (not (is_on_main_diagonal x y)) u u u u planes.old
+            planes.new }
     {
         for k in 0..self.words {
             planes.set_word(x, y, k, self.word(signal, k));

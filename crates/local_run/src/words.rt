@@ -1,7 +1,7 @@
 //! Blocks of words: what a turn changes of them.
 
 ghost use Rattle.bbm_rule.specs.Words.{AreTurned};
-ghost use Rattle.local_run.specs.Turns.{DiagonalStays, SwapsPart, TurnsPart, is_main};
+ghost use Rattle.local_run.specs.Turns.{DiagonalStays, SwapsPart, TurnsPart, is_on_main_diagonal};
 ghost use Rattle.std.specs.Prelude.{ℕ, ◌≡◌, ◌+◌, ◌-◌, ◌/◌, ◌%◌, ◌^◌, ◌<◌, ◌≤◌, ◌⊎◌, length, bit_xor, slice_index, false, true, not};
 
 use bbm_rule::turn_lanes;
@@ -120,7 +120,7 @@ pub(crate) fn are_different(first: &[u64], a: usize, second: &[u64], b: usize, l
 
 /// Returns whether some word from a place on is not the given one.
 #[inline(always)]
-pub(crate) fn is_some_other(words: &[u64], a: usize, word: u64, long: usize) -> bool
+pub(crate) fn has_other_word(words: &[u64], a: usize, word: u64, long: usize) -> bool
     requires { a + long ≤ length words.now }
     ensures { result ≡ false → (k : ℕ) → k < long → slice_index words.now (a + k) ≡ word }
 {
@@ -156,8 +156,8 @@ impl Changes {
     /// Returns the change of the diagonal alone that a cell, counted from the halo, is on in its block of the odd
     /// partition.
     pub fn of_cell(x: usize, y: usize) -> Changes
-        ensures main { result.main ≡ is_main x y }
-        ensures anti { result.anti ≡ not (is_main x y) }
+        ensures main { result.main ≡ is_on_main_diagonal x y }
+        ensures anti { result.anti ≡ not (is_on_main_diagonal x y) }
     {
         let main = x % 2 == y % 2;
         Changes { main, anti: !main }

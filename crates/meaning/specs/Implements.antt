@@ -12,7 +12,7 @@ use Rattle.section_text.specs.Words.{has}
 use Rattle.circuit.specs.Bridge.{circuit_of, input_names, output_names}
 use Rattle.circuit.specs.Meaning.{Circuit, Valuation, Satisfies, values_by_name}
 use Rattle.circuit.specs.declared.circuit_line.CircuitLine.{CircuitLine}
-use Rattle.pattern.specs.Layout.{Pattern, in_cells, in_rectangles, plane_at, StaysInside}
+use Rattle.pattern.specs.Layout.{Pattern, in_cells, in_rectangles, plane_at, IsDeadOutside}
 use Rattle.pattern.specs.declared.layout_line.Port.{Port}
 
 -- ---- names
@@ -64,4 +64,4 @@ pub record IsCorrect (lines : List CircuitLine) (p : Pattern) : Type 0 where
   pub named : IsNamed lines p
   pub implements : Implements (circuit_of lines) p
   pub stays : (inputs : Valuation) (t : ℕ) → t ≤ p.size.steps →
-      StaysInside p.size (run_under (circuit_of lines) p inputs t)
+      IsDeadOutside p.size (run_under (circuit_of lines) p inputs t)

@@ -20,11 +20,11 @@ use Rattle.module_box.specs.declared.schedules.Signal.{Signal}
 use Rattle.module_box.specs.declared.schedules.Signal.TheVariants.{Zero, One, Wire}
 use Rattle.std.specs.Ordering.{on}
 use Rattle.module_box.specs.declared.locals.LocalGate.{LocalGate}
-use Rattle.module_box.specs.LocalGates.{kept_gate}
+use Rattle.module_box.specs.LocalGates.{as_gate}
 use Rattle.module_box.specs.Laws.{LocalsEqualityDecides, ScheduleEqualityDecides}
-use Rattle.module_box.specs.Equality.{is_one, wire_named, same_signal, same_cell, same_all_times, same_event}
-use Rattle.module_box.specs.Equality.{gate_kind_place}
-use Rattle.module_box.specs.Equality.{source_bit, delay_number, same_gate_kind, same_gate, same_netlist}
+use Rattle.module_box.specs.Equality.{is_one, signal_wire, same_signal, same_cell, same_all_times, same_event}
+use Rattle.module_box.specs.Equality.{gate_kind_number}
+use Rattle.module_box.specs.Equality.{source_bit, delay_steps, same_gate_kind, same_gate, same_netlist}
 
 -- two tests, of two parts
 pub both : {P Q R : Type 0} (r s : Bool) → Decides r P → Decides s Q → (P → Q → R) → (R → P) → (R → Q) →
@@ -55,7 +55,7 @@ signal_of true p = One
 signal_of false None = Zero
 signal_of false (Some w) = Wire w
 
-signal_back : (a : Signal) → signal_of (is_one a) (wire_named a) ≡ a
+signal_back : (a : Signal) → signal_of (is_one a) (signal_wire a) ≡ a
 unfolding signal_of
 signal_back Zero = refl
 signal_back One = refl
@@ -63,8 +63,9 @@ signal_back (Wire w) = refl
 
 pub signal_decides : (a b : Signal) → Decides (same_signal a b) (a ≡ b)
 signal_decides a b =
-    both _ _ (booleans_Decides (is_one a) (is_one b)) (options nat_eq Decides-eqb (wire_named a) (wire_named b))
-    (λ one wire. sym (signal_back a) ∙ ap₂ signal_of one wire ∙ signal_back b) (λ e. ap is_one e) (λ e. ap wire_named e)
+    both _ _ (booleans_Decides (is_one a) (is_one b)) (options nat_eq Decides-eqb (signal_wire a) (signal_wire b))
+    (λ one wire. sym (signal_back a) ∙ ap₂ signal_of one wire ∙ signal_back b) (λ e. ap is_one e)
+    (λ e. ap signal_wire e)
 
 pub cell_decides : (a b : Cell) → Decides (same_cell a b) (a ≡ b)
 cell_decides a b = both _ _ (signed_Decides a.x b.x) (signed_Decides a.y b.y) (λ x y i. record { x = x i; y = y i })
@@ -103,7 +104,7 @@ gate_kind_from : ℕ → Option Bool → Option ℕ → GateKind
 gate_kind_from place source delay =
     get_or (source_of source ∷ Fredkin ∷ Cswap ∷ Interact ∷ Switch ∷ delay_of delay ∷ Unswitch ∷ []) place Uninteract
 
-gate_kind_back : (r : GateKind) → gate_kind_from (gate_kind_place r) (source_bit r) (delay_number r) ≡ r
+gate_kind_back : (r : GateKind) → gate_kind_from (gate_kind_number r) (source_bit r) (delay_steps r) ≡ r
 unfolding gate_kind_from source_of delay_of
 gate_kind_back (Source b) = refl
 gate_kind_back Fredkin = refl
@@ -116,12 +117,12 @@ gate_kind_back Uninteract = refl
 
 gate_kind_decides : (a b : GateKind) → Decides (same_gate_kind a b) (a ≡ b)
 gate_kind_decides a b =
-    both _ _ (Decides-eqb (gate_kind_place a) (gate_kind_place b))
-    (both {R = (source_bit a ≡ source_bit b) × (delay_number a ≡ delay_number b)} _ _
+    both _ _ (Decides-eqb (gate_kind_number a) (gate_kind_number b))
+    (both {R = (source_bit a ≡ source_bit b) × (delay_steps a ≡ delay_steps b)} _ _
     (options beq booleans_Decides (source_bit a) (source_bit b))
-    (options nat_eq Decides-eqb (delay_number a) (delay_number b)) (λ s d. (s, d)) (λ p. p.0) (λ p. p.1))
+    (options nat_eq Decides-eqb (delay_steps a) (delay_steps b)) (λ s d. (s, d)) (λ p. p.0) (λ p. p.1))
     (λ place rest. sym (gate_kind_back a) ∙ (λ i. gate_kind_from (place i) (rest.0 i) (rest.1 i)) ∙ gate_kind_back b)
-    (λ e. ap gate_kind_place e) (λ e. (ap source_bit e, ap delay_number e))
+    (λ e. ap gate_kind_number e) (λ e. (ap source_bit e, ap delay_steps e))
 
 pub gate_decides : (g h : Gate) → Decides (same_gate g h) (g ≡ h)
 gate_decides g h =
@@ -152,8 +153,8 @@ locals_decides l m =
 
 -- gates that are kept are compared by the gates that they stand for
 pub same_gates : (gs hs : List LocalGate) →
-    pointwise (on kept_gate same_gate) gs hs ≡ pointwise same_gate (map kept_gate gs) (map kept_gate hs)
+    pointwise (on as_gate same_gate) gs hs ≡ pointwise same_gate (map as_gate gs) (map as_gate hs)
 same_gates [] [] = refl
 same_gates [] (h ∷ hs) = refl
 same_gates (g ∷ gs) [] = refl
-same_gates (g ∷ gs) (h ∷ hs) = ap (λ b. same_gate (kept_gate g) (kept_gate h) && b) (same_gates gs hs)
+same_gates (g ∷ gs) (h ∷ hs) = ap (λ b. same_gate (as_gate g) (as_gate h) && b) (same_gates gs hs)

@@ -6,9 +6,10 @@ use Rattle.std.proofs.lemmas.List.{append_assoc}
 use Rattle.circuit.specs.declared.circuit_line.GateKind.{GateKind}
 use Rattle.circuit.specs.declared.circuit_line.GateKind.TheVariants.{Source, Fredkin, Cswap, Interact, Switch, Delay}
 use Rattle.circuit.specs.declared.circuit_line.GateKind.TheVariants.{Unswitch, Uninteract}
-use Rattle.module_box.specs.Equality.{gate_kind_place}
-use Rattle.module_box.specs.Numbers.{AreTelling, NumbersTellGates, counted, gate_numbers, netlist_numbers}
-use Rattle.module_box.specs.Numbers.{gate_kind_detail}
+use Rattle.module_box.specs.Equality.{gate_kind_number}
+use Rattle.module_box.specs.Numbers.{IsPrefixFree, NumbersDetermineGates, length_prefixed, gate_numbers}
+use Rattle.module_box.specs.Numbers.{netlist_numbers}
+use Rattle.module_box.specs.Numbers.{gate_kind_parameter}
 
 range_suc : (a n : ℕ) → range_with_len a (suc n) ≡ range_with_len a n ++ (a + n) ∷ []
 range_suc a zero = ap (λ k. k ∷ []) (omega arith)
@@ -36,11 +37,11 @@ same_length (x ∷ xs) (y ∷ ys) r s n e =
 abbrev pub listed : List ℕ → List ℕ
 listed xs = length xs ∷ xs
 
-pub lists_tell : AreTelling listed
+pub lists_tell : IsPrefixFree listed
 lists_tell xs ys r s e = same_length xs ys r s (same_head (length xs) (length ys) (xs ++ r) (ys ++ s) e)
     (same_tail (length xs) (length ys) (xs ++ r) (ys ++ s) e)
 
-all_tell : {A : Type 0} (f : A → List ℕ) → AreTelling f → (xs ys : List A) (r s : List ℕ) → length xs ≡ length ys →
+all_tell : {A : Type 0} (f : A → List ℕ) → IsPrefixFree f → (xs ys : List A) (r s : List ℕ) → length xs ≡ length ys →
     flat_map f xs ++ r ≡ flat_map f ys ++ s → (xs ≡ ys) × (r ≡ s)
 all_tell f tell [] [] r s n e = (refl, e)
 all_tell f tell [] (y ∷ ys) r s n e = absurd (omega (arith, n))
@@ -51,12 +52,12 @@ all_tell f tell (x ∷ xs) (y ∷ ys) r s n e =
     let rest = all_tell f tell xs ys r s (omega (arith, n)) first.1 in
     (ap₂ (λ z zs. z ∷ zs) first.0 rest.0, rest.1)
 
-pub counted_tell : {A : Type 0} (f : A → List ℕ) → AreTelling f → AreTelling (counted f)
+pub counted_tell : {A : Type 0} (f : A → List ℕ) → IsPrefixFree f → IsPrefixFree (length_prefixed f)
 counted_tell f tell xs ys r s e =
     all_tell f tell xs ys r s (same_head (length xs) (length ys) (flat_map f xs ++ r) (flat_map f ys ++ s) e)
     (same_tail (length xs) (length ys) (flat_map f xs ++ r) (flat_map f ys ++ s) e)
 
-pub number_tells : AreTelling (λ (n : ℕ). n ∷ [])
+pub number_tells : IsPrefixFree (λ (n : ℕ). n ∷ [])
 number_tells n m r s e = (same_head n m r s e, same_tail n m r s e)
 
 -- ---- gates
@@ -64,7 +65,7 @@ gate_kind_from : ℕ → ℕ → GateKind
 gate_kind_from place detail = get_or
     (Source (nat_eq detail 1) ∷ Fredkin ∷ Cswap ∷ Interact ∷ Switch ∷ Delay detail ∷ Unswitch ∷ []) place Uninteract
 
-gate_kind_back : (r : GateKind) → gate_kind_from (gate_kind_place r) (gate_kind_detail r) ≡ r
+gate_kind_back : (r : GateKind) → gate_kind_from (gate_kind_number r) (gate_kind_parameter r) ≡ r
 unfolding gate_kind_from
 gate_kind_back (Source true) = refl
 gate_kind_back (Source false) = refl
@@ -76,17 +77,19 @@ gate_kind_back (Delay n) = refl
 gate_kind_back Unswitch = refl
 gate_kind_back Uninteract = refl
 
-gate_kinds_tell : AreTelling (λ (r : GateKind). gate_kind_place r ∷ gate_kind_detail r ∷ [])
+gate_kinds_tell : IsPrefixFree (λ (r : GateKind). gate_kind_number r ∷ gate_kind_parameter r ∷ [])
 gate_kinds_tell a b r s e =
-    let place = same_head (gate_kind_place a) (gate_kind_place b) (gate_kind_detail a ∷ r) (gate_kind_detail b ∷ s) e in
-    let rest = same_tail (gate_kind_place a) (gate_kind_place b) (gate_kind_detail a ∷ r)
-    (gate_kind_detail b ∷ s) e in (
-      sym (gate_kind_back a) ∙ ap₂ gate_kind_from place (same_head (gate_kind_detail a) (gate_kind_detail b) r s rest)
+    let place = same_head (gate_kind_number a) (gate_kind_number b) (gate_kind_parameter a ∷ r)
+    (gate_kind_parameter b ∷ s) e in
+    let rest = same_tail (gate_kind_number a) (gate_kind_number b) (gate_kind_parameter a ∷ r)
+    (gate_kind_parameter b ∷ s) e in (
+      sym (gate_kind_back a) ∙ ap₂ gate_kind_from place
+          (same_head (gate_kind_parameter a) (gate_kind_parameter b) r s rest)
           ∙ gate_kind_back b,
-      same_tail (gate_kind_detail a) (gate_kind_detail b) r s rest,
+      same_tail (gate_kind_parameter a) (gate_kind_parameter b) r s rest,
     )
 
-gates_tell : AreTelling gate_numbers
+gates_tell : IsPrefixFree gate_numbers
 gates_tell g h r s e =
     let kinds = gate_kinds_tell g.kind h.kind ((listed g.ins ++ listed g.outs) ++ r)
     ((listed h.ins ++ listed h.outs) ++ s) e in
@@ -95,10 +98,12 @@ gates_tell g h r s e =
     let outs = lists_tell g.outs h.outs r s ins.1 in
     (λ i. record { kind = kinds.0 i; ins = ins.0 i; outs = outs.0 i }, outs.1)
 
-pub netlists_tell : NumbersTellGates
+pub netlists_tell : NumbersDetermineGates
 unfolding netlist_numbers
 netlists_tell n m r s e =
-    let given = same_head n.given m.given (counted gate_numbers n.gates ++ r) (counted gate_numbers m.gates ++ s) e in
+    let given = same_head n.given m.given (length_prefixed gate_numbers n.gates ++ r)
+    (length_prefixed gate_numbers m.gates ++ s) e in
     let gates = counted_tell gate_numbers gates_tell n.gates m.gates r s
-    (same_tail n.given m.given (counted gate_numbers n.gates ++ r) (counted gate_numbers m.gates ++ s) e) in
+    (same_tail n.given m.given (length_prefixed gate_numbers n.gates ++ r)
+    (length_prefixed gate_numbers m.gates ++ s) e) in
     (λ i. record { given = given i; gates = gates.0 i }, gates.1)

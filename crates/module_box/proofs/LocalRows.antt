@@ -18,7 +18,7 @@ use Rattle.circuit.specs.Meaning.{wires_after}
 use Rattle.circuit.specs.Bridge.{read}
 use Rattle.circuit.proofs.Undefined.{undefined_at, undefined_is}
 use Rattle.circuit.proofs.Valuations.{evaluated, map_below}
-use Rattle.module_box.specs.LocalValues.{AreRowsAt, IsColumnAt, SaysColumn, bit_of_row, is_gate, is_none, value_of}
+use Rattle.module_box.specs.LocalValues.{AreRowsAt, IsColumnAt, SaysColumn, bit_of_row, is_this_gate, is_none, value_of}
 use Rattle.module_box.specs.LocalValues.{lane}
 use Rattle.module_box.proofs.WordRows.{read_lane}
 
@@ -228,12 +228,12 @@ some_is : (b : Bool) (o : Option ℕ) → b ≡ is_none o → b ≡ false → (m
 some_is b None e h = absurd (true≢false (sym e ∙ h))
 some_is b (Some m) e h = (m, refl)
 
-gate_is : (o : Option ℕ) (k : ℕ) → is_gate o k ≡ true → o ≡ Some k
+gate_is : (o : Option ℕ) (k : ℕ) → is_this_gate o k ≡ true → o ≡ Some k
 gate_is None k e = absurd (true≢false (sym e))
 gate_is (Some m) k e = ap Some (eqb-true m k e)
 
-is_gate_at : (o : Option ℕ) (k : ℕ) → o ≡ Some k → is_gate o k ≡ true
-is_gate_at o k e = ap (λ (o : Option ℕ). is_gate o k) e ∙ eq-eqb k k refl
+is_gate_at : (o : Option ℕ) (k : ℕ) → o ≡ Some k → is_this_gate o k ≡ true
+is_gate_at o k e = ap (λ (o : Option ℕ). is_this_gate o k) e ∙ eq-eqb k k refl
 
 pub column_at : (l : Netlist) (given words undefined : List ℕ) (defined a b : ℕ) → AreOrdered l.given l.gates →
     length given ≡ l.given →

@@ -14,7 +14,7 @@ use Rattle.module_box.specs.declared.schedules.Moment.{Moment}
 use Rattle.module_box.specs.declared.schedules.AllTimes.{AllTimes}
 use Rattle.module_box.specs.declared.schedules.TimedSignal.{TimedSignal}
 use Rattle.module_box.specs.Moments.{cell_cmp, moment_cmp}
-use Rattle.module_box.specs.Schedules.{IsRising, is_then, all_times_at, event_at}
+use Rattle.module_box.specs.Schedules.{IsRising, is_moment_at, all_times_at, event_at}
 
 -- ---- the two orders
 pub cell_total : IsTotalOrder cell_cmp
@@ -130,13 +130,13 @@ at_cell c d h =
 at_own_cell : (c : Cell) → is_at c c.x c.y ≡ true
 at_own_cell c = rw (int_eq_itself c.x, int_eq_itself c.y)
 
-pub then_moment : (m n : Moment) → is_then m n.time n.cell.x n.cell.y ≡ true → m ≡ n
+pub then_moment : (m n : Moment) → is_moment_at m n.time n.cell.x n.cell.y ≡ true → m ≡ n
 then_moment m n h =
     let p = and_parts (eqb m.time n.time) (is_at m.cell n.cell.x n.cell.y) h in
     let mk : ℕ → Cell → Moment = λ t c. record { time = t; cell = c } in
     ap (λ t. mk t m.cell) (eqb-true m.time n.time p.0) ∙ ap (λ c. mk n.time c) (at_cell m.cell n.cell p.1)
 
-then_own_moment : (m : Moment) → is_then m m.time m.cell.x m.cell.y ≡ true
+then_own_moment : (m : Moment) → is_moment_at m m.time m.cell.x m.cell.y ≡ true
 then_own_moment m = rw (eqb_itself m.time, at_own_cell m.cell)
 
 pub all_times_none : (hs : List AllTimes) (c : Cell) → ((i : ℕ) (h : AllTimes) → slice_get hs i ≡ Some h → h.cell ≢ c) →
@@ -170,7 +170,7 @@ pub event_none : (es : List TimedSignal) (m : Moment) →
     event_at es m.time m.cell.x m.cell.y ≡ None
 unfolding event_at
 event_none [] m f = refl
-event_none (h ∷ hs) m f = elim (cases_Bool (is_then h.at m.time m.cell.x m.cell.y)) [
+event_none (h ∷ hs) m f = elim (cases_Bool (is_moment_at h.at m.time m.cell.x m.cell.y)) [
   | inl e ↦ absurd (f 0 h refl (then_moment h.at m e))
   | inr e ↦ cond-false _ _ _ e ∙ event_none hs m (λ i h'. f (suc i) h')
 ]
@@ -185,9 +185,9 @@ event_some [] i h e f = absurd (none_some e)
     none_some e = cc
 event_some (g ∷ hs) zero h e f =
     let same : g ≡ h = same_some (Some g) g h refl e in
-    subst (λ h. (if is_then g.at h.at.time h.at.cell.x h.at.cell.y then Some g.signal else event_at hs h.at.time
+    subst (λ h. (if is_moment_at g.at h.at.time h.at.cell.x h.at.cell.y then Some g.signal else event_at hs h.at.time
     h.at.cell.x h.at.cell.y) ≡ Some h.signal) same (cond-true _ _ _ (then_own_moment g.at))
-event_some (g ∷ hs) (suc i) h e f = elim (cases_Bool (is_then g.at h.at.time h.at.cell.x h.at.cell.y)) [
+event_some (g ∷ hs) (suc i) h e f = elim (cases_Bool (is_moment_at g.at h.at.time h.at.cell.x h.at.cell.y)) [
   | inl t ↦ absurd (f 0 g (omega arith) refl (then_moment g.at h.at t))
   | inr n ↦ cond-false _ _ _ n ∙ event_some hs i h e (λ j h' lt. f (suc j) h' (omega arith))
 ]

@@ -12,8 +12,8 @@ use Rattle.circuit.specs.Gates.{row}
 use Rattle.circuit.specs.Meaning.{Gate, Netlist, Valuation, HasRow, Satisfies}
 use Rattle.circuit.proofs.Valuations.{at_most_one}
 use Rattle.module_box.specs.Locals.{LocalNet, AreLocalsOf, circuit_gate, circuit_wire, renumber_gate}
-use Rattle.module_box.specs.LocalValues.{IsLocalValuation, seen_by}
-use Rattle.module_box.specs.Laws.{ChoicesAreAssignments, LocalValuesAgree, UndefinedIsSeen}
+use Rattle.module_box.specs.LocalValues.{IsLocalValuation, localized}
+use Rattle.module_box.specs.Laws.{ChoicesAreAssignments, LocalValuesAgree, UndefinedGateIsSeenLocally}
 
 -- ---- the number whose first n bits are these
 
@@ -42,9 +42,9 @@ low_bit : (b : Bool) (m : ℕ) → bit (one_if b + 2 * m) 0 ≡ b
 unfolding bit
 low_bit b m = ap (λ k. eqb k 1) (bit_at_lowest (one_if b + 2 * m) ∙ low_part b m) ∙ is_one b
 
-half : (b : Bool) (m : ℕ) → (one_if b + 2 * m) / 2 ≡ m
-half true m = omega arith
-half false m = omega arith
+block_index : (b : Bool) (m : ℕ) → (one_if b + 2 * m) / 2 ≡ m
+block_index true m = omega arith
+block_index false m = omega arith
 
 next_bit : (n i : ℕ) → bit n (suc i) ≡ bit (n / 2) i
 unfolding bit
@@ -56,7 +56,8 @@ bit-from_bits zero f i h = absurd (omega arith)
 bit-from_bits (suc n) f zero h = low_bit (f 0) (from_bits n (λ i. f (suc i)))
 bit-from_bits (suc n) f (suc i) h =
     next_bit (one_if (f 0) + 2 * from_bits n (λ i. f (suc i))) i
-    ∙ ap (λ m. bit m i) (half (f 0) (from_bits n (λ i. f (suc i)))) ∙ bit-from_bits n (λ i. f (suc i)) i (omega arith)
+    ∙ ap (λ m. bit m i) (block_index (f 0) (from_bits n (λ i. f (suc i))))
+    ∙ bit-from_bits n (λ i. f (suc i)) i (omega arith)
 
 pub choices_are_assignments : ChoicesAreAssignments
 choices_are_assignments n f = (from_bits n f, from_bits_below n f, bit-from_bits n f)
@@ -72,7 +73,7 @@ row_at v gates k g all e = subst (HasRow v) (get_or_from_slice_get gates k g g e
     (all k g (slice_get_within gates k g e))
 
 seen_valuation : (n : Netlist) (l : LocalNet) (inputs v : Valuation) (a : ℕ) → AreLocalsOf n l → Satisfies n inputs v →
-    ((i : ℕ) → i < l.netlist.given → bit a i ≡ seen_by l v i) → IsLocalValuation l a (seen_by l v)
+    ((i : ℕ) → i < l.netlist.given → bit a i ≡ localized l v i) → IsLocalValuation l a (localized l v)
 seen_valuation n l inputs v a are s bits = record {
   given = λ i h. sym (bits i h);
   rows = λ k d h. row_seen (circuit_wire l) v (get_or l.netlist.gates k d)
@@ -84,14 +85,14 @@ local_values_agree n l inputs v a are s bits =
     let seen = seen_valuation n l inputs v a are s bits in
     record {
       is_local = seen;
-      only = λ u local i h. at_most_one l.netlist (bit a) u (seen_by l v) are.ordered local seen i h;
+      only = λ u local i h. at_most_one l.netlist (bit a) u (localized l v) are.ordered local seen i h;
     }
 
 -- ---- a gate that has no row
 same_gate : (o : Option Gate) (g h : Gate) → o ≡ Some g → o ≡ Some h → g ≡ h
 same_gate o g h e f = same_Some g h (sym e ∙ f)
 
-pub undefined_is_seen : UndefinedIsSeen
+pub undefined_is_seen : UndefinedGateIsSeenLocally
 undefined_is_seen n l inputs k place a are u below same bits =
     let h : Gate = get_or l.netlist.gates place u.gate in
     let at : slice_get l.netlist.gates place ≡ Some h = slice_get-get_or l.netlist.gates place u.gate below in
@@ -100,7 +101,7 @@ undefined_is_seen n l inputs k place a are u below same bits =
     record {
       gate = h;
       numbered = at;
-      values = seen_by l u.values;
+      values = localized l u.values;
       given = λ i lt. sym (bits i lt);
       before = λ m f lt there. row_seen (circuit_wire l) u.values f
           (u.before (circuit_gate l m) _ (subst (λ b. circuit_gate l m < b) same (are.rising m place lt below))

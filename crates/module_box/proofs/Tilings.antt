@@ -13,7 +13,7 @@ use Rattle.bbm_rule.specs.declared.block.Cell.{Cell}
 use Rattle.module_box.specs.declared.boxes.Box2.{Box2}
 use Rattle.bbm_rule.proofs.Spans.{span_from, span_parts}
 use Rattle.module_box.specs.Tiling.{Owning, rectangle, owner_of, IsTable, AreOwners, corner_x, corner_y, IsInside}
-use Rattle.module_box.specs.Tiling.{AllInside, Holds, IsHolder, AllHeld, HeldTwice, IsBadBlock}
+use Rattle.module_box.specs.Tiling.{AllInside, Holds, IsHolder, AreBlocksOwnedOnce, HeldTwice, IsBadBlock}
 use Rattle.module_box.specs.Taking.{TakesBox, HasBlock}
 use Rattle.module_box.proofs.BoxCells.{in_box_nats, same_some, owner_in_table, abs_within}
 
@@ -188,7 +188,7 @@ holder_at columns blocks k boxes table t lt f = record {
 
 pub taken_all_times : (columns blocks place : ℕ) (boxes : List Box2) (table : List ℕ) →
     IsTakenBy columns blocks (length boxes) boxes table → place ≤ length table →
-    ((k : ℕ) → k < place → ¬ (slice_index table k ≡ length boxes)) → AllHeld columns place boxes
+    ((k : ℕ) → k < place → ¬ (slice_index table k ≡ length boxes)) → AreBlocksOwnedOnce columns place boxes
 taken_all_times columns blocks place boxes table t le full k lt =
     (slice_index table k, holder_at columns blocks k boxes table t (omega arith) (full k lt))
 
@@ -319,7 +319,7 @@ all_inside w h n boxes a le k b lt e = a k b (omega arith) e
 
 pub bad_block : (w h outside place : ℕ) (boxes : List Box2) (c : Cell) → AllInside w h outside boxes →
     length boxes ≤ outside → place < (h / 2) * (w / 2) →
-    AllHeld (w / 2) place boxes → (c.x ≡ corner_x (w / 2) place) × (c.y ≡ corner_y (w / 2) place) →
+    AreBlocksOwnedOnce (w / 2) place boxes → (c.x ≡ corner_x (w / 2) place) × (c.y ≡ corner_y (w / 2) place) →
     IsBadBlock w h boxes c
 bad_block w h outside place boxes c a le lt before is = record {
   inside = all_inside w h outside boxes a le;

@@ -16,11 +16,12 @@ use Rattle.circuit.specs.declared.circuit_line.GateKind.TheVariants.{Uninteract}
 use Rattle.circuit.specs.Gates.{row, uses, defines}
 use Rattle.circuit.specs.Meaning.{Gate, wires_after}
 use Rattle.circuit.specs.Bridge.{read}
-use Rattle.circuit.specs.Evaluate.{evaluate, first_undefined, undefined_or}
+use Rattle.circuit.specs.Evaluate.{evaluate, first_undefined, undefined_gate_or_later}
 use Rattle.module_box.specs.declared.locals.LocalGate.{LocalGate}
-use Rattle.module_box.specs.LocalGates.{kept_gate}
-use Rattle.module_box.specs.LocalValues.{lane, word_row, no_row, row_unless, wire_word, AddsRow, SaysColumn, is_none}
-use Rattle.module_box.specs.LocalValues.{is_gate}
+use Rattle.module_box.specs.LocalGates.{as_gate}
+use Rattle.module_box.specs.LocalValues.{lane, word_row, undefined_bits, row_unless, wire_word, AddsRow, SaysColumn}
+use Rattle.module_box.specs.LocalValues.{is_none}
+use Rattle.module_box.specs.LocalValues.{is_this_gate}
 use Rattle.module_box.proofs.CutWords.{bit_ones}
 
 -- which of two
@@ -108,7 +109,7 @@ uninteract_bits false false false true = refl
 
 words_row : (kind : GateKind) (a x y z b : ℕ) → b < 64 →
     row kind (take (uses kind) (bit a b ∷ bit x b ∷ bit y b ∷ bit z b ∷ []))
-    ≡ row_unless (bit (no_row kind a x y z) b) (lane b (word_row kind a x y z))
+    ≡ row_unless (bit (undefined_bits kind a x y z) b) (lane b (word_row kind a x y z))
 unfolding row
 words_row (Source true) a x y z b h = forward _ _ b (ap (λ (v : Bool). Some (v ∷ [])) (sym (bit_ones b h)))
 words_row (Source false) a x y z b h = forward _ _ b (ap (λ (v : Bool). Some (v ∷ [])) (sym (bit-zero b)))
@@ -131,7 +132,7 @@ words_row Uninteract a x y z b h =
     ∙ ap₂ (λ (u : Bool) (l : List Bool). row_unless u l) (sym none)
     (ap₂ (λ (u v : Bool). u ∷ v ∷ []) (sym (bit-or a y b)) (sym (bit-or a x b)))
   where
-    none : bit (no_row Uninteract a x y z) b
+    none : bit (undefined_bits Uninteract a x y z) b
         ≡ (xor (bit a b) (bit z b) || ((bit a b && (bit x b || bit y b)) || (bit x b && bit y b)))
     none =
         bit-or (bit_xor a z) (bit_or (bit_and a (bit_or x y)) (bit_and x y)) b
@@ -167,7 +168,8 @@ abbrev outs_of : GateKind → List ℕ → List ℕ → List ℕ
 outs_of kind ws ins = word_row kind (wire_word ws ins 0) (wire_word ws ins 1) (wire_word ws ins 2) (wire_word ws ins 3)
 
 abbrev none_of : GateKind → List ℕ → List ℕ → ℕ
-none_of kind ws ins = no_row kind (wire_word ws ins 0) (wire_word ws ins 1) (wire_word ws ins 2) (wire_word ws ins 3)
+none_of kind ws ins = undefined_bits kind (wire_word ws ins 0) (wire_word ws ins 1) (wire_word ws ins 2)
+    (wire_word ws ins 3)
 
 lane_row : (kind : GateKind) (ins ws : List ℕ) (b : ℕ) → b < 64 → length ins ≡ 4 →
     row kind (map (read (lane b ws)) (take (uses kind) ins))
@@ -192,7 +194,7 @@ many_outs Unswitch a x y z = refl
 many_outs Uninteract a x y z = refl
 
 pub gate_done : (ws new : List ℕ) (g : LocalGate) (none : ℕ) → length g.ins ≡ 4 → new ≡ ws ++ outs_of g.kind ws g.ins →
-    none ≡ none_of g.kind ws g.ins → AddsRow (kept_gate g) ws new none
+    none ≡ none_of g.kind ws g.ins → AddsRow (as_gate g) ws new none
 unfolding evaluate
 gate_done ws new g none long more is = record {
   long = ap length more ∙ length-append ws outs ∙ ap (λ n. length ws + n) (many_outs g.kind _ _ _ _);
@@ -217,13 +219,13 @@ shift k o = option_map (λ m. k + m) o
 
 -- the first k gates are done
 pub record InColumn (given : List ℕ) (gs : List LocalGate) (k : ℕ) (words lacking : List ℕ) (whole b : ℕ) : Type 0 where
-  left : bit whole b ≡ true → evaluate (lane b words) (map kept_gate (drop k gs))
-      ≡ evaluate (lane b given) (map kept_gate gs)
-  later : bit whole b ≡ true → shift k (first_undefined (lane b words) (map kept_gate (drop k gs)))
-      ≡ first_undefined (lane b given) (map kept_gate gs)
-  earlier : bit whole b ≡ false → (m : ℕ) × (m < k) × (first_undefined (lane b given) (map kept_gate gs) ≡ Some m)
+  left : bit whole b ≡ true → evaluate (lane b words) (map as_gate (drop k gs))
+      ≡ evaluate (lane b given) (map as_gate gs)
+  later : bit whole b ≡ true → shift k (first_undefined (lane b words) (map as_gate (drop k gs)))
+      ≡ first_undefined (lane b given) (map as_gate gs)
+  earlier : bit whole b ≡ false → (m : ℕ) × (m < k) × (first_undefined (lane b given) (map as_gate gs) ≡ Some m)
   undefined : (j : ℕ) → j < k →
-      bit (slice_index lacking j) b ≡ is_gate (first_undefined (lane b given) (map kept_gate gs)) j
+      bit (slice_index lacking j) b ≡ is_this_gate (first_undefined (lane b given) (map as_gate gs)) j
 
 shift_none : (o : Option ℕ) → shift 0 o ≡ o
 unfolding shift
@@ -235,7 +237,7 @@ unfolding shift
 shift_suc k None = refl
 shift_suc k (Some m) = let e : k + 1 + m ≡ k + (m + 1) = omega arith in ap Some e
 
-not_shifted : (k : ℕ) (o : Option ℕ) → is_gate (shift (k + 1) o) k ≡ false
+not_shifted : (k : ℕ) (o : Option ℕ) → is_this_gate (shift (k + 1) o) k ≡ false
 unfolding shift
 not_shifted k None = refl
 not_shifted k (Some m) = ne_eqb (k + 1 + m) k (λ e. omega (arith, e))
@@ -251,7 +253,7 @@ column_start given gs undefined b small = record {
 
 -- the words after a gate
 record IsAfter (g : LocalGate) (old new undefined undefined' : List ℕ) (defined defined' none first : ℕ) : Type 0 where
-  pub adds : AddsRow (kept_gate g) old new none
+  pub adds : AddsRow (as_gate g) old new none
   pub is_first : first ≡ bit_and defined none
   pub more : undefined' ≡ undefined ++ first ∷ []
   pub fewer : defined' ≡ bit_xor defined first
@@ -267,7 +269,7 @@ step_evaluate vs new gs (Some r) e = ap (λ (l : List Bool). evaluate l gs) (som
 
 step_undefined : (vs new : List Bool) (gs : List Gate) (o : Option (List Bool)) →
     option_and_then (λ (r : List Bool). Some (vs ++ r)) o ≡ Some new →
-    undefined_or (λ r. first_undefined (vs ++ r) gs) o ≡ option_map (λ m. m + 1) (first_undefined new gs)
+    undefined_gate_or_later (λ r. first_undefined (vs ++ r) gs) o ≡ option_map (λ m. m + 1) (first_undefined new gs)
 step_undefined vs new gs None e = cc
 step_undefined vs new gs (Some r) e =
     ap (λ (l : List Bool). option_map (λ m. m + 1) (first_undefined l gs)) (some_is (vs ++ r) new e)
@@ -289,7 +291,7 @@ one_more given gs k g old new undefined undefined' defined defined' none first b
     so_far = go x y ex ey
   where
     all : Option ℕ
-    all = first_undefined (lane b given) (map kept_gate gs)
+    all = first_undefined (lane b given) (map as_gate gs)
 
     first_bits : bit first b ≡ (bit defined b && bit none b)
     first_bits = ap (λ n. bit n b) is.is_first ∙ bit-and defined none b
@@ -297,7 +299,8 @@ one_more given gs k g old new undefined undefined' defined defined' none first b
     new_bits : bit defined' b ≡ xor (bit defined b) (bit first b)
     new_bits = ap (λ n. bit n b) is.fewer ∙ bit-xor defined first b
 
-    told : bit first b ≡ is_gate all k → (j : ℕ) → j < k + 1 → bit (slice_index undefined' j) b ≡ is_gate all j
+    told : bit first b ≡ is_this_gate all k → (j : ℕ) → j < k + 1 →
+        bit (slice_index undefined' j) b ≡ is_this_gate all j
     told here j h = elim (cases_lt j k) [
       | inl less ↦ ap (λ (l : List ℕ). bit (slice_index l j) b) is.more
           ∙ ap (λ n. bit n b) (get_or_append_left undefined (first ∷ []) 0 j (omega (arith, many)))
@@ -305,7 +308,7 @@ one_more given gs k g old new undefined undefined' defined defined' none first b
       | inr large ↦
           let same : k ≡ j = omega arith in
           let at : length undefined + 0 ≡ k = omega (arith, many) in
-          subst (λ j. bit (slice_index undefined' j) b ≡ is_gate all j) same
+          subst (λ j. bit (slice_index undefined' j) b ≡ is_this_gate all j) same
           (ap (λ (l : List ℕ). bit (slice_index l k) b) is.more
           ∙ ap (λ n. bit (slice_index (undefined ++ first ∷ []) n) b) (sym at)
           ∙ ap (λ n. bit n b) (get_or-append-add undefined (first ∷ []) 0 0) ∙ here)
@@ -321,45 +324,45 @@ one_more given gs k g old new undefined undefined' defined defined' none first b
           later = λ e. absurd (true≢false (sym e ∙ still));
           earlier = λ e. (done.0, omega (arith, done.1), done.2);
           undefined = told (first_false
-              ∙ sym (ap (λ (o : Option ℕ). is_gate o k) done.2 ∙ ne_eqb done.0 k (λ e. omega (arith, e, done.1))));
+              ∙ sym (ap (λ (o : Option ℕ). is_this_gate o k) done.2 ∙ ne_eqb done.0 k (λ e. omega (arith, e, done.1))));
         }
     go true true ex ey =
         let first_true : bit first b ≡ true = first_bits ∙ ap₂ (λ (u v : Bool). u && v) ex ey in
         let now : bit defined' b ≡ false = new_bits ∙ ap₂ xor ex first_true in
         let here : all ≡ Some (k + 0) =
         sym (so_far.later ex) ∙ ap (λ (l : List LocalGate).
-        option_map (λ m. k + m) (first_undefined (lane b old) (map kept_gate l))) parts
+        option_map (λ m. k + m) (first_undefined (lane b old) (map as_gate l))) parts
         ∙ ap (λ (o : Option (List Bool)).
-        option_map (λ m. k + m) (undefined_or
-        (λ r. first_undefined (lane b old ++ r) (map kept_gate (drop (k + 1) gs))) o)) (is.adds.lacks b small ey) in
+        option_map (λ m. k + m) (undefined_gate_or_later
+        (λ r. first_undefined (lane b old ++ r) (map as_gate (drop (k + 1) gs))) o)) (is.adds.lacks b small ey) in
         record {
           left = λ e. absurd (true≢false (sym e ∙ now));
           later = λ e. absurd (true≢false (sym e ∙ now));
           earlier = λ e. (k + 0, omega arith, here);
           undefined = told (first_true ∙ sym
-              (ap (λ (o : Option ℕ). is_gate o k) here ∙ eq-eqb (k + 0) k (omega arith)));
+              (ap (λ (o : Option ℕ). is_this_gate o k) here ∙ eq-eqb (k + 0) k (omega arith)));
         }
     go true false ex ey =
         let first_false : bit first b ≡ false = first_bits ∙ ap₂ (λ (u v : Bool). u && v) ex ey in
         let has = is.adds.has b small ey in
-        let later : option_map (λ m. k + 1 + m) (first_undefined (lane b new) (map kept_gate (drop (k + 1) gs))) ≡ all =
-        shift_suc k (first_undefined (lane b new) (map kept_gate (drop (k + 1) gs)))
+        let later : option_map (λ m. k + 1 + m) (first_undefined (lane b new) (map as_gate (drop (k + 1) gs))) ≡ all =
+        shift_suc k (first_undefined (lane b new) (map as_gate (drop (k + 1) gs)))
         ∙ ap (λ (o : Option ℕ). option_map (λ m. k + m) o)
-        (sym (step_undefined (lane b old) (lane b new) (map kept_gate (drop (k + 1) gs)) _ has))
-        ∙ sym (ap (λ (l : List LocalGate). option_map (λ m. k + m) (first_undefined (lane b old) (map kept_gate l)))
+        (sym (step_undefined (lane b old) (lane b new) (map as_gate (drop (k + 1) gs)) _ has))
+        ∙ sym (ap (λ (l : List LocalGate). option_map (λ m. k + m) (first_undefined (lane b old) (map as_gate l)))
         parts) ∙ so_far.later ex in
         record {
-          left = λ e. sym (step_evaluate (lane b old) (lane b new) (map kept_gate (drop (k + 1) gs)) _ has)
-              ∙ sym (ap (λ (l : List LocalGate). evaluate (lane b old) (map kept_gate l)) parts) ∙ so_far.left ex;
+          left = λ e. sym (step_evaluate (lane b old) (lane b new) (map as_gate (drop (k + 1) gs)) _ has)
+              ∙ sym (ap (λ (l : List LocalGate). evaluate (lane b old) (map as_gate l)) parts) ∙ so_far.left ex;
           later = λ e. later;
           earlier = λ e. absurd (true≢false (sym (new_bits ∙ ap₂ xor ex first_false) ∙ e));
-          undefined = told (first_false ∙ sym (ap (λ (o : Option ℕ). is_gate o k) (sym later) ∙ not_shifted k _));
+          undefined = told (first_false ∙ sym (ap (λ (o : Option ℕ). is_this_gate o k) (sym later) ∙ not_shifted k _));
         }
 
 -- the first k gates are done at all bits
 pub record AreInColumn (given : List ℕ) (gs : List LocalGate) (k : ℕ) (words undefined : List ℕ)
     (defined : ℕ) : Type 0 where
-  pub long : wires_after (length words) (map kept_gate (drop k gs)) ≡ wires_after (length given) (map kept_gate gs)
+  pub long : wires_after (length words) (map as_gate (drop k gs)) ≡ wires_after (length given) (map as_gate gs)
   pub count : length undefined ≡ k
   pub each : (b : ℕ) → b < 64 → InColumn given gs k words undefined defined b
 
@@ -374,7 +377,7 @@ column_none given gs words undefined same none =
 
 pub column_more : (given : List ℕ) (gs : List LocalGate) (k : ℕ) (d : LocalGate) (old new undefined undefined' : List ℕ)
     (defined defined' none first : ℕ) → k < length gs →
-    AddsRow (kept_gate (get_or gs k d)) old new none → first ≡ bit_and defined none →
+    AddsRow (as_gate (get_or gs k d)) old new none → first ≡ bit_and defined none →
     undefined' ≡ undefined ++ first ∷ [] → defined' ≡ bit_xor defined first →
     AreInColumn given gs k old undefined defined → AreInColumn given gs (k + 1) new undefined' defined'
 unfolding wires_after
@@ -382,8 +385,8 @@ column_more given gs k d old new undefined undefined' defined defined' none firs
     so_far =
     let parts = front gs k d within in
     record {
-      long = ap (λ n. wires_after n (map kept_gate (drop (k + 1) gs))) adds.long
-          ∙ sym (ap (λ (l : List LocalGate). wires_after (length old) (map kept_gate l)) parts) ∙ so_far.long;
+      long = ap (λ n. wires_after n (map as_gate (drop (k + 1) gs))) adds.long
+          ∙ sym (ap (λ (l : List LocalGate). wires_after (length old) (map as_gate l)) parts) ∙ so_far.long;
       count = ap length more ∙ length-append undefined (first ∷ []) ∙ ap (λ n. n + 1) so_far.count;
       each = λ b small. one_more given gs k
           (get_or gs k d) old new undefined undefined' defined defined' none first b _ _ small within so_far.count parts
@@ -393,28 +396,28 @@ column_more given gs k d old new undefined undefined' defined defined' none firs
 -- all gates are done
 pub column_says : (given : List ℕ) (gs : List LocalGate) (k : ℕ) (words undefined : List ℕ) (defined b : ℕ) → b < 64 →
     length gs ≤ k → k ≤ length gs → AreInColumn given gs k words undefined defined →
-    SaysColumn given (map kept_gate gs) words undefined defined b
+    SaysColumn given (map as_gate gs) words undefined defined b
 unfolding evaluate first_undefined shift
 column_says given gs k words undefined defined b small past within all =
     let is : InColumn given gs k words undefined defined b = all.each b small in
     let none : drop k gs ≡ [] = drop_of_length-le gs past in
     record {
-      values = λ e. sym (is.left e) ∙ ap (λ (l : List LocalGate). evaluate (lane b words) (map kept_gate l)) none;
+      values = λ e. sym (is.left e) ∙ ap (λ (l : List LocalGate). evaluate (lane b words) (map as_gate l)) none;
       defined = told is none _ refl;
-      undefined = λ j h. is.undefined j (omega (arith, length-map gs kept_gate));
+      undefined = λ j h. is.undefined j (omega (arith, length-map gs as_gate));
     }
   where
     told : InColumn given gs k words undefined defined b → drop k gs ≡ [] → (v : Bool) → bit defined b ≡ v →
-        bit defined b ≡ is_none (first_undefined (lane b given) (map kept_gate gs))
+        bit defined b ≡ is_none (first_undefined (lane b given) (map as_gate gs))
     told is none true e =
         e ∙ ap is_none (ap (λ (l : List LocalGate).
-        option_map (λ m. k + m) (first_undefined (lane b words) (map kept_gate l))) (sym none) ∙ is.later e)
+        option_map (λ m. k + m) (first_undefined (lane b words) (map as_gate l))) (sym none) ∙ is.later e)
     told is none false e = e ∙ ap is_none (sym (is.earlier e).2)
 
 pub column_long : (given : List ℕ) (gs : List LocalGate) (k : ℕ) (words undefined : List ℕ) (defined : ℕ) →
     length gs ≤ k → AreInColumn given gs k words undefined defined →
-    length words ≡ wires_after (length given) (map kept_gate gs)
+    length words ≡ wires_after (length given) (map as_gate gs)
 unfolding wires_after
 column_long given gs k words undefined defined past all =
-    ap (λ (l : List LocalGate). wires_after (length words) (map kept_gate l)) (sym (drop_of_length-le gs past))
+    ap (λ (l : List LocalGate). wires_after (length words) (map as_gate l)) (sym (drop_of_length-le gs past))
     ∙ all.long

@@ -26,14 +26,14 @@ is_one One = true
 is_one (Wire w) = false
 
 -- the wire of a signal, if it has one
-abbrev pub wire_named : Signal → Option ℕ
-wire_named Zero = None
-wire_named One = None
-wire_named (Wire w) = Some w
+abbrev pub signal_wire : Signal → Option ℕ
+signal_wire Zero = None
+signal_wire One = None
+signal_wire (Wire w) = Some w
 
 -- whether two signals are the same
 abbrev pub same_signal : Signal → Signal → Bool
-same_signal = eq_of_both (on is_one beq) (on wire_named (option_eq nat_eq))
+same_signal = eq_of_both (on is_one beq) (on signal_wire (option_eq nat_eq))
 
 -- whether two cells are the same
 abbrev pub same_cell : Cell → Cell → Bool
@@ -54,7 +54,7 @@ same_signals = eq_of_both (on (λ s. s.all_times) (pointwise same_all_times)) (o
 
 -- these tests are equivalences
 pub signal_equivalence : IsEquivalence same_signal
-signal_equivalence = and_equiv (on_equiv is_one bool_eq_equiv) (on_equiv wire_named (options_equiv nat_eq_equiv))
+signal_equivalence = and_equiv (on_equiv is_one bool_eq_equiv) (on_equiv signal_wire (options_equiv nat_eq_equiv))
 
 -- the test on cells is an equivalence
 pub cell_equivalence : IsEquivalence same_cell
@@ -77,15 +77,15 @@ signals_equivalence = and_equiv (on_equiv (λ s. s.all_times) (lists_equiv all_t
 
 -- ---- the wires and gates of modules
 -- the number of a kind of gate, whatever its bit or its steps
-abbrev pub gate_kind_place : GateKind → ℕ
-gate_kind_place (Source b) = 0
-gate_kind_place Fredkin = 1
-gate_kind_place Cswap = 2
-gate_kind_place Interact = 3
-gate_kind_place Switch = 4
-gate_kind_place (Delay n) = 5
-gate_kind_place Unswitch = 6
-gate_kind_place Uninteract = 7
+abbrev pub gate_kind_number : GateKind → ℕ
+gate_kind_number (Source b) = 0
+gate_kind_number Fredkin = 1
+gate_kind_number Cswap = 2
+gate_kind_number Interact = 3
+gate_kind_number Switch = 4
+gate_kind_number (Delay n) = 5
+gate_kind_number Unswitch = 6
+gate_kind_number Uninteract = 7
 
 -- the bit of a source
 abbrev pub source_bit : GateKind → Option Bool
@@ -93,14 +93,14 @@ source_bit (Source b) = Some b
 source_bit _ = None
 
 -- the steps of a delay
-abbrev pub delay_number : GateKind → Option ℕ
-delay_number (Delay n) = Some n
-delay_number _ = None
+abbrev pub delay_steps : GateKind → Option ℕ
+delay_steps (Delay n) = Some n
+delay_steps _ = None
 
 -- whether two kinds of gate are the same
 abbrev pub same_gate_kind : GateKind → GateKind → Bool
-same_gate_kind = eq_of_both (on gate_kind_place nat_eq)
-    (eq_of_both (on source_bit (option_eq beq)) (on delay_number (option_eq nat_eq)))
+same_gate_kind = eq_of_both (on gate_kind_number nat_eq)
+    (eq_of_both (on source_bit (option_eq beq)) (on delay_steps (option_eq nat_eq)))
 
 -- whether two gates are the same
 abbrev pub same_gate : Gate → Gate → Bool
@@ -120,8 +120,8 @@ same_locals =
 
 -- these tests are equivalences
 gate_kind_equivalence : IsEquivalence same_gate_kind
-gate_kind_equivalence = and_equiv (on_equiv gate_kind_place nat_eq_equiv)
-    (and_equiv (on_equiv source_bit (options_equiv bool_eq_equiv)) (on_equiv delay_number (options_equiv nat_eq_equiv)))
+gate_kind_equivalence = and_equiv (on_equiv gate_kind_number nat_eq_equiv)
+    (and_equiv (on_equiv source_bit (options_equiv bool_eq_equiv)) (on_equiv delay_steps (options_equiv nat_eq_equiv)))
 
 -- the test on gates is an equivalence
 pub gate_equivalence : IsEquivalence same_gate

@@ -10,8 +10,8 @@ use Rattle.circuit.specs.Gates.{row, defines}
 use Rattle.circuit.specs.Meaning.{Gate, Netlist, Valuation, Satisfies, IsUndefined, wires}
 use Rattle.circuit.specs.Bridge.{AreValues, read}
 use Rattle.circuit.specs.Evaluate.{evaluate, first_undefined}
-use Rattle.module_box.specs.declared.values.LocalFault.{LocalFault}
-use Rattle.module_box.specs.declared.values.LocalFault.TheVariants.{NoRow, Memory}
+use Rattle.module_box.specs.declared.values.LocalValuesError.{LocalValuesError}
+use Rattle.module_box.specs.declared.values.LocalValuesError.TheVariants.{NoRow, Memory}
 use Rattle.module_box.specs.declared.values.ValueRows.{ValueRows}
 use Rattle.module_box.specs.Locals.{LocalNet, circuit_wire}
 
@@ -25,17 +25,17 @@ abbrev pub IsLocallyUndefined : LocalNet → ℕ → ℕ → Type 0
 IsLocallyUndefined l cut_bits k = IsUndefined l.netlist (bit cut_bits) k
 
 -- the values of the circuit's wires, by the numbers that they have in the module
-abbrev pub seen_by : LocalNet → Valuation → Valuation
-seen_by l v i = v (circuit_wire l i)
+abbrev pub localized : LocalNet → Valuation → Valuation
+localized l v i = v (circuit_wire l i)
 
 -- vs lists each wire's value in the one local valuation under the assignment
 abbrev pub AreLocalValues : LocalNet → ℕ → List Bool → Type 0
 AreLocalValues l cut_bits vs = AreValues l.netlist (bit cut_bits) vs
 
 -- the reason why there are no local values: a gate without a row, or out of memory, about which it says no more
-abbrev pub IsLocalFault : Netlist → ℕ → LocalFault → Type 0
-IsLocalFault n cut_bits (NoRow k) = IsUndefined n (bit cut_bits) k
-IsLocalFault n cut_bits Memory = Unit {0}
+abbrev pub IsLocalValuesError : Netlist → ℕ → LocalValuesError → Type 0
+IsLocalValuesError n cut_bits (NoRow k) = IsUndefined n (bit cut_bits) k
+IsLocalValuesError n cut_bits Memory = Unit {0}
 
 -- the value of wire w under assignment a, in rows of words: a row for each wire, a word for 64 assignments
 unfoldable pub value_of : ℕ → List ℕ → ℕ → Valuation
@@ -79,10 +79,10 @@ word_row Unswitch a b c d = a ∷ bit_or b c ∷ []
 word_row Uninteract a b c d = bit_or a c ∷ bit_or a b ∷ []
 
 -- the bits at which a gate has no row
-abbrev pub no_row : GateKind → ℕ → ℕ → ℕ → ℕ → ℕ
-no_row Unswitch a b c d = bit_xor b (bit_and a (bit_xor b c))
-no_row Uninteract a b c d = bit_or (bit_xor a d) (bit_or (bit_and a (bit_or b c)) (bit_and b c))
-no_row _ a b c d = 0
+abbrev pub undefined_bits : GateKind → ℕ → ℕ → ℕ → ℕ → ℕ
+undefined_bits Unswitch a b c d = bit_xor b (bit_and a (bit_xor b c))
+undefined_bits Uninteract a b c d = bit_or (bit_xor a d) (bit_or (bit_and a (bit_or b c)) (bit_and b c))
+undefined_bits _ a b c d = 0
 
 -- a row where the bit is false
 abbrev pub row_unless : Bool → List Bool → Option (List Bool)
@@ -107,9 +107,9 @@ is_none None = true
 is_none (Some m) = false
 
 -- whether the gate is this one
-abbrev pub is_gate : Option ℕ → ℕ → Bool
-is_gate None k = false
-is_gate (Some m) k = m == k
+abbrev pub is_this_gate : Option ℕ → ℕ → Bool
+is_this_gate None k = false
+is_this_gate (Some m) k = m == k
 
 -- The meaning of words for the gates at bit b, if the given wires have the words `given`: the values, if all gates have
 -- a row; whether they do; and for each gate whether it is the first that has none.
@@ -117,7 +117,7 @@ pub record SaysColumn (given : List ℕ) (gs : List Gate) (words lacking : List 
   pub values : bit whole b ≡ true → evaluate (lane b given) gs ≡ Some (lane b words)
   pub defined : bit whole b ≡ is_none (first_undefined (lane b given) gs)
   pub undefined : (k : ℕ) → k < length gs →
-      bit (slice_index lacking k) b ≡ is_gate (first_undefined (lane b given) gs) k
+      bit (slice_index lacking k) b ≡ is_this_gate (first_undefined (lane b given) gs) k
 
 -- the same of a module under an assignment
 pub record IsColumnAt (n : Netlist) (a : ℕ) (words lacking : List ℕ) (whole b : ℕ) : Type 0 where

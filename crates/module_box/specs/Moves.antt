@@ -37,8 +37,8 @@ abbrev pub IsSmallShift : ℤ → Type 0
 IsSmallShift z = (negsuc 1023 ≤ℤ z) × (z ≤ℤ pos 1023)
 
 -- a cell near the corner of the plane
-abbrev pub IsNear : Cell → Type 0
-IsNear c = IsSmallShift c.x × IsSmallShift c.y
+abbrev pub IsInShiftRange : Cell → Type 0
+IsInShiftRange c = IsSmallShift c.x × IsSmallShift c.y
 
 -- ---- laws
 

@@ -3,9 +3,9 @@ use Rattle.module_box.specs.declared.owners.Owners.TheInside.{Inside}
 use Rattle.module_box.specs.Tiling.{Owning, IsTable}
 
 -- the table of owners, from the fields
-abbrev pub owning : Inside → Owning
-owning o = record { width = o.width; height = o.height; numbers = o.numbers.items }
+abbrev pub owners_view : Inside → Owning
+owners_view o = record { width = o.width; height = o.height; numbers = o.numbers.items }
 
 -- the fields of every table of owners
 abbrev pub IsOwners : Inside → Type 0
-IsOwners o = IsTable (owning o)
+IsOwners o = IsTable (owners_view o)

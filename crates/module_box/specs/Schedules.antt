@@ -17,8 +17,8 @@ pub record Signals : Type 0 where
   pub events : List TimedSignal
 
 -- whether the moment is time t at the cell (x, y)
-abbrev pub is_then : Moment → ℕ → ℤ → ℤ → Bool
-is_then m t x y = (m.time == t) && is_at m.cell x y
+abbrev pub is_moment_at : Moment → ℕ → ℤ → ℤ → Bool
+is_moment_at m t x y = (m.time == t) && is_at m.cell x y
 
 -- the signal of the first element with the cell (x, y)
 unfoldable pub all_times_at : List AllTimes → ℤ → ℤ → Option Signal
@@ -28,7 +28,7 @@ all_times_at (h ∷ hs) x y = if is_at h.cell x y then Some h.signal else all_ti
 -- the signal of the first element with the time t and the cell (x, y)
 unfoldable pub event_at : List TimedSignal → ℕ → ℤ → ℤ → Option Signal
 event_at [] t x y = None
-event_at (e ∷ es) t x y = if is_then e.at t x y then Some e.signal else event_at es t x y
+event_at (e ∷ es) t x y = if is_moment_at e.at t x y then Some e.signal else event_at es t x y
 
 -- the signal at all times of the cell, else its event at t, else `Zero`
 unfoldable pub signal_at : Signals → ℕ → ℤ → ℤ → Signal

@@ -41,8 +41,9 @@ abbrev pub AllInside : ℕ → ℕ → ℕ → List Box2 → Type 0
 AllInside w h n boxes = (k : ℕ) (b : Box2) → k < n → slice_get boxes k ≡ Some b → IsInside w h b
 
 -- each block before the place lies in one box
-abbrev pub AllHeld : ℕ → ℕ → List Box2 → Type 0
-AllHeld columns place boxes = (k : ℕ) → k < place → (i : ℕ) × IsHolder boxes (corner_x columns k) (corner_y columns k) i
+abbrev pub AreBlocksOwnedOnce : ℕ → ℕ → List Box2 → Type 0
+AreBlocksOwnedOnce columns place boxes =
+    (k : ℕ) → k < place → (i : ℕ) × IsHolder boxes (corner_x columns k) (corner_y columns k) i
 
 -- a block that lies in two boxes or in none, the first such
 pub record IsBadBlock (w h : ℕ) (boxes : List Box2) (c : Cell) : Type 0 where
@@ -51,7 +52,7 @@ pub record IsBadBlock (w h : ℕ) (boxes : List Box2) (c : Cell) : Type 0 where
   pub within : place < (h / 2) * (w / 2)
   pub x : c.x ≡ corner_x (w / 2) place
   pub y : c.y ≡ corner_y (w / 2) place
-  pub before : AllHeld (w / 2) place boxes
+  pub before : AreBlocksOwnedOnce (w / 2) place boxes
 
 -- two boxes have the cell (x, y)
 pub record HeldTwice (boxes : List Box2) (x y : ℤ) : Type 0 where
@@ -87,12 +88,12 @@ abbrev pub rectangle : Owning → Box2
 rectangle o = rectangle_of o.width o.height
 
 -- the column or row of the block that has a column or row of cells
-abbrev pub half : ℤ → ℕ
-half z = unsigned_abs z / 2
+abbrev pub block_index : ℤ → ℕ
+block_index z = unsigned_abs z / 2
 
 -- the number for the block that has the cell (x, y)
 unfoldable pub owner_of : Owning → ℤ → ℤ → ℕ
-owner_of o x y = slice_index o.numbers (half y * (o.width / 2) + half x)
+owner_of o x y = slice_index o.numbers (block_index y * (o.width / 2) + block_index x)
 
 -- its sides, and one number for each block
 pub record IsTable (o : Owning) : Type 0 where

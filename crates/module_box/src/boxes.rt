@@ -35,8 +35,8 @@ impl Box2 {
         ensures { result ≡ in_ring self cell.x cell.y }
     {
         let inside = self.holds(cell);
-        let inner_x = is_inner(self.x, self.w, cell.x);
-        let inner_y = is_inner(self.y, self.h, cell.y);
+        let inner_x = is_inside_range(self.x, self.w, cell.x);
+        let inner_y = is_inside_range(self.y, self.h, cell.y);
         inside & !(inner_x & inner_y)
     }
 
@@ -45,8 +45,8 @@ impl Box2 {
         ensures { result ≡ in_halo self cell.x cell.y }
     {
         let inside = self.holds(cell);
-        let near_x = is_beside(self.x, self.w, cell.x);
-        let near_y = is_beside(self.y, self.h, cell.y);
+        let near_x = is_in_or_beside_range(self.x, self.w, cell.x);
+        let near_y = is_in_or_beside_range(self.y, self.h, cell.y);
         !inside & (near_x & near_y)
     }
 
@@ -64,7 +64,7 @@ impl Box2 {
 
 // whether the numbers before and after x are both among the n from `from` on.
 #[tactic(auto, unfolding(bbm_rule::specs::Spans::in_span))]
-fn is_inner(from: u32, n: u32, x: i32) -> bool
+fn is_inside_range(from: u32, n: u32, x: i32) -> bool
     ensures { result ≡ (in_span from n (x -ℤ pos 1) && in_span from n (x +ℤ pos 1)) }
 {
     let x = x as i64;
@@ -72,7 +72,7 @@ fn is_inner(from: u32, n: u32, x: i32) -> bool
 }
 
 // whether x, the number before it or the one after it is among the n from `from` on.
-fn is_beside(from: u32, n: u32, x: i32) -> bool
+fn is_in_or_beside_range(from: u32, n: u32, x: i32) -> bool
     ensures { result
         ≡ (in_span from n (x -ℤ pos 1) || in_span from n x || in_span from n (x +ℤ pos 1)) }
 {

@@ -1,8 +1,8 @@
 //! Laws on the definitions alone.
 
-ghost use Rattle.module_box.specs.Laws.{ChoicesAreAssignments, EvenStepStaysInBox, FaultMeansNoTiling, StepDependsOnBoxAndHalo, HaloCellIsRingCellOfOwner, LocalsEqualityDecides, LocalValuesAgree, ScheduleEqualityDecides, UndefinedIsSeen};
+ghost use Rattle.module_box.specs.Laws.{ChoicesAreAssignments, EvenStepStaysInBox, FaultMeansNoTiling, StepDependsOnBoxAndHalo, HaloCellIsRingCellOfOwner, LocalsEqualityDecides, LocalValuesAgree, ScheduleEqualityDecides, UndefinedGateIsSeenLocally};
 ghost use Rattle.module_box.specs.Moves.{BoxesMoveAlong, SignalsMoveAlong};
-ghost use Rattle.module_box.specs.Numbers.{NumbersTellGates};
+ghost use Rattle.module_box.specs.Numbers.{NumbersDetermineGates};
 
 /// States that an even step maps the cells of an even box into the box.
 ///
@@ -43,7 +43,7 @@ pub fn equality_is_of_content()
 pub fn local_values_agree()
     ensures assignment { ChoicesAreAssignments }
     ensures agree { LocalValuesAgree }
-    ensures undefined { UndefinedIsSeen }
+    ensures undefined { UndefinedGateIsSeenLocally }
 {}
 
 /// States that the ring and the halo of a box move along with it, and signals with the cells that carry them.
@@ -53,6 +53,6 @@ pub fn boxes_and_signals_move_along()
 {}
 
 /// States that two wirings with the same numbers are the same, also if more numbers follow.
-pub fn numbers_tell_gates()
-    ensures { NumbersTellGates }
+pub fn numbers_determine_gates()
+    ensures { NumbersDetermineGates }
 {}

@@ -34,5 +34,5 @@ pub use owners::Owners;
 pub use places::place_in;
 pub use schedules::{AllTimes, Moment, Schedule, Signal, TimedSignal, compare_cells};
 pub use tile::{TileFault, owner_table};
-pub use values::{LocalFault, ValueRows};
+pub use values::{LocalValuesError, ValueRows};
 pub use wiring::Wiring;

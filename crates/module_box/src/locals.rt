@@ -6,7 +6,7 @@ ghost use Rattle.circuit.specs.Bridge.{netlist_of};
 ghost use Rattle.circuit.specs.Gates.{uses};
 ghost use Rattle.circuit.specs.Meaning.{Gate, wires};
 ghost use Rattle.circuit.specs.Wiring.{gate_of};
-ghost use Rattle.module_box.specs.LocalGates.{kept_gate};
+ghost use Rattle.module_box.specs.LocalGates.{as_gate};
 ghost use Rattle.module_box.specs.Locals.{AreDifferent, AreLocalLines, AreLocalsOf, circuit_gate, circuit_wire, is_among, local_wires};
 
 use crate::numbered_wires::NumberedWires;
@@ -76,9 +76,9 @@ fn local_gate(known: &NumberedWires, gate: GateWires) -> LocalGate
     requires below_65536 { length known.now < 2 ^ 16 }
     requires known { All (λ w. IsTrue (is_among known.now w)) (gate_of gate).ins }
     requires fits { length (gate_of gate).ins ≡ uses (gate_of gate).kind }
-    ensures kind { (kept_gate result).kind ≡ (gate_of gate).kind }
-    ensures within { All (λ w. w < length known.now) (kept_gate result).ins }
-    ensures ins { map (slice_index known.now) (kept_gate result).ins ≡ (gate_of gate).ins }
+    ensures kind { (as_gate result).kind ≡ (gate_of gate).kind }
+    ensures within { All (λ w. w < length known.now) (as_gate result).ins }
+    ensures ins { map (slice_index known.now) (as_gate result).ins ≡ (gate_of gate).ins }
     ensures first { result.first ≡ length known.now }
 {
     let mut ins = [0; 4];
@@ -93,7 +93,7 @@ fn local_gate(known: &NumberedWires, gate: GateWires) -> LocalGate
 }
 
 // The gates, each over the wires that are known before it. The cuts become known, and what each gate defines.
-fn add_lines(
+fn number_cuts_and_gates(
     alloc: Global,
     known: &mut NumberedWires,
     circuit: &Circuit,
@@ -104,7 +104,7 @@ fn add_lines(
     requires lines { AreLocalLines (netlist_of circuit.now) cuts.now gates.now }
     ensures locals { IfOk result (λ made. AreLocalsOf (netlist_of circuit.now)
         (record {
-          netlist = record { given = length cuts.now; gates = map kept_gate made.items };
+          netlist = record { given = length cuts.now; gates = map as_gate made.items };
           circuit_wires = known.new;
           circuit_gates = gates.now;
         })) }
@@ -150,7 +150,7 @@ impl Locals {
         // Room for most modules: a gate mostly defines one to three wires.
         let room = cuts.len().saturating_add(gates.len().saturating_mul(3));
         let mut circuit_wires = NumberedWires::with_capacity(alloc, room)?;
-        let gates = add_lines(alloc, &mut circuit_wires, circuit, cuts, gates)?;
+        let gates = number_cuts_and_gates(alloc, &mut circuit_wires, circuit, cuts, gates)?;
         Ok(Locals {
             given: cuts.len(),
             gates,

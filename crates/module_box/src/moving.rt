@@ -2,14 +2,14 @@
 
 ghost use Rattle.std.specs.Prelude.{◌≡◌, map};
 ghost use Rattle.std.specs.List.{All};
-ghost use Rattle.module_box.specs.Moves.{IsNear, IsSmallShift, moved_cell, moved_event, moved_all_times, moved_signals};
+ghost use Rattle.module_box.specs.Moves.{IsInShiftRange, IsSmallShift, moved_cell, moved_event, moved_all_times, moved_signals};
 
 use crate::schedules::{AllTimes, Moment, Schedule, TimedSignal};
 use bbm_rule::Cell;
 
 /// Returns the cell that lies `dx` columns and `dy` rows further. All these numbers are from -1024 to 1023.
 pub fn moved_cell(cell: Cell, dx: i32, dy: i32) -> Cell
-    requires cell { IsNear cell }
+    requires cell { IsInShiftRange cell }
     requires by { IsSmallShift dx × IsSmallShift dy }
     ensures { result ≡ moved_cell dx dy cell }
 {
@@ -20,7 +20,7 @@ pub fn moved_cell(cell: Cell, dx: i32, dy: i32) -> Cell
 }
 
 fn moved_all_times(all_times: AllTimes, dx: i32, dy: i32) -> AllTimes
-    requires cell { IsNear all_times.cell }
+    requires cell { IsInShiftRange all_times.cell }
     requires by { IsSmallShift dx × IsSmallShift dy }
     ensures { result ≡ moved_all_times dx dy all_times }
 {
@@ -33,7 +33,7 @@ fn moved_all_times(all_times: AllTimes, dx: i32, dy: i32) -> AllTimes
 /// Returns the event at the cell that lies `dx` columns and `dy` rows further. All these numbers are from -1024 to
 /// 1023.
 pub fn moved_event(event: TimedSignal, dx: i32, dy: i32) -> TimedSignal
-    requires cell { IsNear event.at.cell }
+    requires cell { IsInShiftRange event.at.cell }
     requires by { IsSmallShift dx × IsSmallShift dy }
     ensures { result ≡ moved_event dx dy event }
 {
@@ -48,7 +48,7 @@ pub fn moved_event(event: TimedSignal, dx: i32, dy: i32) -> TimedSignal
 
 // Moves each signal at all times.
 fn move_all_times(all_times: &mut Vec<AllTimes>, dx: i32, dy: i32)
-    requires cells { All (λ h. IsNear h.cell) all_times.old.items }
+    requires cells { All (λ h. IsInShiftRange h.cell) all_times.old.items }
     requires by { IsSmallShift dx × IsSmallShift dy }
     ensures { all_times.new.items ≡ map (moved_all_times dx dy) all_times.old.items }
 {
@@ -59,7 +59,7 @@ fn move_all_times(all_times: &mut Vec<AllTimes>, dx: i32, dy: i32)
 
 // Moves each event.
 fn move_events(events: &mut Vec<TimedSignal>, dx: i32, dy: i32)
-    requires cells { All (λ e. IsNear e.at.cell) events.old.items }
+    requires cells { All (λ e. IsInShiftRange e.at.cell) events.old.items }
     requires by { IsSmallShift dx × IsSmallShift dy }
     ensures { events.new.items ≡ map (moved_event dx dy) events.old.items }
 {
@@ -72,8 +72,8 @@ impl Schedule {
     /// Returns the same signals at the cells that lie `dx` columns and `dy` rows further. All these numbers are from
     /// -1024 to 1023. It takes no memory.
     pub fn moved(self, dx: i32, dy: i32) -> Schedule
-        requires all_times { All (λ h. IsNear h.cell) self.all_times }
-        requires events { All (λ e. IsNear e.at.cell) self.events }
+        requires all_times { All (λ h. IsInShiftRange h.cell) self.all_times }
+        requires events { All (λ e. IsInShiftRange e.at.cell) self.events }
         requires by { IsSmallShift dx × IsSmallShift dy }
         ensures { result ≡ moved_signals dx dy self }
     {

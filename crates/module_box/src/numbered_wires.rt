@@ -42,7 +42,7 @@ fn place_in(wires: &[u16], wire: u16) -> Option<usize>
 const ENTRY_COUNT: usize = 512;
 
 // Makes the table long enough for an entry of this wire.
-fn make_entry(numbers: &mut Vec<u16>, wire: u16) -> Result<(), AllocError>
+fn make_room_for_entry(numbers: &mut Vec<u16>, wire: u16) -> Result<(), AllocError>
     ensures entry { OnOk result (wire < length numbers.new.items) }
     ensures kept { OnOk result ((v i : ℕ) → slice_get numbers.old.items v ≡ Some i →
         slice_get numbers.new.items v ≡ Some i) }
@@ -110,7 +110,7 @@ impl NumberedWires {
             self.wires.push(wire)?;
             return Ok(());
         }
-        make_entry(&mut self.numbers, wire)?;
+        make_room_for_entry(&mut self.numbers, wire)?;
         self.wires.push(wire)?;
         self.numbers[wire as usize] = number as u16;
         Ok(())

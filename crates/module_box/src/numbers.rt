@@ -2,17 +2,17 @@
 
 ghost use Rattle.std.specs.Prelude.{◌≡◌, ◌≤◌, ◌∷◌, ◌++◌, map, length, IfOk, OnOk};
 ghost use Rattle.std.specs.List.{flat_map, range_with_len};
-ghost use Rattle.module_box.specs.Equality.{gate_kind_place};
-ghost use Rattle.module_box.specs.LocalGates.{kept_gate};
-ghost use Rattle.module_box.specs.Numbers.{gate_numbers, netlist_numbers, gate_kind_detail};
+ghost use Rattle.module_box.specs.Equality.{gate_kind_number};
+ghost use Rattle.module_box.specs.LocalGates.{as_gate};
+ghost use Rattle.module_box.specs.Numbers.{gate_numbers, netlist_numbers, gate_kind_parameter};
 
 use crate::locals::LocalGate;
 use crate::wiring::Wiring;
 use circuit::GateKind;
 use std::alloc::{AllocError, Global};
 
-fn place_of(kind: GateKind) -> u64
-    ensures { result ≡ gate_kind_place kind }
+fn gate_kind_number(kind: GateKind) -> u64
+    ensures { result ≡ gate_kind_number kind }
 {
     match kind {
         GateKind::Source(_) => 0,
@@ -26,8 +26,8 @@ fn place_of(kind: GateKind) -> u64
     }
 }
 
-fn detail_of(kind: GateKind) -> u64
-    ensures { result ≡ gate_kind_detail kind }
+fn gate_kind_parameter(kind: GateKind) -> u64
+    ensures { result ≡ gate_kind_parameter kind }
 {
     match kind {
         GateKind::Source(true) => 1,
@@ -62,17 +62,17 @@ fn push_wires_from(numbers: &mut Vec<u64>, first: u16, count: usize) -> Result<(
 
 fn push_gate(numbers: &mut Vec<u64>, gate: &LocalGate) -> Result<(), AllocError>
     ensures { OnOk result (numbers.new.items
-        ≡ numbers.old.items ++ gate_numbers (kept_gate gate.now)) }
+        ≡ numbers.old.items ++ gate_numbers (as_gate gate.now)) }
 {
-    numbers.push(place_of(gate.kind))?;
-    numbers.push(detail_of(gate.kind))?;
+    numbers.push(gate_kind_number(gate.kind))?;
+    numbers.push(gate_kind_parameter(gate.kind))?;
     push_wires(numbers, gate.ins())?;
     push_wires_from(numbers, gate.first, gate.kind.outs())
 }
 
 fn push_gates(numbers: &mut Vec<u64>, gates: &[LocalGate]) -> Result<(), AllocError>
     ensures { OnOk result (numbers.new.items
-        ≡ numbers.old.items ++ flat_map gate_numbers (map kept_gate gates.now)) }
+        ≡ numbers.old.items ++ flat_map gate_numbers (map as_gate gates.now)) }
 {
     for gate in gates {
         push_gate(numbers, gate)?;

@@ -23,9 +23,9 @@ impl Model for Owners {
 
     ghost Value = { Owning };
 
-    ghost use Rattle.module_box.specs.OwnersView.{owning, IsOwners};
+    ghost use Rattle.module_box.specs.OwnersView.{owners_view, IsOwners};
 
-    ghost view = { owning };
+    ghost view = { owners_view };
 
     ghost invariant = { IsOwners };
 }

@@ -4,8 +4,8 @@ ghost use Rattle.std.specs.Prelude.{◌≡◌, ◌≢◌, ◌<◌, ◌≤◌, �
 ghost use Rattle.bbm_rule.specs.Bits.{bit};
 ghost use Rattle.circuit.specs.Bridge.{AreValues};
 ghost use Rattle.circuit.specs.Meaning.{AreOrdered, wires, wires_after};
-ghost use Rattle.module_box.specs.LocalGates.{kept_gate};
-ghost use Rattle.module_box.specs.LocalValues.{AddsRow, AreValueRows, IsColumnAt, IsLocalFault, SaysColumn, lane, no_row, word_row};
+ghost use Rattle.module_box.specs.LocalGates.{as_gate};
+ghost use Rattle.module_box.specs.LocalValues.{AddsRow, AreValueRows, IsColumnAt, IsLocalValuesError, SaysColumn, lane, undefined_bits, word_row};
 
 use crate::locals::LocalGate;
 use crate::wiring::Wiring;
@@ -86,8 +86,8 @@ fn push_row(
 }
 
 // The bits at which a gate has no row.
-fn no_row(kind: GateKind, a: u64, b: u64, c: u64, d: u64) -> u64
-    ensures { result ≡ no_row kind a b c d }
+fn undefined_bits(kind: GateKind, a: u64, b: u64, c: u64, d: u64) -> u64
+    ensures { result ≡ undefined_bits kind a b c d }
 {
     match kind {
         GateKind::Unswitch => b ^ (a & (b ^ c)),
@@ -98,7 +98,7 @@ fn no_row(kind: GateKind, a: u64, b: u64, c: u64, d: u64) -> u64
 
 // Adds the words of the wires that the gate defines, and tells the bits at which it has no row.
 fn push_outs(words: &mut Vec<u64>, gate: LocalGate) -> Result<u64, AllocError>
-    ensures { IfOk result (λ none. AddsRow (kept_gate gate) words.old.items words.new.items none) }
+    ensures { IfOk result (λ none. AddsRow (as_gate gate) words.old.items words.new.items none) }
 {
     let [x, y, z, w] = gate.ins;
     let a = word_at(words.as_slice(), x);
@@ -106,7 +106,7 @@ fn push_outs(words: &mut Vec<u64>, gate: LocalGate) -> Result<u64, AllocError>
     let c = word_at(words.as_slice(), z);
     let d = word_at(words.as_slice(), w);
     push_row(words, gate.kind, a, b, c, d)?;
-    Ok(no_row(gate.kind, a, b, c, d))
+    Ok(undefined_bits(gate.kind, a, b, c, d))
 }
 
 // The words of all wires. A bit of `defined` is set where all gates have a row there. For each gate there is a word,
@@ -119,12 +119,12 @@ struct ValueWords {
 }
 
 // The words of all wires, those that are given first.
-fn words_of(alloc: Global, given: &[u64], gates: &[LocalGate]) -> Result<ValueWords, AllocError>
+fn value_words(alloc: Global, given: &[u64], gates: &[LocalGate]) -> Result<ValueWords, AllocError>
     ensures long { IfOk result (λ c. length c.words.items
-        ≡ wires_after (length given.now) (map kept_gate gates.now)) }
+        ≡ wires_after (length given.now) (map as_gate gates.now)) }
     ensures count { IfOk result (λ c. length c.undefined.items ≡ length gates.now) }
     ensures says { IfOk result (λ c. (b : ℕ) → b < 64 →
-        SaysColumn given.now (map kept_gate gates.now) c.words.items c.undefined.items c.defined
+        SaysColumn given.now (map as_gate gates.now) c.words.items c.undefined.items c.defined
         b) }
 {
     let mut words = given.to_vec(alloc)?;
@@ -156,7 +156,7 @@ fn bits_of(alloc: Global, words: &[u64], place: u32) -> Result<Vec<bool>, AllocE
 }
 
 // The first word that has bit `place`.
-fn first_with(words: &[u64], place: u32) -> Option<usize>
+fn first_word_with_bit(words: &[u64], place: u32) -> Option<usize>
     requires { place < 64 }
     ensures some { IfSome result (λ k. (k < length words.now)
         × (bit (slice_index words.now k) place ≡ true)) }
@@ -190,21 +190,21 @@ fn put_column(rows: &mut [u64], words: usize, place: usize, column: &[u64])
 
 /// The reason why the wires of a module have no values under an assignment.
 #[derive(Clone, Copy, Debug, PartialEq, Eq)]
-pub enum LocalFault {
+pub enum LocalValuesError {
     /// The gate at this place among those that the module uses is the first that has no row.
     NoRow(usize),
     /// There is no memory.
     Memory,
 }
 
-impl From<AllocError> for LocalFault {
+impl From<AllocError> for LocalValuesError {
     ghost use Rattle.std.specs.Prelude.{◌≡◌};
-    ghost use Rattle.module_box.specs.declared.values.LocalFault.TheVariants.{Memory};
+    ghost use Rattle.module_box.specs.declared.values.LocalValuesError.TheVariants.{Memory};
 
     ghost from_gives = { λ _ e. e ≡ Memory };
 
-    fn from(_: AllocError) -> LocalFault {
-        LocalFault::Memory
+    fn from(_: AllocError) -> LocalValuesError {
+        LocalValuesError::Memory
     }
 }
 
@@ -260,20 +260,20 @@ impl Wiring {
             IsColumnAt self.now (64 * chunk + b) c.words.items c.undefined.items c.defined b) }
     {
         let given = cut_words(alloc, self.given, chunk)?;
-        let column = words_of(alloc, given.as_slice(), self.gates.as_slice())?;
+        let column = value_words(alloc, given.as_slice(), self.gates.as_slice())?;
         Ok(column)
     }
 
     /// Returns each wire's value, by its number in the module, if bit i of `cut_bits` is the value of cut i.
     ///
     /// It ignores the bits from `cuts()` on. There are no values if a used gate has no row.
-    pub fn local_values(&self, alloc: Global, cut_bits: u32) -> Result<Vec<bool>, LocalFault>
+    pub fn local_values(&self, alloc: Global, cut_bits: u32) -> Result<Vec<bool>, LocalValuesError>
         ensures values { IfOk result (λ vs. AreValues self.now (bit cut_bits) vs.items) }
-        ensures fault { IfErr result (λ e. IsLocalFault self.now cut_bits e) }
+        ensures fault { IfErr result (λ e. IsLocalValuesError self.now cut_bits e) }
     {
         let column = self.column(alloc, cut_bits / 64)?;
-        match first_with(column.undefined.as_slice(), cut_bits % 64) {
-            Some(gate) => Err(LocalFault::NoRow(gate)),
+        match first_word_with_bit(column.undefined.as_slice(), cut_bits % 64) {
+            Some(gate) => Err(LocalValuesError::NoRow(gate)),
             None => {
                 let values = bits_of(alloc, column.words.as_slice(), cut_bits % 64)?;
                 Ok(values)

@@ -4,9 +4,9 @@ use Rattle.std.proofs.Common.{nat_eq, refl, sym, ap, ap₂, ◌∙◌, arith, in
 use Rattle.std.proofs.lemmas.Bool.{cases_Bool, cond-true, cond-false}
 use Rattle.std.proofs.lemmas.Bool.Decides.{nat_tests}
 use Rattle.std.proofs.lemmas.List.{append_assoc, length-map}
-use Rattle.module_box.specs.Numbers.{AreTelling}
+use Rattle.module_box.specs.Numbers.{IsPrefixFree}
 use Rattle.module_box.proofs.InjectiveNumbers.{same_head, same_tail}
-use Rattle.module_job.specs.Keys.{cell_entry, cells_numbers, entries_from}
+use Rattle.module_job.specs.Keys.{cell_entry, cell_list_numbers, entries_from}
 
 -- ---- one cell
 
@@ -96,7 +96,7 @@ numbers_told_by f tells (x ∷ xs) (y ∷ ys) e =
     (numbers_told_by f tells xs ys (same_tail (f x) (f y) (map f xs) (map f ys) e))
 
 -- where a number tells what a cell carries, so do the numbers of the cells
-pub cells_tell_all : {A : Type 0} (f : A → ℕ) → ((a b : A) → f a ≡ f b → a ≡ b) → AreTelling (cells_numbers f)
+pub cells_tell_all : {A : Type 0} (f : A → ℕ) → ((a b : A) → f a ≡ f b → a ≡ b) → IsPrefixFree (cell_list_numbers f)
 cells_tell_all f tells xs ys r s e =
     let count = same_head (length xs) (length ys) _ _ e in
     let entries = same_tail (length xs) (length ys) _ _ e in

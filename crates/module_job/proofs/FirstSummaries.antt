@@ -34,9 +34,9 @@ head_like summary xs n x k o h there its is known = subst (IsFirstLike (map summ
     (first_found (map summary xs) n k o (value_of summary xs n x there ∙ ap Some (sym its)) known)
 
 -- ---- the first one with the summary is the same
-pub first_like : {A : Type 0} (summary : A → List ℕ) (xs : List A) (n h : ℕ) → IsFirstLike (map summary xs) n h →
+pub first_equal_shape : {A : Type 0} (summary : A → List ℕ) (xs : List A) (n h : ℕ) → IsFirstLike (map summary xs) n h →
     slice_get xs h ≡ slice_get xs n → IsFirstLike xs n h
-first_like summary xs n h like same = record {
+first_equal_shape summary xs n h like same = record {
   same = same;
   first = λ i lt e. like.first i lt
       (slice_get-map summary xs i ∙ ap (option_map summary) e ∙ sym (slice_get-map summary xs n));

@@ -14,7 +14,7 @@ use Rattle.module_box.specs.declared.schedules.Signal.{Signal}
 use Rattle.module_box.specs.declared.schedules.Signal.TheVariants.{Zero, One, Wire}
 use Rattle.module_job.specs.CellLists.{numbered_demand, numbered_signal}
 use Rattle.module_job.specs.Equality.{same_demand}
-use Rattle.module_job.specs.Keys.{cells_numbers, demand_number, entries_from, signal_number}
+use Rattle.module_job.specs.Keys.{cell_list_numbers, demand_number, entries_from, signal_number}
 use Rattle.module_job.specs.declared.job.Demand.{Demand}
 use Rattle.module_job.specs.declared.job.Demand.TheVariants as Demanded
 use Rattle.module_job.proofs.EqualJobs.{demand_decides}
@@ -74,8 +74,8 @@ module _ {A : Type 0} (of : ℕ → A) (number : A → ℕ) (exact : (n : ℕ) �
   numbers_again [] = refl
   numbers_again (n ∷ ns) = ap₂ (λ m ms. m ∷ ms) (exact n) (numbers_again ns)
 
-  counted : (ns : List ℕ) → cells_numbers number (map of ns) ≡ length ns ∷ entries_from 0 ns ++ 0 ∷ []
-  counted ns = ap₂ (λ (count : ℕ) (ms : List ℕ). count ∷ entries_from 0 ms ++ 0 ∷ []) (length-map ns of)
+  length_prefixed : (ns : List ℕ) → cell_list_numbers number (map of ns) ≡ length ns ∷ entries_from 0 ns ++ 0 ∷ []
+  length_prefixed ns = ap₂ (λ (count : ℕ) (ms : List ℕ). count ∷ entries_from 0 ms ++ 0 ∷ []) (length-map ns of)
       (numbers_again ns)
 
   same_tests : (E : A → A → Bool) → ((a b : A) → Decides (E a b) (a ≡ b)) → (ns ms : List ℕ) →
@@ -102,8 +102,8 @@ pub start_found : (ns : List ℕ) (place : ℕ) →
 start_found = at_place numbered_signal
 
 pub start_numbers : (ns : List ℕ) →
-    cells_numbers signal_number (map numbered_signal ns) ≡ length ns ∷ entries_from 0 ns ++ 0 ∷ []
-start_numbers = counted numbered_signal signal_number signal_back
+    cell_list_numbers signal_number (map numbered_signal ns) ≡ length ns ∷ entries_from 0 ns ++ 0 ∷ []
+start_numbers = length_prefixed numbered_signal signal_number signal_back
 
 pub start_tests : (ns ms : List ℕ) →
     pointwise nat_eq ns ms ≡ pointwise same_signal (map numbered_signal ns) (map numbered_signal ms)
@@ -127,8 +127,8 @@ pub demand_found : (ns : List ℕ) (place : ℕ) →
 demand_found = at_place numbered_demand
 
 pub demand_numbers : (ns : List ℕ) →
-    cells_numbers demand_number (map numbered_demand ns) ≡ length ns ∷ entries_from 0 ns ++ 0 ∷ []
-demand_numbers = counted numbered_demand demand_number demand_back
+    cell_list_numbers demand_number (map numbered_demand ns) ≡ length ns ∷ entries_from 0 ns ++ 0 ∷ []
+demand_numbers = length_prefixed numbered_demand demand_number demand_back
 
 pub demand_tests : (ns ms : List ℕ) →
     pointwise nat_eq ns ms ≡ pointwise same_demand (map numbered_demand ns) (map numbered_demand ms)

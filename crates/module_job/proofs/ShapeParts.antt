@@ -71,8 +71,8 @@ placed_shape j =
       kept = j.kept;
     }
 
-pub shapes_are_parts : ShapesAreParts
-shapes_are_parts = record { whole = placed_shape; part = shape_placed }
+pub job_is_placed_shape : ShapesAreParts
+job_is_placed_shape = record { whole = placed_shape; part = shape_placed }
 
 -- what a shape carries at a cell that is moved back is what the job carries at the cell
 there_again : (z : ℤ) (n : ℕ) → (z +ℤ shift_to_origin n) +ℤ pos n ≡ z

@@ -8,13 +8,14 @@ use Rattle.std.proofs.lemmas.Bool.Decides.{nat_tests}
 use Rattle.std.proofs.lemmas.List.{append_assoc}
 use Rattle.std.proofs.lemmas.List.Elements.{All-head, All-tail}
 use Rattle.std.proofs.lemmas.Nat.{from_le_bytes-to_le_bytes_2, from_le_bytes-to_le_bytes_8}
-use Rattle.module_box.specs.Numbers.{AreTelling, counted, netlist_numbers}
+use Rattle.module_box.specs.Numbers.{IsPrefixFree, length_prefixed, netlist_numbers}
 use Rattle.module_box.specs.declared.schedules.Signal.{Signal}
 use Rattle.module_box.specs.declared.schedules.Signal.TheVariants.{Zero, One, Wire}
 use Rattle.module_box.proofs.InjectiveNumbers.{counted_tell, listed, lists_tell, netlists_tell, same_head, same_length}
 use Rattle.module_box.proofs.InjectiveNumbers.{same_tail}
-use Rattle.module_job.specs.Keys.{BytesTellNumbers, NumbersTellShapes, cell_numbers, cells_numbers, demand_number}
-use Rattle.module_job.specs.Keys.{event_numbers, all_times_numbers, integer_number, number_bytes, shape_numbers}
+use Rattle.module_job.specs.Keys.{BytesDetermineNumbers, NumbersDetermineShapes, cell_numbers, cell_list_numbers}
+use Rattle.module_job.specs.Keys.{demand_number}
+use Rattle.module_job.specs.Keys.{event_numbers, all_times_numbers, zigzag_number, number_bytes, shape_numbers}
 use Rattle.module_job.specs.Keys.{signal_number, signals_numbers, stop_numbers}
 use Rattle.module_job.proofs.CellEntries.{cells_tell_all}
 use Rattle.module_job.specs.Shapes.{ShapeView}
@@ -22,7 +23,7 @@ use Rattle.module_job.specs.declared.job.Demand.{Demand}
 use Rattle.module_job.specs.declared.job.Demand.TheVariants as Demanded
 
 -- ---- one number
-one_tells : {A : Type 0} (f : A → ℕ) → ((a b : A) → f a ≡ f b → a ≡ b) → AreTelling (λ (a : A). f a ∷ [])
+one_tells : {A : Type 0} (f : A → ℕ) → ((a b : A) → f a ≡ f b → a ≡ b) → IsPrefixFree (λ (a : A). f a ∷ [])
 one_tells f tells a b r s e = (tells a b (same_head (f a) (f b) r s e), same_tail (f a) (f b) r s e)
 
 signal_told : (a b : Signal) → signal_number a ≡ signal_number b → a ≡ b
@@ -54,26 +55,26 @@ demand_told (Demanded.Wire v) Demanded.Live e = absurd (omega (arith, e))
 demand_told (Demanded.Wire v) Demanded.Any e = absurd (omega (arith, e))
 demand_told (Demanded.Wire v) (Demanded.Wire w) e = ap Demanded.Wire (omega (arith, e))
 
-integer_told : (a b : ℤ) → integer_number a ≡ integer_number b → a ≡ b
+integer_told : (a b : ℤ) → zigzag_number a ≡ zigzag_number b → a ≡ b
 integer_told (pos n) (pos m) e = ap pos (omega (arith, e))
 integer_told (pos n) (negsuc m) e = absurd (omega (arith, e))
 integer_told (negsuc n) (pos m) e = absurd (omega (arith, e))
 integer_told (negsuc n) (negsuc m) e = ap negsuc (omega (arith, e))
 
 -- ---- cells, and what stands at them
-cells_tell : AreTelling cell_numbers
+cells_tell : IsPrefixFree cell_numbers
 cells_tell c d r s e =
-    let x = one_tells integer_number integer_told c.x d.x (integer_number c.y ∷ r) (integer_number d.y ∷ s) e in
-    let y = one_tells integer_number integer_told c.y d.y r s x.1 in
+    let x = one_tells zigzag_number integer_told c.x d.x (zigzag_number c.y ∷ r) (zigzag_number d.y ∷ s) e in
+    let y = one_tells zigzag_number integer_told c.y d.y r s x.1 in
     (λ i. record { x = x.0 i; y = y.0 i }, y.1)
 
-all_times_list_tell : AreTelling all_times_numbers
+all_times_list_tell : IsPrefixFree all_times_numbers
 all_times_list_tell h k r s e =
     let cell = cells_tell h.cell k.cell (signal_number h.signal ∷ r) (signal_number k.signal ∷ s) e in
     let signal = one_tells signal_number signal_told h.signal k.signal r s cell.1 in
     (λ i. record { cell = cell.0 i; signal = signal.0 i }, signal.1)
 
-events_tell : AreTelling event_numbers
+events_tell : IsPrefixFree event_numbers
 events_tell h k r s e =
     let time = one_tells (λ (n : ℕ). n) (λ n m is. is) h.at.time k.at.time
     (cell_numbers h.at.cell ++ signal_number h.signal ∷ r) (cell_numbers k.at.cell ++ signal_number k.signal ∷ s) e in
@@ -81,7 +82,7 @@ events_tell h k r s e =
     let signal = one_tells signal_number signal_told h.signal k.signal r s cell.1 in
     (λ i. record { at = record { time = time.0 i; cell = cell.0 i }; signal = signal.0 i }, signal.1)
 
-stops_tell : AreTelling stop_numbers
+stops_tell : IsPrefixFree stop_numbers
 stops_tell h k r s e =
     let time = one_tells (λ (n : ℕ). n) (λ n m is. is) h.at.time k.at.time (cell_numbers h.at.cell ++ h.wire ∷ r)
     (cell_numbers k.at.cell ++ k.wire ∷ s) e in
@@ -89,13 +90,15 @@ stops_tell h k r s e =
     let wire = one_tells (λ (n : ℕ). n) (λ n m is. is) h.wire k.wire r s cell.1 in
     (λ i. record { at = record { time = time.0 i; cell = cell.0 i }; wire = wire.0 i }, wire.1)
 
-signals_tell : AreTelling signals_numbers
+signals_tell : IsPrefixFree signals_numbers
 signals_tell a b r s e =
-    let apart = append_assoc (counted all_times_numbers a.all_times) (counted event_numbers a.events) r in
-    let apart' = append_assoc (counted all_times_numbers b.all_times) (counted event_numbers b.events) s in
+    let apart = append_assoc (length_prefixed all_times_numbers a.all_times)
+    (length_prefixed event_numbers a.events) r in
+    let apart' = append_assoc (length_prefixed all_times_numbers b.all_times)
+    (length_prefixed event_numbers b.events) s in
     let all_times = counted_tell all_times_numbers all_times_list_tell a.all_times b.all_times
-    (counted event_numbers a.events ++ r)
-    (counted event_numbers b.events ++ s) (sym apart ∙ e ∙ apart') in
+    (length_prefixed event_numbers a.events ++ r)
+    (length_prefixed event_numbers b.events ++ s) (sym apart ∙ e ∙ apart') in
     let events = counted_tell event_numbers events_tell a.events b.events r s all_times.1 in
     (λ i. record { all_times = all_times.0 i; events = events.0 i }, events.1)
 
@@ -114,15 +117,15 @@ abbrev sides : ShapeView → List ℕ
 sides s = s.width ∷ s.height ∷ s.steps ∷ []
 
 abbrev starts : ShapeView → List ℕ
-starts s = cells_numbers signal_number s.starts
+starts s = cell_list_numbers signal_number s.starts
 
 abbrev demands : ShapeView → List ℕ
-demands s = cells_numbers demand_number s.demands
+demands s = cell_list_numbers demand_number s.demands
 
 abbrev stops : ShapeView → List ℕ
-stops s = counted stop_numbers s.stops
+stops s = length_prefixed stop_numbers s.stops
 
-pub shapes_tell : NumbersTellShapes
+pub shapes_tell : NumbersDetermineShapes
 unfolding shape_numbers
 shapes_tell a b r s e =
     let apart = in_turn (netlist_numbers a.netlist) (sides a) (starts a) (demands a) (signals_numbers a.edges)
@@ -221,7 +224,7 @@ some_bytes n r (inl f) e = empty n r (e ∙ ap (λ l. l ++ r) f.1)
 some_bytes n r (inr (inl f)) e = empty 254 (to_le_bytes w16 n ++ r) (e ∙ ap (λ l. l ++ r) f.1)
 some_bytes n r (inr (inr f)) e = empty 255 (to_le_bytes w64 n ++ r) (e ∙ ap (λ l. l ++ r) f)
 
-pub numbers_told : BytesTellNumbers
+pub numbers_told : BytesDetermineNumbers
 numbers_told [] [] few few' e = refl
 numbers_told [] (m ∷ ms) few few' e = absurd (some_bytes m (flat_map number_bytes ms) (forms m) e)
 numbers_told (n ∷ ns) [] few few' e = absurd (some_bytes n (flat_map number_bytes ns) (forms n) (sym e))

@@ -34,5 +34,5 @@ abbrev pub AreSignalNumbers : OfStarts.Inside → Type 0
 AreSignalNumbers a = All (λ n. n < 65538) a.numbers
 
 -- the wire of each demand has 16 bits
-abbrev pub AreDemands : OfDemands.Inside → Type 0
-AreDemands a = All (λ n. n < 65539) a.numbers
+abbrev pub AreDemandNumbers : OfDemands.Inside → Type 0
+AreDemandNumbers a = All (λ n. n < 65539) a.numbers

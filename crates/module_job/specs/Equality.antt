@@ -27,13 +27,13 @@ demand_place (Wire w) = 2
 demand_place Any = 3
 
 -- the wire of a demand, if it has one
-abbrev pub wire_asked : Demand → Option ℕ
-wire_asked (Wire w) = Some w
-wire_asked _ = None
+abbrev pub demand_wire : Demand → Option ℕ
+demand_wire (Wire w) = Some w
+demand_wire _ = None
 
 -- whether two demands are the same
 abbrev pub same_demand : Demand → Demand → Bool
-same_demand = eq_of_both (on demand_place nat_eq) (on wire_asked (option_eq nat_eq))
+same_demand = eq_of_both (on demand_place nat_eq) (on demand_wire (option_eq nat_eq))
 
 -- whether two stops are the same
 abbrev pub same_stop : Stop → Stop → Bool
@@ -68,7 +68,7 @@ box_equivalence =
 
 -- the test on demands is an equivalence
 pub demand_equivalence : IsEquivalence same_demand
-demand_equivalence = and_equiv (on_equiv demand_place nat_eq_equiv) (on_equiv wire_asked (options_equiv nat_eq_equiv))
+demand_equivalence = and_equiv (on_equiv demand_place nat_eq_equiv) (on_equiv demand_wire (options_equiv nat_eq_equiv))
 
 -- the test on stops is an equivalence
 stop_equivalence : IsEquivalence same_stop

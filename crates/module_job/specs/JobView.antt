@@ -3,7 +3,7 @@ use Rattle.std.specs.Prelude.{◌≡◌, length}
 use Rattle.std.specs.Arc.{arc_value}
 use Rattle.std.specs.List.{All}
 use Rattle.circuit.specs.Meaning.{wires}
-use Rattle.module_box.specs.Moves.{IsNear}
+use Rattle.module_box.specs.Moves.{IsInShiftRange}
 use Rattle.module_job.specs.Jobs.{JobView, IsJob}
 use Rattle.module_job.specs.Shapes.{ShapeView, placed}
 use Rattle.module_job.specs.declared.job.Job.TheInside.{Inside}
@@ -20,6 +20,6 @@ job_view a = placed a.x a.y a.wires.items a.gates.items (own_shape a)
 pub record IsStoredJob (a : Inside) : Type 0 where
   pub job : IsJob (job_view a)
   pub sized : length a.wires.items ≡ wires (own_shape a).netlist
-  pub near_edges : All (λ e. IsNear e.at.cell) (own_shape a).edges.events
-  pub near_halos : All (λ e. IsNear e.at.cell) (own_shape a).halos.events
-  pub near_stops : All (λ s. IsNear s.at.cell) (own_shape a).stops
+  pub near_edges : All (λ e. IsInShiftRange e.at.cell) (own_shape a).edges.events
+  pub near_halos : All (λ e. IsInShiftRange e.at.cell) (own_shape a).halos.events
+  pub near_stops : All (λ s. IsInShiftRange s.at.cell) (own_shape a).stops

@@ -5,7 +5,7 @@ use Rattle.std.specs.List.{All, flat_map}
 use Rattle.std.specs.Int.{to_le_bytes, w16, w64}
 use Rattle.sha2.specs.Sha256.{sha256}
 use Rattle.bbm_rule.specs.declared.block.Cell.{Cell}
-use Rattle.module_box.specs.Numbers.{AreTelling, counted, netlist_numbers}
+use Rattle.module_box.specs.Numbers.{IsPrefixFree, length_prefixed, netlist_numbers}
 use Rattle.module_box.specs.Schedules.{Signals}
 use Rattle.module_box.specs.declared.schedules.TimedSignal.{TimedSignal}
 use Rattle.module_box.specs.declared.schedules.AllTimes.{AllTimes}
@@ -43,17 +43,17 @@ entries_from place [] = []
 entries_from place (n ∷ ns) = cell_entry place n ++ entries_from (place + 1) ns
 
 -- how many cells there are, their entries, and a 0
-abbrev pub cells_numbers : {A : Type 0} → (A → ℕ) → List A → List ℕ
-cells_numbers number cells = length cells ∷ entries_from 0 (map number cells) ++ 0 ∷ []
+abbrev pub cell_list_numbers : {A : Type 0} → (A → ℕ) → List A → List ℕ
+cell_list_numbers number cells = length cells ∷ entries_from 0 (map number cells) ++ 0 ∷ []
 
 -- 0, -1, 1, -2 and so on, counted from 0
-abbrev pub integer_number : ℤ → ℕ
-integer_number (pos n) = 2 * n
-integer_number (negsuc n) = 2 * n + 1
+abbrev pub zigzag_number : ℤ → ℕ
+zigzag_number (pos n) = 2 * n
+zigzag_number (negsuc n) = 2 * n + 1
 
 -- the numbers of a cell
 abbrev pub cell_numbers : Cell → List ℕ
-cell_numbers c = integer_number c.x ∷ integer_number c.y ∷ []
+cell_numbers c = zigzag_number c.x ∷ zigzag_number c.y ∷ []
 
 -- the numbers of a signal at all times
 abbrev pub all_times_numbers : AllTimes → List ℕ
@@ -69,15 +69,16 @@ stop_numbers s = (s.at.time ∷ cell_numbers s.at.cell) ++ s.wire ∷ []
 
 -- the numbers of a schedule
 abbrev pub signals_numbers : Signals → List ℕ
-signals_numbers s = counted all_times_numbers s.all_times ++ counted event_numbers s.events
+signals_numbers s = length_prefixed all_times_numbers s.all_times ++ length_prefixed event_numbers s.events
 
 -- Gates, sides and steps, starts, demands, edges, halos, stops and kept gates: all of the shape. Most cells are dead at
 -- the start and to be dead at the end, so starts and demands have entries for the other cells alone.
 unfoldable pub shape_numbers : ShapeView → List ℕ
 shape_numbers s =
     netlist_numbers s.netlist ++ (s.width ∷ s.height ∷ s.steps ∷ [])
-    ++ cells_numbers signal_number s.starts ++ cells_numbers demand_number s.demands
-    ++ signals_numbers s.edges ++ signals_numbers s.halos ++ counted stop_numbers s.stops ++ (length s.kept ∷ s.kept)
+    ++ cell_list_numbers signal_number s.starts ++ cell_list_numbers demand_number s.demands
+    ++ signals_numbers s.edges ++ signals_numbers s.halos ++ length_prefixed stop_numbers s.stops
+    ++ (length s.kept ∷ s.kept)
 
 -- A number below 2 ^ 64: one byte, or two or eight behind a byte that says so
 abbrev pub number_bytes : ℕ → List ℕ
@@ -90,10 +91,10 @@ shape_key s = sha256 (flat_map number_bytes (shape_numbers s))
 
 -- ---- laws: different shapes have different numbers, and different numbers different bytes
 -- Two shapes with the same numbers are the same, also if more numbers follow.
-abbrev pub NumbersTellShapes : Type 0
-NumbersTellShapes = AreTelling shape_numbers
+abbrev pub NumbersDetermineShapes : Type 0
+NumbersDetermineShapes = IsPrefixFree shape_numbers
 
 -- Two lists of numbers with the same bytes are the same.
-abbrev pub BytesTellNumbers : Type 0
-BytesTellNumbers = (ns ms : List ℕ) → All (λ n. n < 2 ^ 64) ns → All (λ n. n < 2 ^ 64) ms →
+abbrev pub BytesDetermineNumbers : Type 0
+BytesDetermineNumbers = (ns ms : List ℕ) → All (λ n. n < 2 ^ 64) ns → All (λ n. n < 2 ^ 64) ms →
     flat_map number_bytes ns ≡ flat_map number_bytes ms → ns ≡ ms

@@ -30,8 +30,8 @@ abbrev pub moved_stop : ℤ → ℤ → Stop → Stop
 moved_stop dx dy s = record { at = record { time = s.at.time; cell = moved_cell dx dy s.at.cell }; wire = s.wire }
 
 -- signals whose cells are counted from the corner of the box, counted from that of the plane
-abbrev pub from_corner : Box2 → Signals → Signals
-from_corner b s = moved_signals (pos b.x) (pos b.y) s
+abbrev pub signals_from_corner : Box2 → Signals → Signals
+signals_from_corner b s = moved_signals (pos b.x) (pos b.y) s
 
 -- and stops likewise
 abbrev pub stops_from_corner : Box2 → List Stop → List Stop

@@ -4,7 +4,7 @@ ghost use Rattle.std.specs.Cmp.{partial_equiv_from_equiv};
 ghost use Rattle.std.specs.Cmp.Lexicographic.{lists_equiv, pointwise};
 ghost use Rattle.module_box.specs.Equality.{same_signal, signal_equivalence};
 ghost use Rattle.module_job.specs.Equality.{demand_equivalence, same_demand};
-ghost use Rattle.module_job.specs.Keys.{cells_numbers, demand_number, signal_number};
+ghost use Rattle.module_job.specs.Keys.{cell_list_numbers, demand_number, signal_number};
 
 use crate::job::Demand;
 use crate::keys::{demand_number, signal_number};
@@ -48,18 +48,18 @@ impl Model for EndDemands {
 
     ghost Value = { List Demand };
 
-    ghost use Rattle.module_job.specs.CellLists.{AreDemands, demands_view};
+    ghost use Rattle.module_job.specs.CellLists.{AreDemandNumbers, demands_view};
 
     ghost view = { demands_view };
 
-    ghost invariant = { AreDemands };
+    ghost invariant = { AreDemandNumbers };
 }
 
 impl StartSignals {
     ghost use Rattle.module_job.specs.CellLists.{numbered_signal};
 
     // The signal of a number.
-    fn numbered(number: u64) -> Signal
+    fn decode_number(number: u64) -> Signal
         requires { number < 65538 }
         ensures { result ≡ numbered_signal number }
     {
@@ -99,7 +99,7 @@ impl StartSignals {
     pub(crate) fn at(&self, place: usize) -> Signal
         ensures { result ≡ unwrap_or (slice_get self.now place) Signal.Zero }
     {
-        StartSignals::numbered(self.numbers.at(place))
+        StartSignals::decode_number(self.numbers.at(place))
     }
 
     /// Returns a place from `place` to `end`, such that all cells from `place` to before it carry `Zero`.
@@ -115,7 +115,7 @@ impl StartSignals {
     /// Adds how many cells there are, the entries of what they carry, and a 0.
     pub(crate) fn push_numbers(&self, numbers: &mut Vec<u64>) -> Result<(), AllocError>
         ensures { OnOk result (numbers.new.items
-            ≡ numbers.old.items ++ cells_numbers signal_number self.now) }
+            ≡ numbers.old.items ++ cell_list_numbers signal_number self.now) }
     {
         self.numbers.push_entries(numbers)?;
         Ok(())
@@ -136,7 +136,7 @@ impl EndDemands {
     ghost use Rattle.module_job.specs.CellLists.{numbered_demand};
 
     // The demand of a number.
-    fn numbered(number: u64) -> Demand
+    fn decode_number(number: u64) -> Demand
         requires { number < 65539 }
         ensures { result ≡ numbered_demand number }
     {
@@ -177,7 +177,7 @@ impl EndDemands {
     pub(crate) fn at(&self, place: usize) -> Demand
         ensures { result ≡ unwrap_or (slice_get self.now place) Demand.Dead }
     {
-        EndDemands::numbered(self.numbers.at(place))
+        EndDemands::decode_number(self.numbers.at(place))
     }
 
     /// Returns a place from `place` to `end`, such that all cells from `place` to before it must be dead.
@@ -193,7 +193,7 @@ impl EndDemands {
     /// Adds how many cells there are, the entries of what they must be, and a 0.
     pub(crate) fn push_numbers(&self, numbers: &mut Vec<u64>) -> Result<(), AllocError>
         ensures { OnOk result (numbers.new.items
-            ≡ numbers.old.items ++ cells_numbers demand_number self.now) }
+            ≡ numbers.old.items ++ cell_list_numbers demand_number self.now) }
     {
         self.numbers.push_entries(numbers)?;
         Ok(())

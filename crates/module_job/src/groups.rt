@@ -13,7 +13,7 @@ use std::hash::Hash;
 use std::sync::Arc;
 
 // The number that the map has for the key. Where it has none, this one from now on.
-fn first_with<K: Copy + Eq + Hash>(
+fn first_with_key<K: Copy + Eq + Hash>(
     firsts: &mut IndexMap<K, usize>,
     key: K,
     number: usize,
@@ -39,7 +39,7 @@ fn key_groups(alloc: Global, keys: &[[u8; 32]]) -> Result<Vec<usize>, AllocError
     let mut firsts = IndexMap::new(alloc);
     let mut groups = Vec::with_capacity(alloc, keys.len())?;
     'keys: for (number, key) in keys.iter().enumerate() {
-        let first = first_with(&mut firsts, *key, number)?;
+        let first = first_with_key(&mut firsts, *key, number)?;
         groups.push(first)?;
     }
     Ok(groups)
@@ -47,7 +47,7 @@ fn key_groups(alloc: Global, keys: &[[u8; 32]]) -> Result<Vec<usize>, AllocError
 
 // The number of the first shape that is the same as this one, where `first` is that of the first with the same key.
 // Where keys tell shapes apart, that is the one, or there is none before.
-fn first_like(shapes: &[Arc<Shape>], keys: &[[u8; 32]], number: usize, first: usize) -> usize
+fn first_equal_shape(shapes: &[Arc<Shape>], keys: &[[u8; 32]], number: usize, first: usize) -> usize
     requires keys { AreKeys (map arc_value shapes.now) keys.now }
     requires number { number < length shapes.now }
     requires first { IsFirstLike keys.now number first }
@@ -84,7 +84,7 @@ pub fn shape_groups(
     let firsts = key_groups(alloc, keys)?;
     let mut groups = Vec::with_capacity(alloc, shapes.len())?;
     'shapes: for number in 0..shapes.len() {
-        groups.push(first_like(shapes, keys, number, firsts[number]))?;
+        groups.push(first_equal_shape(shapes, keys, number, firsts[number]))?;
     }
     Ok(groups)
 }
@@ -134,9 +134,9 @@ pub fn job_groups(alloc: Global, jobs: &[Arc<Job>]) -> Result<Vec<usize>, AllocE
     let mut groups = Vec::with_capacity(alloc, jobs.len())?;
     'jobs: for number in 0..jobs.len() {
         let shape: &Shape = jobs[number].shape();
-        let mut group = first_with(&mut summaries, shape.summary(), number)?;
+        let mut group = first_with_key(&mut summaries, shape.summary(), number)?;
         if !have_same_shape(jobs, group, number) {
-            let first = first_with(&mut keys, shape.key(alloc)?, number)?;
+            let first = first_with_key(&mut keys, shape.key(alloc)?, number)?;
             group = first_of_shape(jobs, first, number);
         }
         groups.push(group)?;

@@ -3,7 +3,7 @@ ghost use Rattle.std.specs.Prelude.{◌≡◌, ◌<◌, ◌≤◌, pos, length, 
 ghost use Rattle.std.specs.Arc.{arc_value};
 ghost use Rattle.circuit.specs.Meaning.{wires};
 ghost use Rattle.module_box.specs.Locals.{circuit_gate, circuit_wire, is_among};
-ghost use Rattle.module_box.specs.Moves.{IsNear, IsSmallShift};
+ghost use Rattle.module_box.specs.Moves.{IsInShiftRange, IsSmallShift};
 ghost use Rattle.module_box.specs.Schedules.{signal_at};
 ghost use Rattle.module_job.specs.Jobs.{IsJob, job_demand, job_start};
 ghost use Rattle.module_job.specs.Shapes.{shift_to_origin, shape_of};
@@ -174,7 +174,7 @@ impl Job {
 
     /// Returns what a cell of the ring carries at an odd time. Coordinates are from -1024 to 1023.
     pub fn edge(&self, time: u32, cell: Cell) -> Signal
-        requires { IsNear cell }
+        requires { IsInShiftRange cell }
         ensures { result ≡ signal_at self.now.edges time cell.x cell.y }
     {
         let own = moved_cell(cell, shift_to_origin(self.x), shift_to_origin(self.y));
@@ -183,7 +183,7 @@ impl Job {
 
     /// Returns what a cell of the halo carries at an odd time. Coordinates are from -1024 to 1023.
     pub fn halo(&self, time: u32, cell: Cell) -> Signal
-        requires { IsNear cell }
+        requires { IsInShiftRange cell }
         ensures { result ≡ signal_at self.now.halos time cell.x cell.y }
     {
         let own = moved_cell(cell, shift_to_origin(self.x), shift_to_origin(self.y));

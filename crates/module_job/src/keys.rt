@@ -1,8 +1,8 @@
 //! The numbers of shapes, which differ for different shapes, and their keys.
 ghost use Rattle.std.specs.Prelude.{◌≡◌, ◌^◌, ◌<◌, ◌++◌, [], ◌∷◌, length, IfOk, OnOk};
 ghost use Rattle.std.specs.List.{All, flat_map};
-ghost use Rattle.module_box.specs.Numbers.{counted};
-ghost use Rattle.module_job.specs.Keys.{cell_numbers, cells_numbers, demand_number, event_numbers, all_times_numbers, integer_number, number_bytes, shape_key, shape_numbers, signal_number, signal_numbers, signals_numbers, stop_numbers};
+ghost use Rattle.module_box.specs.Numbers.{length_prefixed};
+ghost use Rattle.module_job.specs.Keys.{cell_numbers, cell_list_numbers, demand_number, event_numbers, all_times_numbers, zigzag_number, number_bytes, shape_key, shape_numbers, signal_number, signal_numbers, signals_numbers, stop_numbers};
 
 use crate::job::{Demand, Stop};
 use crate::shape::Shape;
@@ -37,8 +37,8 @@ pub(crate) fn demand_number(demand: Demand) -> u64
 }
 
 /// Returns the number of an integer: 0 for 0, 1 for -1, 2 for 1, 3 for -2 and so on.
-pub(crate) fn integer_number(integer: i32) -> u64
-    ensures { result ≡ integer_number integer }
+pub(crate) fn zigzag_number(integer: i32) -> u64
+    ensures { result ≡ zigzag_number integer }
 {
     let size = integer.unsigned_abs() as u64;
     if integer < 0 {
@@ -50,8 +50,8 @@ pub(crate) fn integer_number(integer: i32) -> u64
 fn push_cell(numbers: &mut Vec<u64>, cell: Cell) -> Result<(), AllocError>
     ensures { OnOk result (numbers.new.items ≡ numbers.old.items ++ cell_numbers cell) }
 {
-    numbers.push(integer_number(cell.x))?;
-    numbers.push(integer_number(cell.y))?;
+    numbers.push(zigzag_number(cell.x))?;
+    numbers.push(zigzag_number(cell.y))?;
     Ok(())
 }
 
@@ -137,8 +137,8 @@ fn push_schedule(numbers: &mut Vec<u64>, schedule: &Schedule) -> Result<(), Allo
 fn push_cells(numbers: &mut Vec<u64>, shape: &Shape) -> Result<(), AllocError>
     ensures { OnOk result (numbers.new.items
         ≡ numbers.old.items ++ (shape.now.width ∷ shape.now.height ∷ shape.now.steps ∷ [])
-        ++ cells_numbers signal_number shape.now.starts
-        ++ cells_numbers demand_number shape.now.demands) }
+        ++ cell_list_numbers signal_number shape.now.starts
+        ++ cell_list_numbers demand_number shape.now.demands) }
 {
     numbers.push(shape.width as u64)?;
     numbers.push(shape.height as u64)?;

@@ -1,5 +1,5 @@
 //! Laws of the definitions, each the contract of a function without a body.
-ghost use Rattle.module_job.specs.Keys.{BytesTellNumbers, NumbersTellShapes};
+ghost use Rattle.module_job.specs.Keys.{BytesDetermineNumbers, NumbersDetermineShapes};
 ghost use Rattle.module_job.specs.Laws.{JobEqualityDecides, ShapeEqualityDecides, ShapesAreParts};
 
 /// States that two [`Job`](crate::Job)s are equal exactly if contracts see the same of both.
@@ -11,7 +11,7 @@ pub fn equality_is_of_content()
 {}
 
 /// States that a job is its shape, placed where its box lies and over its wires and gates of the circuit.
-pub fn shapes_are_parts()
+pub fn job_is_placed_shape()
     ensures { ShapesAreParts }
 {}
 
@@ -19,6 +19,6 @@ pub fn shapes_are_parts()
 ///
 /// If two such shapes have one [`key`](crate::Shape::key), these bytes are a collision of SHA-256.
 pub fn shape_bytes_are_injective()
-    ensures numbers { NumbersTellShapes }
-    ensures bytes { BytesTellNumbers }
+    ensures numbers { NumbersDetermineShapes }
+    ensures bytes { BytesDetermineNumbers }
 {}

@@ -69,7 +69,7 @@ fn mark_within(marks: &mut [u64], at: usize)
 // How many entries are of places before this one.
 fn entries_before(entries: &[u64], place: usize) -> usize
     ensures bound { 2 * result ≤ length entries.now }
-    ensures counted { (numbers : List ℕ) → entries.now ≡ entries_from 0 numbers →
+    ensures length_prefixed { (numbers : List ℕ) → entries.now ≡ entries_from 0 numbers →
         2 * result ≡ length (entries_from 0 (take place numbers)) }
 {
     let mut low = 0;

@@ -2,7 +2,7 @@
 ghost use Rattle.std.specs.Prelude.{◌≡◌};
 ghost use Rattle.module_job.specs.Summaries.{last_all_times, last_event, shape_summary};
 
-use crate::keys::{integer_number, signal_number};
+use crate::keys::{signal_number, zigzag_number};
 use crate::shape::Shape;
 use bbm_rule::Cell;
 use module_box::{AllTimes, Moment, Signal, TimedSignal};
@@ -59,16 +59,16 @@ impl Shape {
             self.edges.events().len() as u64,
             self.halos.all_times().len() as u64,
             self.halos.events().len() as u64,
-            integer_number(always.cell.x),
-            integer_number(always.cell.y),
+            zigzag_number(always.cell.x),
+            zigzag_number(always.cell.y),
             signal_number(always.signal),
             edge.at.time as u64,
-            integer_number(edge.at.cell.x),
-            integer_number(edge.at.cell.y),
+            zigzag_number(edge.at.cell.x),
+            zigzag_number(edge.at.cell.y),
             signal_number(edge.signal),
             halo.at.time as u64,
-            integer_number(halo.at.cell.x),
-            integer_number(halo.at.cell.y),
+            zigzag_number(halo.at.cell.x),
+            zigzag_number(halo.at.cell.y),
             signal_number(halo.signal),
         ]
     }

@@ -13,7 +13,8 @@ use Rattle.pattern.specs.declared.layout_line.LayoutHeader.{LayoutHeader}
 use Rattle.pattern.specs.declared.layout_line.LayoutLine.{LayoutLine}
 use Rattle.pattern.specs.declared.layout_line.LayoutLine.TheVariants.{Mirror, Ball, In, Out, Waste}
 use Rattle.pattern.specs.Layout.{Pattern, parts_of}
-use Rattle.pattern.specs.Lines.{is_late, order_fault, limit_fault, cell_fault, begins, ends, holds, begun, ended}
+use Rattle.pattern.specs.Lines.{is_late, order_fault, limit_fault, cell_fault, begins, ends, holds, taken_at_start}
+use Rattle.pattern.specs.Lines.{ended}
 use Rattle.pattern.specs.Lines.{AreGoodAfter}
 use Rattle.pattern.proofs.Orders.{some, late_mirror, late_ball, late_in, late_out}
 use Rattle.section_text.specs.declared.code.RefusalCode.{RefusalCode}
@@ -138,8 +139,8 @@ or_last : (a b : Bool) → (a || (b || false)) ≡ (a || b)
 or_last a b = grind arith
 
 pub begun_push : (parts : List LayoutLine) (part : LayoutLine) (x y : ℤ) →
-    begun (parts ++ part ∷ []) x y ≡ (begun parts x y || (begins part && holds part x y))
-unfolding begun
+    taken_at_start (parts ++ part ∷ []) x y ≡ (taken_at_start parts x y || (begins part && holds part x y))
+unfolding taken_at_start
 begun_push parts part x y = list_any-append (λ b. begins b && holds b x y) parts (part ∷ []) ∙ or_last _ _
 
 pub ended_push : (parts : List LayoutLine) (part : LayoutLine) (x y : ℤ) →

@@ -13,7 +13,8 @@ use Rattle.pattern.specs.declared.layout_line.LayoutHeader.{LayoutHeader}
 use Rattle.pattern.specs.declared.layout_line.LayoutLine.{LayoutLine}
 use Rattle.pattern.specs.declared.layout_line.LayoutLine.TheVariants.{Mirror, Ball, In, Out, Waste}
 use Rattle.pattern.specs.Layout.{Pattern, HaveOwnCells, parts_of}
-use Rattle.pattern.specs.Lines.{is_inside, is_taken, cell_fault, begins, ends, cells_of, begun, ended, AreGoodAfter}
+use Rattle.pattern.specs.Lines.{is_inside, is_taken, cell_fault, begins, ends, cells_of, taken_at_start, ended}
+use Rattle.pattern.specs.Lines.{AreGoodAfter}
 use Rattle.pattern.proofs.Added.{no_code, begun_push, ended_push}
 use Rattle.section_text.specs.declared.code.RefusalCode.TheVariants.{TakenCell}
 
@@ -82,9 +83,9 @@ module _ (make : Port → LayoutLine) (taken : List LayoutLine → State)
       ap (λ (n : ℕ). suc n) (own (before ++ make r ∷ []) ports good.2 i j p q ei ej same)
 
 in_free : (s : LayoutHeader) (before : List LayoutLine) (p : Port) → cell_fault s before (In p) ≡ None →
-    begun before p.cell.x p.cell.y ≡ false
+    taken_at_start before p.cell.x p.cell.y ≡ false
 unfolding cell_fault is_taken cells_of begins
-in_free s before p e = one_of (begun before p.cell.x p.cell.y) (not_taken (is_inside s (In p)) _ e)
+in_free s before p e = one_of (taken_at_start before p.cell.x p.cell.y) (not_taken (is_inside s (In p)) _ e)
 
 out_free : (s : LayoutHeader) (before : List LayoutLine) (p : Port) → cell_fault s before (Out p) ≡ None →
     ended before p.cell.x p.cell.y ≡ false
@@ -92,7 +93,7 @@ unfolding cell_fault is_taken cells_of begins
 out_free s before p e = one_of (ended before p.cell.x p.cell.y) (not_taken (is_inside s (Out p)) _ e)
 
 in_more : (before : List LayoutLine) (p : Port) (x y : ℤ) →
-    begun (before ++ In p ∷ []) x y ≡ (begun before x y || (is_at p.cell x y || false))
+    taken_at_start (before ++ In p ∷ []) x y ≡ (taken_at_start before x y || (is_at p.cell x y || false))
 unfolding cells_of begins
 in_more before p x y = begun_push before (In p) x y
 
@@ -116,7 +117,7 @@ module _ (p : Pattern) (good : AreGoodAfter p.size [] (parts_of p)) where
 
   -- no two input cells are one
   pub ins_apart : HaveOwnCells p.ins
-  ins_apart = own In begun in_free in_more p.size (map Out p.outs ++ map Waste p.wastes)
+  ins_apart = own In taken_at_start in_free in_more p.size (map Out p.outs ++ map Waste p.wastes)
       (map Mirror p.mirrors ++ map Ball p.balls) p.ins from_ins
 
   -- no two output cells are one

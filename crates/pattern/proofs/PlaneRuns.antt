@@ -10,7 +10,7 @@ use Rattle.bbm_rule.specs.Board.{Board, live, is_inside, IsStep, Leaves}
 use Rattle.bbm_rule.specs.declared.block.Cell.{Cell}
 use Rattle.bbm_rule.proofs.Boards.{inside_is_span, live_is_inside}
 use Rattle.pattern.specs.declared.layout_line.LayoutHeader.{LayoutHeader}
-use Rattle.pattern.specs.Layout.{Pattern, in_cells, in_layout, start, StaysInside}
+use Rattle.pattern.specs.Layout.{Pattern, in_cells, in_layout, start, IsDeadOutside}
 use Rattle.pattern.specs.Run.{RunsInside, RunLeaves, LeavesAt, EndsWith, live_cells}
 
 pub same_state : {s s' : State} → ((x y : ℤ) → s x y ≡ s' x y) → s ≡ s'
@@ -20,7 +20,7 @@ pub inside_is_layout : (b : Board) (s : LayoutHeader) → b.width ≡ s.w → b.
     is_inside b x y ≡ in_layout s x y
 inside_is_layout b s w h x y = inside_is_span b x y ∙ rw (w, h) refl
 
-pub board_stays : (b : Board) (s : LayoutHeader) → b.width ≡ s.w → b.height ≡ s.h → StaysInside s (live b)
+pub board_stays : (b : Board) (s : LayoutHeader) → b.width ≡ s.w → b.height ≡ s.h → IsDeadOutside s (live b)
 board_stays b s w h = λ x y e. sym (inside_is_layout b s w h x y) ∙ live_is_inside b x y e
 
 -- ---- steps
@@ -39,26 +39,26 @@ stepped first t old new same made x y =
     made x y ∙ ap (λ (s : State). step t s x y) (same_state same) ∙ ap (λ (s : State). s x y) (sym (run_more first t))
 
 pub stays_none : (b : Board) (s : LayoutHeader) → b.width ≡ s.w → b.height ≡ s.h → (k : ℕ) → k ≤ 0 →
-    StaysInside s (run (live b) k)
+    IsDeadOutside s (run (live b) k)
 stays_none b s w h k le =
     let e : k ≡ 0 = omega arith in
-    subst (λ (m : ℕ). StaysInside s (run (live b) m)) (sym e)
-    (subst (StaysInside s) (sym (run_none (live b))) (board_stays b s w h))
+    subst (λ (m : ℕ). IsDeadOutside s (run (live b) m)) (sym e)
+    (subst (IsDeadOutside s) (sym (run_none (live b))) (board_stays b s w h))
 
 pub stays_more : (first : State) (t : ℕ) (new : Board) (s : LayoutHeader) → new.width ≡ s.w → new.height ≡ s.h →
-    ((x y : ℤ) → live new x y ≡ run first (t + 1) x y) → ((k : ℕ) → k ≤ t → StaysInside s (run first k)) → (k : ℕ) →
-    k ≤ t + 1 → StaysInside s (run first k)
+    ((x y : ℤ) → live new x y ≡ run first (t + 1) x y) → ((k : ℕ) → k ≤ t → IsDeadOutside s (run first k)) → (k : ℕ) →
+    k ≤ t + 1 → IsDeadOutside s (run first k)
 stays_more first t new s w h same stays k le =
     elim (cases_lt k (t + 1)) [
       | inl lt ↦ stays k (omega arith)
       | inr ge ↦
           let e : t + 1 ≡ k = omega arith in
-          subst (λ (m : ℕ). StaysInside s (run first m)) e
-          (subst (StaysInside s) (same_state same) (board_stays new s w h))
+          subst (λ (m : ℕ). IsDeadOutside s (run first m)) e
+          (subst (IsDeadOutside s) (same_state same) (board_stays new s w h))
     ]
 
 pub run_leaves : (first : State) (t : ℕ) (old : Board) (s : LayoutHeader) → old.width ≡ s.w → old.height ≡ s.h →
-    t + 1 ≤ s.steps → ((x y : ℤ) → live old x y ≡ run first t x y) → ((k : ℕ) → k ≤ t → StaysInside s (run first k)) →
+    t + 1 ≤ s.steps → ((x y : ℤ) → live old x y ≡ run first t x y) → ((k : ℕ) → k ≤ t → IsDeadOutside s (run first k)) →
     Leaves t old → RunLeaves s first (t + 1)
 run_leaves first t old s w h within same stays leaves = record {
   within = within;
@@ -73,7 +73,7 @@ run_leaves first t old s w h within same stays leaves = record {
 }
 
 pub runs_inside : (first : State) (t : ℕ) (last : Board) (s : LayoutHeader) → t ≡ s.steps →
-    ((x y : ℤ) → live last x y ≡ run first t x y) → ((k : ℕ) → k ≤ t → StaysInside s (run first k)) →
+    ((x y : ℤ) → live last x y ≡ run first t x y) → ((k : ℕ) → k ≤ t → IsDeadOutside s (run first k)) →
     RunsInside s first (live last)
 runs_inside first t last s e same stays = record {
   stays = λ k le. stays k (omega arith);
@@ -101,7 +101,7 @@ pub ends_with : (p : Pattern) (on : List ℕ → Bool) (g g' : Board) (cells : L
 ends_with p on g g' cells same runs e =
     let from : live g ≡ start p on = same_state same in
     record {
-      stays = subst (λ (s : State). (k : ℕ) → k ≤ p.size.steps → StaysInside p.size (run s k)) from runs.stays;
+      stays = subst (λ (s : State). (k : ℕ) → k ≤ p.size.steps → IsDeadOutside p.size (run s k)) from runs.stays;
       cells = e ∙ ap (live_cells p.size) (same_state runs.last)
           ∙ ap (λ (s : State). live_cells p.size (run s p.size.steps)) from;
     }

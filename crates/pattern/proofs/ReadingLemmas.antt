@@ -8,7 +8,8 @@ use Rattle.section_text.specs.declared.ports.PortNames.{PortNames}
 use Rattle.section_text.specs.declared.ports.PortNames.TheVariants.{Any, Only}
 use Rattle.pattern.specs.declared.layout_line.LayoutLine.{LayoutLine}
 use Rattle.section_text.specs.Words.{has}
-use Rattle.pattern.specs.Lines.{is_in, is_out, order_fault, limit_fault, name_fault, line_fault, missing_fault}
+use Rattle.pattern.specs.Lines.{is_in_line_named, is_out_line_named, order_fault, limit_fault, name_fault, line_fault}
+use Rattle.pattern.specs.Lines.{missing_fault}
 use Rattle.section_text.specs.declared.code.RefusalCode.{RefusalCode}
 use Rattle.section_text.specs.declared.code.RefusalCode.TheVariants.{SomethingMissing}
 
@@ -44,15 +45,16 @@ module _ (ports : PortNames) (parts : List LayoutLine) where
   none_missing any = rw any refl
 
   module _ (ins outs : Vec (List ℕ) Global) (seen_ins seen_outs : List (List ℕ)) (only : ports ≡ Only ins outs)
-      (same_ins : (n : List ℕ) → has seen_ins n ≡ list_any (is_in n) parts)
-      (same_outs : (n : List ℕ) → has seen_outs n ≡ list_any (is_out n) parts) where
+      (same_ins : (n : List ℕ) → has seen_ins n ≡ list_any (is_in_line_named n) parts)
+      (same_outs : (n : List ℕ) → has seen_outs n ≡ list_any (is_out_line_named n) parts) where
     all_seen : (list_all (λ n. has seen_ins n) ins.items && list_all (λ n. has seen_outs n) outs.items)
-        ≡ (list_all (λ n. list_any (is_in n) parts) ins.items && list_all (λ n. list_any (is_out n) parts) outs.items)
+        ≡ (list_all (λ n. list_any (is_in_line_named n) parts) ins.items
+        && list_all (λ n. list_any (is_out_line_named n) parts) outs.items)
     all_seen =
         ap (λ b. b && list_all (λ n. has seen_outs n) outs.items)
-        (all_same (λ n. has seen_ins n) (λ n. list_any (is_in n) parts) same_ins ins.items)
-        ∙ ap (λ b. list_all (λ n. list_any (is_in n) parts) ins.items && b)
-        (all_same (λ n. has seen_outs n) (λ n. list_any (is_out n) parts) same_outs outs.items)
+        (all_same (λ n. has seen_ins n) (λ n. list_any (is_in_line_named n) parts) same_ins ins.items)
+        ∙ ap (λ b. list_all (λ n. list_any (is_in_line_named n) parts) ins.items && b)
+        (all_same (λ n. has seen_outs n) (λ n. list_any (is_out_line_named n) parts) same_outs outs.items)
 
     pub missing_by : (b : Bool) →
         (list_all (λ n. has seen_ins n) ins.items && list_all (λ n. has seen_outs n) outs.items) ≡ b →

@@ -14,7 +14,7 @@ use Rattle.pattern.specs.declared.layout_line.LayoutHeader.{LayoutHeader}
 use Rattle.pattern.specs.declared.layout_line.LayoutLine.{LayoutLine}
 use Rattle.pattern.specs.declared.layout_line.LayoutLine.TheVariants.{Mirror, Ball, In, Out, Waste}
 use Rattle.pattern.specs.Layout.{cell, row_cells, rectangle_cells, in_cells, in_layout}
-use Rattle.pattern.specs.Lines.{is_side, size_fault, is_inside, cells_of, begins, ends, begun, ended, is_taken}
+use Rattle.pattern.specs.Lines.{is_side, size_fault, is_inside, cells_of, begins, ends, taken_at_start, ended, is_taken}
 use Rattle.pattern.specs.Lines.{cell_fault}
 use Rattle.pattern.proofs.Added.{no_code, begun_push, ended_push}
 use Rattle.section_text.specs.declared.code.RefusalCode.TheVariants.{PastLimit, TakenCell}
@@ -118,7 +118,7 @@ any_same p q same [] = refl
 any_same p q same (c ∷ cells) = rw (same c, any_same p q same cells) refl
 
 pub taken_by : (one other : Board) (parts : List LayoutLine) (part : LayoutLine) (cells : List Cell) →
-    ((x y : ℤ) → live one x y ≡ begun parts x y) → ((x y : ℤ) → live other x y ≡ ended parts x y) →
+    ((x y : ℤ) → live one x y ≡ taken_at_start parts x y) → ((x y : ℤ) → live other x y ≡ ended parts x y) →
     cells ≡ cells_of part
     → (if begins part then list_any (λ c. live one c.x c.y) cells else list_any (λ c. live other c.x c.y) cells)
     ≡ is_taken parts part
@@ -126,7 +126,7 @@ unfolding is_taken
 taken_by one other parts part cells same_begun same_ended are =
     rw (
       are,
-      any_same (λ c. live one c.x c.y) (λ c. begun parts c.x c.y) (λ c. same_begun c.x c.y) (cells_of part),
+      any_same (λ c. live one c.x c.y) (λ c. taken_at_start parts c.x c.y) (λ c. same_begun c.x c.y) (cells_of part),
       any_same (λ c. live other c.x c.y) (λ c. ended parts c.x c.y) (λ c. same_ended c.x c.y) (cells_of part),
     ) refl
 
@@ -135,9 +135,9 @@ taken_by one other parts part cells same_begun same_ended are =
 module _ (old new : Board) (parts more : List LayoutLine) (part : LayoutLine) (cells : List Cell)
     (are : cells ≡ cells_of part)
     (longer : more ≡ parts ++ part ∷ []) where
-  pub begun_more : ((x y : ℤ) → live old x y ≡ begun parts x y) →
+  pub begun_more : ((x y : ℤ) → live old x y ≡ taken_at_start parts x y) →
       ((x y : ℤ) → live new x y ≡ (live old x y || (begins part && in_cells cells x y))) → (x y : ℤ) →
-      live new x y ≡ begun more x y
+      live new x y ≡ taken_at_start more x y
   begun_more before after x y = after x y ∙ rw (before x y, are, longer, begun_push parts part x y) refl
 
   pub ended_more : ((x y : ℤ) → live old x y ≡ ended parts x y) →

@@ -34,5 +34,5 @@ assign_grammar ins = record {
 }
 
 -- what the section gives: the names that are on
-abbrev pub assign_value : List (List ℕ) → Unit {0} × List (List ℕ)
-assign_value names = (tt, names)
+abbrev pub assign_section : List (List ℕ) → Unit {0} × List (List ℕ)
+assign_section names = (tt, names)

@@ -18,5 +18,5 @@ layout_grammar ports = record {
 }
 
 -- what the section of a layout gives: its first line and the others
-abbrev pub layout_value : Pattern → LayoutHeader × List LayoutLine
-layout_value p = (p.size, parts_of p)
+abbrev pub layout_section : Pattern → LayoutHeader × List LayoutLine
+layout_section p = (p.size, parts_of p)

@@ -61,8 +61,8 @@ abbrev pub plane_at : Pattern → (List ℕ → Bool) → ℕ → State
 plane_at p on t = run (start p on) t
 
 -- no live cell lies outside the layout
-abbrev pub StaysInside : LayoutHeader → State → Type 0
-StaysInside s state = (x y : ℤ) → state x y ≡ true → in_layout s x y ≡ true
+abbrev pub IsDeadOutside : LayoutHeader → State → Type 0
+IsDeadOutside s state = (x y : ℤ) → state x y ≡ true → in_layout s x y ≡ true
 
 -- ---- lists of cells
 

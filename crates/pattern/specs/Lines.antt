@@ -57,9 +57,9 @@ order_fault before part = code_where (is_late before part) OutOfOrder
 -- ---- names; any is good if no names of ports are given
 
 -- whether ports may have any name
-abbrev pub is_any : Option Named → Bool
-is_any None = true
-is_any (Some names) = false
+abbrev pub allows_any_name : Option Named → Bool
+allows_any_name None = true
+allows_any_name (Some names) = false
 
 -- whether an input cell may have the name
 abbrev pub is_in_name : Option Named → List ℕ → Bool
@@ -112,8 +112,8 @@ abbrev pub holds : LayoutLine → State
 holds part x y = list_any (λ c. is_at c x y) (cells_of part)
 
 -- the cells that are taken at the start, and at the end
-unfoldable pub begun : List LayoutLine → State
-begun parts x y = list_any (λ b. begins b && holds b x y) parts
+unfoldable pub taken_at_start : List LayoutLine → State
+taken_at_start parts x y = list_any (λ b. begins b && holds b x y) parts
 
 -- whether one of the lines takes the cell (x, y) at the end
 unfoldable pub ended : List LayoutLine → State
@@ -122,7 +122,7 @@ ended parts x y = list_any (λ b. ends b && holds b x y) parts
 -- one of its cells is taken at the start, if it takes them then, or at the end
 unfoldable pub is_taken : List LayoutLine → LayoutLine → Bool
 is_taken before part =
-    if begins part then list_any (λ c. begun before c.x c.y) (cells_of part)
+    if begins part then list_any (λ c. taken_at_start before c.x c.y) (cells_of part)
     else list_any (λ c. ended before c.x c.y) (cells_of part)
 
 -- the code of a line with a cell outside the layout, or a cell that is taken
@@ -140,21 +140,21 @@ unfoldable pub part_fault : Option Named → LayoutHeader → List LayoutLine �
 part_fault ports s before part = or_else (line_fault ports before part) (cell_fault s before part)
 
 -- each input and each output has a cell
-abbrev pub is_in : List ℕ → LayoutLine → Bool
-is_in n (In p) = bytes_eq n p.name
-is_in n _ = false
+abbrev pub is_in_line_named : List ℕ → LayoutLine → Bool
+is_in_line_named n (In p) = bytes_eq n p.name
+is_in_line_named n _ = false
 
 -- whether the line is an output cell of this name
-abbrev pub is_out : List ℕ → LayoutLine → Bool
-is_out n (Out p) = bytes_eq n p.name
-is_out n _ = false
+abbrev pub is_out_line_named : List ℕ → LayoutLine → Bool
+is_out_line_named n (Out p) = bytes_eq n p.name
+is_out_line_named n _ = false
 
 -- the code of a layout in which an input or an output has no cell
 unfoldable pub missing_fault : Option Named → List LayoutLine → Option RefusalCode
 missing_fault None parts = None
 missing_fault (Some names) parts =
-    code_where (not (list_all (λ n. list_any (is_in n) parts) names.ins
-    && list_all (λ n. list_any (is_out n) parts) names.outs)) SomethingMissing
+    code_where (not (list_all (λ n. list_any (is_in_line_named n) parts) names.ins
+    && list_all (λ n. list_any (is_out_line_named n) parts) names.outs)) SomethingMissing
 
 -- the names of the ports are good, and each input and each output that is asked for has a cell
 pub record AreNamed (ports : Option Named) (parts : List LayoutLine) : Type 0 where

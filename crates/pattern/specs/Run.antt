@@ -6,7 +6,7 @@ use Rattle.bbm_rule.specs.declared.block.Cell.{Cell}
 use Rattle.pattern.specs.declared.layout_line.LayoutHeader.{LayoutHeader}
 use Rattle.pattern.specs.declared.run.RunEnd.{RunEnd}
 use Rattle.pattern.specs.declared.run.RunEnd.TheVariants.{Cells, LeftAt}
-use Rattle.pattern.specs.Layout.{Pattern, StaysInside, in_layout, start, plane_at, rectangle_cells}
+use Rattle.pattern.specs.Layout.{Pattern, IsDeadOutside, in_layout, start, plane_at, rectangle_cells}
 
 -- some live cell lies outside the layout
 pub record GoesOutside (s : LayoutHeader) (state : State) : Type 0 where
@@ -17,13 +17,13 @@ pub record GoesOutside (s : LayoutHeader) (state : State) : Type 0 where
 
 -- the run that begins with `first` stays inside up to the last step, and `final` is its state then
 pub record RunsInside (s : LayoutHeader) (first final : State) : Type 0 where
-  pub stays : (k : ℕ) → k ≤ s.steps → StaysInside s (run first k)
+  pub stays : (k : ℕ) → k ≤ s.steps → IsDeadOutside s (run first k)
   pub last : (x y : ℤ) → final x y ≡ run first s.steps x y
 
 -- in the run that begins with `first`, the step to time k is the first that leaves the layout
 pub record RunLeaves (s : LayoutHeader) (first : State) (k : ℕ) : Type 0 where
   pub within : k ≤ s.steps
-  pub stays : (j : ℕ) → j < k → StaysInside s (run first j)
+  pub stays : (j : ℕ) → j < k → IsDeadOutside s (run first j)
   pub leaves : GoesOutside s (run first k)
 
 -- the cells of the start: the mirrors' row by row, the balls, the input cells whose name is on
@@ -36,7 +36,7 @@ live_cells s state = filter (λ c. state c.x c.y) (rectangle_cells (record { x =
 
 -- the plane stays inside up to the last step, and these are its live cells then
 pub record EndsWith (p : Pattern) (on : List ℕ → Bool) (answer : List Cell) : Type 0 where
-  pub stays : (k : ℕ) → k ≤ p.size.steps → StaysInside p.size (plane_at p on k)
+  pub stays : (k : ℕ) → k ≤ p.size.steps → IsDeadOutside p.size (plane_at p on k)
   pub cells : answer ≡ live_cells p.size (plane_at p on p.size.steps)
 
 -- the step to time k is the first that leaves the layout

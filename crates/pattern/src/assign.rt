@@ -3,9 +3,9 @@ ghost use Rattle.std.specs.Prelude.{◌≡◌, ℕ, true, [], List};
 ghost use Rattle.section_text.specs.Words.{words_of, has};
 ghost use Rattle.section_text.specs.Feeds.{IsLine, line_bytes};
 ghost use Rattle.section_text.specs.Section.{Reads};
-ghost use Rattle.pattern.specs.Assign.{assign_form, assign_grammar, assign_value, on_fault};
+ghost use Rattle.pattern.specs.Assign.{assign_form, assign_grammar, assign_section, on_fault};
 
-use crate::names::index_of;
+use crate::names::name_set;
 use indexmap::IndexSet;
 use section_text::{
     Feed, Form, Line, LineFault, Name, ReadFault, RefusalCode, Section, Seed, is_keyword,
@@ -32,14 +32,14 @@ fn line_form(feed: &Feed, line: &Line) -> Option<Form<(), Name>>
 
 // The names that may be on, and those that are.
 #[derive(Drop)]
-struct Assigning<'a> {
+struct AssignReader<'a> {
     ins: &'a [Name],
     known: IndexSet<Name, Seed>,
     on: IndexSet<Name, Seed>,
     ghost indexed: { (n : List ℕ) → has known.keys n ≡ has ins.now n },
 }
 
-impl<'a> Section for Assigning<'a> {
+impl<'a> Section for AssignReader<'a> {
     type Header = ();
 
     type Item = Name;
@@ -79,11 +79,11 @@ impl<'a> Section for Assigning<'a> {
 fn read_names(
     alloc: Global,
     feed: &mut Feed,
-    reading: &mut Assigning,
+    reading: &mut AssignReader,
 ) -> Result<Vec<Name>, ReadFault>
     requires closed { feed.old.closed ≡ true }
     requires none { reading.old.on.keys ≡ [] }
-    ensures { Reads (assign_grammar reading.old.ins.now) (λ names. assign_value names.items)
+    ensures { Reads (assign_grammar reading.old.ins.now) (λ names. assign_section names.items)
         feed.old feed.new result }
 {
     read_section(feed, reading)?;
@@ -109,13 +109,13 @@ fn read_names(
 /// - 4: the name is on already.
 pub fn read_assign(alloc: Global, feed: &mut Feed, ins: &[Name]) -> Result<Vec<Name>, ReadFault>
     requires { feed.old.closed ≡ true }
-    ensures reads { Reads (assign_grammar ins.now) (λ names. assign_value names.items) feed.old
+    ensures reads { Reads (assign_grammar ins.now) (λ names. assign_section names.items) feed.old
         feed.new result }
 {
-    let Ok(known) = index_of(alloc, feed.seed(), ins) else {
+    let Ok(known) = name_set(alloc, feed.seed(), ins) else {
         return Err(feed.starve());
     };
     let on = IndexSet::with_hasher(alloc, feed.seed());
-    let mut reading = Assigning { ins, known, on };
+    let mut reading = AssignReader { ins, known, on };
     read_names(alloc, feed, &mut reading)
 }

@@ -1,6 +1,6 @@
 //! A layout to which lines are added.
 ghost use Rattle.std.specs.Prelude.{◌≡◌, ◌++◌, [], ◌∷◌, None, OnOk, OnErr, IfOk, IfErr, All, true};
-ghost use Rattle.section_text.specs.Adding.{FaultIs};
+ghost use Rattle.section_text.specs.Adding.{HasRefusalCode};
 ghost use Rattle.bbm_rule.specs.Board.{is_inside as is_on_board};
 ghost use Rattle.pattern.specs.Layout.{parts_of};
 ghost use Rattle.pattern.specs.Lines.{cells_of, cell_fault, is_inside, limit_fault, order_fault, size_fault};
@@ -8,7 +8,7 @@ ghost use Rattle.pattern.specs.Lines.{cells_of, cell_fault, is_inside, limit_fau
 use crate::layout::Layout;
 use crate::layout_line::{LayoutHeader, LayoutLine};
 use crate::rectangle::push_rectangle;
-use crate::taken::{meets_in, take_where};
+use crate::taken::{is_any_taken, take_cells_if};
 use bbm_rule::{Cell, Grid};
 use section_text::{LineFault, RefusalCode};
 use std::alloc::{AllocError, Global};
@@ -18,7 +18,7 @@ use std::marker::Model;
 #[derive(Drop)]
 pub(crate) struct Draft {
     layout: Layout,
-    begun: Grid,
+    taken_at_start: Grid,
     ended: Grid,
 }
 
@@ -59,11 +59,11 @@ impl Draft {
         ensures size { IfOk result (λ draft. draft.size ≡ size) }
         ensures parts { IfOk result (λ draft. parts_of draft ≡ []) }
     {
-        let begun = Grid::new(alloc, size.w, size.h)?;
+        let taken_at_start = Grid::new(alloc, size.w, size.h)?;
         let ended = Grid::new(alloc, size.w, size.h)?;
         Ok(Draft {
             layout: Layout::new(alloc, size),
-            begun,
+            taken_at_start,
             ended,
         })
     }
@@ -74,7 +74,7 @@ impl Draft {
     {
         let Draft {
             layout,
-            begun: _,
+            taken_at_start: _,
             ended: _,
         } = self;
         layout
@@ -93,7 +93,7 @@ impl Draft {
         ensures cells { IfOk result (λ cells. cells.items ≡ cells_of part.now) }
         ensures inside { OnOk result (is_inside self.now.size part.now ≡ true) }
         ensures free { OnOk result (cell_fault self.now.size (parts_of self.now) part.now ≡ None) }
-        ensures fault { IfErr result (λ e. FaultIs e
+        ensures fault { IfErr result (λ e. HasRefusalCode e
             (cell_fault self.now.size (parts_of self.now) part.now)) }
     {
         let size = self.layout.size();
@@ -103,7 +103,7 @@ impl Draft {
         let Ok(cells) = cells_in(alloc, part, size) else {
             return Err(LineFault::Memory);
         };
-        if meets_in(part.begins(), &self.begun, &self.ended, &cells) {
+        if is_any_taken(part.begins(), &self.taken_at_start, &self.ended, &cells) {
             return Err(LineFault::Code(RefusalCode::TakenCell));
         }
         Ok(cells)
@@ -117,7 +117,7 @@ impl Draft {
         ensures size { self.new.size ≡ self.old.size }
         ensures parts { OnOk result (parts_of self.new ≡ parts_of self.old ++ part ∷ []) }
         ensures err { OnErr result (self.new ≡ self.old) }
-        ensures fault { IfErr result (λ e. FaultIs e
+        ensures fault { IfErr result (λ e. HasRefusalCode e
             (cell_fault self.old.size (parts_of self.old) part)) }
     {
         let cells = self.free_cells(alloc, &part)?;
@@ -126,8 +126,8 @@ impl Draft {
         let Ok(()) = self.layout.add(part) else {
             return Err(LineFault::Memory);
         };
-        take_where(begins, &mut self.begun, &cells);
-        take_where(ends, &mut self.ended, &cells);
+        take_cells_if(begins, &mut self.taken_at_start, &cells);
+        take_cells_if(ends, &mut self.ended, &cells);
         Ok(())
     }
 }

@@ -1,6 +1,6 @@
 //! The line forms of the layout section.
 ghost use Rattle.std.specs.Prelude.{◌≡◌, ◌≤◌};
-ghost use Rattle.section_text.specs.Listed.{four_listed, listed};
+ghost use Rattle.section_text.specs.Listed.{four_listed, five_listed};
 ghost use Rattle.section_text.specs.Words.{words_of};
 ghost use Rattle.section_text.specs.Feeds.{IsLine, line_bytes};
 ghost use Rattle.pattern.specs.PortWords.{cell_from_words, port_from_words};
@@ -10,7 +10,7 @@ use crate::layout_line::{LayoutHeader, LayoutLine, Port, Rectangle};
 use bbm_rule::Cell;
 use section_text::{Feed, FiveWords, Form, FourWords, Line, Name, is_keyword, read_number};
 
-fn lone_cell_on(feed: &Feed, line: &Line) -> Option<Cell>
+fn lone_cell_from_line(feed: &Feed, line: &Line) -> Option<Cell>
     requires { IsLine feed.now line.now }
     ensures { result ≡ lone_cell (words_of (line_bytes feed.now line.now)) }
 {
@@ -43,7 +43,7 @@ fn port_of_words(words: &FourWords) -> Option<Port>
     Some(Port { name, cell })
 }
 
-fn port_on(feed: &Feed, line: &Line) -> Option<Port>
+fn port_from_line(feed: &Feed, line: &Line) -> Option<Port>
     requires { IsLine feed.now line.now }
     ensures { result ≡ port_of (words_of (line_bytes feed.now line.now)) }
 {
@@ -55,7 +55,7 @@ fn port_on(feed: &Feed, line: &Line) -> Option<Port>
 
 #[tactic(auto, unfolding(crate::specs::Forms::rectangle_of, crate::specs::Forms::corner_and_sides, section_text::specs::Words::number_at))]
 fn rectangle_of_words(words: &FiveWords) -> Option<Rectangle>
-    ensures { result ≡ rectangle_of (listed words.now) }
+    ensures { result ≡ rectangle_of (five_listed words.now) }
 {
     let x = read_number(words.second)?;
     let y = read_number(words.third)?;
@@ -64,7 +64,7 @@ fn rectangle_of_words(words: &FiveWords) -> Option<Rectangle>
     Some(Rectangle { x, y, w, h })
 }
 
-fn rectangle_on(feed: &Feed, line: &Line) -> Option<Rectangle>
+fn rectangle_from_line(feed: &Feed, line: &Line) -> Option<Rectangle>
     requires { IsLine feed.now line.now }
     ensures { result ≡ rectangle_of (words_of (line_bytes feed.now line.now)) }
 {
@@ -84,7 +84,7 @@ fn size_of_words(words: &FourWords) -> Option<LayoutHeader>
     Some(LayoutHeader { w, h, steps })
 }
 
-fn size_on(feed: &Feed, line: &Line) -> Option<LayoutHeader>
+fn size_from_line(feed: &Feed, line: &Line) -> Option<LayoutHeader>
     requires { IsLine feed.now line.now }
     ensures { result ≡ size_of (words_of (line_bytes feed.now line.now)) }
 {
@@ -102,17 +102,17 @@ pub(crate) fn line_form(feed: &Feed, line: &Line) -> Option<Form<LayoutHeader, L
 {
     let keyword = feed.first_word(line);
     if is_keyword(keyword, b"layout") {
-        Some(Form::Header(size_on(feed, line)?))
+        Some(Form::Header(size_from_line(feed, line)?))
     } else if is_keyword(keyword, b"mirror") {
-        Some(Form::Item(LayoutLine::Mirror(rectangle_on(feed, line)?)))
+        Some(Form::Item(LayoutLine::Mirror(rectangle_from_line(feed, line)?)))
     } else if is_keyword(keyword, b"ball") {
-        Some(Form::Item(LayoutLine::Ball(lone_cell_on(feed, line)?)))
+        Some(Form::Item(LayoutLine::Ball(lone_cell_from_line(feed, line)?)))
     } else if is_keyword(keyword, b"in") {
-        Some(Form::Item(LayoutLine::In(port_on(feed, line)?)))
+        Some(Form::Item(LayoutLine::In(port_from_line(feed, line)?)))
     } else if is_keyword(keyword, b"out") {
-        Some(Form::Item(LayoutLine::Out(port_on(feed, line)?)))
+        Some(Form::Item(LayoutLine::Out(port_from_line(feed, line)?)))
     } else if is_keyword(keyword, b"waste") {
-        Some(Form::Item(LayoutLine::Waste(lone_cell_on(feed, line)?)))
+        Some(Form::Item(LayoutLine::Waste(lone_cell_from_line(feed, line)?)))
     } else if is_keyword(keyword, b"end") {
         feed.lone(line, Form::End)
     } else {

@@ -5,7 +5,7 @@ ghost use Rattle.pattern.specs.Laws.{PrintsWhatIsRead, ReadsWhatIsPrinted};
 ///
 /// The text of a layout that is read is the text of the lines that it is read from. It is read as the same layout
 /// again.
-pub fn one_text()
+pub fn text_round_trips()
     ensures printed { PrintsWhatIsRead }
     ensures read_again { ReadsWhatIsPrinted }
 {}

@@ -36,7 +36,7 @@ pub(crate) fn put_name(index: &mut IndexSet<Name, Seed>, name: Name)
 }
 
 /// Returns the set of the names of a list. It hashes by the seed.
-pub(crate) fn index_of(
+pub(crate) fn name_set(
     alloc: Global,
     seed: Seed,
     names: &[Name],

@@ -2,7 +2,7 @@
 ghost use Rattle.std.specs.Prelude.{◌≡◌, ◌++◌, map, OnOk, IfOk};
 ghost use Rattle.section_text.specs.Words.{has};
 
-use crate::names::index_of;
+use crate::names::name_set;
 use indexmap::IndexSet;
 use section_text::{Name, Seed};
 use std::alloc::{AllocError, Global};
@@ -25,7 +25,7 @@ fn push_bits(
 pub fn are_on(alloc: Global, names: &[Name], on: &[Name]) -> Result<Vec<bool>, AllocError>
     ensures { IfOk result (λ bits. bits.items ≡ map (λ n. has on.now n) names.now) }
 {
-    let on = index_of(alloc, Seed::of_names(on), on)?;
+    let on = name_set(alloc, Seed::of_names(on), on)?;
     let mut bits = Vec::new(alloc);
     push_bits(&mut bits, names, &on)?;
     Ok(bits)

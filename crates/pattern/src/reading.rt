@@ -6,14 +6,14 @@ ghost use Rattle.indexmap.specs.IndexSet.{spare};
 ghost use Rattle.section_text.specs.Section.{Reads};
 ghost use Rattle.section_text.specs.Ports.{named_ports};
 ghost use Rattle.section_text.specs.Words.{has};
-ghost use Rattle.pattern.specs.Lines.{AreNamed, is_any, is_in, is_out, is_in_name, is_out_name, line_fault, missing_fault, name_fault};
-ghost use Rattle.pattern.specs.Grammars.{layout_grammar, layout_value};
+ghost use Rattle.pattern.specs.Lines.{AreNamed, allows_any_name, is_in_line_named, is_out_line_named, is_in_name, is_out_name, line_fault, missing_fault, name_fault};
+ghost use Rattle.pattern.specs.Grammars.{layout_grammar, layout_section};
 
 use crate::draft::Draft;
 use crate::form::line_form;
 use crate::layout::Layout;
 use crate::layout_line::{LayoutHeader, LayoutLine};
-use crate::names::{index_of, put_name};
+use crate::names::{name_set, put_name};
 use indexmap::IndexSet;
 use section_text::{
     Feed, Form, Line, LineFault, Name, PortNames, ReadFault, RefusalCode, Section, Seed,
@@ -48,8 +48,8 @@ impl<'a> Model for Reading<'a> {
     ghost invariant = { IsReading };
 }
 
-fn are_any(ports: &PortNames) -> bool
-    ensures { result ≡ is_any (named_ports ports.now) }
+fn allows_any_name(ports: &PortNames) -> bool
+    ensures { result ≡ allows_any_name (named_ports ports.now) }
 {
     match ports {
         PortNames::Any => true,
@@ -73,8 +73,10 @@ fn has_all(set: &IndexSet<Name, Seed>, names: &[Name]) -> bool
 fn note_port(ins: &mut IndexSet<Name, Seed>, outs: &mut IndexSet<Name, Seed>, part: &LayoutLine)
     requires room_in { 0 < spare ins.old }
     requires room_out { 0 < spare outs.old }
-    ensures ins { (n : List ℕ) → has ins.new.keys n ≡ (has ins.old.keys n || is_in n part.now) }
-    ensures outs { (n : List ℕ) → has outs.new.keys n ≡ (has outs.old.keys n || is_out n part.now) }
+    ensures ins { (n : List ℕ) →
+        has ins.new.keys n ≡ (has ins.old.keys n || is_in_line_named n part.now) }
+    ensures outs { (n : List ℕ) →
+        has outs.new.keys n ≡ (has outs.old.keys n || is_out_line_named n part.now) }
 {
     match part {
         LayoutLine::In(port) => put_name(ins, port.name),
@@ -132,7 +134,7 @@ impl<'a> Reading<'a> {
     fn name_code(&self, part: &LayoutLine) -> Option<RefusalCode>
         ensures { result ≡ name_fault self.now.ports part.now }
     {
-        let any = are_any(self.ports);
+        let any = allows_any_name(self.ports);
         match part {
             LayoutLine::In(port) => {
                 if any || self.known_ins.contains(&port.name) {
@@ -173,16 +175,16 @@ fn known_names(
 ) -> Result<(IndexSet<Name, Seed>, IndexSet<Name, Seed>), AllocError>
     ensures ins { IfOk result (λ known. (n : List ℕ) →
         is_in_name (named_ports ports.now) n
-        ≡ (is_any (named_ports ports.now) || has known.0.keys n)) }
+        ≡ (allows_any_name (named_ports ports.now) || has known.0.keys n)) }
     ensures outs { IfOk result (λ known. (n : List ℕ) →
         is_out_name (named_ports ports.now) n
-        ≡ (is_any (named_ports ports.now) || has known.1.keys n)) }
+        ≡ (allows_any_name (named_ports ports.now) || has known.1.keys n)) }
 {
     match ports {
-        PortNames::Any => Ok((index_of(alloc, seed, &[])?, index_of(alloc, seed, &[])?)),
+        PortNames::Any => Ok((name_set(alloc, seed, &[])?, name_set(alloc, seed, &[])?)),
         PortNames::Only { ins, outs } => {
-            let ins = index_of(alloc, seed, ins)?;
-            let outs = index_of(alloc, seed, outs)?;
+            let ins = name_set(alloc, seed, ins)?;
+            let outs = name_set(alloc, seed, outs)?;
             Ok((ins, outs))
         }
     }
@@ -219,7 +221,7 @@ impl<'a> Section for Reading<'a> {
         if let Some(code) = self.line_code(&part) {
             return Err(LineFault::Code(code));
         }
-        if are_any(self.ports) {
+        if allows_any_name(self.ports) {
             return self.draft.add(self.alloc, part);
         }
         if self.seen_ins.reserve(1).is_err() || self.seen_outs.reserve(1).is_err() {
@@ -265,7 +267,7 @@ impl<'a> Section for Reading<'a> {
 /// - 7: a cell is outside the layout, or is taken.
 pub fn read_layout(alloc: Global, feed: &mut Feed, ports: &PortNames) -> Result<Layout, ReadFault>
     requires { feed.old.closed ≡ true }
-    ensures reads { Reads (layout_grammar (named_ports ports.now)) layout_value feed.old feed.new
+    ensures reads { Reads (layout_grammar (named_ports ports.now)) layout_section feed.old feed.new
         result }
     ensures names { IfOk result (λ l. AreNamed (named_ports ports.now) (parts_of l)) }
 {

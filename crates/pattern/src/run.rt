@@ -8,7 +8,7 @@ ghost use Rattle.pattern.specs.Run.{IsRunEnd, RunLeaves, RunsInside, live_cells,
 
 use crate::layout::Layout;
 use crate::layout_line::{LayoutHeader, Port, Rectangle};
-use crate::names::index_of;
+use crate::names::name_set;
 use crate::rectangle::push_rectangle;
 use crate::taken::make_live;
 use bbm_rule::{Cell, Grid};
@@ -35,7 +35,7 @@ fn push_mirrors(out: &mut Vec<Cell>, mirrors: &[Rectangle]) -> Result<(), AllocE
     Ok(())
 }
 
-fn push_ports_in(
+fn push_cells_of_ports_on(
     out: &mut Vec<Cell>,
     ports: &[Port],
     on: &IndexSet<Name, Seed>,
@@ -61,8 +61,8 @@ fn push_ports_on(
     ensures { OnOk result (out.new.items
         ≡ out.old.items ++ map (λ q. q.cell) (filter (λ q. has on.now q.name) ports.now)) }
 {
-    let on = index_of(alloc, Seed::of_names(on), on)?;
-    push_ports_in(out, ports, &on)
+    let on = name_set(alloc, Seed::of_names(on), on)?;
+    push_cells_of_ports_on(out, ports, &on)
 }
 
 /// Returns the cells that are live at the start if the names `on` are on.

@@ -59,7 +59,7 @@ pub fn fill_rectangle(grid: &mut Grid, r: Rectangle)
 }
 
 /// Returns whether one of the cells is taken: in the first grid if `first` is true, else in the second.
-pub(crate) fn meets_in(first: bool, one: &Grid, other: &Grid, cells: &[Cell]) -> bool
+pub(crate) fn is_any_taken(first: bool, one: &Grid, other: &Grid, cells: &[Cell]) -> bool
     requires one { All (λ c. is_inside one.now c.x c.y ≡ true) cells.now }
     requires other { All (λ c. is_inside other.now c.x c.y ≡ true) cells.now }
     ensures { result
@@ -74,7 +74,7 @@ pub(crate) fn meets_in(first: bool, one: &Grid, other: &Grid, cells: &[Cell]) ->
 }
 
 /// Takes the cells if `takes` is true.
-pub(crate) fn take_where(takes: bool, grid: &mut Grid, cells: &[Cell])
+pub(crate) fn take_cells_if(takes: bool, grid: &mut Grid, cells: &[Cell])
     requires { All (λ c. is_inside grid.old c.x c.y ≡ true) cells.now }
     ensures taken { (x y : ℤ) →
         live grid.new x y ≡ (live grid.old x y || (takes && in_cells cells.now x y)) }

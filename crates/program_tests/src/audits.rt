@@ -144,7 +144,7 @@ pub(crate) fn audited<T: Abort + Threads + Wait + Sync, G: Gate + Sync>(
 }
 
 /// Returns how the numbers of the findings end.
-fn end_of(hold: Hold) -> &'static [usize] {
+fn past_last(hold: Hold) -> &'static [usize] {
     match hold {
         Hold::FirstTwo => &[4],
         Hold::Reverse => &[3, 2, 1, 0, 4],
@@ -166,7 +166,7 @@ fn an_audit_files_in_the_order_of_the_gate(rt: HostRuntime) {
         assert!(rt; !memory && state.is_closed());
         assert!(rt; state.accepted() == 4 && state.history().len() == 5);
         let numbers = numbers_of(state.history());
-        assert!(rt; numbers.ends_with(end_of(hold)), "{numbers:?}");
+        assert!(rt; numbers.ends_with(past_last(hold)), "{numbers:?}");
         assert!(rt; gate.was_kept());
     }
 }

@@ -19,7 +19,7 @@ use Rattle.local_run.specs.declared.fault.KeepFault.{KeepFault}
 use Rattle.local_run.specs.declared.fault.Kind.{Kind}
 use Rattle.local_run.specs.declared.fault.Kind.TheVariants.{Edge, Stop, End}
 use Rattle.border_match.specs.declared.fault.BorderFault.{BorderFault}
-use Rattle.core_book.specs.Verdicts.{timing}
+use Rattle.core_book.specs.Verdicts.{timing_report}
 use Rattle.core_book.specs.declared.verdict.ReportLine.{ReportLine}
 use Rattle.core_book.specs.declared.verdict.ReportLine.TheVariants.{Local, Keep, Border, Unkept, Delay, Meet}
 use Rattle.core_book.specs.declared.verdict.Verdict.{Verdict}
@@ -60,18 +60,19 @@ abbrev pub keep_words : KeepFault → List (List ℕ)
 keep_words f = decimal f.gate ∷ decimal f.assignment ∷ []
 
 -- the line for a fault of a module, for a gate that no module keeps, or for what stops say of a gate
-abbrev pub fault_line : ReportLine → List ℕ
-fault_line (Local m f) = line_text (codes "local") (decimal m ∷ fault_words f)
-fault_line (Keep m f) = line_text (codes "keep") (decimal m ∷ keep_words f)
-fault_line (Border m f) = line_text (codes "border") (decimal m ∷ border_words f)
-fault_line (Unkept gate) = line_text (codes "unkept") (decimal gate ∷ [])
-fault_line (Delay k n gap) = line_text (codes "delay") (decimal k ∷ decimal n ∷ gap_word gap ∷ [])
-fault_line (Meet k at) = line_text (codes "meet") (decimal k ∷ meet_word at ∷ [])
+abbrev pub report_line_text : ReportLine → List ℕ
+report_line_text (Local m f) = line_text (codes "local") (decimal m ∷ fault_words f)
+report_line_text (Keep m f) = line_text (codes "keep") (decimal m ∷ keep_words f)
+report_line_text (Border m f) = line_text (codes "border") (decimal m ∷ border_words f)
+report_line_text (Unkept gate) = line_text (codes "unkept") (decimal gate ∷ [])
+report_line_text (Delay k n gap) = line_text (codes "delay") (decimal k ∷ decimal n ∷ gap_word gap ∷ [])
+report_line_text (Meet k at) = line_text (codes "meet") (decimal k ∷ meet_word at ∷ [])
 
 -- `yes` and then these lines of delays and meetings, or `no` and then the lines of the verdict
 abbrev pub verdict_lines : List TimeLine → Verdict → List ℕ
-verdict_lines times Yes = line_text (codes "verdict") (codes "yes" ∷ []) ++ flat_map (λ t. fault_line (timing t)) times
-verdict_lines times (No lines) = line_text (codes "verdict") (codes "no" ∷ []) ++ flat_map fault_line lines.items
+verdict_lines times Yes = line_text (codes "verdict") (codes "yes" ∷ [])
+    ++ flat_map (λ t. report_line_text (timing_report t)) times
+verdict_lines times (No lines) = line_text (codes "verdict") (codes "no" ∷ []) ++ flat_map report_line_text lines.items
 
 -- before the verdict: the version of reports, the certificate's digest in lower case, and how many modules it has
 abbrev pub opening_lines : List ℕ → ℕ → List ℕ

@@ -7,4 +7,4 @@
 
 mod printing;
 
-pub use printing::{refusal_text, report_text, report_under};
+pub use printing::{refusal_text, report_text, report_with_digest};

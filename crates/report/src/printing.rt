@@ -4,12 +4,12 @@ ghost use Rattle.std.specs.List.{flat_map};
 ghost use Rattle.std.specs.String.{string_bytes};
 ghost use Rattle.sha2.specs.Sha256.{sha256};
 ghost use Rattle.core_book.specs.declared.verdict.ReportLine.TheVariants.{Border, Delay, Keep, Local, Meet, Unkept};
-ghost use Rattle.core_book.specs.Verdicts.{timing};
+ghost use Rattle.core_book.specs.Verdicts.{timing_report};
 ghost use Rattle.certificate.specs.Text.{certificate_text};
 ghost use Rattle.certificate.specs.Times.{time_lines};
 ghost use Rattle.certificate.specs.Grammars.{modules_in};
 ghost use Rattle.circuit.specs.Bridge.{circuit_of};
-ghost use Rattle.report.specs.ReportText.{fault_line, fault_kind_word, opening_lines, refusal_line, report_lines, verdict_lines};
+ghost use Rattle.report.specs.ReportText.{report_line_text, fault_kind_word, opening_lines, refusal_line, report_lines, verdict_lines};
 
 use border_match::BorderFault;
 use certificate::{Cert, StopGap, TimeLine};
@@ -36,12 +36,12 @@ pub fn report_text(alloc: Global, cert: &Cert<'_>, verdict: &Verdict) -> Result<
     ensures { IfOk result (λ text. text.items ≡ report_lines cert.now verdict.now) }
 {
     let digest = cert.digest(alloc)?;
-    report_under(alloc, cert, digest, verdict)
+    report_with_digest(alloc, cert, digest, verdict)
 }
 
 /// Returns the same report for a caller that has the certificate's digest already, by [`Cert::digest`].
 #[tactic(auto, unfolding(crate::specs::ReportText::report_lines))]
-pub fn report_under(
+pub fn report_with_digest(
     alloc: Global,
     cert: &Cert<'_>,
     digest: [u8; 32],
@@ -88,7 +88,7 @@ fn print_verdict(
 }
 
 fn print_lines(alloc: Global, text: &mut Vec<u8>, lines: &[ReportLine]) -> Result<(), AllocError>
-    ensures { OnOk result (text.new.items ≡ text.old.items ++ flat_map fault_line lines.now) }
+    ensures { OnOk result (text.new.items ≡ text.old.items ++ flat_map report_line_text lines.now) }
 {
     for line in lines {
         print_line(alloc, text, *line)?;
@@ -98,7 +98,7 @@ fn print_lines(alloc: Global, text: &mut Vec<u8>, lines: &[ReportLine]) -> Resul
 
 fn print_times(alloc: Global, text: &mut Vec<u8>, times: &[TimeLine]) -> Result<(), AllocError>
     ensures { OnOk result (text.new.items
-        ≡ text.old.items ++ flat_map (λ t. fault_line (timing t)) times.now) }
+        ≡ text.old.items ++ flat_map (λ t. report_line_text (timing_report t)) times.now) }
 {
     for line in times {
         print_time(alloc, text, *line)?;
@@ -107,7 +107,8 @@ fn print_times(alloc: Global, text: &mut Vec<u8>, times: &[TimeLine]) -> Result<
 }
 
 fn print_time(alloc: Global, text: &mut Vec<u8>, line: TimeLine) -> Result<(), AllocError>
-    ensures { OnOk result (text.new.items ≡ text.old.items ++ fault_line (timing line)) }
+    ensures { OnOk result (text.new.items
+        ≡ text.old.items ++ report_line_text (timing_report line)) }
 {
     match line {
         TimeLine::Delay { gate, wanted, gap } => {
@@ -118,7 +119,7 @@ fn print_time(alloc: Global, text: &mut Vec<u8>, line: TimeLine) -> Result<(), A
 }
 
 fn print_line(alloc: Global, text: &mut Vec<u8>, line: ReportLine) -> Result<(), AllocError>
-    ensures { OnOk result (text.new.items ≡ text.old.items ++ fault_line line) }
+    ensures { OnOk result (text.new.items ≡ text.old.items ++ report_line_text line) }
 {
     let printed = match line {
         ReportLine::Local { module, fault } => local_line(alloc, module, fault)?,
@@ -133,7 +134,7 @@ fn print_line(alloc: Global, text: &mut Vec<u8>, line: ReportLine) -> Result<(),
 }
 
 fn local_line(alloc: Global, number: usize, fault: Fault) -> Result<String, AllocError>
-    ensures { IfOk result (λ line. string_bytes line ≡ fault_line (Local number fault)) }
+    ensures { IfOk result (λ line. string_bytes line ≡ report_line_text (Local number fault)) }
 {
     let kind = fault_kind_word(fault.kind);
     let line = format!(in alloc;
@@ -144,21 +145,21 @@ fn local_line(alloc: Global, number: usize, fault: Fault) -> Result<String, Allo
 }
 
 fn keep_line(alloc: Global, number: usize, fault: KeepFault) -> Result<String, AllocError>
-    ensures { IfOk result (λ line. string_bytes line ≡ fault_line (Keep number fault)) }
+    ensures { IfOk result (λ line. string_bytes line ≡ report_line_text (Keep number fault)) }
 {
     let line = format!(in alloc; "keep {number} {} {}\n", fault.gate, fault.assignment)?;
     Ok(line)
 }
 
 fn unkept_line(alloc: Global, gate: usize) -> Result<String, AllocError>
-    ensures { IfOk result (λ line. string_bytes line ≡ fault_line (Unkept gate)) }
+    ensures { IfOk result (λ line. string_bytes line ≡ report_line_text (Unkept gate)) }
 {
     let line = format!(in alloc; "unkept {gate}\n")?;
     Ok(line)
 }
 
 fn border_line(alloc: Global, number: usize, fault: BorderFault) -> Result<String, AllocError>
-    ensures { IfOk result (λ line. string_bytes line ≡ fault_line (Border number fault)) }
+    ensures { IfOk result (λ line. string_bytes line ≡ report_line_text (Border number fault)) }
 {
     let line = format!(in alloc;
         "border {number} {} {} {}\n",
@@ -168,7 +169,7 @@ fn border_line(alloc: Global, number: usize, fault: BorderFault) -> Result<Strin
 }
 
 fn delay_line(alloc: Global, number: usize, wanted: u32, gap: StopGap) -> Result<String, AllocError>
-    ensures { IfOk result (λ line. string_bytes line ≡ fault_line (Delay number wanted gap)) }
+    ensures { IfOk result (λ line. string_bytes line ≡ report_line_text (Delay number wanted gap)) }
 {
     let line = match gap {
         StopGap::Steps(steps) => format!(in alloc; "delay {number} {wanted} {steps}\n")?,
@@ -179,7 +180,7 @@ fn delay_line(alloc: Global, number: usize, wanted: u32, gap: StopGap) -> Result
 }
 
 fn meet_line(alloc: Global, number: usize, at: Option<u32>) -> Result<String, AllocError>
-    ensures { IfOk result (λ line. string_bytes line ≡ fault_line (Meet number at)) }
+    ensures { IfOk result (λ line. string_bytes line ≡ report_line_text (Meet number at)) }
 {
     let line = match at {
         Some(time) => format!(in alloc; "meet {number} {time}\n")?,

@@ -8,7 +8,7 @@ use Rattle.section_text.specs.declared.section.Form.TheVariants.{Header, Item, E
 use Rattle.section_text.specs.declared.fault.Refusal.{Refusal}
 use Rattle.section_text.specs.declared.fault.ReadFault.{ReadFault}
 use Rattle.section_text.specs.Feeds.{FeedView, ahead}
-use Rattle.section_text.specs.Section.{Grammar, unless, line_after, header_line, section_of, body_of, Reads}
+use Rattle.section_text.specs.Section.{Grammar, unless, result_after_line, header_line, section_of, body_of, Reads}
 use Rattle.section_text.specs.declared.code.RefusalCode.{RefusalCode}
 
 module _ {H I : Type 0} (g : Grammar H I) where
@@ -40,7 +40,7 @@ module _ {H I : Type 0} (g : Grammar H I) where
 
   line_faultless : (ls : List (List ℕ)) (h : H) (before : List I) (n : ℕ) (h' : H) (rows : List I)
       (o : Option (Form H I))
-      → line_after g h before n (λ i. body_of g h (before ++ i ∷ []) (n + 1) ls) o ≡ Ok (h', rows)
+      → result_after_line g h before n (λ i. body_of g h (before ++ i ∷ []) (n + 1) ls) o ≡ Ok (h', rows)
       → ((i : I) → body_of g h (before ++ i ∷ []) (n + 1) ls ≡ Ok (h', rows) →
       BodyFaultless h (before ++ i ∷ []) h' rows) → BodyFaultless h before h' rows
   line_faultless ls h before n h' rows None e rec = absurd cc

@@ -9,8 +9,8 @@ use Rattle.section_text.specs.Feeds.{FeedView, ahead}
 use Rattle.section_text.specs.declared.fault.Refusal.{Refusal}
 use Rattle.section_text.specs.declared.fault.ReadFault.{ReadFault}
 use Rattle.section_text.specs.declared.fault.ReadFault.TheVariants.{Refused, Memory}
-use Rattle.section_text.specs.Section.{Grammar, section_of, refused_at, Reads, Fails}
-use Rattle.section_text.specs.Sections.{go_on, section_then, finished}
+use Rattle.section_text.specs.Section.{Grammar, section_of, refused_at, Reads, FailsAsReading}
+use Rattle.section_text.specs.Sections.{go_on, section_then, value_at_end}
 use Rattle.section_text.specs.declared.code.RefusalCode.TheVariants.{TextCut}
 
 module _ {H I A B : Type 0} (g : Grammar H I) (view : A → H × List I) (old new : FeedView) (going : old.stop ≡ None)
@@ -40,34 +40,35 @@ module _ {H I A B : Type 0} (g : Grammar H I) (view : A → H × List I) (old ne
   still_closed a reads = ap (λ (f : FeedView). f.closed) ((reads.reads going).after)
 
   -- the section was not read: the fault is that of all
-  fails_first : (fault : ReadFault) → Fails fault (section_of g old.taken (ahead old)) →
-      Fails fault (section_then g old.taken (ahead old) next)
+  fails_first : (fault : ReadFault) → FailsAsReading fault (section_of g old.taken (ahead old)) →
+      FailsAsReading fault (section_then g old.taken (ahead old) next)
   fails_first Memory e = tt
   fails_first (Refused r) e = ap
       (λ (k : Result (H × List I) Refusal).
       go_on k (λ h items. next h items (old.taken + (length items + 2)) (drop (length items + 2) (ahead old)))) e
 
   pub section_failed : (fault : ReadFault) → Reads g view old new (Err fault) →
-      Fails fault (section_then g old.taken (ahead old) next)
+      FailsAsReading fault (section_then g old.taken (ahead old) next)
   section_failed fault reads = fails_first fault ((reads.reads going).gives)
 
 -- a fault of what comes later
-pub fails_along : {B : Type 0} (fault : ReadFault) (early late : Result B Refusal) → early ≡ late → Fails fault late →
-    Fails fault early
-fails_along fault early late e fails = subst (Fails fault) (sym e) fails
+pub fails_along : {B : Type 0} (fault : ReadFault) (early late : Result B Refusal) → early ≡ late →
+    FailsAsReading fault late →
+    FailsAsReading fault early
+fails_along fault early late e fails = subst (FailsAsReading fault) (sym e) fails
 
 -- ---- the end of the text
 
 pub at_the_end : {B : Type 0} (n : ℕ) (ls : List (List ℕ)) (rest : List ℕ) (value : B) → ls ≡ [] → rest ≡ [] →
-    finished n ls rest value ≡ Ok value
+    value_at_end n ls rest value ≡ Ok value
 at_the_end n ls rest value none nothing = rw (none, nothing) refl
 
 pub goes_on : {B : Type 0} (n : ℕ) (ls : List (List ℕ)) (rest : List ℕ) (value : B) → (ls ≡ [] → rest ≢ []) →
-    finished n ls rest value ≡ refused_at n TextCut
+    value_at_end n ls rest value ≡ refused_at n TextCut
 goes_on n [] [] value more = absurd (more refl refl)
 goes_on n [] (b ∷ rest) value more = refl
 goes_on n (l ∷ ls) rest value more = refl
 
 pub more_fails : {B : Type 0} (n : ℕ) (ls : List (List ℕ)) (rest : List ℕ) (value : B) (fault : ReadFault) →
-    (ls ≡ [] → rest ≢ []) → fault ≡ refusal (n + 1) TextCut → Fails fault (finished n ls rest value)
+    (ls ≡ [] → rest ≢ []) → fault ≡ refusal (n + 1) TextCut → FailsAsReading fault (value_at_end n ls rest value)
 more_fails n ls rest value fault more is = rw is (goes_on n ls rest value more)

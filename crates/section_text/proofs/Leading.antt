@@ -10,7 +10,7 @@ use Rattle.std.proofs.lemmas.List.Folds.{list_all-append}
 use Rattle.std.proofs.lemmas.List.Splits.{slice_split-cons_no, slice_split-cons_yes}
 use Rattle.std.proofs.Math.ListN.{drop_of_length-le}
 use Rattle.section_text.specs.Leading.{leading_number}
-use Rattle.section_text.specs.Words.{is_digit, is_number, is_space, number_of, read_on, words_of, ◌>>=◌}
+use Rattle.section_text.specs.Words.{is_digit, is_number, is_space, number_of, append_digits, words_of, ◌>>=◌}
 use Rattle.section_text.proofs.Numbers.{is_one}
 use Rattle.section_text.proofs.Splitting.{some_words}
 
@@ -99,22 +99,22 @@ unfolding leading_number
 not_leading w [] e = refl
 not_leading w (v ∷ ws) e = sym (ap (λ o. o >>= λ n. Some (n, v ∷ ws)) (no_number w e))
 
-a_number : (w : List ℕ) → is_number w ≡ true → number_of w ≡ Some (read_on 0 w)
+a_number : (w : List ℕ) → is_number w ≡ true → number_of w ≡ Some (append_digits 0 w)
 unfolding number_of
 a_number w e = cond-true _ _ _ e
 
 leading_is : (w v : List ℕ) (ws : List (List ℕ)) → is_number w ≡ true →
-    Some (read_on 0 w, v ∷ ws) ≡ leading_number (w ∷ v ∷ ws)
+    Some (append_digits 0 w, v ∷ ws) ≡ leading_number (w ∷ v ∷ ws)
 unfolding leading_number
 leading_is w v ws e = sym (ap (λ o. o >>= λ n. Some (n, v ∷ ws)) (a_number w e))
 
 is_leading : (w line : List ℕ) → is_number w ≡ true →
-    Some (read_on 0 w, words_of line) ≡ leading_number (w ∷ words_of line)
+    Some (append_digits 0 w, words_of line) ≡ leading_number (w ∷ words_of line)
 is_leading w line e =
     let first = first_of (words_of line) (some_words line) in
-    subst (λ ws. Some (read_on 0 w, ws) ≡ leading_number (w ∷ ws)) (sym first.2) (leading_is w first.0 first.1 e)
+    subst (λ ws. Some (append_digits 0 w, ws) ≡ leading_number (w ∷ ws)) (sym first.2) (leading_is w first.0 first.1 e)
 
-read_one_more : (n : ℕ) (ds : List ℕ) (b : ℕ) → read_on n (ds ++ b ∷ []) ≡ 10 * read_on n ds + (b - 48)
+read_one_more : (n : ℕ) (ds : List ℕ) (b : ℕ) → append_digits n (ds ++ b ∷ []) ≡ 10 * append_digits n ds + (b - 48)
 read_one_more n [] b = refl
 read_one_more n (d ∷ ds) b = read_one_more (10 * n + (d - 48)) ds b
 
@@ -169,7 +169,7 @@ unfolding leading_number
 last w = refl
 
 reads_is : (ds line : List ℕ) → IsBegin ds →
-    reads (read_on 0 ds) (length ds) line ≡ leading_number (words_of (ds ++ line))
+    reads (append_digits 0 ds) (length ds) line ≡ leading_number (words_of (ds ++ line))
 unfolding reads
 reads_is ds [] begin = sym (ap leading_number (put_before ds [] [] [] begin.digits refl) ∙ last (ds ++ []))
 reads_is ds (b ∷ line) begin = elim (cases_Bool (is_digit b)) [
@@ -178,7 +178,7 @@ reads_is ds (b ∷ line) begin = elim (cases_Bool (is_digit b)) [
         let more = ds ++ b ∷ [] in
         cond-true _ _ _ few
         ∙ ap (λ n. reads n (length ds + 1) line) (sym (read_one_more 0 ds b))
-        ∙ ap (λ k. reads (read_on 0 more) k line) (sym (length-append ds (b ∷ [])))
+        ∙ ap (λ k. reads (append_digits 0 more) k line) (sym (length-append ds (b ∷ [])))
         ∙ reads_is more line (one_more ds b begin (grind (arith, nat_tests, few)) digit)
         ∙ ap (λ l. leading_number (words_of l)) (append_assoc ds (b ∷ []) line)
     | inr full ↦

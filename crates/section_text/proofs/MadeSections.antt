@@ -3,7 +3,7 @@ use Rattle.std.proofs.Common.{◌≡◌, ℕ, ◌+◌, List, [], ◌∷◌, ◌+
 use Rattle.std.proofs.Common.{◌∙◌, append_assoc}
 use Rattle.std.specs.List.{flat_map}
 use Rattle.std.proofs.lemmas.List.{append-nil, append_cancel_left}
-use Rattle.section_text.specs.Words.{words_of, rest_of}
+use Rattle.section_text.specs.Words.{words_of, bytes_after_lines}
 use Rattle.section_text.specs.SaidSection.{IsSection}
 use Rattle.section_text.specs.Section.{Grammar, section_of, body_of, ended_line}
 use Rattle.section_text.specs.declared.section.Form.{Form}
@@ -107,9 +107,9 @@ clean_both [] ks here there = there
 clean_both (l ∷ ls) ks here there = (here.0, clean_both ls ks here.1 there)
 
 -- no byte follows the lines of a text that is made of them
-pub nothing_follows : (ls : List (List ℕ)) → AreLines ls → rest_of (flat_map ended_line ls) ≡ []
+pub nothing_follows : (ls : List (List ℕ)) → AreLines ls → bytes_after_lines (flat_map ended_line ls) ≡ []
 nothing_follows ls clean =
     let text = flat_map ended_line ls in
-    append_cancel_left text (rest_of text) []
-    (ap (λ ks. flat_map ended_line ks ++ rest_of text) (sym (lines_again ls clean)) ∙ whole_text text
+    append_cancel_left text (bytes_after_lines text) []
+    (ap (λ ks. flat_map ended_line ks ++ bytes_after_lines text) (sym (lines_again ls clean)) ∙ whole_text text
     ∙ sym (append-nil text))

@@ -10,10 +10,10 @@ use Rattle.std.proofs.lemmas.Bool.Decides.{nat_tests}
 use Rattle.std.proofs.lemmas.Str.Parse.{IsNumeralModel, numerals_by_fold, digits_value_short}
 use Rattle.std.proofs.lemmas.Fmt.{decimal-digits_value, digits_decimal, digits_value-decimal, decimal_digit}
 use Rattle.std.proofs.lemmas.Fmt.{decimal_nonempty, first_decimal, length-decimal-le}
-use Rattle.section_text.specs.Words.{is_digit, is_number, read_on, number_of}
+use Rattle.section_text.specs.Words.{is_digit, is_number, append_digits, number_of}
 
-own : IsNumeralModel (λ ds. list_all is_digit ds ≡ true) (read_on 0)
-own = numerals_by_fold _ (search rules) read_on (search rules)
+own : IsNumeralModel (λ ds. list_all is_digit ds ≡ true) (append_digits 0)
+own = numerals_by_fold _ (search rules) append_digits (search rules)
 
 -- what a word that is a number looks like
 record NumberWord (w : List ℕ) : Type 0 where
@@ -34,14 +34,15 @@ number_word (b ∷ bs) e = record {
 pub number_spelled : (w : List ℕ) (n : ℕ) → number_of w ≡ Some n → (w ≡ decimal n) × (n < 10 ^ 9)
 unfolding number_of
 number_spelled w n e =
-    let found = cond_some (is_number w) (read_on 0 w) n e in
+    let found = cond_some (is_number w) (append_digits 0 w) n e in
     let word = number_word w found.0 in
-    let small : read_on 0 w < 10 ^ 9 = digits_value_short own w 9 word.digits word.few in
-    let back : decimal (read_on 0 w) ≡ w = decimal-digits_value own w word.digits word.some word.plain (omega arith) in
+    let small : append_digits 0 w < 10 ^ 9 = digits_value_short own w 9 word.digits word.few in
+    let back : decimal (append_digits 0 w) ≡ w =
+    decimal-digits_value own w word.digits word.some word.plain (omega arith) in
     (sym back ∙ ap decimal found.1, omega (arith, found.1))
 
 -- such a number has at most nine digits
-pub number_small : (w : List ℕ) → is_number w ≡ true → read_on 0 w < 10 ^ 9
+pub number_small : (w : List ℕ) → is_number w ≡ true → append_digits 0 w < 10 ^ 9
 number_small w e = let word = number_word w e in digits_value_short own w 9 word.digits word.few
 
 -- a number of at most nine digits can be written
@@ -62,14 +63,14 @@ number_written n small =
     let is : is_number (decimal n) ≡ true =
     is_one (decimal n) (digits_decimal own n wide) (decimal_nonempty n wide)
     (length-decimal-le 9 n (omega arith) small wide) (first_digit n small) in
-    let value : read_on 0 (decimal n) ≡ n = digits_value-decimal own n wide in
+    let value : append_digits 0 (decimal n) ≡ n = digits_value-decimal own n wide in
     rw is (ap Some value)
 
 -- ---- reading one
 
 -- digits that were read are the number, if a word of digits is one
 pub number_read : (w : List ℕ) (o : Option ℕ) → list_all is_digit w ≡ is_number w →
-    IfSome o (λ n. (list_all is_digit w ≡ true) × (n ≡ read_on 0 w)) → IfNone o (list_all is_digit w ≡ false) →
+    IfSome o (λ n. (list_all is_digit w ≡ true) × (n ≡ append_digits 0 w)) → IfNone o (list_all is_digit w ≡ false) →
     o ≡ number_of w
 unfolding number_of
 number_read w None same some none = sym (cond-false _ _ _ (sym same ∙ none))
@@ -84,7 +85,7 @@ not_read w r may fails = elim (cases_Bool (is_number w)) [
 
 -- a number has at most nine digits
 pub read_small : (w : List ℕ) (o : Option ℕ) → list_all is_digit w ≡ is_number w →
-    IfSome o (λ n. (list_all is_digit w ≡ true) × (n ≡ read_on 0 w)) → IfSome o (λ n. n < 10 ^ 9)
+    IfSome o (λ n. (list_all is_digit w ≡ true) × (n ≡ append_digits 0 w)) → IfSome o (λ n. n < 10 ^ 9)
 read_small w None same some = some
 read_small w (Some n) same some =
     let small = number_small w (sym same ∙ some.0) in

@@ -5,7 +5,7 @@ use Rattle.std.proofs.lemmas.List.{append-nil, length-map, map-append}
 use Rattle.std.proofs.Math.Seq.{drop-append_seam}
 use Rattle.section_text.specs.Words.{words_of}
 use Rattle.section_text.specs.SaidSection.{IsSection}
-use Rattle.section_text.specs.Section.{Grammar, unless, line_after, header_line, section_of, body_of}
+use Rattle.section_text.specs.Section.{Grammar, unless, result_after_line, header_line, section_of, body_of}
 use Rattle.section_text.specs.declared.section.Form.{Form}
 use Rattle.section_text.specs.declared.section.Form.TheVariants.{Header, Item, End}
 use Rattle.section_text.specs.declared.fault.Refusal.{Refusal}
@@ -40,7 +40,7 @@ module _ {H I : Type 0} (g : Grammar H I) where
 
   line_said : (l : List ℕ) (ls : List (List ℕ)) (h : H) (before : List I) (n : ℕ) (h' : H) (rows : List I)
       (o : Option (Form H I)) → g.form (words_of l) ≡ o
-      → line_after g h before n (λ i. body_of g h (before ++ i ∷ []) (n + 1) ls) o ≡ Ok (h', rows)
+      → result_after_line g h before n (λ i. body_of g h (before ++ i ∷ []) (n + 1) ls) o ≡ Ok (h', rows)
       → ((i : I) → body_of g h (before ++ i ∷ []) (n + 1) ls ≡ Ok (h', rows) → BodySaid (before ++ i ∷ []) ls h h' rows)
       → BodySaid before (l ∷ ls) h h' rows
   line_said l ls h before n h' rows None f e rec = absurd cc

@@ -2,7 +2,7 @@
 use Rattle.std.specs.Prelude.{◌≡◌, ℕ, ◌+◌, ◌^◌, ◌<◌, List, ◌++◌, length, take, Some, Ok}
 use Rattle.std.specs.Fmt.{decimal}
 use Rattle.std.specs.List.{flat_map}
-use Rattle.section_text.specs.Words.{number_of, lines_of, rest_of}
+use Rattle.section_text.specs.Words.{number_of, lines_of, bytes_after_lines}
 use Rattle.section_text.specs.Section.{Grammar, section_of, ended_line}
 
 -- a word that is a number is how that number is written
@@ -19,7 +19,7 @@ EachNumberHasASpelling = (n : ℕ) → n < 10 ^ 9 → number_of (decimal n) ≡ 
 
 -- the lines, each with its line feed, and the bytes after the last one are the text
 abbrev pub NoByteIsLost : Type 0
-NoByteIsLost = (text : List ℕ) → flat_map ended_line (lines_of text) ++ rest_of text ≡ text
+NoByteIsLost = (text : List ℕ) → flat_map ended_line (lines_of text) ++ bytes_after_lines text ≡ text
 
 -- The header, the items and the end of a section depend on its own lines alone, wherever they are, and whatever lines
 -- follow them.

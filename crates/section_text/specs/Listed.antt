@@ -13,5 +13,5 @@ abbrev pub four_listed : FourWords → List (List ℕ)
 four_listed w = w.first.now ∷ w.second.now ∷ w.third.now ∷ w.fourth.now ∷ []
 
 -- the list of five words
-abbrev pub listed : FiveWords → List (List ℕ)
-listed w = w.first.now ∷ w.second.now ∷ w.third.now ∷ w.fourth.now ∷ w.fifth.now ∷ []
+abbrev pub five_listed : FiveWords → List (List ℕ)
+five_listed w = w.first.now ∷ w.second.now ∷ w.third.now ∷ w.fourth.now ∷ w.fifth.now ∷ []

@@ -17,7 +17,7 @@ section_then g n ls next = go_on (section_of g n ls)
     (λ h items. next h items (n + (length items + 2)) (drop (length items + 2) ls))
 
 -- the value, if no line and no byte follows the n lines
-abbrev pub finished : {B : Type 0} → ℕ → List (List ℕ) → List ℕ → B → Result B Refusal
-finished n [] [] value = Ok value
-finished n [] (b ∷ rest) value = refused_at n TextCut
-finished n (l ∷ ls) rest value = refused_at n TextCut
+abbrev pub value_at_end : {B : Type 0} → ℕ → List (List ℕ) → List ℕ → B → Result B Refusal
+value_at_end n [] [] value = Ok value
+value_at_end n [] (b ∷ rest) value = refused_at n TextCut
+value_at_end n (l ∷ ls) rest value = refused_at n TextCut

@@ -2,10 +2,10 @@
 ghost use Rattle.std.specs.Prelude.{drop, take, ◌≡◌, ◌==◌, ◌+◌, ◌-◌, ◌^◌, ◌<◌, ◌≤◌, ◌↔◌, true, false, [], ◌++◌, length, Option, Some, None, Ok, Err, IfOk, IfErr, ◌≢◌, OnOk, OnErr, IfSome, unwrap_or, slice_get};
 ghost use Rattle.std.specs.Option.{option_copied, option_map, ForSome};
 ghost use Rattle.std.specs.List.{flat_map, position};
-ghost use Rattle.section_text.specs.Words.{lines_of, is_word_at, is_line_feed, rest_of, words_of, number_at, names_beside_arrow, lone, lone_number, lone_name, second_of_two, three, four, five};
+ghost use Rattle.section_text.specs.Words.{lines_of, is_word_at, is_line_feed, bytes_after_lines, words_of, number_at, names_beside_arrow, lone, lone_number, lone_name, second_of_two, three, four, five};
 ghost use Rattle.section_text.specs.declared.code.RefusalCode.TheVariants.{TextCut};
 ghost use Rattle.section_text.specs.declared.fault.ReadFault.TheVariants.{Memory};
-ghost use Rattle.section_text.specs.Listed.{three_listed, four_listed, listed};
+ghost use Rattle.section_text.specs.Listed.{three_listed, four_listed, five_listed};
 ghost use Rattle.section_text.specs.Faults.{refusal};
 ghost use Rattle.section_text.specs.Section.{ended_line};
 ghost use Rattle.section_text.specs.Feeds.{FeedView, ahead, IsLine, line_bytes, text_limit, TakesLine, RunsOut};
@@ -17,8 +17,8 @@ use crate::names::Names;
 use crate::number::read_number;
 use crate::seed::Seed;
 use crate::words::{
-    FiveWords, FourWords, ThreeWords, five_in, four_in, is_one_word, names_beside_arrow_in,
-    next_word, second_of_two, three_in, word_in, words_in,
+    FiveWords, FourWords, ThreeWords, count_words_in, five_in, four_in, is_one_word,
+    names_beside_arrow_in, next_word, second_of_two, three_in, word_in,
 };
 use memchr::memchr;
 use std::alloc::Global;
@@ -214,7 +214,7 @@ impl Feed {
         requires { IsLine self.now line.now }
         ensures { result ≡ length (words_of (line_bytes self.now line.now)) }
     {
-        words_in(self.line(line))
+        count_words_in(self.line(line))
     }
 
     /// Returns a word of a line by its index from 0, or `None` past the last one.
@@ -278,7 +278,7 @@ impl Feed {
     /// Returns the words of a line of five, or `None` for any other line. It passes over the line once.
     pub fn five_words(&self, line: &Line) -> Option<FiveWords<'_>>
         requires { IsLine self.now line.now }
-        ensures { option_map listed result ≡ five (words_of (line_bytes self.now line.now)) }
+        ensures { option_map five_listed result ≡ five (words_of (line_bytes self.now line.now)) }
     {
         five_in(self.line(line))
     }
@@ -369,10 +369,10 @@ impl Feed {
         ensures stopped { ForSome self.old.stop
             (λ fault. (result ≡ Err fault) × (self.new ≡ self.old)) }
         ensures ok { self.old.stop ≡ None →
-            OnOk result ((ahead self.old ≡ []) × (rest_of self.old.text ≡ [])
+            OnOk result ((ahead self.old ≡ []) × (bytes_after_lines self.old.text ≡ [])
             × (self.new ≡ self.old)) }
         ensures more { self.old.stop ≡ None →
-            OnErr result (ahead self.old ≡ [] → rest_of self.old.text ≢ []) }
+            OnErr result (ahead self.old ≡ [] → bytes_after_lines self.old.text ≢ []) }
         ensures fault { self.old.stop ≡ None →
             IfErr result (λ fault. (fault ≡ refusal (self.old.taken + 1) TextCut)
             × (self.new ≡ record self.old { stop = Some fault })) }

@@ -2,7 +2,7 @@
 ghost use Rattle.std.specs.Prelude.{◌≡◌, ◌==◌, ◌+◌, ◌-◌, ◌^◌, ◌<◌, ◌≤◌, true, false, [], ◌∷◌, length, Option, Some, None, IfNone, IfSome};
 ghost use Rattle.std.specs.Option.{option_map};
 ghost use Rattle.std.specs.List.{list_all};
-ghost use Rattle.section_text.specs.Words.{is_digit, is_number, read_on, words_of, number_of};
+ghost use Rattle.section_text.specs.Words.{is_digit, is_number, append_digits, words_of, number_of};
 ghost use Rattle.section_text.specs.Leading.{leading_number};
 
 // The most digits of a number.
@@ -12,7 +12,7 @@ const MAX_DIGITS: usize = 9;
 fn read_digits(word: &[u8]) -> Option<u32>
     requires at_most_9 { length word.now ≤ 9 }
     ensures number { IfSome result (λ n. (list_all is_digit word.now ≡ true)
-        × (n ≡ read_on 0 word.now)) }
+        × (n ≡ append_digits 0 word.now)) }
     ensures other { IfNone result (list_all is_digit word.now ≡ false) }
 {
     let mut number = 0u32;
@@ -93,7 +93,7 @@ fn take_zero(line: &[u8]) -> Option<(u32, &[u8])>
 
 // The number of a line of this first byte, and what stands behind its space.
 #[inline(always)]
-fn take_from(first: u8, line: &[u8]) -> Option<(u32, &[u8])>
+fn take_number_from_digit(first: u8, line: &[u8]) -> Option<(u32, &[u8])>
     ensures number { option_map (λ r. (r.0, words_of r.1.now)) result
         ≡ leading_number (words_of (first ∷ line.now)) }
     ensures small { IfSome result (λ r. r.0 < 10 ^ 9) }
@@ -120,6 +120,6 @@ pub fn take_number(line: &[u8]) -> Option<(u32, &[u8])>
 {
     match line {
         [] => None,
-        [first, rest @ ..] => take_from(*first, rest),
+        [first, rest @ ..] => take_number_from_digit(*first, rest),
     }
 }

@@ -3,7 +3,7 @@ ghost use Rattle.std.specs.Prelude.{drop, ◌≡◌, ◌==◌, ◌+◌, ◌-◌,
 ghost use Rattle.std.specs.Option.{option_copied, option_map};
 ghost use Rattle.std.specs.List.{position};
 ghost use Rattle.section_text.specs.Words.{is_space, words_of, names_at, names_beside_arrow, second_of_two, three, four, five, words_left};
-ghost use Rattle.section_text.specs.Listed.{three_listed, four_listed, listed};
+ghost use Rattle.section_text.specs.Listed.{three_listed, four_listed, five_listed};
 
 use crate::name::Name;
 use crate::names::Names;
@@ -145,7 +145,7 @@ pub(crate) fn four_in(line: &[u8]) -> Option<FourWords<'_>>
 
 // The words of a line of five: the first one, and those of a line of four.
 pub(crate) fn five_in(line: &[u8]) -> Option<FiveWords<'_>>
-    ensures { option_map listed result ≡ five (words_of line.now) }
+    ensures { option_map five_listed result ≡ five (words_of line.now) }
 {
     let Some((first, rest)) = split_word(line) else {
         return None;
@@ -218,7 +218,7 @@ pub(crate) fn names_beside_arrow_in(
     }
 }
 
-pub(crate) fn words_in(line: &[u8]) -> usize
+pub(crate) fn count_words_in(line: &[u8]) -> usize
     ensures { result ≡ length (words_of line.now) }
 {
     1 + line.iter().filter(|b| **b == b' ').count()

@@ -21,10 +21,10 @@ use Rattle.local_run.specs.declared.fault.Fault.{Fault}
 use Rattle.border_match.specs.BorderFaults.{IsBorderFault, IsLeastBorderFault, border_cmp}
 use Rattle.border_match.specs.declared.fault.BorderFault.{BorderFault}
 use Rattle.border_match.proofs.Modules.{there}
-use Rattle.soundness.specs.FirstFaults.{EarliestLineIsFirst, EarliestLineIsReal, IsAssignmentOf}
+use Rattle.soundness.specs.FirstFaults.{EarliestLineIsFirstFault, EarliestLineIsReal, IsAssignmentOf}
 use Rattle.soundness.proofs.FirstFaults.{assigned, first_means}
 use Rattle.core_book.specs.Verdicts.{AreReportLines, IsToldOf, IsVerdict, border_line, keep_line, lines_from}
-use Rattle.core_book.specs.Verdicts.{local_line, timing, unkept_lines}
+use Rattle.core_book.specs.Verdicts.{local_line, timing_report, unkept_lines}
 use Rattle.core_book.specs.declared.verdict.Reasons.{Reasons}
 use Rattle.core_book.specs.declared.verdict.ReportLine.{ReportLine}
 use Rattle.core_book.specs.declared.verdict.ReportLine.TheVariants.{Local, Keep, Border, Unkept, Delay, Meet}
@@ -165,7 +165,7 @@ lists_border number (suc k) (g ∷ fs) (b ∷ bs) f at lt =
     (subst (λ n. Contains (lines_from (number + 1) fs bs) (Border n f)) (omega arith)
     (lists_border (number + 1) k fs bs f at (omega (arith, lt))))
 
-not_timing : (i : ℕ) (f : Fault) (l : TimeLine) → ¬ (timing l ≡ Local i f)
+not_timing : (i : ℕ) (f : Fault) (l : TimeLine) → ¬ (timing_report l ≡ Local i f)
 not_timing i f (times.Delay k n gap) e = cc
 not_timing i f (times.Meet k at) e = cc
 
@@ -203,13 +203,14 @@ module _ (g : Setting) (ms : List ModuleLines) (jobs : List JobView) (report : L
   local_is : (i : ℕ) (f : Fault) → Contains report (Local i f) → IsFrom 0 i f are.faults
   local_is i f h =
       elim (Contains-append_cases (lines_from 0 are.faults are.borders ++ unkept_lines g ms)
-      (map timing (time_lines g.circuit ms)) (Local i f) (subst (λ ls. Contains ls (Local i f)) are.lines_are h)) [
+      (map timing_report (time_lines g.circuit ms)) (Local i f)
+      (subst (λ ls. Contains ls (Local i f)) are.lines_are h)) [
         | inl front ↦ elim (Contains-append_cases (lines_from 0 are.faults are.borders) (unkept_lines g ms)
             (Local i f) front) [
               | inl own ↦ from_line 0 i f are.faults are.borders own
               | inr other ↦ absurd (not_mapped (λ n. Unkept n) (unkept g ms) (Local i f) (λ x e. cc) other)
             ]
-        | inr other ↦ absurd (not_mapped timing (time_lines g.circuit ms) (Local i f) (not_timing i f) other)
+        | inr other ↦ absurd (not_mapped timing_report (time_lines g.circuit ms) (Local i f) (not_timing i f) other)
       ]
 
   its_fault : (i : ℕ) (f : Fault) (j : JobView) → Contains report (Local i f) → slice_get jobs i ≡ Some j → IsFault j f
@@ -246,7 +247,7 @@ module _ (g : Setting) (ms : List ModuleLines) (jobs : List JobView) (report : L
       let next = no_later_border h e (own.1 e fault) in
       omega (arith, first, next)
 
-pub earliest_is_first : EarliestLineIsFirst
+pub earliest_is_first : EarliestLineIsFirstFault
 unfolding IsVerdict
 earliest_is_first lines p ms jobs report inputs v i m j f b judged first atm atj s under =
     let g = setting_of lines p in

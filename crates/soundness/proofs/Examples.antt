@@ -10,7 +10,8 @@ use Rattle.circuit.specs.Meaning.{AreOrdered, place_of, number}
 use Rattle.circuit.specs.declared.circuit_line.CircuitLine.{CircuitLine}
 use Rattle.circuit.specs.declared.circuit_line.Kind.TheVariants.{Input, Output}
 use Rattle.pattern.specs.Layout.{Pattern, cell, rectangle_cells}
-use Rattle.pattern.specs.Lines.{size_fault, limit_fault, cell_fault, is_inside, is_taken, begins, ends, cells_of, begun}
+use Rattle.pattern.specs.Lines.{size_fault, limit_fault, cell_fault, is_inside, is_taken, begins, ends, cells_of}
+use Rattle.pattern.specs.Lines.{taken_at_start}
 use Rattle.pattern.specs.Lines.{ended}
 use Rattle.pattern.specs.declared.layout_line.Port.{Port}
 use Rattle.module_box.specs.Boxes.{in_box, some_neighbour, in_ring, in_halo}
@@ -83,7 +84,7 @@ are_jobs : AreJobsOf (circuit_of lines) layout modules jobs
 are_jobs = are_jobs_of lines layout modules is_ordered (λ k m at. (are_modules.each k m at, are_modules.ports k m at))
 
 is_bundle : BelongTogether lines layout modules jobs
-unfolding size_fault limit_fault cell_fault is_inside is_taken begins ends cells_of begun ended in_span
+unfolding size_fault limit_fault cell_fault is_inside is_taken begins ends cells_of taken_at_start ended in_span
 is_bundle = record {
   ordered = is_ordered;
   limits = refl;

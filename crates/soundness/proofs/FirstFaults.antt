@@ -21,7 +21,7 @@ use Rattle.pattern.specs.Layout.{Pattern, in_cells, in_rectangles}
 use Rattle.pattern.specs.declared.layout_line.Port.{Port}
 use Rattle.module_box.specs.Boxes.{in_box, in_ring}
 use Rattle.module_box.specs.Locals.{LocalNet, circuit_wire}
-use Rattle.module_box.specs.LocalValues.{seen_by}
+use Rattle.module_box.specs.LocalValues.{localized}
 use Rattle.module_box.specs.declared.boxes.Box2.{Box2}
 use Rattle.module_box.proofs.SeenValues.{local_values_agree}
 use Rattle.certificate_lines.specs.Entries.{ModuleLines, cut_wires, cuts, known, stops}
@@ -36,7 +36,7 @@ use Rattle.module_job.specs.Signals.{Meets, renumber_demand, renumber_stop}
 use Rattle.module_job.specs.declared.job.Demand.{Demand}
 use Rattle.module_job.specs.declared.job.Demand.TheVariants as Demanded
 use Rattle.module_job.specs.declared.job.Stop as listed
-use Rattle.certificate.specs.Jobs.{IsJobOf, demand_elsewhere, demand_of, end_demand, line_stops, numbered_stop}
+use Rattle.certificate.specs.Jobs.{IsJobOf, demand_outside_mirrors, demand_of, end_demand, line_stops, numbered_stop}
 use Rattle.local_run.specs.Faults.{HasFault, IsFaultUnder}
 use Rattle.local_run.specs.Runs.{local_run}
 use Rattle.local_run.specs.declared.fault.Fault.{Fault}
@@ -95,7 +95,7 @@ unfolding in_ring
 ring_inside b x y h = (and_parts (in_box b x y) _ h).0
 
 meets_own : (l : LocalNet) (v : Valuation) (d : Demand) (live : Bool) →
-    Meets v (renumber_demand (circuit_wire l) d) live → Meets (seen_by l v) d live
+    Meets v (renumber_demand (circuit_wire l) d) live → Meets (localized l v) d live
 meets_own l v Demanded.Dead live h = h
 meets_own l v Demanded.Live live h = h
 meets_own l v (Demanded.Wire w) live h = h
@@ -112,7 +112,7 @@ pub real : (lines : List CircuitLine) (p : Pattern) (ms : List ModuleLines) (job
     (i : ℕ) (m : ModuleLines) (j : JobView) (t : ℕ) (kind : Kind) (x y : ℤ) →
     BelongTogether lines p ms jobs → slice_get ms i ≡ Some m → slice_get jobs i ≡ Some j →
     Satisfies (netlist_of lines) inputs v →
-    ((s : ℕ) → s < t → HasGoodBorders lines p ms jobs v s) → IsFaultUnder j (seen_by j.locals v) t kind x y →
+    ((s : ℕ) → s < t → HasGoodBorders lines p ms jobs v s) → IsFaultUnder j (localized j.locals v) t kind x y →
     ¬ IsAsCertified (circuit_of lines) p m v t kind x y
 real lines p ms jobs inputs v i m j t Edge x y b atm atj s good f said =
     let is : IsJobOf (circuit_of lines) p m j = b.are_jobs.each i m j atm atj in
@@ -146,7 +146,7 @@ real lines p ms jobs inputs v i m j t End x y b atm atj s good f said =
     let now = runs_up_to lines p ms jobs inputs v t b s (omega (arith, last)) good in
     let here : in_box m.area x y ≡ true = ap (λ a. in_box a x y) (sym is.area) ∙ f.inside in
     let Q : Bool → Type 0 = λ b. Meets v (end_demand (circuit_of lines) p x y) b in
-    let R : Demand → Type 0 = λ d. Meets v d (local_run j (seen_by j.locals v) t x y) in
+    let R : Demand → Type 0 = λ d. Meets v d (local_run j (localized j.locals v) t x y) in
     f.differs (meets_own j.locals v (job_demand j x y) _ (subst R (sym (is.demand x y here))
     (subst Q (now.inside i j atj x y f.inside) said)))
 
@@ -155,10 +155,10 @@ real lines p ms jobs inputs v i m j t End x y b atm atj s good f said =
 pub seen_fault : (lines : List CircuitLine) (p : Pattern) (m : ModuleLines) (inputs v : Valuation) (j : JobView)
     (f : Fault) → IsJobOf (circuit_of lines) p m j →
     Satisfies (netlist_of lines) inputs v → IsAssignmentOf j v f.assignment → HasFault j f →
-    IsFaultUnder j (seen_by j.locals v) f.time f.kind f.cell.x f.cell.y
+    IsFaultUnder j (localized j.locals v) f.time f.kind f.cell.x f.cell.y
 seen_fault lines p m inputs v j f is s under h =
     let agree = local_values_agree (netlist_of lines) j.locals inputs v f.assignment is.locals s under.bits in
-    fault_same j h.values (seen_by j.locals v) f.time f.kind f.cell.x f.cell.y is.own (agree.only h.values h.local)
+    fault_same j h.values (localized j.locals v) f.time f.kind f.cell.x f.cell.y is.own (agree.only h.values h.local)
     h.differs
 
 pub nothing_prop : IsProp ⊥
@@ -188,7 +188,7 @@ no_port_there ports x y none = elim (cases_Bool (in_ports ports x y)) [
 off_mirrors : (c : Circuit) (p : Pattern) (v : Valuation) (state : State) (x y : ℤ) (o : Option (List ℕ))
     (waste : Bool) → LooksAsAsked p (values_by_name c v) state →
     in_rectangles p.mirrors x y ≡ false → port_at p.outs x y ≡ o → in_cells p.wastes x y ≡ waste →
-    Meets v (demand_elsewhere c o waste) (state x y)
+    Meets v (demand_outside_mirrors c o waste) (state x y)
 off_mirrors c p v state x y (Some n) waste looks mirror port there =
     let s = port_stands p.outs x y n port in
     let cell : s.port.cell ≡ record { x = x; y = y } = cell_same s.port.cell (record { x = x; y = y }) s.stands in
@@ -202,7 +202,7 @@ pub asked_meets : (c : Circuit) (p : Pattern) (v : Valuation) (state : State) (x
     LooksAsAsked p (values_by_name c v) state → Meets v (end_demand c p x y) (state x y)
 unfolding end_demand
 asked_meets c p v state x y looks =
-    let P : Bool → Type 0 = λ b. Meets v (if b then Demanded.Live else demand_elsewhere c (port_at p.outs x y)
+    let P : Bool → Type 0 = λ b. Meets v (if b then Demanded.Live else demand_outside_mirrors c (port_at p.outs x y)
     (in_cells p.wastes x y)) (state x y) in
     elim (cases_Bool (in_rectangles p.mirrors x y)) [
       | inl h ↦ subst P (sym h) (looks.mirrors x y h)
@@ -310,7 +310,7 @@ placed_wire f (x ∷ ns) n k all at =
 -- what gives the cuts the bits by their names does so by the job's wires
 pub assigned : (lines : List CircuitLine) (p : Pattern) (m : ModuleLines) (j : JobView) (v : Valuation) (a : ℕ) →
     IsModule (setting_of lines p) m → IsJobOf (circuit_of lines) p m j → HasAssignment (circuit_of lines) m v a →
-    (k : ℕ) → k < j.locals.netlist.given → bit a k ≡ seen_by j.locals v k
+    (k : ℕ) → k < j.locals.netlist.given → bit a k ≡ localized j.locals v k
 assigned lines p m j v a good is has k lt =
     let c = circuit_of lines in
     let n = there (cuts m) k (let cut = is.cut in omega (arith, lt, cut)) in

@@ -14,7 +14,7 @@ use Rattle.circuit.specs.declared.circuit_line.CircuitLine.{CircuitLine}
 use Rattle.pattern.specs.Layout.{Pattern}
 use Rattle.module_box.specs.Boxes.{in_box, in_ring, IsEven}
 use Rattle.module_box.specs.Locals.{LocalNet, circuit_wire}
-use Rattle.module_box.specs.LocalValues.{seen_by}
+use Rattle.module_box.specs.LocalValues.{localized}
 use Rattle.module_box.specs.Schedules.{all_times_at, event_at, signal_at}
 use Rattle.module_box.specs.declared.boxes.Box2.{Box2}
 use Rattle.module_box.specs.declared.schedules.TimedSignal.{TimedSignal}
@@ -24,7 +24,7 @@ use Rattle.module_box.specs.declared.schedules.Signal.TheVariants.{Zero, One, Wi
 use Rattle.certificate_lines.specs.Entries.{ModuleLines, edges, halos}
 use Rattle.certificate_lines.specs.Settings.{setting_of}
 use Rattle.module_job.specs.Jobs.{JobView}
-use Rattle.certificate.specs.Jobs.{IsJobOf, event_by, all_times_by, line_signal, line_signals}
+use Rattle.certificate.specs.Jobs.{IsJobOf, events_of_line, all_times_of_line, line_signal, line_signals}
 use Rattle.certificate_lines.specs.Modules.{IsModule}
 use Rattle.certificate_lines.specs.Rules.{whole}
 use Rattle.module_job.specs.Signals.{is_live, Meets, renumber_signal, renumber_demand}
@@ -40,12 +40,12 @@ use Rattle.soundness.specs.HeadlineLaws.{BelongTogether}
 -- ---- signals by the wires of the circuit
 
 live_seen : (l : LocalNet) (v : Valuation) (s : Signal) →
-    is_live (seen_by l v) s ≡ is_live v (renumber_signal (circuit_wire l) s)
+    is_live (localized l v) s ≡ is_live v (renumber_signal (circuit_wire l) s)
 live_seen l v Zero = refl
 live_seen l v One = refl
 live_seen l v (Wire w) = refl
 
-pub meets_for_circuit_wires : (l : LocalNet) (v : Valuation) (d : Demand) (live : Bool) → Meets (seen_by l v) d live →
+pub meets_for_circuit_wires : (l : LocalNet) (v : Valuation) (d : Demand) (live : Bool) → Meets (localized l v) d live →
     Meets v (renumber_demand (circuit_wire l) d) live
 meets_for_circuit_wires l v Demanded.Dead live h = h
 meets_for_circuit_wires l v Demanded.Live live h = h
@@ -53,7 +53,7 @@ meets_for_circuit_wires l v (Demanded.Wire w) live h = h
 meets_for_circuit_wires l v Demanded.Any live h = h
 
 pub live_renumbered : (l : LocalNet) (v : Valuation) (s r : Signal) → renumber_signal (circuit_wire l) s ≡ r →
-    is_live (seen_by l v) s ≡ is_live v r
+    is_live (localized l v) s ≡ is_live v r
 live_renumbered l v s r e = live_seen l v s ∙ ap (is_live v) e
 
 -- ---- the job of a module
@@ -111,14 +111,14 @@ and-false false = refl
 one_all_times : (e : BorderLine) (time : Option ℕ) (s : Signal) (rest : List AllTimes) (x y : ℤ) →
     is_at e.cell x y ≡ false →
     all_times_at rest x y ≡ None →
-    all_times_at (all_times_by e time s ++ rest) x y ≡ None
+    all_times_at (all_times_of_line e time s ++ rest) x y ≡ None
 unfolding all_times_at
 one_all_times e None s rest x y h r = cond-false _ _ _ h ∙ r
 one_all_times e (Some t) s rest x y h r = r
 
 one_event : (e : BorderLine) (time : Option ℕ) (s : Signal) (rest : List TimedSignal) (t : ℕ) (x y : ℤ) →
     is_at e.cell x y ≡ false → event_at rest t x y ≡ None →
-    event_at (event_by e time s ++ rest) t x y ≡ None
+    event_at (events_of_line e time s ++ rest) t x y ≡ None
 unfolding event_at
 one_event e None s rest t x y h r = r
 one_event e (Some u) s rest t x y h r = cond-false _ _ _ (ap (λ b. (u == t) && b) h ∙ and-false (u == t)) ∙ r
@@ -127,7 +127,7 @@ abbrev NamesNot : ℤ → ℤ → BorderLine → Type 0
 NamesNot x y e = is_at e.cell x y ≡ false
 
 no_all_times : (c : Circuit) (es : List BorderLine) (x y : ℤ) → All (NamesNot x y) es →
-    all_times_at (flat_map (λ e. all_times_by e e.time (line_signal c e.signal)) es) x y ≡ None
+    all_times_at (flat_map (λ e. all_times_of_line e e.time (line_signal c e.signal)) es) x y ≡ None
 unfolding all_times_at
 no_all_times c [] x y all = refl
 no_all_times c (e ∷ es) x y all =
@@ -135,7 +135,7 @@ no_all_times c (e ∷ es) x y all =
     (no_all_times c es x y (All-tail (NamesNot x y) e es all))
 
 no_event : (c : Circuit) (es : List BorderLine) (t : ℕ) (x y : ℤ) → All (NamesNot x y) es →
-    event_at (flat_map (λ e. event_by e e.time (line_signal c e.signal)) es) t x y ≡ None
+    event_at (flat_map (λ e. events_of_line e e.time (line_signal c e.signal)) es) t x y ≡ None
 unfolding event_at
 no_event c [] t x y all = refl
 no_event c (e ∷ es) t x y all =
@@ -161,7 +161,7 @@ pub rim_edge_dead : (lines : List CircuitLine) (p : Pattern) (ms : List ModuleLi
     (v : Valuation)
     (t : ℕ) (x y : ℤ) →
     Known lines p ms i j → in_ring (whole p.size) x y ≡ true →
-    is_live (seen_by j.locals v) (signal_at j.edges t x y) ≡ false
+    is_live (localized j.locals v) (signal_at j.edges t x y) ≡ false
 rim_edge_dead lines p ms i j v t x y k rim =
     live_renumbered j.locals v (signal_at j.edges t x y) Zero
     (edge_same lines p k.of j t x y k.is_job
@@ -175,7 +175,7 @@ pub outer_halo_dead : (lines : List CircuitLine) (p : Pattern) (ms : List Module
     (v : Valuation)
     (t : ℕ) (x y : ℤ) →
     Known lines p ms i j → in_box (whole p.size) x y ≡ false →
-    is_live (seen_by j.locals v) (signal_at j.halos t x y) ≡ false
+    is_live (localized j.locals v) (signal_at j.halos t x y) ≡ false
 outer_halo_dead lines p ms i j v t x y k out =
     live_renumbered j.locals v (signal_at j.halos t x y) Zero
     (halo_same lines p k.of j t x y k.is_job
@@ -186,13 +186,13 @@ outer_halo_dead lines p ms i j v t x y k out =
 pub edge_by_circuit : (lines : List CircuitLine) (p : Pattern) (ms : List ModuleLines) (i : ℕ) (j : JobView)
     (v : Valuation)
     (t : ℕ) (x y : ℤ) → (k : Known lines p ms i j) →
-    is_live (seen_by j.locals v) (signal_at j.edges t x y) ≡ is_live v (edge_signal (circuit_of lines) k.of t x y)
+    is_live (localized j.locals v) (signal_at j.edges t x y) ≡ is_live v (edge_signal (circuit_of lines) k.of t x y)
 edge_by_circuit lines p ms i j v t x y k =
     live_renumbered j.locals v (signal_at j.edges t x y) _ (edge_same lines p k.of j t x y k.is_job)
 
 pub halo_by_circuit : (lines : List CircuitLine) (p : Pattern) (ms : List ModuleLines) (i : ℕ) (j : JobView)
     (v : Valuation)
     (t : ℕ) (x y : ℤ) → (k : Known lines p ms i j) →
-    is_live (seen_by j.locals v) (signal_at j.halos t x y) ≡ is_live v (halo_signal (circuit_of lines) k.of t x y)
+    is_live (localized j.locals v) (signal_at j.halos t x y) ≡ is_live v (halo_signal (circuit_of lines) k.of t x y)
 halo_by_circuit lines p ms i j v t x y k =
     live_renumbered j.locals v (signal_at j.halos t x y) _ (halo_same lines p k.of j t x y k.is_job)

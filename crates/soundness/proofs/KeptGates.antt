@@ -9,14 +9,14 @@ use Rattle.std.proofs.lemmas.Option.{slice_get_within}
 use Rattle.circuit.specs.Bridge.{circuit_of, netlist_of}
 use Rattle.circuit.proofs.Undefined.{has_valuation, only_inverse}
 use Rattle.module_box.specs.Locals.{circuit_gate, is_among}
-use Rattle.module_box.specs.LocalValues.{seen_by}
+use Rattle.module_box.specs.LocalValues.{localized}
 use Rattle.module_box.proofs.SeenValues.{choices_are_assignments, undefined_is_seen}
 use Rattle.certificate_lines.specs.Entries.{ModuleLines, keeps}
 use Rattle.module_job.specs.Jobs.{JobView}
 use Rattle.certificate.specs.Jobs.{IsJobOf}
 use Rattle.certificate.specs.Keeps.{is_kept}
 use Rattle.border_match.proofs.Modules.{there}
-use Rattle.soundness.specs.HeadlineLaws.{BelongTogether, NoneIsUndefined, AcceptedHasValuation}
+use Rattle.soundness.specs.HeadlineLaws.{BelongTogether, AcceptedHasNoUndefinedGate, AcceptedHasValuation}
 
 -- a module that keeps the gate
 record Keeper (ms : List ModuleLines) (n : ℕ) : Type 0 where
@@ -71,7 +71,7 @@ place_of f (p ∷ places) count n all e = elim (cases_Bool (eqb (f p) n)) [
       }
 ]
 
-pub none_is_undefined : NoneIsUndefined
+pub none_is_undefined : AcceptedHasNoUndefinedGate
 none_is_undefined lines p ms jobs inputs k all u =
     let b : BelongTogether lines p ms jobs = all.bundle in
     let kept : is_kept ms k ≡ true =
@@ -84,7 +84,7 @@ none_is_undefined lines p ms jobs inputs k all u =
     let at : PlaceOf (circuit_gate job.locals) job.kept (length job.locals.netlist.gates) k =
     place_of (circuit_gate job.locals) job.kept (length job.locals.netlist.gates) k is_job.kept_are_used
     (ap (λ (l : List ℕ). is_among l k) is_job.kept ∙ by.keeps_it) in
-    let a = choices_are_assignments job.locals.netlist.given (seen_by job.locals u.values) in
+    let a = choices_are_assignments job.locals.netlist.given (localized job.locals u.values) in
     all.accepted.no_keep_fault by.number job (record { gate = at.place; assignment = a.0 }) j.1 (record {
       in_range = a.1;
       is_kept = at.listed;

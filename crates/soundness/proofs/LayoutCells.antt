@@ -26,7 +26,7 @@ use Rattle.pattern.proofs.TakenLemmas.{is_sized}
 use Rattle.module_box.specs.Boxes.{in_box, IsEven}
 use Rattle.module_box.proofs.BoxCells.{same_some}
 use Rattle.certificate_lines.specs.PortTables.{port_at}
-use Rattle.certificate.specs.Jobs.{named_wire, signal_of, start_signal, demand_of, demand_elsewhere, end_demand}
+use Rattle.certificate.specs.Jobs.{named_wire, signal_of, start_signal, demand_of, demand_outside_mirrors, end_demand}
 use Rattle.certificate_lines.specs.Rules.{whole}
 use Rattle.module_job.specs.Signals.{is_live, Meets}
 use Rattle.module_job.specs.declared.job.Demand.TheVariants as Demanded
@@ -238,7 +238,7 @@ pub met_mirror : (c : Circuit) (p : Pattern) (v : Valuation) (x y : ℤ) (live :
 unfolding end_demand
 met_mirror c p v x y live e h =
     let P : Bool → Type 0 = λ b. Meets v
-    (if b then Demanded.Live else demand_elsewhere c (port_at p.outs x y) (in_cells p.wastes x y)) live in
+    (if b then Demanded.Live else demand_outside_mirrors c (port_at p.outs x y) (in_cells p.wastes x y)) live in
     subst P e h
 
 by_wire : (v : Valuation) (o : Option ℕ) (live : Bool) → Meets v (demand_of o) live → live ≡ option_map_or v o false
@@ -251,8 +251,8 @@ pub met_output : (c : Circuit) (p : Pattern) (v : Valuation) (x y : ℤ) (n : Li
 unfolding end_demand
 met_output c p v x y n live e port h =
     let P : Bool → Type 0 = λ b. Meets v
-    (if b then Demanded.Live else demand_elsewhere c (port_at p.outs x y) (in_cells p.wastes x y)) live in
-    let Q : Option (List ℕ) → Type 0 = λ o. Meets v (demand_elsewhere c o (in_cells p.wastes x y)) live in
+    (if b then Demanded.Live else demand_outside_mirrors c (port_at p.outs x y) (in_cells p.wastes x y)) live in
+    let Q : Option (List ℕ) → Type 0 = λ o. Meets v (demand_outside_mirrors c o (in_cells p.wastes x y)) live in
     by_wire v (wire_of c n) live (subst Q port (subst P e h))
 
 pub met_other : (c : Circuit) (p : Pattern) (v : Valuation) (x y : ℤ) (live : Bool) →
@@ -261,7 +261,7 @@ pub met_other : (c : Circuit) (p : Pattern) (v : Valuation) (x y : ℤ) (live : 
 unfolding end_demand
 met_other c p v x y live e none waste h =
     let P : Bool → Type 0 = λ b. Meets v
-    (if b then Demanded.Live else demand_elsewhere c (port_at p.outs x y) (in_cells p.wastes x y)) live in
-    let Q : Option (List ℕ) → Type 0 = λ o. Meets v (demand_elsewhere c o (in_cells p.wastes x y)) live in
-    let R : Bool → Type 0 = λ b. Meets v (demand_elsewhere c None b) live in
+    (if b then Demanded.Live else demand_outside_mirrors c (port_at p.outs x y) (in_cells p.wastes x y)) live in
+    let Q : Option (List ℕ) → Type 0 = λ o. Meets v (demand_outside_mirrors c o (in_cells p.wastes x y)) live in
+    let R : Bool → Type 0 = λ b. Meets v (demand_outside_mirrors c None b) live in
     subst R waste (subst Q (no_port p.outs x y _ none refl) (subst P e h))

@@ -25,8 +25,8 @@ use Rattle.certificate.specs.Jobs.{IsJobOf, AreJobsOf, line_signal, line_signals
 use Rattle.certificate_lines.specs.Modules.{AreModules, IsModule}
 use Rattle.certificate_lines.specs.Rules.{is_local, is_local_wire, whole}
 use Rattle.module_job.specs.Signals.{IsBelow, renumber_signal, renumber_signals}
-use Rattle.certificate.specs.Times.{are_all_obeyed, first_seen, last_seen, lines_by}
-use Rattle.certificate_lines.specs.Versions.{edge_lines_beside, is_haloless, is_strange, lacks_wire, with_halos}
+use Rattle.certificate.specs.Times.{are_all_obeyed, first_seen, last_seen, time_lines_of_gates}
+use Rattle.certificate_lines.specs.Versions.{edge_lines_beside, is_haloless, is_nonlocal_signal, lacks_wire, with_halos}
 use Rattle.certificate_lines.specs.declared.certificate_line.BorderLine.{BorderLine}
 use Rattle.certificate.proofs.FullModules.{edge_cell, edge_of, edges_rising, full_cuts, full_gates, full_keeps}
 use Rattle.certificate.proofs.FullModules.{full_edges, full_stops, full_known, full_modules, in_beside, mapped_at}
@@ -40,7 +40,7 @@ use Rattle.certificate.proofs.StopLemmas.{stops_stand}
 use Rattle.certificate_lines.proofs.Lists.{any_at}
 use Rattle.certificate.proofs.Migrated.{migrated_modules, section_modules, section_without_halos}
 use Rattle.local_run.specs.Faults.{IsFault, IsKeepFault}
-use Rattle.local_run.specs.Laws.{SayTheSame}
+use Rattle.local_run.specs.Laws.{HasSameHaloSignals}
 use Rattle.local_run.specs.declared.fault.Fault.{Fault}
 use Rattle.local_run.specs.declared.fault.KeepFault.{KeepFault}
 use Rattle.soundness.proofs.ModuleJobs.{one_job, signal_back}
@@ -148,7 +148,7 @@ module _ (lines : List CircuitLine) (p : Pattern) (ms : List ModuleLines) (jobs 
       by (Some t) odd = (t, refl, odd.0, odd.1)
 
   named_local : (i : ℕ) (m : ModuleLines) (e : BorderLine) (s : Option (List ℕ)) → slice_get ms i ≡ Some m →
-      In e (edge_lines_beside g ms m.area) → e.signal ≡ s → is_strange c (known c m) s ≡ false
+      In e (edge_lines_beside g ms m.area) → e.signal ≡ s → is_nonlocal_signal c (known c m) s ≡ false
   named_local i m e None at i_beside is = refl
   named_local i m e (Some name) at i_beside is =
       let b = in_beside g ms good m.area e i_beside in
@@ -168,9 +168,10 @@ module _ (lines : List CircuitLine) (p : Pattern) (ms : List ModuleLines) (jobs 
 
   no_strange : lacks_wire g ms ≡ false
   unfolding lacks_wire
-  no_strange = none_any (λ m. list_any (λ e. is_strange c (known c m) e.signal) (edge_lines_beside g ms m.area)) ms
+  no_strange = none_any (λ m. list_any (λ e. is_nonlocal_signal c (known c m) e.signal) (edge_lines_beside g ms m.area))
+      ms
       (λ m i.
-      none_any (λ e. is_strange c (known c m) e.signal) (edge_lines_beside g ms m.area) (λ e j.
+      none_any (λ e. is_nonlocal_signal c (known c m) e.signal) (edge_lines_beside g ms m.area) (λ e j.
       let k = placed m ms i in
       named_local k.0 m e e.signal k.1 j refl))
 
@@ -251,7 +252,7 @@ module _ (lines : List CircuitLine) (p : Pattern) (ms : List ModuleLines) (jobs 
           ∙ sym (none_outside m (good.each i m at) t x y outside)
     ]
 
-    say_the_same : SayTheSame k j.halos
+    say_the_same : HasSameHaloSignals k j.halos
     unfolding with_halos
     say_the_same t x y odd early halo =
         let ws = k.locals.circuit_wires in
@@ -300,7 +301,8 @@ module _ (lines : List CircuitLine) (p : Pattern) (ms : List ModuleLines) (jobs 
           (keep_fault_kept number m.0 j.0 k m.1 (own.each number m.0 j.0 m.1 j.1)
           (are.each number (with_halos g ms m.0) k (mapped_at (with_halos g ms) ms number m.0 m.1) at) f is);
       kept = λ number gate at inverse. kept_of_all g ms ms number ∙ ok.kept number gate at inverse;
-      on_time = subst (λ ss. IsTrue (are_all_obeyed (lines_by (first_seen c ss) (last_seen c ss) c.netlist.gates)))
+      on_time = subst (λ ss. IsTrue
+          (are_all_obeyed (time_lines_of_gates (first_seen c ss) (last_seen c ss) c.netlist.gates)))
           (sym (stops_of_all g ms ms)) ok.on_time;
     };
   }

@@ -11,7 +11,7 @@ use Rattle.module_box.specs.declared.schedules.TimedSignal.{TimedSignal}
 use Rattle.module_box.specs.declared.schedules.AllTimes.{AllTimes}
 use Rattle.module_box.specs.declared.schedules.Signal.{Signal}
 use Rattle.module_box.specs.declared.schedules.Signal.TheVariants.{Zero, One, Wire}
-use Rattle.certificate.specs.Jobs.{event_by, all_times_by, line_signal, line_signals, signal_of}
+use Rattle.certificate.specs.Jobs.{events_of_line, all_times_of_line, line_signal, line_signals, signal_of}
 use Rattle.certificate_lines.specs.Rules.{is_local, is_local_wire}
 use Rattle.module_job.specs.Signals.{IsBelow, renumber_event, renumber_all_times, renumber_signal}
 use Rattle.certificate_lines.specs.declared.certificate_line.BorderLine.{BorderLine}
@@ -91,7 +91,7 @@ module _ (c : Circuit) (ws : List ℕ) where
 
   back_from : (e : BorderLine) (time : Option ℕ) (s : Signal) (hs : List AllTimes) (es : List TimedSignal) →
       IsNumbered ws s →
-      IsBack hs es → IsBack (all_times_by e time s ++ hs) (event_by e time s ++ es)
+      IsBack hs es → IsBack (all_times_of_line e time s ++ hs) (events_of_line e time s ++ es)
   unfolding numbered_all_times numbered_event Each
   back_from e None s hs es is more = record {
     all_times = ap₂ (λ a l. record { cell = e.cell; signal = a } ∷ l) is.back more.all_times;

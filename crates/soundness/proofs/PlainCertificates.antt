@@ -23,7 +23,7 @@ use Rattle.circuit.proofs.Undefined.{has_valuation, undefined_has_none, only_inv
 use Rattle.pattern.specs.Layout.{Pattern}
 use Rattle.module_box.specs.Boxes.{in_box, in_ring}
 use Rattle.module_box.specs.Locals.{AreDifferent, circuit_gate, is_among}
-use Rattle.module_box.specs.LocalValues.{seen_by}
+use Rattle.module_box.specs.LocalValues.{localized}
 use Rattle.module_box.specs.Moments.{cell_cmp}
 use Rattle.module_box.specs.Schedules.{signal_at}
 use Rattle.module_box.specs.declared.schedules.Signal.TheVariants.{Zero}
@@ -36,8 +36,8 @@ use Rattle.certificate_lines.specs.declared.certificate_line.BorderLine.{BorderL
 use Rattle.certificate_lines.specs.declared.certificate_line.StopLine.{StopLine}
 use Rattle.certificate_lines.proofs.Lists.{kept}
 use Rattle.certificate.specs.Jobs.{IsJobOf, line_signals}
-use Rattle.certificate.specs.Arrivals.{AreOnTime, IsFirstTime, IsLastTime, TakesSteps, Tells, TellsOfDelay}
-use Rattle.certificate.specs.Arrivals.{TellsOfMeeting}
+use Rattle.certificate.specs.Arrivals.{AreOnTime, IsFirstTime, IsLastTime, TakesSteps, IsTimeLineTrue, IsDelayGapTrue}
+use Rattle.certificate.specs.Arrivals.{IsMeetingTimeTrue}
 use Rattle.certificate.specs.Times.{all_stops, are_all_obeyed, is_obeyed, time_lines, times_of}
 use Rattle.certificate.specs.declared.times.StopGap.{StopGap}
 use Rattle.certificate.specs.declared.times.StopGap.TheVariants.{Steps, NoStop, Before}
@@ -66,10 +66,10 @@ use Rattle.meaning.specs.Implements.{IsCorrect, run_under}
 use Rattle.soundness.specs.FirstFaults.{HasGoodBorders, IsAsCertified, IsAssignmentOf, IsFirstFault, HasAssignment}
 use Rattle.soundness.specs.PlainCertificates.{IsPlain, IsWrongDesign, PlainCertificateDecides, PlainNoMeansWrong}
 use Rattle.soundness.specs.PlainCertificates.{TouchesRim, UntimedIsOnTime, IsLiveOnRim, LacksValues, LineMeans}
-use Rattle.soundness.specs.PlainCertificates.{DelayLineMeans, MeetLineMeans, PlainLinesMean, Shows}
+use Rattle.soundness.specs.PlainCertificates.{DelayLineMeans, MeetLineMeans, PlainLinesHaveMeaning, Shows}
 use Rattle.soundness.specs.OnTime.{StopHolds}
 use Rattle.core_book.specs.Verdicts.{Accepts, IsToldOf, IsVerdict, AreReportLines, border_line, keep_line, lines_from}
-use Rattle.core_book.specs.Verdicts.{local_line, renumber_keep, timing, unkept_lines}
+use Rattle.core_book.specs.Verdicts.{local_line, renumber_keep, timing_report, unkept_lines}
 use Rattle.core_book.specs.declared.verdict.Reasons.{Reasons}
 use Rattle.core_book.specs.declared.verdict.ReportLine.{ReportLine}
 use Rattle.core_book.specs.declared.verdict.ReportLine.TheVariants as line
@@ -188,7 +188,7 @@ not_before c ss n a b s t takes last first lt =
     omega (arith, from, to, lt)
 
 kept_gap : (c : Circuit) (ss : List StopLine) (k n a b : ℕ) (gap : StopGap) → TakesSteps c ss n a b →
-    TellsOfDelay c ss gap a b → is_obeyed (times.Delay k n gap) ≡ true
+    IsDelayGapTrue c ss gap a b → is_obeyed (times.Delay k n gap) ≡ true
 kept_gap c ss k n a b (Steps m) takes tells = eq-eqb m n (same_steps c ss m n a b tells takes)
 kept_gap c ss k n a b NoStop takes tells = absurd (tells takes.leaves (takes.leaves + n) takes.last takes.first)
 kept_gap c ss k n a b Before takes tells = absurd (not_before c ss n a b tells.0 tells.1 takes tells.2 tells.3 tells.4)
@@ -198,7 +198,7 @@ same_gate o g h e same = e ∙ ap Some same
 
 kept_line : (lines : List CircuitLine) (ss : List StopLine) (l : TimeLine) → AreOrdered (netlist_of lines).given
     (netlist_of lines).gates → AreOnTime (circuit_of lines) ss →
-    Tells (circuit_of lines) ss l → is_obeyed l ≡ true
+    IsTimeLineTrue (circuit_of lines) ss l → is_obeyed l ≡ true
 kept_line lines ss (times.Delay k n gap) ordered timed (g, at, is, tells) =
     let w = delay_wires (netlist_of lines).given n (netlist_of lines).gates k g ordered at is in
     let a = w.used in let b = w.made in
@@ -222,7 +222,7 @@ timed_is_kept : (lines : List CircuitLine) (ms : List ModuleLines) → AreOrdere
     (netlist_of lines).gates → AreOnTime (circuit_of lines) (all_stops ms) →
     are_all_obeyed (time_lines (circuit_of lines) ms) ≡ true
 timed_is_kept lines ms ordered timed =
-    all_true (Tells (circuit_of lines) (all_stops ms)) is_obeyed (time_lines (circuit_of lines) ms) (λ l.
+    all_true (IsTimeLineTrue (circuit_of lines) (all_stops ms)) is_obeyed (time_lines (circuit_of lines) ms) (λ l.
     kept_line lines (all_stops ms) l ordered timed) (lines_tell (circuit_of lines) ms)
 
 -- ---- the lines of a report
@@ -259,10 +259,11 @@ all_from P n (f ∷ fs) (b ∷ bs) h =
     subst (λ i. EachLine P i r c) (omega arith) (h (suc k) r c at at')))
 
 all_timed : (P : ReportLine → Type 0) (Q : TimeLine → Type 0) (ls : List TimeLine) →
-    ((l : TimeLine) → Q l → P (timing l)) → All Q ls → All P (map timing ls)
+    ((l : TimeLine) → Q l → P (timing_report l)) → All Q ls → All P (map timing_report ls)
 all_timed P Q [] h all = All-nil P
 all_timed P Q (l ∷ ls) h all =
-    All-cons P (timing l) (map timing ls) (h l (All-head Q l ls all)) (all_timed P Q ls h (All-tail Q l ls all))
+    All-cons P (timing_report l) (map timing_report ls) (h l (All-head Q l ls all))
+    (all_timed P Q ls h (All-tail Q l ls all))
 
 -- where each inverse gate is kept, none is listed as unkept
 not_listed : (n : ℕ) (inverse kept : Bool) → (inverse ≡ true → kept ≡ true) →
@@ -328,9 +329,9 @@ module _ (lines : List CircuitLine) (p : Pattern) (m : ModuleLines) (jobs : List
       ∙ value_there (known c m) a k w.wire good.local.different (kept (cut_wires c m) _ k w.wire w.placed)
 
   -- values that agree with these on the inputs have the assignment too
-  agreed : (j : JobView) (a : ℕ) (v : Valuation) → IsJobOf c p m j → a < assignments j →
+  common_time : (j : JobView) (a : ℕ) (v : Valuation) → IsJobOf c p m j → a < assignments j →
       ((w : ℕ) → w < (netlist_of lines).given → v w ≡ its_inputs a w) → IsAssignmentOf j v a
-  agreed j a v is small same = record {
+  common_time j a v is small same = record {
     in_range = small;
     bits = assigned lines p m j v a (b.are_modules.each 0 m refl) is (λ k n at.
         let is_input : IsInputName lines n = at_place (IsInputName lines) (cuts m) k n plain.inputs at in
@@ -340,7 +341,7 @@ module _ (lines : List CircuitLine) (p : Pattern) (m : ModuleLines) (jobs : List
 
   induced : (j : JobView) (a : ℕ) (v : Valuation) → IsJobOf c p m j → a < assignments j →
       Satisfies (netlist_of lines) (its_inputs a) v → IsAssignmentOf j v a
-  induced j a v is small s = agreed j a v is small s.given
+  induced j a v is small s = common_time j a v is small s.given
 
   -- what is correct has a valuation under each
   right_values : (a : ℕ) → IsCorrect lines p → (v : Valuation) × Satisfies (netlist_of lines) (its_inputs a) v
@@ -353,20 +354,20 @@ module _ (lines : List CircuitLine) (p : Pattern) (m : ModuleLines) (jobs : List
       no_signal c [] t x y (All-nil _)
 
   edge_touches : (inputs v : Valuation) (t n : ℕ) (j : JobView) (x y : ℤ) → Satisfies (netlist_of lines) inputs v →
-      IsRunOfJobs lines p jobs v t → IsItsJob n j → IsEdgeFault j (seen_by j.locals v) t x y →
+      IsRunOfJobs lines p jobs v t → IsItsJob n j → IsEdgeFault j (localized j.locals v) t x y →
       IsLiveOnRim lines p inputs t x y
   edge_touches inputs v t n j x y s now it f =
       let box : j.area ≡ whole p.size = it.is.area ∙ plain.box in
       let k : Known lines p (m ∷ []) 0 j =
       record { of = m; numbered = refl; is_job = it.is; good = b.are_modules.each 0 m refl } in
-      let said : is_live (seen_by j.locals v) (signal_at j.edges t x y) ≡ false =
+      let said : is_live (localized j.locals v) (signal_at j.edges t x y) ≡ false =
       edge_by_circuit lines p (m ∷ []) 0 j v t x y k ∙ ap (is_live v) (no_edge_signal t x y) in
       let same = now.inside n j it.at x y (ring_inside j.area x y f.ring) in
       record {
         odd = f.odd;
         early = subst (λ n. t < n) it.is.steps f.early;
         rim = ap (λ a. in_ring a x y) (sym box) ∙ f.ring;
-        live = elim (cases_Bool (local_run j (seen_by j.locals v) t x y)) [
+        live = elim (cases_Bool (local_run j (localized j.locals v) t x y)) [
           | inl live ↦ sym (inputs_decide lines p inputs v t x y named s) ∙ same ∙ live
           | inr dead ↦ absurd (f.differs (dead ∙ sym said))
         ];
@@ -396,7 +397,7 @@ module _ (lines : List CircuitLine) (p : Pattern) (m : ModuleLines) (jobs : List
         ∥∥₁_elim fault.shown nothing_prop (λ h.
         off (touches inputs f.time f.cell.x f.cell.y
         (edge_touches inputs v f.time n j f.cell.x f.cell.y s (subst (IsRunOfJobs lines p jobs v) (sym time) now) it
-        (edge_of j (seen_by j.locals v) f.time f.kind f.cell.x f.cell.y kind
+        (edge_of j (localized j.locals v) f.time f.kind f.cell.x f.cell.y kind
         (seen_fault lines p m inputs v j f it.is s under h)))));
     of_modules = λ n f time. no_border n f;
   }
@@ -430,7 +431,7 @@ module _ (lines : List CircuitLine) (p : Pattern) (m : ModuleLines) (jobs : List
 
   none_under : (inputs v : Valuation) (t n : ℕ) (kind : Kind) (x y : ℤ) (j : JobView) → IsCorrect lines p → AreHeld →
       ¬ TouchesRim lines p → Satisfies (netlist_of lines) inputs v → IsItsJob n j →
-      ¬ IsFaultUnder j (seen_by j.locals v) t kind x y
+      ¬ IsFaultUnder j (localized j.locals v) t kind x y
   none_under inputs v t n Edge x y j right held off s it f =
       let early = subst (λ n. t < n) it.is.steps f.early in
       off (touches inputs t x y (edge_touches inputs v t n j x y s (all_runs inputs v t off s (omega (arith, early))) it
@@ -465,7 +466,7 @@ module _ (lines : List CircuitLine) (p : Pattern) (m : ModuleLines) (jobs : List
       let agree = local_values_agree (netlist_of lines) j.locals (its_inputs f.assignment) v f.assignment is.locals
       s under.bits in
       ∥∥₁_elim fault.shown nothing_prop (λ u. undefined_has_none j.locals.netlist (bit f.assignment)
-      (seen_by j.locals v) f.gate is.locals.ordered u agree.is_local)
+      (localized j.locals v) f.gate is.locals.ordered u agree.is_local)
 
   lacks : (j : JobView) (f : KeepFault) → IsJobOf c p m j → IsKeepFault j f → LacksValues lines p m f.assignment
   lacks j f is fault = record {
@@ -507,10 +508,10 @@ module _ (lines : List CircuitLine) (p : Pattern) (m : ModuleLines) (jobs : List
 
   edge_seen : (f : Fault) (j : JobView) (v : Valuation) → f.kind ≡ Edge → IsItsJob 0 j → IsFault j f →
       Satisfies (netlist_of lines) (its_inputs f.assignment) v →
-      IsEdgeFault j (seen_by j.locals v) f.time f.cell.x f.cell.y
+      IsEdgeFault j (localized j.locals v) f.time f.cell.x f.cell.y
   edge_seen f j v e it fault s =
-      ∥∥₁_elim fault.shown (edge_prop j (seen_by j.locals v) f.time f.cell.x f.cell.y) (λ h.
-      edge_of j (seen_by j.locals v) f.time f.kind f.cell.x f.cell.y e
+      ∥∥₁_elim fault.shown (edge_prop j (localized j.locals v) f.time f.cell.x f.cell.y) (λ h.
+      edge_of j (localized j.locals v) f.time f.kind f.cell.x f.cell.y e
       (seen_fault lines p m (its_inputs f.assignment) v j f it.is s (induced j f.assignment v it.is fault.in_range s)
       h))
 
@@ -538,7 +539,7 @@ module _ (lines : List CircuitLine) (p : Pattern) (m : ModuleLines) (jobs : List
       let at : PlaceOf (circuit_gate j.locals) j.kept (length j.locals.netlist.gates) k =
       place_of (circuit_gate j.locals) j.kept (length j.locals.netlist.gates) k it.is.kept_are_used
       (ap (λ (l : List ℕ). is_among l k) it.is.kept ∙ kept) in
-      let under = agreed j f.assignment u.values it.is fault.in_range u.given in
+      let under = common_time j f.assignment u.values it.is fault.in_range u.given in
       ∥∥₁_elim fault.shown nothing_prop (λ h.
       undefined_has_none j.locals.netlist (bit f.assignment) h.values at.place it.is.locals.ordered
       (undefined_is_seen (netlist_of lines) j.locals (its_inputs f.assignment) k at.place f.assignment it.is.locals u
@@ -606,7 +607,7 @@ module _ (lines : List CircuitLine) (p : Pattern) (m : ModuleLines) (jobs : List
   gap_is k n NoStop e = absurd (false≢true e)
   gap_is k n Before e = absurd (false≢true e)
 
-  delay_means : (ss : List StopLine) (k n : ℕ) (gap : StopGap) → Tells c ss (times.Delay k n gap) →
+  delay_means : (ss : List StopLine) (k n : ℕ) (gap : StopGap) → IsTimeLineTrue c ss (times.Delay k n gap) →
       DelayLineMeans lines ss k n gap
   delay_means ss k n gap (g, at, is, tells) =
       let w = delay_wires (netlist_of lines).given n (netlist_of lines).gates k g b.ordered at is in
@@ -615,7 +616,7 @@ module _ (lines : List CircuitLine) (p : Pattern) (m : ModuleLines) (jobs : List
         ins = w.ins i;
         outs = w.outs i;
       } in
-      let takes : TellsOfDelay c ss gap w.used w.made = tells w.used w.made w.ins w.outs in
+      let takes : IsDelayGapTrue c ss gap w.used w.made = tells w.used w.made w.ins w.outs in
       let kept : TakesSteps c ss n w.used w.made → gap ≡ Steps n =
       λ steps. gap_is k n gap (kept_gap c ss k n w.used w.made gap steps takes) in
       record {
@@ -627,17 +628,18 @@ module _ (lines : List CircuitLine) (p : Pattern) (m : ModuleLines) (jobs : List
         late = λ other timed. other (kept (timed.delays k n w.used w.made (at ∙ ap Some same)));
       }
 
-  meet_means : (ss : List StopLine) (k : ℕ) (o : Option ℕ) → Tells c ss (times.Meet k o) → MeetLineMeans lines ss k o
+  meet_means : (ss : List StopLine) (k : ℕ) (o : Option ℕ) → IsTimeLineTrue c ss (times.Meet k o) →
+      MeetLineMeans lines ss k o
   meet_means ss k o (g, at, tells) = record {
     gate = g;
     numbered = at;
     meets = tells;
     late = λ none timed.
         let met = timed.meetings k g at in
-        subst (λ (o : Option ℕ). TellsOfMeeting c ss o g.ins) none tells met.0 met.1;
+        subst (λ (o : Option ℕ). IsMeetingTimeTrue c ss o g.ins) none tells met.0 met.1;
   }
 
-  time_means : (l : TimeLine) → Tells c (all_stops (m ∷ [])) l → Means (timing l)
+  time_means : (l : TimeLine) → IsTimeLineTrue c (all_stops (m ∷ [])) l → Means (timing_report l)
   time_means (times.Delay k n gap) tells = subst (λ (ss : List StopLine). DelayLineMeans lines ss k n gap)
       (append-nil (stops m)) (delay_means (all_stops (m ∷ [])) k n gap tells)
   time_means (times.Meet k o) tells = subst (λ (ss : List StopLine). MeetLineMeans lines ss k o)
@@ -680,10 +682,11 @@ module _ (lines : List CircuitLine) (p : Pattern) (m : ModuleLines) (jobs : List
       subst (λ (ns : List ℕ). All Means (map (λ n. line.Unkept n) ns)) (sym kept) (All-nil Means) in
       subst (All Means) (sym are.lines_are)
       (All-append Means (lines_from 0 are.faults are.borders ++ unkept_lines g (m ∷ []))
-      (map timing (time_lines c (m ∷ [])))
+      (map timing_report (time_lines c (m ∷ [])))
       (All-append Means (lines_from 0 are.faults are.borders) (unkept_lines g (m ∷ []))
       (all_from Means 0 are.faults are.borders each) U)
-      (all_timed Means (Tells c (all_stops (m ∷ []))) (time_lines c (m ∷ [])) time_means (lines_tell c (m ∷ []))))
+      (all_timed Means (IsTimeLineTrue c (all_stops (m ∷ []))) (time_lines c (m ∷ [])) time_means
+      (lines_tell c (m ∷ []))))
 
 pub plain_decides : PlainCertificateDecides
 plain_decides lines p m jobs named ports b plain = (
@@ -712,7 +715,7 @@ plain_no lines p m jobs report named b plain judged =
     decide lines p m jobs named b plain f.0.fault is.keep _ j.0 (its_job lines p m jobs named b plain 0 j.0 j.1)
     is.fault is.least_keep refl judged.0
 
-pub plain_lines : PlainLinesMean
+pub plain_lines : PlainLinesHaveMeaning
 unfolding IsVerdict
 plain_lines lines p m jobs report named b plain judged =
     all_mean lines p m jobs named b plain report.items judged.1

@@ -13,13 +13,13 @@ use Rattle.section_text.specs.Ports.{Named}
 use Rattle.section_text.specs.Words.{has}
 use Rattle.circuit.specs.Bridge.{input_names, output_names}
 use Rattle.pattern.specs.Layout.{Pattern, parts_of}
-use Rattle.pattern.specs.Lines.{is_in, is_out, missing_fault, name_fault}
+use Rattle.pattern.specs.Lines.{is_in_line_named, is_out_line_named, missing_fault, name_fault}
 use Rattle.pattern.specs.declared.layout_line.LayoutLine.{LayoutLine}
 use Rattle.pattern.specs.declared.layout_line.LayoutLine.TheVariants.{Mirror, Ball, In, Out, Waste}
 use Rattle.pattern.specs.declared.layout_line.Port.{Port}
 use Rattle.certificate_lines.proofs.BoxPlaces.{skipped}
 use Rattle.certificate_lines.proofs.Lists.{kept}
-use Rattle.soundness.specs.HeadlineLaws.{ReadLayoutIsNamed}
+use Rattle.soundness.specs.HeadlineLaws.{ReadLayoutHasPortNames}
 use Rattle.soundness.proofs.InputRuns.{at_place, in_known, in_stands}
 use Rattle.section_text.specs.declared.code.RefusalCode.{RefusalCode}
 use Rattle.section_text.specs.declared.code.RefusalCode.TheVariants.{UnknownName, SomethingMissing}
@@ -83,22 +83,27 @@ or-false : (b : Bool) → (b || false) ≡ b
 or-false true = refl
 or-false false = refl
 
-pub in_lines : (p : Pattern) (n : List ℕ) → list_any (is_in n) (parts_of p) ≡ has (map (λ q. q.name) p.ins) n
+pub in_lines : (p : Pattern) (n : List ℕ) → list_any (is_in_line_named n) (parts_of p) ≡ has (map (λ q. q.name) p.ins) n
 in_lines p n =
-    five_parts (is_in n) (map Mirror p.mirrors) (map Ball p.balls) (map In p.ins) (map Out p.outs) (map Waste p.wastes)
-    ∙ ap₂ (λ a b. a || b) (none_in (is_in n) Mirror (λ r. refl) p.mirrors)
-    (ap₂ (λ a b. a || b) (none_in (is_in n) Ball (λ c. refl) p.balls)
-    (ap₂ (λ a b. a || b) (all_in (is_in n) In n (λ q. refl) p.ins)
-    (ap₂ (λ a b. a || b) (none_in (is_in n) Out (λ q. refl) p.outs) (none_in (is_in n) Waste (λ c. refl) p.wastes))))
+    five_parts (is_in_line_named n) (map Mirror p.mirrors) (map Ball p.balls) (map In p.ins) (map Out p.outs)
+    (map Waste p.wastes)
+    ∙ ap₂ (λ a b. a || b) (none_in (is_in_line_named n) Mirror (λ r. refl) p.mirrors)
+    (ap₂ (λ a b. a || b) (none_in (is_in_line_named n) Ball (λ c. refl) p.balls)
+    (ap₂ (λ a b. a || b) (all_in (is_in_line_named n) In n (λ q. refl) p.ins)
+    (ap₂ (λ a b. a || b) (none_in (is_in_line_named n) Out (λ q. refl) p.outs)
+    (none_in (is_in_line_named n) Waste (λ c. refl) p.wastes))))
     ∙ or-false (has (map (λ q. q.name) p.ins) n)
 
-pub out_lines : (p : Pattern) (n : List ℕ) → list_any (is_out n) (parts_of p) ≡ has (map (λ q. q.name) p.outs) n
+pub out_lines : (p : Pattern) (n : List ℕ) →
+    list_any (is_out_line_named n) (parts_of p) ≡ has (map (λ q. q.name) p.outs) n
 out_lines p n =
-    five_parts (is_out n) (map Mirror p.mirrors) (map Ball p.balls) (map In p.ins) (map Out p.outs) (map Waste p.wastes)
-    ∙ ap₂ (λ a b. a || b) (none_in (is_out n) Mirror (λ r. refl) p.mirrors)
-    (ap₂ (λ a b. a || b) (none_in (is_out n) Ball (λ c. refl) p.balls)
-    (ap₂ (λ a b. a || b) (none_in (is_out n) In (λ q. refl) p.ins)
-    (ap₂ (λ a b. a || b) (all_in (is_out n) Out n (λ q. refl) p.outs) (none_in (is_out n) Waste (λ c. refl) p.wastes))))
+    five_parts (is_out_line_named n) (map Mirror p.mirrors) (map Ball p.balls) (map In p.ins) (map Out p.outs)
+    (map Waste p.wastes)
+    ∙ ap₂ (λ a b. a || b) (none_in (is_out_line_named n) Mirror (λ r. refl) p.mirrors)
+    (ap₂ (λ a b. a || b) (none_in (is_out_line_named n) Ball (λ c. refl) p.balls)
+    (ap₂ (λ a b. a || b) (none_in (is_out_line_named n) In (λ q. refl) p.ins)
+    (ap₂ (λ a b. a || b) (all_in (is_out_line_named n) Out n (λ q. refl) p.outs)
+    (none_in (is_out_line_named n) Waste (λ c. refl) p.wastes))))
     ∙ or-false (has (map (λ q. q.name) p.outs) n)
 
 -- ---- output cells
@@ -124,14 +129,14 @@ out_stands p i q e =
 -- ---- the whole
 
 all_stand : (names : Named) (parts : List LayoutLine) → missing_fault (Some names) parts ≡ None →
-    (list_all (λ n. list_any (is_in n) parts) names.ins ≡ true)
-    × (list_all (λ n. list_any (is_out n) parts) names.outs ≡ true)
+    (list_all (λ n. list_any (is_in_line_named n) parts) names.ins ≡ true)
+    × (list_all (λ n. list_any (is_out_line_named n) parts) names.outs ≡ true)
 unfolding missing_fault
 all_stand names parts e =
-    and_parts (list_all (λ n. list_any (is_in n) parts) names.ins)
-    (list_all (λ n. list_any (is_out n) parts) names.outs) (no_code _ SomethingMissing e)
+    and_parts (list_all (λ n. list_any (is_in_line_named n) parts) names.ins)
+    (list_all (λ n. list_any (is_out_line_named n) parts) names.outs) (no_code _ SomethingMissing e)
 
-pub read_layout-is_named : ReadLayoutIsNamed
+pub read_layout-is_named : ReadLayoutHasPortNames
 read_layout-is_named lines p named =
     let names : Named = record { ins = input_names lines; outs = output_names lines } in
     let all = all_stand names (parts_of p) named.whole in
@@ -141,11 +146,11 @@ read_layout-is_named lines p named =
           (λ i q e. in_known names.ins names.outs q
           (at_place (λ (part : LayoutLine). name_fault (Some names) part ≡ None) (parts_of p) _ (In q) named.good
           (in_stands p i q e))))
-          (λ h. sym (in_lines p n) ∙ all_have (λ n. list_any (is_in n) (parts_of p)) names.ins n all.0 h);
+          (λ h. sym (in_lines p n) ∙ all_have (λ n. list_any (is_in_line_named n) (parts_of p)) names.ins n all.0 h);
       outs = λ n. same_bool _ _
           (ports_known names.outs p.outs n
           (λ i q e. out_known names q (at_place (λ (part : LayoutLine). name_fault (Some names) part ≡ None)
           (parts_of p)
           (out_place p i) (Out q) named.good (out_stands p i q e))))
-          (λ h. sym (out_lines p n) ∙ all_have (λ n. list_any (is_out n) (parts_of p)) names.outs n all.1 h);
+          (λ h. sym (out_lines p n) ∙ all_have (λ n. list_any (is_out_line_named n) (parts_of p)) names.outs n all.1 h);
     }

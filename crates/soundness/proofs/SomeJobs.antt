@@ -32,7 +32,7 @@ use Rattle.module_job.specs.Signals.{IsBelow, IsDemandBelow, renumber_demand, re
 use Rattle.module_job.specs.declared.job.Demand.{Demand}
 use Rattle.module_job.specs.declared.job.Demand.TheVariants as Demanded
 use Rattle.module_job.specs.declared.job.Stop as listed
-use Rattle.certificate.specs.Jobs.{AreJobsOf, IsJobOf, demand_elsewhere, demand_of, end_demand, line_signals}
+use Rattle.certificate.specs.Jobs.{AreJobsOf, IsJobOf, demand_outside_mirrors, demand_of, end_demand, line_signals}
 use Rattle.certificate.specs.Jobs.{line_stops}
 use Rattle.certificate.specs.Jobs.{named_wire, numbered_stop, signal_of, start_signal}
 use Rattle.certificate.proofs.FullModules.{all_of_each}
@@ -285,14 +285,14 @@ module _ (lines : List CircuitLine) (p : Pattern) (m : ModuleLines)
       ((cells_have_ports lines p m ports).0 x y h)
 
   elsewhere : (o : Option (List ℕ)) (waste : Bool) → IfSome o (λ name. IsTrue (is_local c ws name)) →
-      IsDemanded ws (demand_elsewhere c o waste)
+      IsDemanded ws (demand_outside_mirrors c o waste)
   unfolding demanded
   elsewhere None true h = record { back = refl; below = tt }
   elsewhere None false h = record { back = refl; below = tt }
   elsewhere (Some name) waste h = demand_numbered ws (wire_of c name) h
 
   end_by : (b : Bool) (o : Option (List ℕ)) (waste : Bool) → IfSome o (λ name. IsTrue (is_local c ws name)) →
-      IsDemanded ws (if b then Demanded.Live else demand_elsewhere c o waste)
+      IsDemanded ws (if b then Demanded.Live else demand_outside_mirrors c o waste)
   unfolding demanded
   end_by true o waste h = record { back = refl; below = tt }
   end_by false o waste h = elsewhere o waste h

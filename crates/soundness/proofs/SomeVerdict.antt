@@ -17,7 +17,7 @@ use Rattle.circuit.specs.declared.circuit_line.GateKind.TheVariants.{Source, Fre
 use Rattle.circuit.specs.declared.circuit_line.GateKind.TheVariants.{Unswitch, Uninteract}
 use Rattle.circuit.specs.Gates.{is_inverse}
 use Rattle.circuit.specs.Meaning.{AreOrdered, Gate}
-use Rattle.circuit.specs.Rules.{add_fault, gate_count, is_gate, is_wrong_delay, passes_limit}
+use Rattle.circuit.specs.Rules.{add_fault, gate_count, is_gate, is_wrong_delay, exceeds_limit}
 use Rattle.circuit.specs.declared.circuit_line.CircuitLine.{CircuitLine}
 use Rattle.circuit.proofs.Bridging.{count_append, gates_are_ordered}
 use Rattle.circuit.proofs.Naming.{gates_counted}
@@ -32,8 +32,10 @@ use Rattle.module_job.specs.Jobs.{IsJob, JobView}
 use Rattle.certificate.specs.Jobs.{AreJobsOf, IsJobOf}
 use Rattle.certificate.specs.Keeps.{is_kept, unkept_from}
 use Rattle.certificate.specs.StopLists.{AreStops}
-use Rattle.certificate.specs.Times.{agreed, all_stops, are_all_obeyed, delay_by, delay_line, first_seen, gap_between}
-use Rattle.certificate.specs.Times.{last_seen, last_times, lines_by, meet_by, meet_line, numbered, first_wire_time}
+use Rattle.certificate.specs.Times.{common_time, all_stops, are_all_obeyed, delay_line_of_kind, delay_line, first_seen}
+use Rattle.certificate.specs.Times.{gap_between}
+use Rattle.certificate.specs.Times.{last_seen, last_times, time_lines_of_gates, meet_line_of_times, meet_line, numbered}
+use Rattle.certificate.specs.Times.{first_wire_time}
 use Rattle.certificate.specs.Times.{time_lines}
 use Rattle.certificate.specs.declared.times.StopGap.{StopGap}
 use Rattle.certificate.specs.declared.times.TimeLine.{TimeLine}
@@ -45,7 +47,7 @@ use Rattle.border_match.specs.declared.fault.BorderFault.{BorderFault}
 use Rattle.soundness.specs.ModuleLaws.{ModulesHaveVerdict}
 use Rattle.core_book.specs.Verdicts.{AreLeastFaults, IsToldOf, IsVerdict, border_line, keep_line, lines_from}
 use Rattle.core_book.specs.Verdicts.{local_line}
-use Rattle.core_book.specs.Verdicts.{renumber_keep, timing, unkept_lines}
+use Rattle.core_book.specs.Verdicts.{renumber_keep, timing_report, unkept_lines}
 use Rattle.core_book.specs.declared.verdict.Reasons.{Reasons}
 use Rattle.core_book.specs.declared.verdict.ReportLine.{ReportLine}
 use Rattle.core_book.specs.declared.verdict.ReportLine.TheVariants.{Unkept}
@@ -106,7 +108,7 @@ line_each f few k (g ∷ gs) =
     let here = few k g in
     omega (arith, more, sum, here)
 
-few_delays : (k : ℕ) (kind : GateKind) (gap : StopGap) → length (delay_by k kind gap) ≤ 1
+few_delays : (k : ℕ) (kind : GateKind) (gap : StopGap) → length (delay_line_of_kind k kind gap) ≤ 1
 few_delays k (Source b) gap = omega arith
 few_delays k Fredkin gap = omega arith
 few_delays k Cswap gap = omega arith
@@ -116,14 +118,14 @@ few_delays k (Delay n) gap = omega arith
 few_delays k Unswitch gap = omega arith
 few_delays k Uninteract gap = omega arith
 
-few_meetings : (k : ℕ) (ts : List ℕ) → length (meet_by k ts) ≤ 1
-few_meetings k ts = by (nat_le 2 (length ts)) (agreed ts)
+few_meetings : (k : ℕ) (ts : List ℕ) → length (meet_line_of_times k ts) ≤ 1
+few_meetings k ts = by (nat_le 2 (length ts)) (common_time ts)
   where
     by : (b : Bool) (o : Option ℕ) → length (cond b (Meet k o ∷ []) []) ≤ 1
     by true o = omega arith
     by false o = omega arith
 
-two_each : (first last : ℕ → Option ℕ) (gs : List Gate) → length (lines_by first last gs) ≤ 2 * length gs
+two_each : (first last : ℕ → Option ℕ) (gs : List Gate) → length (time_lines_of_gates first last gs) ≤ 2 * length gs
 two_each first last gs =
     let a = line_each (delay_line first last)
     (λ k g. few_delays k g.kind (gap_between (first_wire_time last g.ins) (first_wire_time first g.outs))) 0 gs in
@@ -153,7 +155,7 @@ gates_below : (before rest : List CircuitLine) → AreGoodAfter before rest → 
 unfolding AreGoodAfter add_fault
 gates_below before [] good h = subst (λ l. gate_count l ≤ 1024) (sym (append-nil before)) h
 gates_below before (r ∷ rest) good h =
-    let passes = no_code (passes_limit before r) _ (first_none _ _ good.0.adds) in
+    let passes = no_code (exceeds_limit before r) _ (first_none _ _ good.0.adds) in
     let last = last_false (is_wrong_delay r.kind) (nat_lt 4096 (length (defined before) + length r.outs))
     (is_gate r.kind && nat_le 1024 (gate_count before)) passes in
     let count : gate_count (before ++ r ∷ []) ≡ gate_count before + cond (is_gate r.kind) 1 0 =
@@ -335,7 +337,7 @@ module _ (lines : List CircuitLine) (p : Pattern) (ms : List ModuleLines) (good 
   same_count = reasons.1.count ∙ own_jobs.count ∙ sym borders.1.count
 
   abbrev all_lines : List ReportLine
-  all_lines = lines_from 0 fs bs ++ unkept_lines g ms ++ map timing (time_lines g.circuit ms)
+  all_lines = lines_from 0 fs bs ++ unkept_lines g ms ++ map timing_report (time_lines g.circuit ms)
 
   few_lines : length all_lines < 2 ^ 63
   few_lines =
@@ -346,9 +348,10 @@ module _ (lines : List CircuitLine) (p : Pattern) (ms : List ModuleLines) (good 
       let few_modules = are.few in
       let count = reasons.1.count ∙ own_jobs.count in
       let few = few_gates lines good in
-      let outer = length-append (lines_from 0 fs bs ++ unkept_lines g ms) (map timing (time_lines g.circuit ms)) in
+      let outer = length-append (lines_from 0 fs bs ++ unkept_lines g ms)
+      (map timing_report (time_lines g.circuit ms)) in
       let inner = length-append (lines_from 0 fs bs) (unkept_lines g ms) in
-      let said = length-map (time_lines g.circuit ms) timing in
+      let said = length-map (time_lines g.circuit ms) timing_report in
       let named = length-map (unkept_from ms 0 gates) (λ n. Unkept n) in
       omega (arith, faults, unkept, times, few_modules, count, few, outer, inner, said, named)
 

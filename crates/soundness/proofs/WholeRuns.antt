@@ -15,7 +15,7 @@ use Rattle.circuit.specs.declared.circuit_line.CircuitLine.{CircuitLine}
 use Rattle.pattern.specs.Layout.{Pattern}
 use Rattle.module_box.specs.Boxes.{in_box, some_neighbour, in_ring, in_halo}
 use Rattle.module_box.specs.Laws.{LiesInBox, SameInBox}
-use Rattle.module_box.specs.LocalValues.{seen_by}
+use Rattle.module_box.specs.LocalValues.{localized}
 use Rattle.module_box.specs.Schedules.{signal_at}
 use Rattle.module_box.proofs.BoxSteps.{even_stays, even_local}
 use Rattle.module_box.proofs.Neighbours.{some_neighbour_more, block_x, block_y, block_both, halo_parts, ring_from}
@@ -49,7 +49,8 @@ use Rattle.soundness.specs.FirstFaults.{HasGoodBorders, IsAssignmentOf, StepsWit
 use Rattle.soundness.specs.PlainCertificates.{AcceptedKeepsOffRim}
 use Rattle.soundness.specs.OnTime.{StopHolds}
 use Rattle.soundness.specs.HeadlineLaws.{BelongTogether, HasNoEndFault, HasNoFault, HasInputNames, IsAcceptedBundle}
-use Rattle.soundness.specs.HeadlineLaws.{IsRunOfJobs, StartsAsJobs, StepsAsJobs, EndsAsAsked, AcceptedIsCorrect}
+use Rattle.soundness.specs.HeadlineLaws.{IsRunOfJobs, PlaneStartsAsJobs, PlaneStepsAsJobs, PlaneEndsAsAsked}
+use Rattle.soundness.specs.HeadlineLaws.{AcceptedIsCorrect}
 use Rattle.soundness.specs.HeadlineLaws.{AcceptedIsOnTime}
 use Rattle.soundness.proofs.InputRuns.{inputs_decide}
 use Rattle.soundness.proofs.StopParts.{all_flat, all_map, local_wire_is, one_said}
@@ -91,7 +92,7 @@ right_of lines p ms jobs all = record { of_jobs = all.accepted.no_fault; of_bord
 
 -- ---- the start
 
-pub starts : StartsAsJobs
+pub starts : PlaneStartsAsJobs
 unfolding run local_run
 starts lines p ms jobs v b = record {
   outside = λ x y out. start_outside p (values_by_name (circuit_of lines) v) x y b.laid_out out;
@@ -109,20 +110,20 @@ fault_at t kind x y a = record { time = t; kind = kind; cell = record { x = x; y
 
 -- every job has an assignment of v
 pub its_assignment : (j : JobView) (v : Valuation) → (a : ℕ) × IsAssignmentOf j v a
-its_assignment j v = let a = choices_are_assignments j.locals.netlist.given (seen_by j.locals v) in
+its_assignment j v = let a = choices_are_assignments j.locals.netlist.given (localized j.locals v) in
     (a.0, record { in_range = a.1; bits = a.2 })
 
 -- and under it, where the wires have their values in v, its faults are those of the job
 own_fault : (lines : List CircuitLine) (p : Pattern) (ms : List ModuleLines) (inputs v : Valuation) (i t a : ℕ)
     (j : JobView)
     (kind : Kind) (x y : ℤ) → Known lines p ms i j →
-    Satisfies (netlist_of lines) inputs v → IsAssignmentOf j v a → IsFaultUnder j (seen_by j.locals v) t kind x y →
+    Satisfies (netlist_of lines) inputs v → IsAssignmentOf j v a → IsFaultUnder j (localized j.locals v) t kind x y →
     IsFault j (fault_at t kind x y a)
 own_fault lines p ms inputs v i t a j kind x y k s is differs =
     let agree = local_values_agree (netlist_of lines) j.locals inputs v a k.is_job.locals s is.bits in
     record {
       in_range = is.in_range;
-      shown = ∣ record { values = seen_by j.locals v; local = agree.is_local; differs = differs } ∣₁;
+      shown = ∣ record { values = localized j.locals v; local = agree.is_local; differs = differs } ∣₁;
     }
 
 no_edge_fault : (lines : List CircuitLine) (p : Pattern) (ms : List ModuleLines) (jobs : List JobView)
@@ -130,7 +131,7 @@ no_edge_fault : (lines : List CircuitLine) (p : Pattern) (ms : List ModuleLines)
     (i t : ℕ) (j : JobView) (x y : ℤ) →
     Setting lines p ms jobs inputs v t → slice_get jobs i ≡ Some j → t % 2 ≡ 1 → t < p.size.steps →
     in_ring j.area x y ≡ true →
-    local_run j (seen_by j.locals v) t x y ≡ is_live (seen_by j.locals v) (signal_at j.edges t x y)
+    local_run j (localized j.locals v) t x y ≡ is_live (localized j.locals v) (signal_at j.edges t x y)
 no_edge_fault lines p ms jobs inputs v i t j x y set e odd early ring =
     let k = known_job lines p ms jobs i j set.bundle e in
     let a = its_assignment j v in
@@ -147,7 +148,7 @@ no_end_fault : (lines : List CircuitLine) (p : Pattern) (ms : List ModuleLines) 
     (i : ℕ) (j : JobView) (x y : ℤ) →
     BelongTogether lines p ms jobs → HasNoEndFault jobs → Satisfies (netlist_of lines) inputs v →
     slice_get jobs i ≡ Some j → in_box j.area x y ≡ true →
-    Meets (seen_by j.locals v) (job_demand j x y) (local_run j (seen_by j.locals v) p.size.steps x y)
+    Meets (localized j.locals v) (job_demand j x y) (local_run j (localized j.locals v) p.size.steps x y)
 no_end_fault lines p ms jobs inputs v i j x y b right s e h =
     let k = known_job lines p ms jobs i j b e in
     let a = its_assignment j v in
@@ -182,13 +183,13 @@ even_inside : (lines : List CircuitLine) (p : Pattern) (ms : List ModuleLines) (
     (inputs v : Valuation)
     (t i : ℕ) (j : JobView) →
     Setting lines p ms jobs inputs v t → t % 2 ≡ 0 → IsRunOfJobs lines p jobs v t → slice_get jobs i ≡ Some j →
-    SameInBox j.area (run_under (circuit_of lines) p v (suc t)) (local_run j (seen_by j.locals v) (suc t))
+    SameInBox j.area (run_under (circuit_of lines) p v (suc t)) (local_run j (localized j.locals v) (suc t))
 unfolding run local_run
 even_inside lines p ms jobs inputs v t i j set e now at x y h =
     let k = known_job lines p ms jobs i j set.bundle at in
-    even_local j.area t (run_under (circuit_of lines) p v t) (local_run j (seen_by j.locals v) t)
+    even_local j.area t (run_under (circuit_of lines) p v t) (local_run j (localized j.locals v) t)
     (job_even lines p ms i j k) e (now.inside i j at) x y h
-    ∙ sym (local_even j (seen_by j.locals v) t _ x y e)
+    ∙ sym (local_even j (localized j.locals v) t _ x y e)
 
 -- ---- an odd step
 
@@ -254,7 +255,7 @@ halo_agrees : (lines : List CircuitLine) (p : Pattern) (ms : List ModuleLines) (
     (t i : ℕ) (j : JobView) (x y : ℤ) →
     Setting lines p ms jobs inputs v t → t % 2 ≡ 1 → t < p.size.steps → IsRunOfJobs lines p jobs v t →
     slice_get jobs i ≡ Some j → in_halo j.area x y ≡ true →
-    run_under (circuit_of lines) p v t x y ≡ is_live (seen_by j.locals v) (signal_at j.halos t x y)
+    run_under (circuit_of lines) p v t x y ≡ is_live (localized j.locals v) (signal_at j.halos t x y)
 halo_agrees lines p ms jobs inputs v t i j x y set odd early now at halo =
     let b : BelongTogether lines p ms jobs = set.bundle in
     let k = known_job lines p ms jobs i j b at in
@@ -288,10 +289,10 @@ odd_inside : (lines : List CircuitLine) (p : Pattern) (ms : List ModuleLines) (j
     (t i : ℕ) (j : JobView) →
     Setting lines p ms jobs inputs v t → t % 2 ≡ 1 → t < p.size.steps → IsRunOfJobs lines p jobs v t →
     slice_get jobs i ≡ Some j →
-    SameInBox j.area (run_under (circuit_of lines) p v (suc t)) (local_run j (seen_by j.locals v) (suc t))
+    SameInBox j.area (run_under (circuit_of lines) p v (suc t)) (local_run j (localized j.locals v) (suc t))
 unfolding run local_run
 odd_inside lines p ms jobs inputs v t i j set odd early now at x y h =
-    let u : Valuation = seen_by j.locals v in
+    let u : Valuation = localized j.locals v in
     let m : State = with_halo j u t (local_run j u t) in
     let k = known_job lines p ms jobs i j set.bundle at in
     near_step j.area t (run_under (circuit_of lines) p v t) m
@@ -323,7 +324,7 @@ pub good_borders : (lines : List CircuitLine) (p : Pattern) (ms : List ModuleLin
 good_borders lines p ms jobs v t right =
     record { of_jobs = λ n j f at kind time is. right.of_jobs n j f at; of_modules = λ n f time. right.of_borders n f }
 
-pub steps : StepsAsJobs
+pub steps : PlaneStepsAsJobs
 steps lines p ms jobs inputs v t b right s early now =
     steps_with_good_borders lines p ms jobs inputs v t b s early (good_borders lines p ms jobs v t right) now
 
@@ -339,11 +340,11 @@ met lines p ms jobs inputs v x y b right s now h =
     let here : in_box o.known.of.area x y ≡ true = ap (λ a. in_box a x y) (sym o.known.is_job.area) ∙ o.owned in
     let seen = meets_for_circuit_wires o.job.locals v (job_demand o.job x y) _
     (no_end_fault lines p ms jobs inputs v o.number o.job x y b right s o.numbered o.owned) in
-    let P : Demand → Type 0 = λ d. Meets v d (local_run o.job (seen_by o.job.locals v) p.size.steps x y) in
+    let P : Demand → Type 0 = λ d. Meets v d (local_run o.job (localized o.job.locals v) p.size.steps x y) in
     let Q : Bool → Type 0 = λ b. Meets v (end_demand (circuit_of lines) p x y) b in
     subst Q (sym (now.inside o.number o.job o.numbered x y o.owned)) (subst P (o.known.is_job.demand x y here) seen)
 
-pub ends : EndsAsAsked
+pub ends : PlaneEndsAsAsked
 ends lines p ms jobs inputs v b right s now =
     let good = b.laid_out in
     let c = circuit_of lines in
@@ -435,7 +436,7 @@ no_stop_fault : (lines : List CircuitLine) (p : Pattern) (ms : List ModuleLines)
     (inputs v : Valuation)
     (i : ℕ) (j : JobView) (s : listed.Stop) → Faultless lines p ms jobs inputs v →
     slice_get jobs i ≡ Some j → Contains j.stops s →
-    local_run j (seen_by j.locals v) s.at.time s.at.cell.x s.at.cell.y ≡ seen_by j.locals v s.wire
+    local_run j (localized j.locals v) s.at.time s.at.cell.x s.at.cell.y ≡ localized j.locals v s.wire
 no_stop_fault lines p ms jobs inputs v i j s set e has =
     let k = known_job lines p ms jobs i j set.bundle e in
     let a = its_assignment j v in
@@ -451,13 +452,13 @@ no_stop_fault lines p ms jobs inputs v i j s set e has =
 
 -- the same by the wires of the circuit
 abbrev IsAsWire : JobView → Valuation → listed.Stop → Type 0
-IsAsWire j v r = local_run j (seen_by j.locals v) r.at.time r.at.cell.x r.at.cell.y ≡ v r.wire
+IsAsWire j v r = local_run j (localized j.locals v) r.at.time r.at.cell.x r.at.cell.y ≡ v r.wire
 
 no_line_fault : (lines : List CircuitLine) (p : Pattern) (ms : List ModuleLines) (jobs : List JobView)
     (inputs v : Valuation)
     (i : ℕ) (m : ModuleLines) (j : JobView) (k w : ℕ) (s : StopLine) → Faultless lines p ms jobs inputs v →
     slice_get jobs i ≡ Some j → IsJobOf (circuit_of lines) p m j → slice_get (stops m) k ≡ Some s →
-    wire_of (circuit_of lines) s.wire ≡ Some w → local_run j (seen_by j.locals v) s.time s.cell.x s.cell.y ≡ v w
+    wire_of (circuit_of lines) s.wire ≡ Some w → local_run j (localized j.locals v) s.time s.cell.x s.cell.y ≡ v w
 no_line_fault lines p ms jobs inputs v i m j k w s set e is at named =
     let own = all_map (IsAsWire j v) (renumber_stop (circuit_wire j.locals)) j.stops
     (λ n d lt. no_stop_fault lines p ms jobs inputs v i j _ set e (All-contains_itself j.stops n d lt)) in

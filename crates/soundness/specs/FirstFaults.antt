@@ -10,7 +10,7 @@ use Rattle.circuit.specs.Bridge.{circuit_of, netlist_of}
 use Rattle.circuit.specs.Meaning.{Circuit, Satisfies, Valuation, values_by_name}
 use Rattle.circuit.specs.declared.circuit_line.CircuitLine.{CircuitLine}
 use Rattle.pattern.specs.Layout.{Pattern}
-use Rattle.module_box.specs.LocalValues.{seen_by}
+use Rattle.module_box.specs.LocalValues.{localized}
 use Rattle.certificate_lines.specs.Entries.{ModuleLines, cuts, stops}
 use Rattle.certificate_lines.specs.Settings.{setting_of}
 use Rattle.certificate_lines.specs.declared.certificate_line.StopLine.{StopLine}
@@ -35,7 +35,7 @@ use Rattle.core_book.specs.declared.verdict.ReportLine.TheVariants.{Local, Borde
 -- the assignment gives each cut of the job the value that its wire has in v
 pub record IsAssignmentOf (j : JobView) (v : Valuation) (a : ℕ) : Type 0 where
   pub in_range : a < assignments j
-  pub bits : (k : ℕ) → k < j.locals.netlist.given → bit a k ≡ seen_by j.locals v k
+  pub bits : (k : ℕ) → k < j.locals.netlist.given → bit a k ≡ localized j.locals v k
 
 -- At time t no job has an edge fault under the assignment that v gives its cuts, and no module has a border fault. Such
 -- faults are at odd times alone.
@@ -95,8 +95,8 @@ pub record IsEarliestLine (report : List ReportLine) (i : ℕ) (f : Fault) : Typ
   pub of_borders : (n : ℕ) (g : BorderFault) → Contains report (Border n g) → f.time ≤ g.time
 
 -- The earliest line of a report is on the first fault under each valuation that has its assignment.
-abbrev pub EarliestLineIsFirst : Type 0
-EarliestLineIsFirst = (lines : List CircuitLine) (p : Pattern) (ms : List ModuleLines) (jobs : List JobView)
+abbrev pub EarliestLineIsFirstFault : Type 0
+EarliestLineIsFirstFault = (lines : List CircuitLine) (p : Pattern) (ms : List ModuleLines) (jobs : List JobView)
     (report : Vec ReportLine Global) (inputs v : Valuation) (i : ℕ) (m : ModuleLines) (j : JobView) (f : Fault) →
     BelongTogether lines p ms jobs → IsVerdict (setting_of lines p) ms jobs (No report) →
     IsEarliestLine report.items i f →

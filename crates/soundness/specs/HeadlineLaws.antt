@@ -8,7 +8,7 @@ use Rattle.pattern.specs.Layout.{Pattern, parts_of}
 use Rattle.pattern.specs.Lines.{AreGoodAfter, AreNamed, size_fault}
 use Rattle.pattern.specs.declared.layout_line.Port.{Port}
 use Rattle.module_box.specs.Boxes.{in_box}
-use Rattle.module_box.specs.LocalValues.{seen_by}
+use Rattle.module_box.specs.LocalValues.{localized}
 use Rattle.certificate_lines.specs.Entries.{ModuleLines}
 use Rattle.certificate_lines.specs.Settings.{setting_of}
 use Rattle.module_job.specs.Jobs.{JobView}
@@ -58,16 +58,17 @@ pub record IsRunOfJobs (lines : List CircuitLine) (p : Pattern) (jobs : List Job
     (t : ℕ) : Type 0 where
   pub outside : (x y : ℤ) → IsFalse (in_box (whole p.size) x y) → IsFalse (run_under (circuit_of lines) p v t x y)
   pub inside : (i : ℕ) (j : JobView) → slice_get jobs i ≡ Some j → (x y : ℤ) → IsTrue (in_box j.area x y) →
-      run_under (circuit_of lines) p v t x y ≡ local_run j (seen_by j.locals v) t x y
+      run_under (circuit_of lines) p v t x y ≡ local_run j (localized j.locals v) t x y
 
 -- it is so at the start
-abbrev pub StartsAsJobs : Type 0
-StartsAsJobs = (lines : List CircuitLine) (p : Pattern) (ms : List ModuleLines) (jobs : List JobView) (v : Valuation) →
+abbrev pub PlaneStartsAsJobs : Type 0
+PlaneStartsAsJobs = (lines : List CircuitLine) (p : Pattern) (ms : List ModuleLines) (jobs : List JobView)
+    (v : Valuation) →
     BelongTogether lines p ms jobs → IsRunOfJobs lines p jobs v 0
 
 -- if it is so before a step, and neither a job nor a border has a fault, it is so after the step
-abbrev pub StepsAsJobs : Type 0
-StepsAsJobs = (lines : List CircuitLine) (p : Pattern) (ms : List ModuleLines) (jobs : List JobView)
+abbrev pub PlaneStepsAsJobs : Type 0
+PlaneStepsAsJobs = (lines : List CircuitLine) (p : Pattern) (ms : List ModuleLines) (jobs : List JobView)
     (inputs v : Valuation)
     (t : ℕ) →
     BelongTogether lines p ms jobs → HasNoFault lines p ms jobs → Satisfies (netlist_of lines) inputs v →
@@ -75,8 +76,8 @@ StepsAsJobs = (lines : List CircuitLine) (p : Pattern) (ms : List ModuleLines) (
     IsRunOfJobs lines p jobs v t → IsRunOfJobs lines p jobs v (suc t)
 
 -- if it is so after the last step, and no job has a fault, the plane looks as the layout asks
-abbrev pub EndsAsAsked : Type 0
-EndsAsAsked = (lines : List CircuitLine) (p : Pattern) (ms : List ModuleLines) (jobs : List JobView)
+abbrev pub PlaneEndsAsAsked : Type 0
+PlaneEndsAsAsked = (lines : List CircuitLine) (p : Pattern) (ms : List ModuleLines) (jobs : List JobView)
     (inputs v : Valuation) →
     BelongTogether lines p ms jobs → HasNoEndFault jobs → Satisfies (netlist_of lines) inputs v →
     IsRunOfJobs lines p jobs v p.size.steps →
@@ -85,8 +86,8 @@ EndsAsAsked = (lines : List CircuitLine) (p : Pattern) (ms : List ModuleLines) (
 -- ---- gates that have no row
 
 -- no gate of what is accepted is the first that has no row: some module keeps it, and would have a keep fault
-abbrev pub NoneIsUndefined : Type 0
-NoneIsUndefined = (lines : List CircuitLine) (p : Pattern) (ms : List ModuleLines) (jobs : List JobView)
+abbrev pub AcceptedHasNoUndefinedGate : Type 0
+AcceptedHasNoUndefinedGate = (lines : List CircuitLine) (p : Pattern) (ms : List ModuleLines) (jobs : List JobView)
     (inputs : Valuation)
     (k : ℕ) →
     IsAcceptedBundle lines p ms jobs → ¬ IsUndefined (netlist_of lines) inputs k
@@ -117,8 +118,8 @@ ReadLayoutHasInputNames = (lines : List CircuitLine) (p : Pattern) →
     AreNamed (Some (record { ins = input_names lines; outs = output_names lines })) (parts_of p) → HasInputNames lines p
 
 -- All its ports are named as the inputs and outputs then.
-abbrev pub ReadLayoutIsNamed : Type 0
-ReadLayoutIsNamed = (lines : List CircuitLine) (p : Pattern) →
+abbrev pub ReadLayoutHasPortNames : Type 0
+ReadLayoutHasPortNames = (lines : List CircuitLine) (p : Pattern) →
     AreNamed (Some (record { ins = input_names lines; outs = output_names lines })) (parts_of p) → IsNamed lines p
 
 -- If input cells have the names of inputs, the run depends on the values of the inputs alone: it is that in which just

@@ -19,7 +19,7 @@ use Rattle.certificate_lines.specs.Rules.{whole}
 use Rattle.certificate_lines.specs.Settings.{setting_of}
 use Rattle.module_job.specs.Jobs.{JobView}
 use Rattle.certificate_lines.specs.declared.certificate_line.StopLine.{StopLine}
-use Rattle.certificate.specs.Arrivals.{AreOnTime, IsDelay, TakesSteps, TellsOfDelay, TellsOfMeeting}
+use Rattle.certificate.specs.Arrivals.{AreOnTime, IsDelay, TakesSteps, IsDelayGapTrue, IsMeetingTimeTrue}
 use Rattle.certificate.specs.declared.times.StopGap.{StopGap}
 use Rattle.certificate.specs.declared.times.StopGap.TheVariants.{Steps}
 use Rattle.local_run.specs.declared.fault.Fault.{Fault}
@@ -116,7 +116,7 @@ pub record DelayLineMeans (lines : List CircuitLine) (ss : List StopLine) (numbe
   pub used : ℕ
   pub made : ℕ
   pub is_delay : IsDelay (circuit_of lines) number wanted used made
-  pub takes : TellsOfDelay (circuit_of lines) ss gap used made
+  pub takes : IsDelayGapTrue (circuit_of lines) ss gap used made
   pub wrong : gap ≢ Steps wanted → ¬ TakesSteps (circuit_of lines) ss wanted used made
   pub late : gap ≢ Steps wanted → ¬ AreOnTime (circuit_of lines) ss
 
@@ -125,7 +125,7 @@ pub record DelayLineMeans (lines : List CircuitLine) (ss : List StopLine) (numbe
 pub record MeetLineMeans (lines : List CircuitLine) (ss : List StopLine) (number : ℕ) (at : Option ℕ) : Type 0 where
   pub gate : Gate
   pub numbered : slice_get (netlist_of lines).gates number ≡ Some gate
-  pub meets : TellsOfMeeting (circuit_of lines) ss at gate.ins
+  pub meets : IsMeetingTimeTrue (circuit_of lines) ss at gate.ins
   pub late : at ≡ None → ¬ AreOnTime (circuit_of lines) ss
 
 -- The meaning of each line of a report. No `border` and no `unkept` line occurs. A `delay` line and a `meet` line are
@@ -139,8 +139,8 @@ LineMeans lines p m (DelayLine gate wanted gap) = DelayLineMeans lines (stops m)
 LineMeans lines p m (Meet gate at) = MeetLineMeans lines (stops m) gate at
 
 -- It means so in every report on a plain certificate.
-abbrev pub PlainLinesMean : Type 0
-PlainLinesMean = (lines : List CircuitLine) (p : Pattern) (m : ModuleLines) (jobs : List JobView)
+abbrev pub PlainLinesHaveMeaning : Type 0
+PlainLinesHaveMeaning = (lines : List CircuitLine) (p : Pattern) (m : ModuleLines) (jobs : List JobView)
     (report : Vec ReportLine Global) → HasInputNames lines p → BelongTogether lines p (m ∷ []) jobs →
     IsPlain lines p m →
     IsVerdict (setting_of lines p) (m ∷ []) jobs (No report) → All (LineMeans lines p m) report.items

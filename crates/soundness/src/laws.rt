@@ -1,21 +1,21 @@
 //! Laws of the whole plane, each the contract of a function without a body.
-ghost use Rattle.soundness.specs.HeadlineLaws.{AcceptedHasValuation, AcceptedIsCorrect, AcceptedIsOnTime, EndsAsAsked, Example, InputsDecideTheRun, NoneIsUndefined, ReadLayoutHasInputNames, ReadLayoutIsNamed, StartsAsJobs, StepsAsJobs, WrongExample};
-ghost use Rattle.soundness.specs.FirstFaults.{EarliestLineIsFirst, EarliestLineIsReal, EndFaultMeansIncorrect, FirstFaultIsReal, StepsWithGoodBorders};
-ghost use Rattle.soundness.specs.PlainCertificates.{AcceptedKeepsOffRim, PlainCertificateDecides, PlainLinesMean, PlainNoMeansWrong, UntimedIsOnTime};
+ghost use Rattle.soundness.specs.HeadlineLaws.{AcceptedHasValuation, AcceptedIsCorrect, AcceptedIsOnTime, PlaneEndsAsAsked, Example, InputsDecideTheRun, AcceptedHasNoUndefinedGate, ReadLayoutHasInputNames, ReadLayoutHasPortNames, PlaneStartsAsJobs, PlaneStepsAsJobs, WrongExample};
+ghost use Rattle.soundness.specs.FirstFaults.{EarliestLineIsFirstFault, EarliestLineIsReal, EndFaultMeansIncorrect, FirstFaultIsReal, StepsWithGoodBorders};
+ghost use Rattle.soundness.specs.PlainCertificates.{AcceptedKeepsOffRim, PlainCertificateDecides, PlainLinesHaveMeaning, PlainNoMeansWrong, UntimedIsOnTime};
 ghost use Rattle.soundness.specs.ModuleLaws.{ModuleHasOneJob, ModuleHasSomeJob, ModulesHaveVerdict};
 ghost use Rattle.soundness.specs.MigrationLaws.{AcceptedWithoutHalos, MigrationIsAccepted};
 
 /// States that the plane at the start is every job's own run in its box, and dead outside the rectangle.
-pub fn starts_as_jobs()
-    ensures { StartsAsJobs }
+pub fn plane_starts_as_jobs()
+    ensures { PlaneStartsAsJobs }
 {}
 
 /// States that the plane is so after a step if it was so before, and if no job and no border has a fault.
 ///
 /// It is enough that the edges and the borders have no fault at the time of the step, under the assignments of the
 /// circuit's values.
-pub fn steps_as_jobs()
-    ensures no_fault { StepsAsJobs }
+pub fn plane_steps_as_jobs()
+    ensures no_fault { PlaneStepsAsJobs }
     ensures good_borders { StepsWithGoodBorders }
 {}
 
@@ -28,7 +28,7 @@ pub fn steps_as_jobs()
 pub fn first_fault_is_real()
     ensures real { FirstFaultIsReal }
     ensures incorrect { EndFaultMeansIncorrect }
-    ensures first { EarliestLineIsFirst }
+    ensures first { EarliestLineIsFirstFault }
     ensures earliest { EarliestLineIsReal }
 {}
 
@@ -41,20 +41,20 @@ pub fn plain_certificate_decides()
     ensures off_rim { AcceptedKeepsOffRim }
     ensures decides { PlainCertificateDecides }
     ensures no { PlainNoMeansWrong }
-    ensures lines { PlainLinesMean }
+    ensures lines { PlainLinesHaveMeaning }
     ensures untimed { UntimedIsOnTime }
 {}
 
 /// States that the plane looks as the layout asks after the last step, if it is as the jobs say and no job has a fault.
-pub fn ends_as_asked()
-    ensures { EndsAsAsked }
+pub fn plane_ends_as_asked()
+    ensures { PlaneEndsAsAsked }
 {}
 
 /// States that no gate of an accepted bundle is the first one without a row.
 ///
 /// So the circuit has a valuation whatever its inputs are.
-pub fn no_gate_is_undefined()
-    ensures none { NoneIsUndefined }
+pub fn accepted_has_no_undefined_gate()
+    ensures none { AcceptedHasNoUndefinedGate }
     ensures valuation { AcceptedHasValuation }
 {}
 
@@ -77,7 +77,7 @@ pub fn accepted_is_on_time()
 /// Its input cells have the names of inputs, and each input and each output has a cell.
 pub fn inputs_decide_the_run()
     ensures named { ReadLayoutHasInputNames }
-    ensures all { ReadLayoutIsNamed }
+    ensures all { ReadLayoutHasPortNames }
     ensures decided { InputsDecideTheRun }
 {}
 
@@ -87,7 +87,7 @@ pub fn something_is_accepted()
 {}
 
 /// States that some layout whose ports are named as the circuit's does not compute it.
-pub fn something_is_wrong()
+pub fn some_layout_is_wrong()
     ensures { WrongExample }
 {}
 

@@ -3,7 +3,7 @@
 ghost use Rattle.std.specs.Prelude.{◌<◌, ◌≤◌};
 
 use certificate::Job;
-use module_box::{LocalFault, Wiring};
+use module_box::{LocalValuesError, Wiring};
 use std::alloc::{AllocError, Global};
 use std::process::Abort;
 use std::sync::Arc;
@@ -134,8 +134,8 @@ fn has_values(
     for (bits, digits) in table {
         let alone = match wiring.local_values(alloc, *bits) {
             Ok(values) => are(&values, digits),
-            Err(LocalFault::NoRow(_)) => false,
-            Err(LocalFault::Memory) => return Err(AllocError),
+            Err(LocalValuesError::NoRow(_)) => false,
+            Err(LocalValuesError::Memory) => return Err(AllocError),
         };
         if !alone || !(*bits > 1023 || have(&rows.values, words, *bits, digits)) {
             return Ok(false);
@@ -200,7 +200,7 @@ fn where_a_gate_has_no_row(rt: HostRuntime) {
         (12, 2),
     ] {
         let fault = wiring.local_values(rt.alloc(), bits).err();
-        assert!(rt; fault == Some(LocalFault::NoRow(place)), "{bits}");
+        assert!(rt; fault == Some(LocalValuesError::NoRow(place)), "{bits}");
     }
     let rows = wiring.value_rows(rt.alloc(), 1).expect(&rt, "rows");
     assert!(rt;

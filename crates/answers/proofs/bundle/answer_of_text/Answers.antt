@@ -1,7 +1,7 @@
 -- The circuit, the layout, the certificate, and the end of the text.
 use Rattle.std.proofs.lemmas.Result.{IfOk-weaker}
 use Rattle.section_text.specs.Ports.{named_ports}
-use Rattle.answers.specs.Questions.{says_of}
+use Rattle.answers.specs.Questions.{AnswersQuestion}
 use Rattle.answers.specs.BundleText.{bundle_of}
 use Rattle.answers.proofs.Bundles.{bundle_answers, bundle_goes_on, bundle_read, certificate_failed, circuit_failed}
 use Rattle.answers.proofs.Bundles.{going_3, layout_failed, refusal_answers}
@@ -12,7 +12,7 @@ returns-in-Err c =
     let fails = circuit_failed c.args.text.now c.read_circuit.new.feed c.requires.unread c.requires.going c.in-Err.fault
     c.in-Err.ensures in
     IfOk-weaker c.refused.result _ _
-    (λ answered told. refusal_answers (says_of c.args.question)
+    (λ answered told. refusal_answers (AnswersQuestion c.args.question)
     (bundle_of c.args.text.now.text) c.in-Err.fault answered.output.items answered.outcome fails told)
     c.refused.ensures.told
 
@@ -22,7 +22,7 @@ returns-in-Err-read_layout c =
     c.in-Ok.ensures (named_ports c.in-Ok-port_names.ports) c.read_layout.new.feed c.in-Ok-port_names.ensures.ports
     c.in-Err-read_layout.fault c.in-Err-read_layout.ensures.reads in
     IfOk-weaker c.refused-in-Err-read_layout.result _ _
-    (λ answered told. refusal_answers (says_of c.args.question)
+    (λ answered told. refusal_answers (AnswersQuestion c.args.question)
     (bundle_of c.args.text.now.text) c.in-Err-read_layout.fault answered.output.items answered.outcome fails told)
     c.refused-in-Err-read_layout.ensures.told
 
@@ -34,7 +34,7 @@ returns-in-Err-read_certificate c =
     c.in-Ok-read_layout.layout c.in-Ok-read_layout.ensures.reads c.read_certificate.new.feed
     c.in-Err-read_certificate.fault c.in-Err-read_certificate.ensures.reads in
     IfOk-weaker c.refused-in-Err-read_certificate.result _ _
-    (λ answered told. refusal_answers (says_of c.args.question)
+    (λ answered told. refusal_answers (AnswersQuestion c.args.question)
     (bundle_of c.args.text.now.text) c.in-Err-read_certificate.fault answered.output.items answered.outcome fails told)
     c.refused-in-Err-read_certificate.ensures.told
 
@@ -51,7 +51,7 @@ returns-in-Err-finish c =
     c.in-Ok-read_certificate.cert c.in-Ok-read_certificate.ensures.reads
     c.in-Err-finish.fault (c.in-Err-finish.ensures.more going) (c.in-Err-finish.ensures.fault going).0 in
     IfOk-weaker c.refused-in-Err-finish.result _ _
-    (λ answered told. refusal_answers (says_of c.args.question)
+    (λ answered told. refusal_answers (AnswersQuestion c.args.question)
     (bundle_of c.args.text.now.text) c.in-Err-finish.fault answered.output.items answered.outcome fails told)
     c.refused-in-Err-finish.ensures.told
 
@@ -69,6 +69,6 @@ returns c =
     c.in-Ok-read_certificate.cert c.in-Ok-read_certificate.ensures.reads
     c.in-Ok-read_certificate.ensures.circuit c.in-Ok-read_certificate.ensures.layout done.0 done.1 in
     IfOk-weaker c.answer.result _ _
-    (λ answered says. bundle_answers (says_of c.args.question)
+    (λ answered says. bundle_answers (AnswersQuestion c.args.question)
     (bundle_of c.args.text.now.text) c.in-Ok-read_certificate.cert answered.output.items answered.outcome was_read says)
     c.answer.ensures.says

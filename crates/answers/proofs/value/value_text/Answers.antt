@@ -1,6 +1,6 @@
 -- The line of a refusal is the answer to what fails so.
 use Rattle.std.proofs.lemmas.Result.{IfOk-weaker}
-use Rattle.answers.specs.ValueText.{SaysValues, value_asked}
+use Rattle.answers.specs.ValueText.{SaysValues, value_sections_of}
 use Rattle.answers.proofs.Bundles.{refusal_answers}
 use Rattle.answers.proofs.value.value_text.Goals as goal
 
@@ -8,5 +8,6 @@ pub returns-in-Err : goal.returns-in-Err
 returns-in-Err c =
     IfOk-weaker c.refused.result _ _
     (λ answered told. refusal_answers SaysValues
-    (value_asked c.args.feed.now.text) c.in-Err.fault answered.output.items answered.outcome c.in-Err.ensures told)
+    (value_sections_of c.args.feed.now.text) c.in-Err.fault answered.output.items answered.outcome c.in-Err.ensures
+    told)
     c.refused.ensures.told

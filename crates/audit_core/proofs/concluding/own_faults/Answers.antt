@@ -12,8 +12,8 @@ modules-preserved c =
     let b = c.args.book.now in
     let own = c.in-Some.ensures.finding_is_own in
     subst (AreFaultsBelow b b.jobs (c.modules.number + 1)) (sym c.in_ok-push-in-Some.ensures.items)
-    (one-more b b.jobs c.modules.number c.modules.faults.items _ c.in-Some.finding.now c.told_of.result
-    c.modules.invariant own.job (sym c.in-Some.ensures.held) refl c.told_of.ensures)
+    (one-more b b.jobs c.modules.number c.modules.faults.items _ c.in-Some.finding.now c.reasons_of.result
+    c.modules.invariant own.job (sym c.in-Some.ensures.held) refl c.reasons_of.ensures)
 
 pub unreachable-requires : goal.unreachable-requires
 unreachable-requires c =

@@ -6,7 +6,7 @@ use Rattle.certificate_lines.specs.Entries.{ModuleLines, modules_of}
 use Rattle.certificate.specs.Grammars.{modules_in}
 use Rattle.certificate_lines.specs.Settings.{setting_of}
 use Rattle.certificate_lines.specs.Rules.{whole}
-use Rattle.certificate_lines.specs.Versions.{meant, with_halos}
+use Rattle.certificate_lines.specs.Versions.{modules_by_version, with_halos}
 use Rattle.border_match.specs.BorderFaults.{AreBorderFaultsOf, IsLeastBorderFault}
 use Rattle.border_match.specs.Boards.{IsBoard, IsJobFault}
 use Rattle.border_match.specs.Candidates.{IsLeast}
@@ -21,13 +21,13 @@ told (Ok x) f p = f x p
 told (Err e) f p = p
 
 pub returns-then-version-eq2 : goal.returns-then-version-eq2
-unfolding meant
+unfolding modules_by_version
 returns-then-version-eq2 c =
     let s = c.args.cert.now in
     let g = setting_of s.circuit s.layout in
     let own = modules_of s.entries in
     let second : s.version ≡ 2 = sym c.version.ensures.version ∙ c.if-version-eq2.true in
-    let meant_so : modules_in s ≡ map (with_halos g own) own = ap (λ (v : ℕ). meant v g own) second in
+    let meant_so : modules_in s ≡ map (with_halos g own) own = ap (λ (v : ℕ). modules_by_version v g own) second in
     told c.no_faults.result (λ faults e.
     subst (λ (ms : List ModuleLines). AreBorderFaultsOf g ms faults.items) (sym meant_so)
     (subst (AreBorderFaultsOf g (map (with_halos g own) own))

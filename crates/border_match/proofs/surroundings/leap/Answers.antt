@@ -3,6 +3,6 @@ use Rattle.border_match.proofs.FarEvents.{far_to}
 use Rattle.border_match.proofs.surroundings.leap.Goals as goal
 
 pub returns-clause-far : goal.returns-clause-far
-returns-clause-far c = far_to c.args.window.now c.args.events.now c.args.place c.place_from-next.result _
+returns-clause-far c = far_to c.args.window.now c.args.events.now c.args.place c.find_first_not_before-next.result _
     c.next_after-target.result c.requires.rising c.requires.within c.requires.far c.next_after-target.ensures.passed
-    c.place_from-next.ensures.passed
+    c.find_first_not_before-next.ensures.passed

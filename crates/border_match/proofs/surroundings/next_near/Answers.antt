@@ -1,5 +1,5 @@
 use Rattle.std.proofs.Common.{◌≡◌, ◌+◌, ◌-◌, subst, arith}
-use Rattle.border_match.specs.Surroundings.{IsFarAt}
+use Rattle.border_match.specs.Surroundings.{IsEventFarAt}
 use Rattle.border_match.proofs.FarEvents.{far_at, far_joined, far_more, far_none}
 use Rattle.border_match.proofs.surroundings.next_near.Goals as goal
 
@@ -27,7 +27,7 @@ looks-preserved c =
       begin = omega arith;
       within = omega arith;
       far = far_more c.args.window.now c.args.events.now c.args.from c.looks.place c.looks.invariant.far here;
-      last = λ lt. subst (IsFarAt c.args.window.now c.args.events.now) back here;
+      last = λ lt. subst (IsEventFarAt c.args.window.now c.args.events.now) back here;
     }
 
 pub leap-place-requires-clause-far : goal.leap-place-requires-clause-far

@@ -1,12 +1,12 @@
 -- The events so far are far, and so is the last one that was looked at.
 use Rattle.std.proofs.Common.{◌-◌, ◌≤◌, ◌<◌, length}
-use Rattle.border_match.specs.Surroundings.{AreFar, IsFarAt}
+use Rattle.border_match.specs.Surroundings.{AreEventsFar, IsEventFarAt}
 use Rattle.border_match.proofs.surroundings.next_near.Given as goal
 
 abbrev pub invariant-leaps : goal.invariant-leaps
 invariant-leaps l = record {
   after : l.from ≤ l.place;
-  far : AreFar l.window l.events l.from l.place;
+  far : AreEventsFar l.window l.events l.from l.place;
 }
 
 abbrev pub decreases-leaps : goal.decreases-leaps
@@ -16,8 +16,8 @@ abbrev pub invariant-looks : goal.invariant-looks
 invariant-looks l = record {
   begin : l.begin ≤ l.place;
   within : l.place ≤ l.end;
-  far : AreFar l.window l.events l.from l.place;
-  last : l.begin < l.place → IsFarAt l.window l.events (l.place - 1);
+  far : AreEventsFar l.window l.events l.from l.place;
+  last : l.begin < l.place → IsEventFarAt l.window l.events (l.place - 1);
 }
 
 abbrev pub decreases-looks : goal.decreases-looks

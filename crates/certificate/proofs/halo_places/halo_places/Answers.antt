@@ -25,8 +25,8 @@ returns-then-size-le1 c =
     (length-map c.in_ok-lists.lists.items (λ l. l.items) ∙ same_count
     ∙ ap length boxes_are ∙ length-map (modules_of es) (λ (m : ModuleLines). m.area)) c.in_ok-lists.ensures.empty
 
-pub push_modules-requires-clause-table : goal.push_modules-requires-clause-table
-push_modules-requires-clause-table c =
+pub push_all_edge_places-requires-clause-table : goal.push_all_edge_places-requires-clause-table
+push_all_edge_places-requires-clause-table c =
     let p = c.args.tables.now in let g = setting_of p.circuit p.layout in
     let es = c.args.entries.now in
     let boxes_are : c.as_slice-2.result.now ≡ areas (modules_of es) =
@@ -43,8 +43,8 @@ push_modules-requires-clause-table c =
           ∙ sym (ap length c.as_slice-2.ensures.value);
     }
 
-pub push_modules-requires-clause-inner : goal.push_modules-requires-clause-inner
-push_modules-requires-clause-inner c =
+pub push_all_edge_places-requires-clause-inner : goal.push_all_edge_places-requires-clause-inner
+push_all_edge_places-requires-clause-inner c =
     let p = c.args.tables.now in let g = setting_of p.circuit p.layout in
     let ms = modules_of c.args.entries.now in
     subst (λ (b : Box2). All (λ (e : BorderLine). IsInnerCell b e.cell) (flat_map edges ms))
@@ -62,8 +62,9 @@ returns c =
     let same_count : length c.in_ok-lists.lists.items ≡ length c.in_ok-boxes.boxes.items =
     omega (arith, c.in_ok-lists.ensures.count, c.len.ensures, c.in_ok-boxes.boxes.ok) in
     all_placed g es c.as_slice-2.result.now (map (λ l. l.items) c.in_ok-lists.lists.items)
-    (map (λ l. l.items) c.push_modules.new.lists.items) (subst (λ n. 1 < n) steps (omega (arith, more))) boxes_are
+    (map (λ l. l.items) c.push_all_edge_places.new.lists.items)
+    (subst (λ n. 1 < n) steps (omega (arith, more))) boxes_are
     (length-map c.in_ok-lists.lists.items (λ l. l.items) ∙ same_count
     ∙ sym (ap length c.as_slice-2.ensures.value) ∙ ap length boxes_are
     ∙ length-map (modules_of es) (λ (m : ModuleLines). m.area)) c.in_ok-lists.ensures.empty
-    c.in_ok-push_modules.ensures
+    c.in_ok-push_all_edge_places.ensures

@@ -10,7 +10,7 @@ use Rattle.certificate.proofs.JobLemmas.{wires_known}
 use Rattle.certificate.proofs.JobLemmas.{cut_count}
 use Rattle.module_box.specs.Boxes.{in_box}
 use Rattle.module_box.specs.Locals.{AreLocalsOf}
-use Rattle.module_box.specs.Moves.{IsNear}
+use Rattle.module_box.specs.Moves.{IsInShiftRange}
 use Rattle.module_box.specs.Schedules.{Signals}
 use Rattle.module_box.specs.declared.boxes.Box2.{Box2}
 use Rattle.module_box.specs.declared.schedules.Signal.{Signal}
@@ -19,7 +19,7 @@ use Rattle.module_job.specs.Jobs.{IsJob}
 use Rattle.certificate.specs.Jobs.{IsJobOf, line_signals, line_stops}
 use Rattle.certificate_lines.specs.Rules.{is_local}
 use Rattle.module_job.specs.Shapes.{ShapeView, placed, stops_from_corner}
-use Rattle.certificate.specs.Timetables.{IsNamedLocal}
+use Rattle.certificate.specs.Timetables.{HasLocalWire}
 use Rattle.module_job.specs.declared.job.Demand.{Demand}
 use Rattle.module_job.specs.declared.job.Stop.{Stop}
 use Rattle.certificate.proofs.JobPlaces.{start_found, demand_found}
@@ -70,7 +70,7 @@ schedules-requires-clause-edges c =
     let cs = c.args.tables.now.circuit in
     let m : ModuleLines = record { area = c.args.area; lines = c.args.lines.now } in
     let known_wires = wires_known _ cs m _ _ _ c.circuit-circuit.ensures refl refl c.in_ok-locals.ensures.wires in
-    subst (λ ls. All (IsNamedLocal (circuit_of ls) c.in_ok-locals.locals) (edges m)) (sym c.circuit-circuit.ensures)
+    subst (λ ls. All (HasLocalWire (circuit_of ls) c.in_ok-locals.locals) (edges m)) (sym c.circuit-circuit.ensures)
     (edges_named (setting_of cs c.args.tables.now.layout) m c.in_ok-locals.locals known_wires c.requires.module)
 
 pub schedules-requires-clause-halos : goal.schedules-requires-clause-halos
@@ -78,7 +78,7 @@ schedules-requires-clause-halos c =
     let cs = c.args.tables.now.circuit in
     let m : ModuleLines = record { area = c.args.area; lines = c.args.lines.now } in
     let known_wires = wires_known _ cs m _ _ _ c.circuit-circuit.ensures refl refl c.in_ok-locals.ensures.wires in
-    subst (λ ls. All (IsNamedLocal (circuit_of ls) c.in_ok-locals.locals) (halos m)) (sym c.circuit-circuit.ensures)
+    subst (λ ls. All (HasLocalWire (circuit_of ls) c.in_ok-locals.locals) (halos m)) (sym c.circuit-circuit.ensures)
     (halos_named (setting_of cs c.args.tables.now.layout) m c.in_ok-locals.locals known_wires c.requires.module)
 
 pub schedules-requires-clause-low_edges : goal.schedules-requires-clause-low_edges
@@ -102,8 +102,8 @@ schedules-requires-clause-corner c =
     let bottom = w.1 in
     (omega (arith, right), omega (arith, bottom))
 
-pub own_stops-requires-clause-local : goal.own_stops-requires-clause-local
-own_stops-requires-clause-local c =
+pub stops_at_corner_offset-requires-clause-local : goal.stops_at_corner_offset-requires-clause-local
+stops_at_corner_offset-requires-clause-local c =
     let cs = c.args.tables.now.circuit in
     let m : ModuleLines = record { area = c.args.area; lines = c.args.lines.now } in
     let known_wires = wires_known _ cs m _ _ _ c.circuit-circuit.ensures refl refl c.in_ok-locals.ensures.wires in
@@ -111,14 +111,14 @@ own_stops-requires-clause-local c =
     (sym c.circuit-circuit.ensures)
     (stops_named (setting_of cs c.args.tables.now.layout) m c.in_ok-locals.locals known_wires c.requires.module)
 
-pub own_stops-requires-clause-low : goal.own_stops-requires-clause-low
-own_stops-requires-clause-low c =
+pub stops_at_corner_offset-requires-clause-low : goal.stops_at_corner_offset-requires-clause-low
+stops_at_corner_offset-requires-clause-low c =
     low_stops (setting_of c.args.tables.now.circuit c.args.tables.now.layout)
     (record { area = c.args.area; lines = c.args.lines.now }) c.size-size.result
     (c.size-size.ensures.size ∙ ap (λ p. p.size) c.layout.ensures) c.size-size.ensures.limits c.requires.module
 
-pub own_stops-requires-clause-corner : goal.own_stops-requires-clause-corner
-own_stops-requires-clause-corner c =
+pub stops_at_corner_offset-requires-clause-corner : goal.stops_at_corner_offset-requires-clause-corner
+stops_at_corner_offset-requires-clause-corner c =
     let w = within_512 (setting_of c.args.tables.now.circuit c.args.tables.now.layout)
     (record { area = c.args.area; lines = c.args.lines.now }) c.size-size.result
     (c.size-size.ensures.size ∙ ap (λ p. p.size) c.layout.ensures) c.size-size.ensures.limits c.requires.module in
@@ -186,11 +186,11 @@ invariant_of-result c =
       job = subst IsJob (sym (λ i. placed area.x area.y (wires_are i) (gates_are i) (shape_is i))) job;
       sized = ap length wires_are ∙ c.into_parts-wiring.ensures.sized
           ∙ ap (λ (t : ShapeView). wires t.netlist) (sym shape_is);
-      near_edges = subst (λ (t : ShapeView). All (λ e. IsNear e.at.cell) t.edges.events)
+      near_edges = subst (λ (t : ShapeView). All (λ e. IsInShiftRange e.at.cell) t.edges.events)
           (sym shape_is) c.in_ok-edges.ensures.near_edges;
-      near_halos = subst (λ (t : ShapeView). All (λ e. IsNear e.at.cell) t.halos.events)
+      near_halos = subst (λ (t : ShapeView). All (λ e. IsInShiftRange e.at.cell) t.halos.events)
           (sym shape_is) c.in_ok-edges.ensures.near_halos;
-      near_stops = subst (λ (t : ShapeView). All (λ e. IsNear e.at.cell) t.stops)
+      near_stops = subst (λ (t : ShapeView). All (λ e. IsInShiftRange e.at.cell) t.stops)
           (sym shape_is) c.in_ok-stops.ensures.near;
     }
 

@@ -4,7 +4,7 @@ use Rattle.std.specs.List.{All}
 use Rattle.section_text.proofs.Good.{reads_faultless}
 use Rattle.certificate_lines.specs.Entries.{Setting, counts_of, modules_of}
 use Rattle.certificate_lines.specs.Settings.{setting_of}
-use Rattle.certificate_lines.specs.Modules.{AreModules, HasFewLines}
+use Rattle.certificate_lines.specs.Modules.{AreModules, IsWithinLineLimit}
 use Rattle.certificate_lines.specs.Versions.{is_haloless, lacks_wire}
 use Rattle.certificate_lines.specs.declared.certificate_line.CertificateLine.{CertificateLine}
 use Rattle.certificate.proofs.Soundness.{faultless_lines, faultless_modules, read_complete, read_version}
@@ -23,7 +23,7 @@ invariant_of-result c =
           (sym c.into_parts-entries.ensures.entries)
           (subst (λ (g : Setting). AreModules g (modules_of c.read_section-read.new.section.builder.entries))
           c.in-Ok.ensures.setting read);
-      few_lines = subst (λ (es : List CertificateLine). All HasFewLines (modules_of es))
+      few_lines = subst (λ (es : List CertificateLine). All IsWithinLineLimit (modules_of es))
           (sym c.into_parts-entries.ensures.entries) (faultless_lines c.in-Ok.reading.builder.setting _ _ faultless);
       known = read_version c.in-Ok.reading.builder.setting _ _ faultless;
       complete = subst (λ (es : List CertificateLine).

@@ -7,8 +7,8 @@ use Rattle.certificate.proofs.times.lines_of.Goals as goal
 
 pub returns : goal.returns
 returns c =
-    subst (λ xs. IfOk c.lines_by.result (λ lines. lines.items ≡ xs))
+    subst (λ xs. IfOk c.time_lines_of_gates.result (λ lines. lines.items ≡ xs))
     (lines_told (circuit_of c.args.circuit.now)
     (map slice_lines c.args.parts.now) _ c.in_ok-firsts.firsts.items c.in_ok-lasts.lasts.items c.deref.result.now
     c.deref-2.result.now c.deref.ensures.value c.deref-2.ensures.value
-    refl c.in_ok-firsts.ensures c.in_ok-lasts.ensures) c.lines_by.ensures
+    refl c.in_ok-firsts.ensures c.in_ok-lasts.ensures) c.time_lines_of_gates.ensures

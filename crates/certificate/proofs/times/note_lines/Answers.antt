@@ -3,7 +3,7 @@ use Rattle.std.specs.List.{flat_map}
 use Rattle.std.proofs.lemmas.List.{take_all}
 use Rattle.circuit.specs.Bridge.{circuit_of}
 use Rattle.certificate_lines.specs.Entries.{stop_in}
-use Rattle.certificate.specs.SeenTimes.{IsTable}
+use Rattle.certificate.specs.SeenTimes.{IsStopTimeTable}
 use Rattle.certificate_lines.proofs.FlatParts.{flat_more}
 use Rattle.certificate.proofs.times.note_lines.Goals as goal
 
@@ -11,7 +11,7 @@ pub lines-preserved : goal.lines-preserved
 lines-preserved c = record {
   table = λ ss h.
       let before = flat_map stop_in (take c.lines.line-index c.args.lines.now) in
-      subst (λ all. IsTable c.args.choice (circuit_of c.args.circuit.now) all c.note_line.new.table)
+      subst (λ all. IsStopTimeTable c.args.choice (circuit_of c.args.circuit.now) all c.note_line.new.table)
       (append_assoc ss before (stop_in c.line-item.result) ∙ ap (λ l. ss ++ l)
       (sym (flat_more stop_in c.args.lines.now c.lines.line-index c.line-item.result c.lines-test.true c.line-item.is)))
       (c.note_line.ensures.table (ss ++ before) (c.lines.invariant.table ss h));
@@ -21,5 +21,6 @@ lines-preserved c = record {
 pub returns-clause-table : goal.returns-clause-table
 returns-clause-table c ss h =
     let past : length c.args.lines.now ≤ c.lines.line-index = omega (arith, c.lines-test.false) in
-    subst (λ all. IsTable c.args.choice (circuit_of c.args.circuit.now) (ss ++ flat_map stop_in all) c.lines.table)
+    subst (λ all. IsStopTimeTable c.args.choice (circuit_of c.args.circuit.now)
+    (ss ++ flat_map stop_in all) c.lines.table)
     (take_all c.lines.line-index c.args.lines.now past) (c.lines.invariant.table ss h)

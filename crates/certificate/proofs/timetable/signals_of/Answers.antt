@@ -5,7 +5,7 @@ use Rattle.circuit.specs.Meaning.{wires}
 use Rattle.module_box.specs.Locals.{circuit_wire}
 use Rattle.certificate.specs.Jobs.{line_signals}
 use Rattle.module_job.specs.Signals.{IsBelow, renumber_all_times, renumber_event}
-use Rattle.certificate.specs.Timetables.{IsNamedLocal, borders_in}
+use Rattle.certificate.specs.Timetables.{HasLocalWire, borders_in}
 use Rattle.certificate_lines.proofs.FlatParts.{flat_at}
 use Rattle.certificate.proofs.TimetableLemmas.{no_lines, no_names, next_table, all_lines, table_all_times_rises}
 use Rattle.certificate.proofs.TimetableLemmas.{table_events_rise}
@@ -17,7 +17,7 @@ lines-init c = no_lines (circuit_of c.args.circuit.now) c.args.locals.now _ c.ne
     (no_names (circuit_of c.args.circuit.now) c.args.locals.now _ c.empty_slots.ensures)
 
 pub add_line-requires : goal.add_line-requires
-add_line-requires c = flat_at (IsNamedLocal (circuit_of c.args.circuit.now) c.args.locals.now)
+add_line-requires c = flat_at (HasLocalWire (circuit_of c.args.circuit.now) c.args.locals.now)
     (borders_in c.args.side) c.args.lines.now c.requires.local c.lines.line-index c.line-item.result c.lines-test.true
     c.line-item.is
 

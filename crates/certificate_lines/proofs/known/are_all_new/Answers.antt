@@ -12,7 +12,7 @@ loop-at-preserved c =
     ∙ sym c.contains-is_known.ensures in
     new_wire c.args.known.now.wires c.args.wires.now c.loop-at.at c.index-wires-at.result c.loop-at-test.true
     c.index-wires-at.is c.loop-at.invariant
-    (ap₂ (λ a b. a || b) known (sym c.stands_before-stands_twice.ensures) ∙ c.if-is_known-stands_twice.false)
+    (ap₂ (λ a b. a || b) known (sym c.is_among_earlier-stands_twice.ensures) ∙ c.if-is_known-stands_twice.false)
 
 pub returns-then-is_known-stands_twice : goal.returns-then-is_known-stands_twice
 returns-then-is_known-stands_twice c =
@@ -20,4 +20,4 @@ returns-then-is_known-stands_twice c =
     ∙ sym c.contains-is_known.ensures in
     old_wire c.args.known.now.wires c.args.wires.now c.loop-at.at c.index-wires-at.result c.loop-at-test.true
     c.index-wires-at.is c.loop-at.invariant
-    (ap₂ (λ a b. a || b) known (sym c.stands_before-stands_twice.ensures) ∙ c.if-is_known-stands_twice.true)
+    (ap₂ (λ a b. a || b) known (sym c.is_among_earlier-stands_twice.ensures) ∙ c.if-is_known-stands_twice.true)

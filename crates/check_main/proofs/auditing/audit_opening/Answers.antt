@@ -6,8 +6,8 @@ use Rattle.core_book.proofs.Fillings.{clones-same}
 use Rattle.check_main.proofs.Closings.{audit_of, completed_closed, many_filings, no_history, own_digest, own_jobs}
 use Rattle.check_main.proofs.auditing.audit_opening.Goals as goal
 
-pub audited_by-requires-clause-fresh : goal.audited_by-requires-clause-fresh
-audited_by-requires-clause-fresh g c κs within = no_history c.in_ok-state.state _ _ c.in_ok-state.ensures
+pub audit_with_book-requires-clause-fresh : goal.audit_with_book-requires-clause-fresh
+audit_with_book-requires-clause-fresh g c κs within = no_history c.in_ok-state.state _ _ c.in_ok-state.ensures
 
 pub complete-requires : goal.complete-requires
 complete-requires g c =

@@ -76,7 +76,7 @@ prepare-requires g c =
     c.in-Ok-read_layout.layout c.in-Ok-read_layout.ensures.reads c.read_certificate.new.feed
     c.in-Ok-read_certificate.cert c.in-Ok-read_certificate.ensures.reads in
     let cert = c.in-Ok-read_certificate.cert in
-    let read = text_taken c.one_text.ensures.printed
+    let read = text_taken c.text_round_trips.ensures.printed
     (setting_of c.in-Ok.circuit c.in-Ok-read_layout.layout) c.read_layout.new.feed c.read_certificate.new.feed cert
     c.in-Ok-read_certificate.ensures.reads in
     let bytes = section_bytes c.taken_text-from.result.now _ (certificate_text cert)

@@ -3,7 +3,7 @@ use Rattle.std.proofs.Common.{refl}
 use Rattle.headline.specs.RightInFull.{IsRightInFull}
 use Rattle.headline.specs.Plain.{IsWrongIfPlain}
 use Rattle.headline.specs.SmallDesigns.{IsNoSmallDesign}
-use Rattle.headline.specs.ReportLines.{LinesTell}
+use Rattle.headline.specs.ReportLines.{LinesHaveMeaning}
 use Rattle.answers.specs.declared.outcome.Outcome.TheVariants.{No, Refused}
 use Rattle.check_main.proofs.RightStreams.{nothing_promised, outcome_means, outcome_tells, yes_promised}
 use Rattle.check_main.proofs.stream.check_stream.Goals as goal
@@ -34,7 +34,7 @@ returns-clause-wrong g c is =
 
 pub returns-clause-lines : goal.returns-clause-lines
 returns-clause-lines g c is =
-    outcome_tells LinesTell No (g.R.Source.left c.args.reader.now) (g.R.Source.left c.read_text.new.reader)
+    outcome_tells LinesHaveMeaning No (g.R.Source.left c.args.reader.now) (g.R.Source.left c.read_text.new.reader)
     (g.W.Sink.written_bytes c.args.writer.now) (g.W.Sink.written_bytes c.write_answer.new.writer)
     c.in_ok-feed.feed.text c.in_ok-answered.answered.output.items c.in_ok-answered.answered.outcome
     c.in_ok-answered.ensures.lines c.in_ok-feed.ensures.read_all c.write_answer.result is

@@ -6,8 +6,8 @@ use Rattle.core_book.proofs.Fillings.{clones-same, new-open}
 use Rattle.core_book.proofs.filling.fill.Goals as goal
 use Rattle.core_book.proofs.filling.fill.Goals.{then-not-own+in_ok-to_vec+in_ok-state, else-not-own}
 
-pub fill_open-requires : goal.fill_open-requires
-fill_open-requires c =
+pub fill_open_book-requires : goal.fill_open_book-requires
+fill_open_book-requires c =
     let digest = c.args.digest in
     let jobs = map arc_value c.args.jobs.now in
     elim c.if-not-own.branch [
@@ -28,12 +28,12 @@ pub returns-clause-replaced : goal.returns-clause-replaced
 returns-clause-replaced c = λ other.
     let digest = c.args.digest in
     let jobs = map arc_value c.args.jobs.now in
-    let after = c.fill_open.new.state in
+    let after = c.fill_open_book.new.state in
     elim c.if-not-own.branch [
       | then-not-own+in_ok-to_vec+in_ok-state w ↦
           let same = clones-same arc_value c.args.jobs.now w.in_ok-to_vec.field-0.items w.in_ok-to_vec.ensures.ok in
           let is : c.if-not-own.state ≡ new_book digest jobs =
           w.state-is ∙ w.in_ok-state.ensures ∙ ap (new_book digest) same in
-          inr (subst (λ (b : BookView). IsPartlyFilled b after) is c.fill_open.ensures.partly)
+          inr (subst (λ (b : BookView). IsPartlyFilled b after) is c.fill_open_book.ensures.partly)
       | else-not-own w ↦ absurd (other (c.is_open_for-own.ensures.open_for_jobs w.if-not-own.false))
     ]

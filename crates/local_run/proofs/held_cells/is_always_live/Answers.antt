@@ -4,4 +4,4 @@ use Rattle.local_run.proofs.held_cells.is_always_live.Goals as goal
 
 pub returns-then-is_met : goal.returns-then-is_met
 returns-then-is_met c = λ h.
-    (c.if-is_met.true, all_live c.args.words c.args.at c.args.cells.now (c.is_some_other.ensures (not-true _ h)))
+    (c.if-is_met.true, all_live c.args.words c.args.at c.args.cells.now (c.has_other_word.ensures (not-true _ h)))

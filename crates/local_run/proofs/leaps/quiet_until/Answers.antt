@@ -1,7 +1,7 @@
 use Rattle.std.proofs.Common.{◌≡◌, ◌∙◌, ap, subst}
 use Rattle.module_box.specs.Schedules.{Signals}
 use Rattle.module_job.specs.Shapes.{ShapeView, shift_to_origin, shape_of}
-use Rattle.local_run.specs.Leaps.{IsSteady}
+use Rattle.local_run.specs.Leaps.{HasSameSignalsAtOddTimes}
 use Rattle.local_run.proofs.LeapLemmas.{less_steady, steady_moved}
 use Rattle.local_run.proofs.leaps.quiet_until.Goals as goal
 
@@ -10,10 +10,10 @@ returns-clause-edges c =
     let j = c.args.job.now in
     let shape : c.deref-shape.result.now ≡ shape_of j = c.deref-shape.ensures ∙ c.shape.ensures in
     let is = c.edges.ensures ∙ ap (λ (s : ShapeView). s.edges) shape in
-    less_steady j.edges c.args.time c.steady_until-edges.result _ c.steady_until.ensures.range.1
+    less_steady j.edges c.args.time c.same_signals_until-edges.result _ c.same_signals_until.ensures.range.1
     (steady_moved j.edges (shift_to_origin j.area.x) (shift_to_origin j.area.y) c.args.time _
-    (subst (λ (s : Signals). IsSteady s c.args.time c.steady_until-edges.result) is
-    c.steady_until-edges.ensures.steady))
+    (subst (λ (s : Signals). HasSameSignalsAtOddTimes s c.args.time c.same_signals_until-edges.result) is
+    c.same_signals_until-edges.ensures.steady))
 
 pub returns-clause-halos : goal.returns-clause-halos
 returns-clause-halos c =
@@ -21,4 +21,5 @@ returns-clause-halos c =
     let shape : c.deref-shape.result.now ≡ shape_of j = c.deref-shape.ensures ∙ c.shape.ensures in
     let is = c.halos.ensures ∙ ap (λ (s : ShapeView). s.halos) shape in
     steady_moved j.halos (shift_to_origin j.area.x) (shift_to_origin j.area.y) c.args.time _
-    (subst (λ (s : Signals). IsSteady s c.args.time c.steady_until.result) is c.steady_until.ensures.steady)
+    (subst (λ (s : Signals). HasSameSignalsAtOddTimes s c.args.time c.same_signals_until.result) is
+    c.same_signals_until.ensures.steady)

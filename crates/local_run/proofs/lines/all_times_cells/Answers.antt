@@ -15,11 +15,12 @@ returns c =
     let e = c.area-area.ensures.area in
     let shape : c.deref.result.now ≡ shape_of j = c.deref.ensures ∙ c.shape.ensures in
     let v = c.deref_mut.ensures.value in
-    let items = with_items_is c.in_ok-marks.marks c.mark_all_all_times.new.marks
+    let items = with_items_is c.in_ok-marks.marks c.mark_all_times_of_shape.new.marks
     (omega (arith, ap length v, c.in_ok-marks.marks.ok.0)) in
-    let m = rw shape at c.mark_all_all_times.ensures in
-    let long : length c.mark_all_all_times.new.marks ≡ c.div_ceil.result + 72 =
-    omega (arith, c.mark_all_all_times.auto.marks, ap length v, c.in_ok-marks.marks.ok.0, c.in_ok-marks.ensures.len) in
+    let m = rw shape at c.mark_all_times_of_shape.ensures in
+    let long : length c.mark_all_times_of_shape.new.marks ≡ c.div_ceil.result + 72 =
+    omega
+    (arith, c.mark_all_times_of_shape.auto.marks, ap length v, c.in_ok-marks.marks.ok.0, c.in_ok-marks.ensures.len) in
     let cells : c.div_ceil.result ≡ div_ceil ((j.area.w / 2 + 1) * (j.area.h / 2 + 1)) 64 =
     c.div_ceil.ensures ∙ ap (λ (b : Box2). div_ceil ((b.w / 2 + 1) * (b.h / 2 + 1)) 64) e in
     let q = c.requires in

@@ -5,19 +5,19 @@ use Rattle.std.proofs.lemmas.Bool.{and_parts}
 use Rattle.bbm_rule.specs.Spans.{in_span}
 use Rattle.module_box.specs.Boxes.{in_box}
 use Rattle.module_box.specs.declared.boxes.Box2.{Box2}
-use Rattle.local_run.specs.Places.{inner}
+use Rattle.local_run.specs.Places.{box_coord}
 use Rattle.local_run.proofs.Firsts.{span_at}
 use Rattle.local_run.proofs.places.place_of.Goals as goal
 
 record IsFrom (first n from a : ℕ) (z : ℤ) : Type 0 where
   late : from ≤ a
   below : a - from < n
-  is : z ≡ inner first (a - from)
+  is : z ≡ box_coord first (a - from)
 
 -- the number of a column or row, from the coordinate
 from_abs : (first n from a : ℕ) (z : ℤ) → from ≡ first → in_span first n z ≡ true → a ≡ unsigned_abs z →
     IsFrom first n from a z
-unfolding inner
+unfolding box_coord
 from_abs first n from a z e h is =
     let p = span_at first n z h in
     let at : a ≡ first + p.number = is ∙ ap unsigned_abs p.is in

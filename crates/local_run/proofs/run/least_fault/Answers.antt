@@ -1,6 +1,6 @@
 use Rattle.std.proofs.Common.{◌≡◌, arith, subst, sym, ℕ}
 use Rattle.local_run.specs.Calm.{AreDead}
-use Rattle.local_run.specs.Scans.{IsFirst, IsFree}
+use Rattle.local_run.specs.Scans.{IsFirst, HasNoFaultOfKind}
 use Rattle.local_run.specs.declared.fault.Kind.TheVariants.{Stop}
 use Rattle.local_run.proofs.Leasts.{AreFreeBefore, early_least, end_least_fault, last_stop_least}
 use Rattle.local_run.proofs.LeapRuns.{next_run}
@@ -59,5 +59,5 @@ returns c =
     let early = c.times.invariant.early in
     let time : c.times.time ≡ j.steps = omega (arith, c.times-test.false, c.steps-steps.ensures, early) in
     end_least_fault j vs c.first_fault.result c.requires (subst (AreFreeBefore j vs) time c.times.invariant.free)
-    (subst (λ (n : ℕ). IsFree j vs n Stop) c.steps-steps.ensures c.in_default-first_stop_fault.ensures.0)
+    (subst (λ (n : ℕ). HasNoFaultOfKind j vs n Stop) c.steps-steps.ensures c.in_default-first_stop_fault.ensures.0)
     (rw c.steps-steps.ensures at c.first_fault.ensures)

@@ -2,7 +2,7 @@ use Rattle.std.proofs.Common.{arith, ◌≡◌, ◌+◌, ℕ, ap, ◌∙◌, sub
 use Rattle.bbm_rule.proofs.BitLemmas.{by_lt_or_le}
 use Rattle.module_box.specs.declared.boxes.Box2.{Box2}
 use Rattle.local_run.specs.Runs.{local_run}
-use Rattle.local_run.specs.Places.{inner}
+use Rattle.local_run.specs.Places.{box_coord}
 use Rattle.local_run.specs.Lanes.{lane}
 use Rattle.local_run.specs.Scans.{valuation}
 use Rattle.local_run.proofs.NextCells.{dead_start}
@@ -67,7 +67,7 @@ cells-preserved c =
           ∙ m.here a x la l)
           (λ g. let e : c.cells.x ≡ x = omega arith in
           subst (λ (n : ℕ). lane c.put_start_cell.new.marked_planes.planes a (1 + n) (1 + c.rows.y)
-          ≡ local_run j (valuation c.args.values.now a) 0 (inner j.area.x n) (inner j.area.y c.rows.y)) e
+          ≡ local_run j (valuation c.args.values.now a) 0 (box_coord j.area.x n) (box_coord j.area.y c.rows.y)) e
           (h.there a (omega arith) ∙ run_start j (valuation c.args.values.now a) _ _)));
       beside = λ a x la lx gx. h.rest a (1 + x) (1 + c.rows.y) la (omega arith) (λ e. let e0 = e.0 in omega arith)
           ∙ m.beside a x la lx (omega arith);

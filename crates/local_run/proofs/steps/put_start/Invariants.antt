@@ -1,6 +1,6 @@
 use Rattle.std.proofs.Common.{◌≡◌, ℕ, ◌<◌, ◌≤◌, ◌+◌, ◌-◌, ◌*◌, ◌/◌, false}
 use Rattle.local_run.specs.Runs.{local_run}
-use Rattle.local_run.specs.Places.{inner}
+use Rattle.local_run.specs.Places.{box_coord}
 use Rattle.local_run.specs.Lanes.{lane, HasSize}
 use Rattle.local_run.specs.Faults.{assignments}
 use Rattle.local_run.specs.Scans.{valuation}
@@ -12,7 +12,7 @@ invariant-rows l = record {
   size : HasSize l.values.words (l.job.area.w / 2 + 1) (l.job.area.h / 2 + 1) l.marked_planes.planes;
   above : (a x y : ℕ) → a < assignments l.job → x < l.job.area.w → y < l.y →
       lane l.marked_planes.planes a (1 + x) (1 + y)
-      ≡ local_run l.job (valuation l.values a) 0 (inner l.job.area.x x) (inner l.job.area.y y);
+      ≡ local_run l.job (valuation l.values a) 0 (box_coord l.job.area.x x) (box_coord l.job.area.y y);
   below : (a x y : ℕ) → a < 64 * l.values.words → x < l.job.area.w → l.y ≤ y →
       lane l.marked_planes.planes a (1 + x) (1 + y) ≡ false;
 }
@@ -23,10 +23,10 @@ invariant-cells l = record {
   size : HasSize l.values.words (l.job.area.w / 2 + 1) (l.job.area.h / 2 + 1) l.marked_planes.planes;
   above : (a x y : ℕ) → a < assignments l.job → x < l.job.area.w → y < l.y →
       lane l.marked_planes.planes a (1 + x) (1 + y)
-      ≡ local_run l.job (valuation l.values a) 0 (inner l.job.area.x x) (inner l.job.area.y y);
+      ≡ local_run l.job (valuation l.values a) 0 (box_coord l.job.area.x x) (box_coord l.job.area.y y);
   here : (a x : ℕ) → a < assignments l.job → x < l.x →
       lane l.marked_planes.planes a (1 + x) (1 + l.y)
-      ≡ local_run l.job (valuation l.values a) 0 (inner l.job.area.x x) (inner l.job.area.y l.y);
+      ≡ local_run l.job (valuation l.values a) 0 (box_coord l.job.area.x x) (box_coord l.job.area.y l.y);
   beside : (a x : ℕ) → a < 64 * l.values.words → x < l.job.area.w → l.x ≤ x →
       lane l.marked_planes.planes a (1 + x) (1 + l.y) ≡ false;
   below : (a x y : ℕ) → a < 64 * l.values.words → x < l.job.area.w → l.y + 1 ≤ y →

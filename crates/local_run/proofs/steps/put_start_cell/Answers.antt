@@ -17,4 +17,4 @@ stays_dead vs x y s p e dead = rw e (record {
 
 pub returns-in-Zero : goal.returns-in-Zero
 returns-in-Zero c = stays_dead c.args.values.now _ _ _ c.args.marked_planes.now.planes
-    (sym c.start_at-signal.ensures.start_is_exact ∙ c.in-Zero.is) c.requires.dead
+    (sym c.start_signal_at-signal.ensures.start_is_exact ∙ c.in-Zero.is) c.requires.dead

@@ -85,16 +85,17 @@ invariant_of-result c =
 
 pub returns : goal.returns
 returns c =
-    let owning : Owning = record { width = c.args.width; height = c.args.height; numbers = c.boxes.numbers.items } in
+    let owners_view : Owning =
+    record { width = c.args.width; height = c.args.height; numbers = c.boxes.numbers.items } in
     let free = rw c.deref.ensures.value at c.first_free-gap.ensures in
     let filled = filled_from (c.args.width / 2)
     (c.args.height / 2 * (c.args.width / 2)) c.boxes.number c.first_free-gap.result c.args.boxes.now
     c.boxes.numbers.items c.boxes.invariant (omega arith)
     (omega (arith, c.boxes.numbers.ok.0)) (omega (arith, c.boxes.numbers.ok.0)) free.before in
-    let table : IsTable owning =
+    let table : IsTable owners_view =
     record { width = c.requires.width; height = c.requires.height; sized = filled.sized } in (
       refl,
       refl,
-      owners_from owning c.args.boxes.now table c.requires.even filled
+      owners_from owners_view c.args.boxes.now table c.requires.even filled
           (all_inside _ _ _ _ c.first_outside-outside.ensures.before c.if-outside-boxes.false),
     )

@@ -10,7 +10,7 @@ use Rattle.module_job.specs.Shapes.{shape_of}
 use Rattle.module_job.specs.Summaries.{shape_summary}
 use Rattle.module_job.proofs.FirstKeys.{IsFirstOf, found_within, known_more}
 use Rattle.module_job.proofs.FirstShapes.{all_groups, group_more, value_twice}
-use Rattle.module_job.proofs.FirstSummaries.{first_like, head_like, head_same, heads_more, is_head, others_more}
+use Rattle.module_job.proofs.FirstSummaries.{first_equal_shape, head_like, head_same, heads_more, is_head, others_more}
 use Rattle.module_job.proofs.FirstSummaries.{AreHeadsBefore, value_of}
 use Rattle.module_job.proofs.groups.job_groups.Goals as goal
 use Rattle.module_job.proofs.groups.job_groups.Goals.{then-not-have_same_shape+in_ok-key+in_ok-first}
@@ -66,7 +66,8 @@ jobs-preserved c =
       | then-not-have_same_shape+in_ok-key+in_ok-first w ↦
           subst (IsFirstLike shapes n) (sym w.group-is) w.first_of_shape-group.ensures
       | else-not-have_same_shape w ↦ subst (IsFirstLike shapes n) (sym w.group-is)
-          (first_like shape_summary shapes n head like (c.have_same_shape.ensures.0 w.if-not-have_same_shape.false))
+          (first_equal_shape shape_summary shapes n head like
+          (c.have_same_shape.ensures.0 w.if-not-have_same_shape.false))
     ] in
     let items = c.in_ok-push.ensures.items in
     let longer = ap length items in

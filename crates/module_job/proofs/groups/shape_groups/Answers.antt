@@ -13,7 +13,7 @@ pub shapes-preserved : goal.shapes-preserved
 shapes-preserved c =
     let shapes = map arc_value c.args.shapes.now in
     let old : List ℕ = c.shapes.groups.items in
-    let g : ℕ = c.first_like.result in
+    let g : ℕ = c.first_equal_shape.result in
     let items = c.in_ok-push.ensures.items in
     let longer = ap length items in
     let sum = length-append old (g ∷ []) in
@@ -22,7 +22,8 @@ shapes-preserved c =
     record {
       count = count;
       each = λ k lt. subst (λ (gs : List ℕ). IsFirstLike shapes k (slice_index gs k)) (sym items)
-          (group_more shapes old c.shapes.number g c.shapes.invariant.count c.shapes.invariant.each c.first_like.ensures
+          (group_more shapes old c.shapes.number g c.shapes.invariant.count c.shapes.invariant.each
+          c.first_equal_shape.ensures
           k lt);
     }
 

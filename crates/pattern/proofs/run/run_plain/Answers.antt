@@ -12,10 +12,10 @@ pub returns-in-Some : goal.returns-in-Some
 returns-in-Some c =
     let on = has c.args.on.now in
     let g = c.in_ok-grid.grid in
-    let begun = subst (λ (p : Pattern). (x y : ℤ) → live g x y ≡ start p on x y)
+    let taken_at_start = subst (λ (p : Pattern). (x y : ℤ) → live g x y ≡ start p on x y)
     (sym c.layout.view_is) c.in_ok-grid.ensures.cells in
     subst (λ (p : Pattern). LeavesAt p on c.in-Some.step) c.layout.view_is
-    (leaves_at (pattern_of c.layout.inside) on g _ begun c.in-Some.ensures.run)
+    (leaves_at (pattern_of c.layout.inside) on g _ taken_at_start c.in-Some.ensures.run)
 
 pub live_list-requires-clause-small : goal.live_list-requires-clause-small
 live_list-requires-clause-small c = let sides = size_sides c.layout.inside.size c.layout.invariant.size in
@@ -25,8 +25,8 @@ pub returns : goal.returns
 returns c =
     let on = has c.args.on.now in
     let g = c.in_ok-grid.grid in
-    let begun = subst (λ (p : Pattern). (x y : ℤ) → live g x y ≡ start p on x y)
+    let taken_at_start = subst (λ (p : Pattern). (x y : ℤ) → live g x y ≡ start p on x y)
     (sym c.layout.view_is) c.in_ok-grid.ensures.cells in
     subst (λ (p : Pattern). EndsWith p on c.in_ok-live_list-in-None.field-0.items) c.layout.view_is
-    (ends_with (pattern_of c.layout.inside) on g c.run_all.new.grid _ begun c.in-None.ensures.run
+    (ends_with (pattern_of c.layout.inside) on g c.run_all.new.grid _ taken_at_start c.in-None.ensures.run
     c.in_ok-live_list-in-None.ensures)

@@ -21,9 +21,9 @@ push_mirrors-requires c =
     (sym c.as_slice.ensures.value)
     (mirrors_fit p.size p.mirrors all.mirrors sides.0.most sides.1.most)
 
-listed : (c : goal.In_ok-push_ports_on) →
+five_listed : (c : goal.In_ok-push_ports_on) →
     c.push_ports_on.new.out.items ≡ start_list c.args.layout.now (has c.args.on.now)
-listed c =
+five_listed c =
     let p : Pattern = pattern_of c.layout.inside in
     let ports = λ (qs : List Port). map (λ (q : Port). q.cell) (filter (λ (q : Port). has c.args.on.now q.name) qs) in
     let mirrors : c.push_mirrors.new.out.items ≡ flat_map rectangle_cells p.mirrors =
@@ -40,8 +40,8 @@ listed c =
     (start_list_made p (has c.args.on.now) _ _ _ mirrors balls ins)
 
 pub returns-clause-order : goal.returns-clause-order
-returns-clause-order c = listed c
+returns-clause-order c = five_listed c
 
 pub returns-clause-cells : goal.returns-clause-cells
-returns-clause-cells c = λ x y. ap (λ (l : List Cell). in_cells l x y) (listed c)
+returns-clause-cells c = λ x y. ap (λ (l : List Cell). in_cells l x y) (five_listed c)
     ∙ in_start_list c.args.layout.now (has c.args.on.now) x y

@@ -6,16 +6,16 @@ use Rattle.circuit.specs.Bridge.{circuit_of}
 use Rattle.certificate.specs.Grammars.{modules_in}
 use Rattle.certificate.specs.Times.{time_lines}
 use Rattle.certificate.specs.declared.times.TimeLine.{TimeLine}
-use Rattle.core_book.specs.Verdicts.{timing}
+use Rattle.core_book.specs.Verdicts.{timing_report}
 use Rattle.core_book.specs.declared.verdict.Verdict.{Verdict}
-use Rattle.report.specs.ReportText.{fault_line, verdict_lines}
+use Rattle.report.specs.ReportText.{report_line_text, verdict_lines}
 use Rattle.report.proofs.printing.print_verdict.Goals as goal
 
 pub returns-in_ok-times-in-Yes : goal.returns-in_ok-times-in-Yes
 returns-in_ok-times-in-Yes c =
     let old = c.args.text.now.items in
     let yes : List ℕ = line_text (codes "verdict") (codes "yes" ∷ []) in
-    let lines : List TimeLine → List ℕ = λ ts. flat_map (λ t. fault_line (timing t)) ts in
+    let lines : List TimeLine → List ℕ = λ ts. flat_map (λ t. report_line_text (timing_report t)) ts in
     let times = time_lines (circuit_of c.args.cert.now.circuit) (modules_in c.args.cert.now) in
     subst (λ xs. OnOk c.print_times.result (c.print_times.new.text.items ≡ xs))
     (ap₂ (λ xs ts. xs ++ lines ts) c.in_ok-extend_from_slice-in-Yes.ensures.items

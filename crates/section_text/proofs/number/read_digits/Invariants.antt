@@ -1,12 +1,12 @@
 -- The bytes so far are digits, and they spell the number.
 use Rattle.std.proofs.Common.{◌≡◌, ◌<◌, ◌^◌, true, drop, take}
 use Rattle.std.specs.List.{list_all}
-use Rattle.section_text.specs.Words.{is_digit, read_on}
+use Rattle.section_text.specs.Words.{is_digit, append_digits}
 use Rattle.section_text.proofs.number.read_digits.Given as goal
 
 abbrev pub invariant-loop-b : goal.invariant-loop-b
 invariant-loop-b l = record {
   digits : list_all is_digit (take l.b-index l.word) ≡ true;
   small : l.number < 10 ^ l.b-index;
-  spelled : read_on l.number (drop l.b-index l.word) ≡ read_on 0 l.word;
+  spelled : append_digits l.number (drop l.b-index l.word) ≡ append_digits 0 l.word;
 }

@@ -1,12 +1,12 @@
 -- The cells of the rows so far are noted.
 use Rattle.std.proofs.Common.{◌-◌}
-use Rattle.border_match.specs.Boards.{AreNumbers, AreRowsNoted}
+use Rattle.border_match.specs.Boards.{AreModuleNumbers, AreRowOwnersListed}
 use Rattle.border_match.proofs.borders.Borders.near_modules.Given as goal
 
 abbrev pub invariant-rows : goal.invariant-rows
 invariant-rows l = record {
-  noted : AreRowsNoted l.self l.near.items (l.self.job.now.area.y - 1) l.y;
-  below : AreNumbers l.self l.near.items;
+  noted : AreRowOwnersListed l.self l.near.items (l.self.job.now.area.y - 1) l.y;
+  below : AreModuleNumbers l.self l.near.items;
 }
 
 abbrev pub decreases-rows : goal.decreases-rows

@@ -7,7 +7,7 @@ returns c = better_for _ _ _ _ _ c.stars.invariant
     (λ h f r. star_all _ _ c.args.self.now c.args.stars.now c.stars.place h c.stars-test.false r)
 
 pub stars-preserved : goal.stars-preserved
-stars-preserved c = better_then _ _ _ _ _ _ _ c.stars.invariant c.with_cell-least.ensures
+stars-preserved c = better_then _ _ _ _ _ _ _ c.stars.invariant c.with_star_fault_at-least.ensures
     (λ h f r. star_step c.args.corner c.args.self.now c.args.stars.now c.stars.place _ c.in-Some.cell h
     c.stars-test.true
     c.in-Some.ensures.around r)

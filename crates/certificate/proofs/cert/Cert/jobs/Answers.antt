@@ -8,7 +8,7 @@ use Rattle.certificate_lines.specs.Settings.{setting_of}
 use Rattle.certificate.specs.Jobs.{AreJobsOf}
 use Rattle.certificate_lines.specs.Modules.{AreModules}
 use Rattle.certificate.specs.LayoutTablesView.{LayoutTablesView}
-use Rattle.certificate_lines.specs.Versions.{is_haloless, lacks_wire, meant}
+use Rattle.certificate_lines.specs.Versions.{is_haloless, lacks_wire, modules_by_version}
 use Rattle.certificate.proofs.cert.Cert.jobs.Goals as goal
 
 pub jobs_of_version-requires-clause-modules : goal.jobs_of_version-requires-clause-modules
@@ -47,12 +47,14 @@ returns c =
     let plan_is : c.in_ok-tables.tables ≡ record { circuit = s.circuit; layout = s.layout } =
     c.in_ok-tables.ensures ∙ ap (λ (t : CertView). record { circuit = t.circuit; layout = t.layout }) c.self.view_is in
     subst (λ v. IfOk c.jobs_of_version.result
-    (λ js. AreJobsOf (circuit_of s.circuit) s.layout (meant v (setting_of s.circuit s.layout) (modules_of s.entries))
+    (λ js. AreJobsOf (circuit_of s.circuit) s.layout
+    (modules_by_version v (setting_of s.circuit s.layout) (modules_of s.entries))
     (map arc_value js.items))) (ap (λ (t : CertView). t.version) c.self.view_is)
     (subst (λ xs. IfOk c.jobs_of_version.result
     (λ js. AreJobsOf (circuit_of s.circuit) s.layout
-    (meant c.self.inside.version (setting_of s.circuit s.layout) (modules_of xs)) (map arc_value js.items))) entries_are
+    (modules_by_version c.self.inside.version (setting_of s.circuit s.layout) (modules_of xs))
+    (map arc_value js.items))) entries_are
     (subst (λ (q : LayoutTablesView). IfOk c.jobs_of_version.result
     (λ js. AreJobsOf (circuit_of q.circuit) q.layout
-    (meant c.self.inside.version (setting_of q.circuit q.layout) (modules_of c.as_slice.result.now))
+    (modules_by_version c.self.inside.version (setting_of q.circuit q.layout) (modules_of c.as_slice.result.now))
     (map arc_value js.items))) plan_is c.jobs_of_version.ensures))

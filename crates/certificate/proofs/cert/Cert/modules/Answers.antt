@@ -5,7 +5,7 @@ use Rattle.circuit.specs.Bridge.{input_names, netlist_of}
 use Rattle.certificate_lines.specs.Entries.{modules_of}
 use Rattle.certificate.specs.Grammars.{CertView, modules_in}
 use Rattle.certificate_lines.specs.Settings.{setting_of}
-use Rattle.certificate_lines.specs.Modules.{AreModules, HasFewLines}
+use Rattle.certificate_lines.specs.Modules.{AreModules, IsWithinLineLimit}
 use Rattle.certificate.proofs.FullModules.{meant_modules}
 use Rattle.certificate.proofs.cert.Cert.modules.Goals as goal
 
@@ -25,7 +25,7 @@ returns-clause-good c =
 
 pub returns-clause-lines : goal.returns-clause-lines
 returns-clause-lines c = subst
-    (λ (s : CertView). All HasFewLines (modules_of s.entries)) c.self.view_is c.self.invariant.few_lines
+    (λ (s : CertView). All IsWithinLineLimit (modules_of s.entries)) c.self.view_is c.self.invariant.few_lines
 
 pub returns-clause-written : goal.returns-clause-written
 returns-clause-written c = subst

@@ -4,7 +4,7 @@ use Rattle.circuit.specs.Bridge.{circuit_of}
 use Rattle.pattern.specs.declared.layout_line.Port.{Port}
 use Rattle.module_box.specs.Locals.{circuit_wire}
 use Rattle.certificate_lines.specs.PortTables.{port_at}
-use Rattle.certificate.specs.Jobs.{demand_of, demand_elsewhere, end_demand}
+use Rattle.certificate.specs.Jobs.{demand_of, demand_outside_mirrors, end_demand}
 use Rattle.certificate.specs.LayoutTablesView.{LayoutTablesView, KnowsPort}
 use Rattle.certificate_lines.specs.Rules.{is_local}
 use Rattle.module_job.specs.declared.job.Demand.TheVariants.{Live, Wire, Any, Dead}
@@ -18,8 +18,8 @@ returns-then-is_live-clause-same_demand c =
     (end_live (circuit_of c.self.inside.circuit.now) c.self.inside.layout.now c.args.cell.x c.args.cell.y
     c.is_live.result (c.is_live.ensures ∙ c.self.invariant.mirrors c.args.cell.x c.args.cell.y) c.if-is_live.true)
 
-pub local_name-requires : goal.local_name-requires
-local_name-requires c =
+pub local_wire_by_name-requires : goal.local_wire_by_name-requires
+local_wire_by_name-requires c =
     let port : Some c.in-Some.name ≡ port_at c.self.inside.layout.now.outs c.args.cell.x c.args.cell.y =
     c.in-Some.ensures ∙ ap (λ (ps : List Port). port_at ps c.args.cell.x c.args.cell.y) c.self.invariant.outs in
     subst (λ (o : Option (List ℕ)).
@@ -31,9 +31,9 @@ local_name-requires c =
 
 pub returns-in-Some-clause-same_demand : goal.returns-in-Some-clause-same_demand
 returns-in-Some-clause-same_demand c =
-    subst (λ (s : LayoutTablesView). Wire (circuit_wire c.args.locals.now c.local_name.result)
+    subst (λ (s : LayoutTablesView). Wire (circuit_wire c.args.locals.now c.local_wire_by_name.result)
     ≡ end_demand (circuit_of s.circuit) s.layout c.args.cell.x c.args.cell.y) c.self.view_is
-    (ap demand_of (sym c.local_name.ensures.same_wire)
+    (ap demand_of (sym c.local_wire_by_name.ensures.same_wire)
     ∙ end_port (circuit_of c.self.inside.circuit.now) c.self.inside.layout.now c.args.cell.x c.args.cell.y
     c.is_live.result (c.is_live.ensures ∙ c.self.invariant.mirrors c.args.cell.x c.args.cell.y) c.if-is_live.false
     (Some c.in-Some.name) (c.in-Some.ensures
@@ -43,7 +43,7 @@ pub returns-then-is_live-2-clause-same_demand : goal.returns-then-is_live-2-clau
 returns-then-is_live-2-clause-same_demand c =
     subst (λ (s : LayoutTablesView). Any ≡ end_demand (circuit_of s.circuit) s.layout c.args.cell.x c.args.cell.y)
     c.self.view_is
-    (ap (demand_elsewhere (circuit_of c.self.inside.circuit.now) None)
+    (ap (demand_outside_mirrors (circuit_of c.self.inside.circuit.now) None)
     (sym c.if-is_live-2.true ∙ c.is_live-in-None.ensures ∙ c.self.invariant.wastes c.args.cell.x c.args.cell.y)
     ∙ end_port (circuit_of c.self.inside.circuit.now) c.self.inside.layout.now c.args.cell.x c.args.cell.y
     c.is_live.result (c.is_live.ensures ∙ c.self.invariant.mirrors c.args.cell.x c.args.cell.y) c.if-is_live.false
@@ -53,7 +53,7 @@ pub returns-else-is_live-2-clause-same_demand : goal.returns-else-is_live-2-clau
 returns-else-is_live-2-clause-same_demand c =
     subst (λ (s : LayoutTablesView). Dead ≡ end_demand (circuit_of s.circuit) s.layout c.args.cell.x c.args.cell.y)
     c.self.view_is
-    (ap (demand_elsewhere (circuit_of c.self.inside.circuit.now) None)
+    (ap (demand_outside_mirrors (circuit_of c.self.inside.circuit.now) None)
     (sym c.if-is_live-2.false ∙ c.is_live-in-None.ensures ∙ c.self.invariant.wastes c.args.cell.x c.args.cell.y)
     ∙ end_port (circuit_of c.self.inside.circuit.now) c.self.inside.layout.now c.args.cell.x c.args.cell.y
     c.is_live.result (c.is_live.ensures ∙ c.self.invariant.mirrors c.args.cell.x c.args.cell.y) c.if-is_live.false

@@ -8,13 +8,13 @@ use Rattle.certificate.proofs.layout_tables.LayoutTables.push_row.Goals as goal
 pub returns-then-next-end : goal.returns-then-next-end
 returns-then-next-end c =
     let circuit = circuit_of c.args.self.now.circuit in
-    let all : c.next_named-next.result - c.args.area.x ≡ c.args.area.w = omega (arith, c.if-next-end.true) in
+    let all : c.next_named_column-next.result - c.args.area.x ≡ c.args.area.w = omega (arith, c.if-next-end.true) in
     subst (λ (n : ℕ). AddsCells circuit c.args.self.now.layout c.args.locals.now (row_cells c.args.area.x n c.args.y)
     c.args.lists.now c.push_dead.new.self) all
     (add_dead circuit c.args.self.now.layout c.args.locals.now c.args.lists.now c.cells.lists c.push_dead.new.self
-    c.args.area.x c.cells.x c.args.y c.cells.invariant.from c.cells.invariant.added c.next_named-next.result
-    c.next_named-next.ensures.range.0 c.in_ok-push_dead.ensures.starts c.in_ok-push_dead.ensures.demands
-    c.next_named-next.ensures.starts c.next_named-next.ensures.demands)
+    c.args.area.x c.cells.x c.args.y c.cells.invariant.from c.cells.invariant.added c.next_named_column-next.result
+    c.next_named_column-next.ensures.range.0 c.in_ok-push_dead.ensures.starts c.in_ok-push_dead.ensures.demands
+    c.next_named_column-next.ensures.starts c.next_named_column-next.ensures.demands)
 
 pub cells-init : goal.cells-init
 cells-init c = record {
@@ -24,36 +24,36 @@ cells-init c = record {
       c.args.area.x c.args.y;
 }
 
-pub cell_at-start-requires-clause-ins : goal.cell_at-start-requires-clause-ins
-cell_at-start-requires-clause-ins c =
-    c.requires.ins _ _ (cast_inside c.args.area c.next_named-next.result c.args.y
-    (omega (arith, c.next_named-next.ensures.range, c.requires.columns, c.if-next-end.false)) c.requires.row.2
-    (omega (arith, c.cells.invariant.from, c.next_named-next.ensures.range))
-    (omega (arith, c.next_named-next.ensures.range, c.if-next-end.false)) c.requires.row.0 c.requires.row.1)
+pub start_and_demand_at-start-requires-clause-ins : goal.start_and_demand_at-start-requires-clause-ins
+start_and_demand_at-start-requires-clause-ins c =
+    c.requires.ins _ _ (cast_inside c.args.area c.next_named_column-next.result c.args.y
+    (omega (arith, c.next_named_column-next.ensures.range, c.requires.columns, c.if-next-end.false)) c.requires.row.2
+    (omega (arith, c.cells.invariant.from, c.next_named_column-next.ensures.range))
+    (omega (arith, c.next_named_column-next.ensures.range, c.if-next-end.false)) c.requires.row.0 c.requires.row.1)
 
-pub cell_at-start-requires-clause-outs : goal.cell_at-start-requires-clause-outs
-cell_at-start-requires-clause-outs c =
-    c.requires.outs _ _ (cast_inside c.args.area c.next_named-next.result c.args.y
-    (omega (arith, c.next_named-next.ensures.range, c.requires.columns, c.if-next-end.false)) c.requires.row.2
-    (omega (arith, c.cells.invariant.from, c.next_named-next.ensures.range))
-    (omega (arith, c.next_named-next.ensures.range, c.if-next-end.false)) c.requires.row.0 c.requires.row.1)
+pub start_and_demand_at-start-requires-clause-outs : goal.start_and_demand_at-start-requires-clause-outs
+start_and_demand_at-start-requires-clause-outs c =
+    c.requires.outs _ _ (cast_inside c.args.area c.next_named_column-next.result c.args.y
+    (omega (arith, c.next_named_column-next.ensures.range, c.requires.columns, c.if-next-end.false)) c.requires.row.2
+    (omega (arith, c.cells.invariant.from, c.next_named_column-next.ensures.range))
+    (omega (arith, c.next_named_column-next.ensures.range, c.if-next-end.false)) c.requires.row.0 c.requires.row.1)
 
 pub cells-preserved : goal.cells-preserved
 cells-preserved c =
     let circuit = circuit_of c.args.self.now.circuit in
-    let next = c.next_named-next.result in
+    let next = c.next_named_column-next.result in
     let dead = add_dead circuit c.args.self.now.layout c.args.locals.now c.args.lists.now c.cells.lists
     c.push_dead.new.self c.args.area.x c.cells.x c.args.y c.cells.invariant.from c.cells.invariant.added next
-    c.next_named-next.ensures.range.0 c.in_ok-push_dead.ensures.starts c.in_ok-push_dead.ensures.demands
-    c.next_named-next.ensures.starts c.next_named-next.ensures.demands in
-    let both = c.cell_at-start.ensures in
+    c.next_named_column-next.ensures.range.0 c.in_ok-push_dead.ensures.starts c.in_ok-push_dead.ensures.demands
+    c.next_named_column-next.ensures.starts c.next_named_column-next.ensures.demands in
+    let both = c.start_and_demand_at-start.ensures in
     record {
-      from = omega (arith, c.cells.invariant.from, c.next_named-next.ensures.range);
-      most = omega (arith, c.next_named-next.ensures.range, c.if-next-end.false);
+      from = omega (arith, c.cells.invariant.from, c.next_named_column-next.ensures.range);
+      most = omega (arith, c.next_named_column-next.ensures.range, c.if-next-end.false);
       added = add_cell circuit c.args.self.now.layout c.args.locals.now c.args.lists.now c.push_dead.new.self
           c.push.new.self c.args.area.x next c.args.y
-          (omega (arith, c.cells.invariant.from, c.next_named-next.ensures.range)) dead _ _
-          (omega (arith, c.next_named-next.ensures.range, c.requires.columns, c.if-next-end.false))
+          (omega (arith, c.cells.invariant.from, c.next_named_column-next.ensures.range)) dead _ _
+          (omega (arith, c.next_named_column-next.ensures.range, c.requires.columns, c.if-next-end.false))
           c.requires.row.2 c.in_ok-push.ensures.starts c.in_ok-push.ensures.demands both.start both.start_below
           both.demand both.demand_below;
     }

@@ -20,8 +20,8 @@ returns-then-mirror-ball-clause-same_signal c =
     (c.is_live-mirror.ensures ∙ c.self.invariant.mirrors c.args.cell.x c.args.cell.y)
     (c.is_live-ball.ensures ∙ c.self.invariant.balls c.args.cell.x c.args.cell.y) c.if-mirror-ball.true)
 
-pub local_name-requires : goal.local_name-requires
-local_name-requires c =
+pub local_wire_by_name-requires : goal.local_wire_by_name-requires
+local_wire_by_name-requires c =
     let port : Some c.in-Some.name ≡ port_at c.self.inside.layout.now.ins c.args.cell.x c.args.cell.y =
     c.in-Some.ensures ∙ ap (λ (ps : List Port). port_at ps c.args.cell.x c.args.cell.y) c.self.invariant.ins in
     subst (λ (o : Option (List ℕ)).
@@ -33,9 +33,9 @@ local_name-requires c =
 
 pub returns-in-Some-clause-same_signal : goal.returns-in-Some-clause-same_signal
 returns-in-Some-clause-same_signal c =
-    subst (λ (s : LayoutTablesView). Wire (circuit_wire c.args.locals.now c.local_name.result)
+    subst (λ (s : LayoutTablesView). Wire (circuit_wire c.args.locals.now c.local_wire_by_name.result)
     ≡ start_signal (circuit_of s.circuit) s.layout c.args.cell.x c.args.cell.y) c.self.view_is
-    (ap signal_of (sym c.local_name.ensures.same_wire)
+    (ap signal_of (sym c.local_wire_by_name.ensures.same_wire)
     ∙ start_port (circuit_of c.self.inside.circuit.now) c.self.inside.layout.now c.args.cell.x c.args.cell.y
     c.is_live-mirror.result c.is_live-ball.result
     (c.is_live-mirror.ensures ∙ c.self.invariant.mirrors c.args.cell.x c.args.cell.y)

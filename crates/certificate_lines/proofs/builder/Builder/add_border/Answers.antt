@@ -2,26 +2,27 @@ use Rattle.std.proofs.Common.{◌≡◌, ◌∙◌, None, ℕ, List, ◌||◌, s
 use Rattle.std.specs.List.{list_any}
 use Rattle.bbm_rule.specs.declared.block.Cell.{Cell}
 use Rattle.certificate_lines.specs.Entries.{edge_in, halo_in, last_module}
-use Rattle.certificate_lines.specs.Rules.{inner_fault, is_starred, same_cell}
+use Rattle.certificate_lines.specs.Rules.{body_line_code, is_starred, same_cell}
 use Rattle.certificate_lines.specs.BuilderView.{BuilderView, NamesWire}
 use Rattle.certificate_lines.proofs.Keeping.{border_is_inner, border_is_uncut, good_line, small, with_border}
 use Rattle.certificate_lines.proofs.NamedLines.{named_words}
 use Rattle.certificate_lines.proofs.builder.Builder.add_border.Goals as goal
 
-pub inner_code-requires-clause-inner : goal.inner_code-requires-clause-inner
-inner_code-requires-clause-inner c = border_is_inner c.args.entry c.requires
+pub body_line_code-requires-clause-inner : goal.body_line_code-requires-clause-inner
+body_line_code-requires-clause-inner c = border_is_inner c.args.entry c.requires
 
-pub inner_code-requires-clause-cut : goal.inner_code-requires-clause-cut
-inner_code-requires-clause-cut c = border_is_uncut c.args.self.now.setting.circuit c.args.entry None c.requires
+pub body_line_code-requires-clause-cut : goal.body_line_code-requires-clause-cut
+body_line_code-requires-clause-cut c = border_is_uncut c.args.self.now.setting.circuit c.args.entry None c.requires
 
-pub own_name-name-requires-clause-cut : goal.own_name-name-requires-clause-cut
-own_name-name-requires-clause-cut c = border_is_uncut c.self.inside.tables.circuit c.args.entry None c.requires
+pub circuit_name-name-requires-clause-cut : goal.circuit_name-name-requires-clause-cut
+circuit_name-name-requires-clause-cut c = border_is_uncut c.self.inside.tables.circuit c.args.entry None c.requires
 
-pub own_name-name-requires-clause-wire : goal.own_name-name-requires-clause-wire
-own_name-name-requires-clause-wire c =
+pub circuit_name-name-requires-clause-wire : goal.circuit_name-name-requires-clause-wire
+circuit_name-name-requires-clause-wire c =
     let good = good_line c.self.inside.tables c.self.inside.entries.items c.args.entry
-    (subst (λ (s : BuilderView). inner_fault s.setting (last_module s.entries) c.args.entry ≡ None)
-    (sym (c.self.view_is ∙ c.inner_code.ensures.same_lines)) (sym c.inner_code.ensures.code ∙ c.in_default.is)) in
+    (subst (λ (s : BuilderView). body_line_code s.setting (last_module s.entries) c.args.entry ≡ None)
+    (sym (c.self.view_is ∙ c.body_line_code.ensures.same_lines))
+    (sym c.body_line_code.ensures.code ∙ c.in_default.is)) in
     subst (λ (l : List ℕ). NamesWire c.self.inside.tables.circuit l c.args.entry)
     (sym (c.self.invariant.kept.last_module good.module_lines good.last).wires)
     (named_words c.self.inside.tables good.module_lines c.args.entry good.words)
@@ -32,8 +33,9 @@ count_in_last-requires c = small _ _ _ _ _ _ _ _ _ c.self.invariant.kept
 pub invariant_of-self-2 : goal.invariant_of-self-2
 invariant_of-self-2 c =
     let good = good_line c.self.inside.tables c.self.inside.entries.items c.args.entry
-    (subst (λ (s : BuilderView). inner_fault s.setting (last_module s.entries) c.args.entry ≡ None)
-    (sym (c.self.view_is ∙ c.inner_code.ensures.same_lines)) (sym c.inner_code.ensures.code ∙ c.in_default.is)) in
+    (subst (λ (s : BuilderView). body_line_code s.setting (last_module s.entries) c.args.entry ≡ None)
+    (sym (c.self.view_is ∙ c.body_line_code.ensures.same_lines))
+    (sym c.body_line_code.ensures.code ∙ c.in_default.is)) in
     rw (c.in_ok-push_entry.ensures.ok, c.of.ensures)
     (with_border _ _ _ _ _ _ _ _ _ _ _ c.self.invariant c.args.entry c.requires good c.count_in_last.new.modules.items
     c.count_in_last.ensures c.note_stars.new.edges.keys c.note_stars.new.halos.keys

@@ -3,7 +3,7 @@ use Rattle.std.specs.List.{list_any}
 use Rattle.module_box.specs.Boxes.{in_box}
 use Rattle.certificate_lines.specs.Entries.{modules_of, last_module}
 use Rattle.certificate_lines.specs.Rules.{module_fault}
-use Rattle.certificate_lines.specs.BuilderView.{BuilderView, last_inner}
+use Rattle.certificate_lines.specs.BuilderView.{BuilderView, last_body_line}
 use Rattle.certificate_lines.proofs.Keeping.{with_module}
 use Rattle.certificate_lines.proofs.builder.Builder.add_module.Goals as goal
 
@@ -18,13 +18,13 @@ invariant_of-self-2 c =
     rw (
       c.in_ok-push_module.ensures.entries,
       c.in_ok-push_module.ensures.modules,
-      c.in-Ok-put_away.ensures.earlier,
-      c.in-Ok-put_away.ensures.known,
+      c.in-Ok-move_wires_to_earlier.ensures.earlier,
+      c.in-Ok-move_wires_to_earlier.ensures.known,
       c.truncate.ensures.keys,
       c.truncate-2.ensures.keys,
     )
     (with_module c.self.inside.tables c.self.inside.entries.items c.self.inside.covered c.self.inside.modules.items
-    (last_inner c.self.inside.entries.items) c.self.inside.names.items
+    (last_body_line c.self.inside.entries.items) c.self.inside.names.items
     (map (λ s. s.wires) c.self.inside.earlier.items) c.self.inside.known.wires c.self.inside.edges.keys
     c.self.inside.halos.keys c.self.inside.local_names.slots c.self.invariant
     c.fill_rectangle.new.grid c.in-Ok.names.items c.args.area good c.fill_rectangle.ensures.filled

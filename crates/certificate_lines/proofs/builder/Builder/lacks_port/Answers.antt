@@ -8,6 +8,8 @@ use Rattle.certificate_lines.proofs.builder.Builder.lacks_port.Goals as goal
 
 pub returns : goal.returns
 returns c =
-    subst (λ (s : BuilderView). c.lacks_some.result ≡ is_incomplete s.setting (last_module s.entries)) c.self.view_is
-    (c.lacks_some.ensures ∙ ap (list_any (λ n. not (is_local c.self.inside.tables.circuit c.self.inside.known.wires n)))
+    subst (λ (s : BuilderView). c.has_nonlocal_name.result ≡ is_incomplete s.setting (last_module s.entries))
+    c.self.view_is
+    (c.has_nonlocal_name.ensures ∙ ap
+    (list_any (λ n. not (is_local c.self.inside.tables.circuit c.self.inside.known.wires n)))
     c.deref.ensures.value ∙ lacks _ _ _ _ _ _ _ _ _ c.self.invariant.kept)

@@ -3,7 +3,7 @@ use Rattle.std.proofs.Common.{sym, ap, subst, arith}
 use Rattle.std.specs.Prelude.{nat_lt}
 use Rattle.std.specs.List.{flat_map, list_any}
 use Rattle.std.proofs.lemmas.Bool.Decides.{nat_tests}
-use Rattle.certificate_lines.specs.BuilderView.{BuilderView, lacks_edge}
+use Rattle.certificate_lines.specs.BuilderView.{BuilderView, lacks_edge_wire}
 use Rattle.certificate_lines.specs.Entries.{ModuleLines, edge_in, edges, modules_of}
 use Rattle.certificate_lines.specs.ModuleParts.{AreInBox, inner}
 use Rattle.certificate_lines.specs.Rules.{whole}
@@ -17,7 +17,7 @@ use Rattle.certificate_lines.proofs.builder.Builder.lacks_some_wire.Goals as goa
 
 -- some module lacks a wire of this module
 abbrev lacks : BuilderView → ModuleLines → Bool
-lacks b n = list_any (lacks_edge b.setting.circuit (edges n)) (modules_of b.entries)
+lacks b n = list_any (lacks_edge_wire b.setting.circuit (edges n)) (modules_of b.entries)
 
 long : (steps : ℕ) → 1 < steps → nat_lt 1 steps ≡ true
 long steps lt = grind (arith, nat_tests)
@@ -63,7 +63,7 @@ returns-then-lacks_some_in c =
     let many : nat_lt 1 v.setting.size.steps ≡ true =
     long v.setting.size.steps c.requires.long in
     let found : lacks v (record { area = c.in-Module.area; lines = inner (drop (c.lines.place + 1) es) }) ≡ true =
-    ap (λ ls. list_any (lacks_edge v.setting.circuit (flat_map edge_in ls)) (modules_of es)) (sym inner_is)
+    ap (λ ls. list_any (lacks_edge_wire v.setting.circuit (flat_map edge_in ls)) (modules_of es)) (sym inner_is)
     ∙ sym c.lacks_some_in.ensures ∙ c.if-lacks_some_in.true in
     sym (sym (lacked v.setting (modules_of es) many) ∙ c.lines.invariant
     ∙ any_module (lacks v) es c.lines.place c.in-Module.area
@@ -84,7 +84,7 @@ lines-preserved c =
           w.lines_of_module.ensures ∙ ap inner (rest_of_lines w.deref.result.now (c.lines.place + 1))
           ∙ ap (λ l. inner (drop (c.lines.place + 1) l)) (w.deref.ensures.value ∙ same) in
           let none : lacks v (record { area = w.in-Module.area; lines = inner (drop (c.lines.place + 1) es) }) ≡ false =
-          ap (λ ls. list_any (lacks_edge v.setting.circuit (flat_map edge_in ls)) (modules_of es)) (sym inner_is)
+          ap (λ ls. list_any (lacks_edge_wire v.setting.circuit (flat_map edge_in ls)) (modules_of es)) (sym inner_is)
           ∙ sym w.lacks_some_in.ensures ∙ w.if-lacks_some_in.false in
           any_module (lacks v) es c.lines.place w.in-Module.area lt line_is
           ∙ ap (λ b. b || list_any (lacks v) (modules_of (drop (c.lines.place + 1) es))) none

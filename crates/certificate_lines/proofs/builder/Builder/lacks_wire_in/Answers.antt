@@ -6,7 +6,7 @@ use Rattle.module_box.specs.Boxes.{in_halo, is_near}
 use Rattle.module_box.specs.declared.boxes.Box2.{Box2}
 use Rattle.certificate_lines.specs.BuilderView.{BuilderView}
 use Rattle.certificate_lines.specs.Entries.{edge_in, known, modules_of}
-use Rattle.certificate_lines.specs.Versions.{is_strange}
+use Rattle.certificate_lines.specs.Versions.{is_nonlocal_signal}
 use Rattle.certificate_lines.proofs.FarLines.{far_lines}
 use Rattle.certificate_lines.proofs.LackedWires.{area_counted}
 use Rattle.certificate_lines.proofs.Lists.{some_is}
@@ -23,7 +23,7 @@ returns-then-not-is_near c m at =
     c.self.invariant.kept.built.counted at' c.index.ensures in
     let far : is_near m.area c.args.area ≡ false =
     ap (λ b. is_near b c.args.area) (sym own) ∙ sym c.is_near.ensures ∙ c.if-not-is_near.true in
-    sym (ap (list_any (λ e. is_strange g.circuit (known g.circuit m) e.signal))
+    sym (ap (list_any (λ e. is_nonlocal_signal g.circuit (known g.circuit m) e.signal))
     (far_lines m.area c.args.area es far c.requires.inside))
 
 pub returns : goal.returns
@@ -40,8 +40,8 @@ returns c m at =
     (sym c.wires_of.ensures ∙ slice_get-map (known g.circuit) (modules_of c.args.self.now.entries) c.args.number
     ∙ ap (option_map (known g.circuit)) at) in
     let same : c.self.inside.tables.circuit ≡ g.circuit = ap (λ (s : BuilderView). s.setting.circuit) c.self.view_is in
-    c.has_unknown.ensures
-    ∙ ap (λ k. list_any (λ e. is_strange k c.wires_of.result.now.wires e.signal)
+    c.has_nonlocal_halo_edge.ensures
+    ∙ ap (λ k. list_any (λ e. is_nonlocal_signal k c.wires_of.result.now.wires e.signal)
     (filter (λ e. in_halo c.index.result.now.area e.cell.x e.cell.y) es)) same
-    ∙ ap₂ (λ k (b : Box2). list_any (λ e. is_strange g.circuit k e.signal)
+    ∙ ap₂ (λ k (b : Box2). list_any (λ e. is_nonlocal_signal g.circuit k e.signal)
     (filter (λ e. in_halo b e.cell.x e.cell.y) es)) wires own

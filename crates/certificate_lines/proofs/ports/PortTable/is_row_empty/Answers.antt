@@ -6,7 +6,7 @@ use Rattle.std.proofs.lemmas.List.{get_or_default}
 use Rattle.std.specs.Int.RustNames.{unsigned_abs}
 use Rattle.pattern.specs.declared.layout_line.Port.{Port}
 use Rattle.module_box.specs.Boxes.{in_box}
-use Rattle.certificate_lines.specs.PortTables.{IsPortTable, place_after, port_at}
+use Rattle.certificate_lines.specs.PortTables.{IsPortTable, entry_place_in_rows, port_at}
 use Rattle.certificate_lines.specs.declared.ports.PortTable.TheInside.{Inside}
 use Rattle.certificate_lines.proofs.TableLemmas.{unnumbered, unplaced}
 use Rattle.certificate_lines.proofs.ports.PortTable.is_row_empty.Goals as goal
@@ -14,11 +14,11 @@ use Rattle.certificate_lines.proofs.ports.PortTable.is_row_empty.Goals as goal
 -- no port is in a row of the number 0
 row_empty : (a : Inside) → IsPortTable a → (x : ℤ) (y : ℕ) → get_or a.rows.items (y - a.area.y) 0 ≡ 0 →
     port_at a.ports.now x (pos y) ≡ None
-unfolding place_after
+unfolding entry_place_in_rows
 row_empty a is x y none = elim (cases_Bool (in_box a.area x (pos y))) [
   | inl inside ↦ unnumbered a.ports.now x (pos y)
       (sym (is.numbered x (pos y) inside) ∙ unplaced a.numbers.items _
-      (ap (λ (n : ℕ). place_after a.area.w n (unsigned_abs x - a.area.x)) none))
+      (ap (λ (n : ℕ). entry_place_in_rows a.area.w n (unsigned_abs x - a.area.x)) none))
   | inr outside ↦ is.elsewhere x (pos y) outside
 ]
 

@@ -3,7 +3,7 @@ use Rattle.std.proofs.Common.{length, map, subst, take, None, length-append}
 use Rattle.std.proofs.lemmas.List.{length-map}
 use Rattle.circuit.specs.declared.circuit_line.CircuitLine.{CircuitLine}
 use Rattle.circuit.specs.Entries.{defined}
-use Rattle.circuit.specs.Rules.{consumed, consume, define, passes_limit}
+use Rattle.circuit.specs.Rules.{consumed, consume, define, exceeds_limit}
 use Rattle.circuit.specs.Meaning.{number}
 use Rattle.circuit.specs.Bridge.{InputsFirst}
 use Rattle.circuit.specs.Wiring.{gate_of, gate_at, marked}
@@ -34,10 +34,11 @@ mark_wires-requires c =
 
 pub invariant_of-self-then-is_gate : goal.invariant_of-self-then-is_gate
 invariant_of-self-then-is_gate c =
-    let entries : c.keep_line.new.entries.items ≡ c.self.inside.entries.items ++ c.args.entry ∷ [] = search rules in
+    let entries : c.push_line_and_gate.new.entries.items ≡ c.self.inside.entries.items ++ c.args.entry ∷ [] =
+    search rules in
     let wires : c.define_wires.new.wires.keys ≡ c.self.inside.wires.keys ++ c.args.entry.outs = search rules in
     let outs_pass : define c.self.inside.wires.keys c.args.entry.outs ≡ None = search rules in
-    let wired : map gate_of c.keep_line.new.wired.items
+    let wired : map gate_of c.push_line_and_gate.new.wired.items
     ≡ map gate_of c.self.inside.wired.items
     ++ gate_at c.args.entry.kind c.in-Ok.ins (length c.self.inside.wires.keys) = search rules in
     let used : c.mark_wires.new.consumed.items ≡ marked (take (length c.args.entry.ins) c.in-Ok.ins)
@@ -47,7 +48,8 @@ invariant_of-self-then-is_gate c =
       entries = entries;
       wires = wires;
       used = used;
-      limit = ap (λ (l : List CircuitLine). passes_limit l c.args.entry) c.self.view_is ∙ sym c.if-passes.ensures;
+      limit = ap (λ (l : List CircuitLine). exceeds_limit l c.args.entry) c.self.view_is
+          ∙ sym c.if-exceeds_limit.ensures;
       ins_pass = subst (λ (l : List CircuitLine). consume (defined l) (consumed l) c.args.entry.ins ≡ None)
           entries_are (search rules);
       outs_pass = outs_pass;
@@ -62,10 +64,11 @@ invariant_of-self-then-is_gate c =
 
 pub invariant_of-self-else-is_gate : goal.invariant_of-self-else-is_gate
 invariant_of-self-else-is_gate c =
-    let entries : c.keep_line.new.entries.items ≡ c.self.inside.entries.items ++ c.args.entry ∷ [] = search rules in
+    let entries : c.push_line_and_gate.new.entries.items ≡ c.self.inside.entries.items ++ c.args.entry ∷ [] =
+    search rules in
     let wires : c.define_wires.new.wires.keys ≡ c.self.inside.wires.keys ++ c.args.entry.outs = search rules in
     let outs_pass : define c.self.inside.wires.keys c.args.entry.outs ≡ None = search rules in
-    let wired : map gate_of c.keep_line.new.wired.items
+    let wired : map gate_of c.push_line_and_gate.new.wired.items
     ≡ map gate_of c.self.inside.wired.items
     ++ gate_at c.args.entry.kind c.in-Ok.ins (length c.self.inside.wires.keys) = search rules in
     let used : c.mark_wires.new.consumed.items ≡ marked (take (length c.args.entry.ins) c.in-Ok.ins)
@@ -75,7 +78,8 @@ invariant_of-self-else-is_gate c =
       entries = entries;
       wires = wires;
       used = used;
-      limit = ap (λ (l : List CircuitLine). passes_limit l c.args.entry) c.self.view_is ∙ sym c.if-passes.ensures;
+      limit = ap (λ (l : List CircuitLine). exceeds_limit l c.args.entry) c.self.view_is
+          ∙ sym c.if-exceeds_limit.ensures;
       ins_pass = subst (λ (l : List CircuitLine). consume (defined l) (consumed l) c.args.entry.ins ≡ None)
           entries_are (search rules);
       outs_pass = outs_pass;

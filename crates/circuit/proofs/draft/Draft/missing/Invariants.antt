@@ -1,8 +1,8 @@
 use Rattle.std.proofs.Common.{◌≡◌, drop}
 use Rattle.circuit.specs.Entries.{defined}
-use Rattle.circuit.specs.Rules.{consumed, unused}
+use Rattle.circuit.specs.Rules.{consumed, first_unconsumed}
 use Rattle.circuit.proofs.draft.Draft.missing.Given as goal
 
 abbrev pub invariant-wires : goal.invariant-wires
-invariant-wires l = unused (consumed l.fn.self) (drop l.number (defined l.fn.self))
-    ≡ unused (consumed l.fn.self) (defined l.fn.self)
+invariant-wires l = first_unconsumed (consumed l.fn.self) (drop l.number (defined l.fn.self))
+    ≡ first_unconsumed (consumed l.fn.self) (defined l.fn.self)

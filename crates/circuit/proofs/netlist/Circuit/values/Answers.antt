@@ -3,7 +3,7 @@ use Rattle.circuit.specs.Entries.{defined}
 use Rattle.circuit.specs.declared.circuit_line.CircuitLine.{CircuitLine}
 use Rattle.circuit.specs.Meaning.{Gate}
 use Rattle.circuit.specs.Bridge.{AreValues, IsValuesFault, netlist_of, read, input_count, gates_of}
-use Rattle.circuit.specs.Evaluate.{evaluate, IsEvaluateFault}
+use Rattle.circuit.specs.Evaluate.{evaluate, IsGateEvaluationError}
 use Rattle.circuit.specs.Wiring.{gate_of}
 use Rattle.circuit.proofs.Bridging.{gates_are_ordered}
 use Rattle.circuit.proofs.Undefined.{fault_stops}
@@ -26,8 +26,8 @@ pub returns-in-Err-clause-fault : goal.returns-in-Err-clause-fault
 returns-in-Err-clause-fault c =
     let entries : List CircuitLine = c.self.inside.entries.items in
     let same : length c.args.inputs.now ≡ input_count entries = c.requires ∙ ap input_count (sym c.self.view_is) in
-    let at : IsEvaluateFault c.args.inputs.now (gates_of (defined entries) entries) c.in-Err.fault =
-    subst (λ (gs : List Gate). IsEvaluateFault c.args.inputs.now gs c.in-Err.fault)
+    let at : IsGateEvaluationError c.args.inputs.now (gates_of (defined entries) entries) c.in-Err.fault =
+    subst (λ (gs : List Gate). IsGateEvaluationError c.args.inputs.now gs c.in-Err.fault)
     (ap (map gate_of) c.as_slice.ensures.value ∙ c.self.invariant.wired) c.in-Err.ensures.fault in
     subst (λ (entries : List CircuitLine). IsValuesFault (netlist_of entries) (read c.args.inputs.now) c.in-Err.fault)
     c.self.view_is

@@ -3,7 +3,7 @@ use Rattle.std.specs.Arc.{arc_value}
 use Rattle.std.proofs.lemmas.List.{length-map, length-set, map-set}
 use Rattle.std.proofs.Math.Seq.{map-set_same}
 use Rattle.core_book.specs.Claims.{claim_draws, claim_next}
-use Rattle.core_book.specs.Core.{CoreView, IsCore, after_claim, draws_of, numbers_in}
+use Rattle.core_book.specs.Core.{CoreView, IsCore, after_claim, draws_of, job_count_of}
 use Rattle.core_book.specs.CoreView.{core_view, lists_of}
 use Rattle.core_book.proofs.CoreSteps.{claim-core, drawn-at, left-claim, next-few}
 use Rattle.core_book.proofs.machine.Core.claim.Goals as goal
@@ -23,7 +23,7 @@ seated c = subst (λ (v : CoreView). c.args.seat < length v.draws) (sym c.self.v
 inside : (c : After-index_mut) → c.args.seat < length c.self.inside.draws.items
 inside c = omega (arith, seated c, length-map c.self.inside.draws.items (λ (v : Vec ℕ Global). v.items))
 
-count : (c : After-index_mut) → length c.jobs-count.result.now ≡ numbers_in (core_view c.self.inside)
+count : (c : After-index_mut) → length c.jobs-count.result.now ≡ job_count_of (core_view c.self.inside)
 count c = sym (length-map c.jobs-count.result.now arc_value) ∙ ap length c.jobs-count.ensures
 
 was : (c : After-index_mut) → c.index_mut.result.now.items ≡ draws_of (core_view c.self.inside) c.args.seat

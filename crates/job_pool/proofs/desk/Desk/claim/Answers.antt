@@ -1,17 +1,19 @@
 use Rattle.std.proofs.Common.{◌≡◌, ◌≤◌, ◌+◌, ap, sym, ◌∙◌, arith, [], ◌∷◌, ◌++◌}
 use Rattle.std.proofs.lemmas.Bool.Decides.{nat_tests}
 use Rattle.job_pool.specs.declared.rule.View.{View}
-use Rattle.core_book.specs.Draws.{end_of}
-use Rattle.job_pool.specs.Lists.{top}
-use Rattle.job_pool.proofs.Sums.{none_late, pushed, end_of-snoc}
+use Rattle.core_book.specs.Draws.{past_last}
+use Rattle.job_pool.specs.Lists.{past_greatest}
+use Rattle.job_pool.proofs.Sums.{none_late, pushed, past_last-snoc}
 use Rattle.job_pool.proofs.Moves.{claims}
 use Rattle.job_pool.proofs.desk.Desk.claim.Goals as goal
 
 pub fetch_add-found-requires : goal.fetch_add-found-requires
 fetch_add-found-requires c = let desk = c.args.self.now in let seat = c.args.seat.now in
-    let below : end_of seat.drawn.items ≤ seat.numbers = let e = c.has_ended.ensures in let f = c.if-has_ended.false in
+    let below : past_last seat.drawn.items ≤ seat.numbers = let e = c.has_ended.ensures in let f =
+    c.if-has_ended.false in
     grind (arith, nat_tests) in
-    let clear : top seat.seat.me.0.draws ≤ desk.table.shared.key.numbers = let t = ap top seat.same in omega arith in (
+    let clear : past_greatest seat.seat.me.0.draws ≤ desk.table.shared.key.numbers = let t =
+    ap past_greatest seat.same in omega arith in (
       c.requires.0,
       omega arith,
       claims desk.table.shared.key desk.table.shared.table_id.slots seat.seat.id seat.seat.me
@@ -20,7 +22,8 @@ fetch_add-found-requires c = let desk = c.args.self.now in let seat = c.args.sea
 
 pub invariant_of-seat : goal.invariant_of-seat
 invariant_of-seat c = let seat = c.args.seat.now in
-    let below : end_of seat.drawn.items ≤ seat.numbers = let e = c.has_ended.ensures in let f = c.if-has_ended.false in
+    let below : past_last seat.drawn.items ≤ seat.numbers = let e = c.has_ended.ensures in let f =
+    c.if-has_ended.false in
     grind (arith, nat_tests) in
     let d = c.fetch_add-found.ensures.2 in
     let seen : c.fetch_add-found.new.seat.me.0.seen ≡ c.fetch_add-found.result + 1 = ap (λ (v : View). v.seen) d.1 in
@@ -41,7 +44,7 @@ invariant_of-seat c = let seat = c.args.seat.now in
 pub returns-else-found-self-clause-answer : goal.returns-else-found-self-clause-answer
 returns-else-found-self-clause-answer c =
     let d = c.fetch_add-found.ensures.2 in
-    let e = ap (λ (v : View). end_of v.draws) d.1 in
-    let f = end_of-snoc c.args.seat.now.seat.me.0.draws c.fetch_add-found.result in
+    let e = ap (λ (v : View). past_last v.draws) d.1 in
+    let f = past_last-snoc c.args.seat.now.seat.me.0.draws c.fetch_add-found.result in
     let seen : c.fetch_add-found.new.seat.me.0.seen ≡ c.fetch_add-found.result + 1 = ap (λ (v : View). v.seen) d.1 in
     omega arith

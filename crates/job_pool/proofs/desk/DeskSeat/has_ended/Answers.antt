@@ -1,6 +1,6 @@
 use Rattle.std.proofs.Common.{◌≡◌, ◌+◌, ◌-◌, length, arith}
 use Rattle.std.proofs.lemmas.Bool.Decides.{nat_tests}
-use Rattle.job_pool.proofs.Sums.{end_of-last}
+use Rattle.job_pool.proofs.Sums.{past_last-last}
 use Rattle.job_pool.proofs.desk.DeskSeat.has_ended.Goals as goal
 
 pub returns-then-count-gt0 : goal.returns-then-count-gt0
@@ -8,6 +8,6 @@ returns-then-count-gt0 c =
     let xs = c.args.self.now.drawn.items in
     let count = c.len-count.result in
     let some : length xs ≡ (count - 1) + 1 = omega arith in
-    let e = end_of-last xs (count - 1) c.index.result.now some in
+    let e = past_last-last xs (count - 1) c.index.result.now some in
     let i = c.index.ensures in
     grind (arith, nat_tests)

@@ -1,11 +1,11 @@
 use Rattle.std.proofs.Common.{rules, arith, ap, sym, ◌∙◌, ◌≡◌, ◌+◌, ◌<◌, All, length, map, subst}
 use Rattle.std.specs.Arc.{arc_value}
 use Rattle.std.proofs.lemmas.List.{length-map}
-use Rattle.core_book.specs.Draws.{end_of, times}
+use Rattle.core_book.specs.Draws.{past_last, times}
 use Rattle.module_job.specs.Shapes.{shape_of}
 use Rattle.job_pool.specs.Seats.{drawn_by}
 use Rattle.core_book.specs.Filling.{shapes_of}
-use Rattle.job_pool.proofs.Sums.{end_of-snoc}
+use Rattle.job_pool.proofs.Sums.{past_last-snoc}
 use Rattle.job_pool.proofs.Members.{due_more, groups_below}
 use Rattle.job_pool.proofs.Filed.{empty_adds_none}
 use Rattle.job_pool.proofs.Risen.{risen_on}
@@ -14,8 +14,8 @@ use Rattle.job_pool.proofs.worker.Worker.run.Goals as goal
 pub loop-number-smaller : goal.loop-number-smaller
 loop-number-smaller g c = let before = c.loop-number.self.seat in let after = c.claim.new.seat in let a =
     c.in-Number.ensures.answer in
-    let s = end_of-snoc before.seat.me.0.draws c.in-Number.number in
-    let e = ap end_of (sym after.same ∙ a.2) in
+    let s = past_last-snoc before.seat.me.0.draws c.in-Number.number in
+    let e = ap past_last (sym after.same ∙ a.2) in
     omega arith
 
 pub loop-number-preserved : goal.loop-number-preserved

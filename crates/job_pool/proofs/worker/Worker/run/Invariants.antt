@@ -1,5 +1,5 @@
 use Rattle.std.proofs.Common.{◌≡◌, ◌+◌, ◌-◌, false}
-use Rattle.core_book.specs.Draws.{end_of}
+use Rattle.core_book.specs.Draws.{past_last}
 use Rattle.job_pool.specs.Seats.{IsSeatOf, drawn_by}
 use Rattle.job_pool.specs.Work.{HasRisen, due}
 use Rattle.job_pool.proofs.worker.Worker.run.Given as goal
@@ -14,4 +14,4 @@ invariant-loop-number g l = record {
 }
 
 abbrev pub decreases-loop-number : goal.decreases-loop-number
-decreases-loop-number g l = l.shared_work.desk.now.numbers - end_of l.self.seat.drawn.items
+decreases-loop-number g l = l.shared_work.desk.now.numbers - past_last l.self.seat.drawn.items

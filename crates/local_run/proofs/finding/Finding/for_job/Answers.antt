@@ -16,8 +16,8 @@ returns-then-not-same-clause-none c =
     let other : c.deref-3.result.now ≡ t = c.deref-3.ensures ∙ c.shape-2.ensures ∙ ap shape_of c.deref-2.ensures in
     λ e. false≢true (sym c.if-not-same.true ∙ c.eq-same.ensures ∙ ap₂ same_shape own other ∙ (shapes_decide s t).1 e)
 
-pub least_on-fault-requires-clause-same_shape : goal.least_on-fault-requires-clause-same_shape
-least_on-fault-requires-clause-same_shape c =
+pub least_fault_moved-fault-requires-clause-same_shape : goal.least_fault_moved-fault-requires-clause-same_shape
+least_fault_moved-fault-requires-clause-same_shape c =
     let s = shape_of (job_of c.args.self.now) in
     let t = shape_of (arc_value c.args.job) in
     let own : c.deref.result.now ≡ s = c.deref.ensures ∙ c.shape.ensures ∙ ap shape_of c.deref-own.ensures in

@@ -1,15 +1,16 @@
 use Rattle.std.proofs.Common.{◌≡◌, ◌≤◌, ◌+◌, ◌-◌, ◌*◌, List, ℕ, arith, sym, subst}
 use Rattle.std.proofs.Math.Nat.{mul-le-mul_left}
 use Rattle.local_run.specs.declared.planes.Planes.{Planes}
-use Rattle.local_run.specs.Frozen.{IsEvenCalmAt}
+use Rattle.local_run.specs.Frozen.{AreMarkedEvenBlocksStable}
 use Rattle.local_run.proofs.FieldLemmas.{even_all}
 use Rattle.local_run.proofs.FrozenLemmas.{even_all_may, even_calm_found, freezes_even}
 use Rattle.local_run.proofs.frozen.FrozenBlocks.even_step.Goals as goal
 
-pub even_step_between-requires-clause-calm : goal.even_step_between-requires-clause-calm
-even_step_between-requires-clause-calm c =
-    subst (λ (m : List ℕ). IsEvenCalmAt m c.args.planes.now) (sym c.deref.ensures.value)
-    (even_calm_found c.args.self.now c.args.planes.now c.show_words.ensures c.requires.frozen c.if-self.true)
+pub even_step_between_marks-requires-clause-calm : goal.even_step_between_marks-requires-clause-calm
+even_step_between_marks-requires-clause-calm c =
+    subst (λ (m : List ℕ). AreMarkedEvenBlocksStable m c.args.planes.now) (sym c.deref.ensures.value)
+    (even_calm_found c.args.self.now c.args.planes.now c.prove_planes_are_words.ensures c.requires.frozen
+    c.if-self.true)
 
 -- how many blocks of the even partition there are
 total : (p : Planes) → p.stride * p.rows - p.stride - 1 + p.stride + 1 ≡ p.stride * p.rows
@@ -20,14 +21,15 @@ total p =
 pub returns-then-self-clause-turned : goal.returns-then-self-clause-turned
 returns-then-self-clause-turned c =
     let p = c.args.planes.now in
-    even_all p c.even_step_between.new.self (p.stride * p.rows - p.stride - 1) c.even_step_between.ensures.size
+    even_all p c.even_step_between_marks.new.self
+    (p.stride * p.rows - p.stride - 1) c.even_step_between_marks.ensures.size
     (total p)
-    (c.even_step_between.ensures.turned (p.stride * p.rows - p.stride - 1) (total p))
+    (c.even_step_between_marks.ensures.turned (p.stride * p.rows - p.stride - 1) (total p))
 
 pub returns-then-self-clause-frozen : goal.returns-then-self-clause-frozen
 returns-then-self-clause-frozen c =
     let p = c.args.planes.now in
-    let q = c.even_step_between.new.self in
-    let e = c.even_step_between.ensures in
+    let q = c.even_step_between_marks.new.self in
+    let e = c.even_step_between_marks.ensures in
     freezes_even c.args.self.now p q e.size (even_all_may p q (p.stride * p.rows - p.stride - 1) (total p)
     (e.turned (p.stride * p.rows - p.stride - 1) (total p)) e.first) c.requires.frozen

@@ -7,5 +7,5 @@ abbrev pub invariant-loop-n : goal.invariant-loop-n
 invariant-loop-n l = record {
   room : HasRoomForMarks l.self l.planes;
   found : l.self.is_found ≡ l.fn.self.is_found;
-  few : l.active ≤ l.n;
+  few : l.active_block_count ≤ l.n;
 }

@@ -1,6 +1,6 @@
 use Rattle.std.proofs.Common.{List, ℕ, true, false, ◌+◌, length, ap, arith, sym, subst, inl, inr}
 use Rattle.std.proofs.lemmas.List.{with_items_is}
-use Rattle.local_run.specs.Calm.{OddCalm, EvenCalm}
+use Rattle.local_run.specs.Calm.{AreOddBlocksStable, AreEvenBlocksStable}
 use Rattle.local_run.proofs.CalmLemmas.{odd_kept_by_even, even_kept_by_even}
 use Rattle.local_run.proofs.LiveLemmas.{lone_anti, anti_cells, anti_dead, swap_back}
 use Rattle.local_run.proofs.FrozenLemmas.{even_part_may, freezes_even}
@@ -35,7 +35,7 @@ invariant_of-self-clause-even_calm c =
     let s = c.swap_anti-2.ensures in
     let s = rw c.stride-stride.ensures.stride_is_exact at s in
     let u = c.args.u in
-    subst (λ (m : List ℕ). EvenCalm m q) (sym items)
+    subst (λ (m : List ℕ). AreEvenBlocksStable m q) (sym items)
     (even_kept_by_even false true u f.even_marks.items c.mark.new.marks p q s.size
     (anti_cells (u + p.stride + 1) (u + p.stride) (u + 1) u p q s.swap s.odd s.even) marks f.even_calm)
 
@@ -44,14 +44,15 @@ invariant_of-self-clause-odd_calm c =
     let f = c.args.self.now in
     let p = f.planes in
     let v = c.deref_mut-2.ensures.value in
-    let items = with_items_is f.odd_marks c.mark_corners.new.marks (omega (arith, ap length v, f.odd_marks.ok.0)) in
-    let marks = rw (v, c.stride-stride.ensures.stride_is_exact) at c.mark_corners.ensures in
+    let items = with_items_is f.odd_marks c.mark_odd_neighbours.new.marks
+    (omega (arith, ap length v, f.odd_marks.ok.0)) in
+    let marks = rw (v, c.stride-stride.ensures.stride_is_exact) at c.mark_odd_neighbours.ensures in
     let q = c.swap_anti-2.new.self in
     let s = c.swap_anti-2.ensures in
     let s = rw c.stride-stride.ensures.stride_is_exact at s in
     let u = c.args.u in
-    subst (λ (m : List ℕ). OddCalm m q) (sym items)
-    (odd_kept_by_even false true u f.odd_marks.items c.mark_corners.new.marks p q s.size
+    subst (λ (m : List ℕ). AreOddBlocksStable m q) (sym items)
+    (odd_kept_by_even false true u f.odd_marks.items c.mark_odd_neighbours.new.marks p q s.size
     (anti_cells (u + p.stride + 1) (u + p.stride) (u + 1) u p q s.swap s.odd s.even) marks f.odd_calm)
 
 pub invariant_of-self-clause-all_dead : goal.invariant_of-self-clause-all_dead

@@ -1,6 +1,6 @@
 use Rattle.std.proofs.Common.{List, ℕ, true, false, length, ap, arith, sym, subst, inl, inr}
 use Rattle.std.proofs.lemmas.List.{with_items_is}
-use Rattle.local_run.specs.Calm.{OddCalm, EvenCalm}
+use Rattle.local_run.specs.Calm.{AreOddBlocksStable, AreEvenBlocksStable}
 use Rattle.local_run.proofs.CalmLemmas.{odd_kept_by_odd, even_kept_by_odd}
 use Rattle.local_run.proofs.LiveLemmas.{lone_main, main_cells, main_dead}
 use Rattle.local_run.proofs.FrozenLemmas.{freezes_odd, odd_part_may}
@@ -31,7 +31,7 @@ invariant_of-self-clause-odd_calm c =
     let q = c.swap_main-2.new.self in
     let s = c.swap_main-2.ensures in
     let u = c.args.u in
-    subst (λ (m : List ℕ). OddCalm m q) (sym items)
+    subst (λ (m : List ℕ). AreOddBlocksStable m q) (sym items)
     (odd_kept_by_odd true false u f.odd_marks.items c.mark.new.marks f.planes q s.size
     (main_cells u u u u f.planes q s.swap s.right s.down) marks f.odd_calm)
 
@@ -39,13 +39,14 @@ pub invariant_of-self-clause-even_calm : goal.invariant_of-self-clause-even_calm
 invariant_of-self-clause-even_calm c =
     let f = c.args.self.now in
     let v = c.deref_mut-2.ensures.value in
-    let items = with_items_is f.even_marks c.mark_around.new.marks (omega (arith, ap length v, f.even_marks.ok.0)) in
-    let marks = rw (v, c.stride-stride.ensures.stride_is_exact) at c.mark_around.ensures in
+    let items = with_items_is f.even_marks c.mark_even_neighbours.new.marks
+    (omega (arith, ap length v, f.even_marks.ok.0)) in
+    let marks = rw (v, c.stride-stride.ensures.stride_is_exact) at c.mark_even_neighbours.ensures in
     let q = c.swap_main-2.new.self in
     let s = c.swap_main-2.ensures in
     let u = c.args.u in
-    subst (λ (m : List ℕ). EvenCalm m q) (sym items)
-    (even_kept_by_odd true false u f.even_marks.items c.mark_around.new.marks f.planes q s.size
+    subst (λ (m : List ℕ). AreEvenBlocksStable m q) (sym items)
+    (even_kept_by_odd true false u f.even_marks.items c.mark_even_neighbours.new.marks f.planes q s.size
     (main_cells u u u u f.planes q s.swap s.right s.down) marks f.even_calm)
 
 pub invariant_of-self-clause-all_dead : goal.invariant_of-self-clause-all_dead

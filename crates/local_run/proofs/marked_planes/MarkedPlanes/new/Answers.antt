@@ -1,7 +1,7 @@
 use Rattle.std.proofs.Common.{List, ℕ, length, ap, arith, sym, subst, ◌∙◌}
 use Rattle.std.proofs.lemmas.Bool.{false≢true}
 use Rattle.std.proofs.lemmas.List.{with_items_is}
-use Rattle.local_run.specs.Borders.{AllInner}
+use Rattle.local_run.specs.Borders.{AreUnmarkedAwayFromBorder}
 use Rattle.local_run.proofs.LiveLemmas.{dead_all, dead_even, dead_odd}
 use Rattle.local_run.proofs.marked_planes.MarkedPlanes.new.Goals as goal
 
@@ -20,9 +20,9 @@ invariant_of-result-clause-all_inner c =
     let v = c.deref_mut.ensures.value in
     let items = with_items_is c.in_ok-border_marks.border_marks c.mark_border.new.marks
     (omega (arith, ap length v, c.in_ok-border_marks.border_marks.ok.0)) in
-    let inner = c.mark_border.ensures in
-    let inner = rw (c.stride.ensures.stride_is_exact, c.rows.ensures.count_is_exact) at inner in
-    subst (λ (m : List ℕ). AllInner p.stride p.rows m) (sym items) inner
+    let box_coord = c.mark_border.ensures in
+    let box_coord = rw (c.stride.ensures.stride_is_exact, c.rows.ensures.count_is_exact) at box_coord in
+    subst (λ (m : List ℕ). AreUnmarkedAwayFromBorder p.stride p.rows m) (sym items) box_coord
 
 pub invariant_of-result-clause-freezes : goal.invariant_of-result-clause-freezes
 invariant_of-result-clause-freezes c = ∣ (λ e. absurd (false≢true (sym c.unknown.ensures ∙ e))) ∣₁

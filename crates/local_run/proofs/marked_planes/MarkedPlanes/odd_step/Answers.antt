@@ -2,26 +2,27 @@ use Rattle.std.proofs.Common.{◌≡◌, ◌+◌, ◌*◌, inl, inr, List, ℕ, 
 use Rattle.local_run.proofs.FieldLemmas.{odd_all, odd_below_all, odd_more, odd_more_none, none_more}
 use Rattle.std.proofs.lemmas.List.{with_items_is}
 use Rattle.bbm_rule.proofs.BitLemmas.{by_lt_or_le}
-use Rattle.local_run.specs.Calm.{EvenCalm, OddCalm}
+use Rattle.local_run.specs.Calm.{AreEvenBlocksStable, AreOddBlocksStable}
 use Rattle.local_run.proofs.marked_planes.MarkedPlanes.odd_step.Goals as goal
 
-pub turn_odd_word-changed-requires-clause-calm : goal.turn_odd_word-changed-requires-clause-calm
-turn_odd_word-changed-requires-clause-calm c =
+pub turn_marked_odd_blocks-changed-requires-clause-calm : goal.turn_marked_odd_blocks-changed-requires-clause-calm
+turn_marked_odd_blocks-changed-requires-clause-calm c =
     let m = c.words.invariant in
     let long = ap₂ (λ s r. s * r) m.size.1 m.size.2 in
-    c.odd_word-word.ensures.calm c.min-end.result (omega arith) (omega (arith, long))
+    c.odd_blocks_to_turn-word.ensures.calm c.min-end.result (omega arith) (omega (arith, long))
 
 pub words-preserved : goal.words-preserved
 words-preserved c =
     let m = c.words.invariant in
-    let t = c.turn_odd_word-changed.ensures in
-    let none : c.words.changed + c.turn_odd_word-changed.result ≡ 0 →
-    (c.words.changed ≡ 0) × (c.turn_odd_word-changed.result ≡ 0) = λ e. (omega (arith, e), omega (arith, e)) in
+    let t = c.turn_marked_odd_blocks-changed.ensures in
+    let none : c.words.changed + c.turn_marked_odd_blocks-changed.result ≡ 0 →
+    (c.words.changed ≡ 0) × (c.turn_marked_odd_blocks-changed.result ≡ 0) = λ e. (omega (arith, e), omega (arith, e)) in
     record {
       size = (t.size.0 ∙ m.size.0, t.size.1 ∙ m.size.1, t.size.2 ∙ m.size.2);
       stays = λ e. t.stays (none e).1 ∙ m.stays (none e).0;
       count = (omega arith, omega arith);
-      turned = odd_more c.args.self.now.planes c.words.self.planes c.turn_odd_word-changed.new.self.planes c.words.k
+      turned = odd_more c.args.self.now.planes c.words.self.planes c.turn_marked_odd_blocks-changed.new.self.planes
+          c.words.k
           c.min-end.result c.cells-cells.result m.size (omega arith) (omega arith) (omega arith)
           (by_lt_or_le (64 * c.words.k + 64) c.cells-cells.result (λ l. inl (omega arith)) (λ l. inr (omega arith)))
           m.turned t.turned;
@@ -36,33 +37,34 @@ words-preserved-then-word-eq0 c =
       stays = m.stays;
       count = (omega arith, omega arith);
       turned = odd_more_none c.args.self.now.planes c.words.self.planes c.words.k c.cells-cells.result
-          c.odd_word-word.result
+          c.odd_blocks_to_turn-word.result
           m.size (omega arith) c.if-word-eq0.true
-          (λ end short within. c.odd_word-word.ensures.calm end short (omega (arith, within, long))) m.turned;
+          (λ end short within. c.odd_blocks_to_turn-word.ensures.calm end short (omega (arith, within, long))) m.turned;
     }
 
 pub returns-clause-turned : goal.returns-clause-turned
 returns-clause-turned c =
     let m = c.words.invariant in
-    let same : c.finish_step.new.self.planes ≡ c.words.self.planes = c.finish_step.ensures in
-    odd_all c.args.self.now.planes c.finish_step.new.self.planes c.cells-cells.result (rw same m.size) (omega arith)
+    let same : c.plan_next_steps.new.self.planes ≡ c.words.self.planes = c.plan_next_steps.ensures in
+    odd_all c.args.self.now.planes c.plan_next_steps.new.self.planes c.cells-cells.result (rw same m.size) (omega arith)
     (rw same (odd_below_all c.args.self.now.planes c.words.self.planes (64 * c.words.k) c.cells-cells.result
     (omega arith) m.turned))
 
 pub returns-clause-stays : goal.returns-clause-stays
-returns-clause-stays c e = c.finish_step.ensures ∙ c.words.invariant.stays (none_more c.words.changed e)
+returns-clause-stays c e = c.plan_next_steps.ensures ∙ c.words.invariant.stays (none_more c.words.changed e)
 
 pub invariant_of-self-clause-odd_calm : goal.invariant_of-self-clause-odd_calm
 invariant_of-self-clause-odd_calm c =
     let f = c.args.self.now in
     let v = c.deref_mut.ensures.value in
-    let items = with_items_is f.odd_marks c.mark_blocks.new.odd_marks (omega (arith, ap length v, f.odd_marks.ok.0)) in
-    subst (λ (m : List ℕ). OddCalm m c.odd_step.new.planes) (sym items) c.mark_blocks.ensures.odd
+    let items = with_items_is f.odd_marks c.mark_active_blocks.new.odd_marks
+    (omega (arith, ap length v, f.odd_marks.ok.0)) in
+    subst (λ (m : List ℕ). AreOddBlocksStable m c.odd_step.new.planes) (sym items) c.mark_active_blocks.ensures.odd
 
 pub invariant_of-self-clause-even_calm : goal.invariant_of-self-clause-even_calm
 invariant_of-self-clause-even_calm c =
     let f = c.args.self.now in
     let v = c.deref_mut-then-self-gt0.ensures.value in
-    let items = with_items_is f.even_marks c.mark_blocks.new.even_marks
+    let items = with_items_is f.even_marks c.mark_active_blocks.new.even_marks
     (omega (arith, ap length v, f.even_marks.ok.0)) in
-    subst (λ (m : List ℕ). EvenCalm m c.odd_step.new.planes) (sym items) c.mark_blocks.ensures.even
+    subst (λ (m : List ℕ). AreEvenBlocksStable m c.odd_step.new.planes) (sym items) c.mark_active_blocks.ensures.even

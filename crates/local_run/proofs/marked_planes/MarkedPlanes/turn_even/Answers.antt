@@ -1,6 +1,6 @@
 use Rattle.std.proofs.Common.{List, ℕ, length, ap, arith, sym, subst}
 use Rattle.std.proofs.lemmas.List.{with_items_is}
-use Rattle.local_run.specs.Calm.{EvenCalm}
+use Rattle.local_run.specs.Calm.{AreEvenBlocksStable}
 use Rattle.local_run.proofs.CalmLemmas.{last_unmarked}
 use Rattle.local_run.proofs.marked_planes.MarkedPlanes.turn_even.Goals as goal
 
@@ -12,6 +12,7 @@ invariant_of-self-clause-even_calm c =
     let v = c.deref_mut.ensures.value in
     let items = with_items_is f.even_marks c.unmark.new.marks (omega (arith, ap length v, f.even_marks.ok.0)) in
     let sets = rw v at c.unmark.ensures in
-    subst (λ (m : List ℕ). EvenCalm m p) (sym items)
-    (last_unmarked u f.even_marks.items c.unmark.new.marks p sets (c.is_last.ensures.last c.if-is_last.true)
+    subst (λ (m : List ℕ). AreEvenBlocksStable m p) (sym items)
+    (last_unmarked u f.even_marks.items c.unmark.new.marks p sets
+    (c.is_last_of_row.ensures.last c.if-is_last_of_row.true)
     f.even_calm)

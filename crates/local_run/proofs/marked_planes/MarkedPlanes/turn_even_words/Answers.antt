@@ -1,6 +1,6 @@
 use Rattle.std.proofs.Common.{List, ℕ, ◌+◌, length, ap, arith, sym, subst}
 use Rattle.std.proofs.lemmas.List.{with_items_is}
-use Rattle.local_run.specs.Calm.{OddCalm, EvenCalm}
+use Rattle.local_run.specs.Calm.{AreOddBlocksStable, AreEvenBlocksStable}
 use Rattle.local_run.proofs.TurnLemmas.{calm_block}
 use Rattle.local_run.proofs.CalmLemmas.{even_cells, even_unmarked, odd_kept_by_even, even_kept_by_even}
 use Rattle.local_run.proofs.LiveLemmas.{cells_dead}
@@ -13,7 +13,7 @@ invariant_of-self-clause-even_calm c =
     let v = c.deref_mut.ensures.value in
     let items = with_items_is f.even_marks c.unmark.new.marks (omega (arith, ap length v, f.even_marks.ok.0)) in
     let sets = rw v at c.unmark.ensures in
-    subst (λ (m : List ℕ). EvenCalm m f.planes) (sym items)
+    subst (λ (m : List ℕ). AreEvenBlocksStable m f.planes) (sym items)
     (even_unmarked c.args.u f.even_marks.items c.unmark.new.marks f.planes sets (
       c.even_changes-changes.ensures.main (c.is_none.ensures.main c.if-is_none.true),
       c.even_changes-changes.ensures.anti (c.is_none.ensures.anti c.if-is_none.true),
@@ -37,7 +37,7 @@ invariant_of-self-2-clause-even_calm c =
     let e = c.turn_even.ensures in
     let main = c.even_changes-changes.result.main in
     let anti = c.even_changes-changes.result.anti in
-    subst (λ (m : List ℕ). EvenCalm m c.turn_even.new.self) (sym items)
+    subst (λ (m : List ℕ). AreEvenBlocksStable m c.turn_even.new.self) (sym items)
     (even_kept_by_even main anti c.args.u f.even_marks.items c.mark.new.marks f.planes c.turn_even.new.self e.size
     (even_cells main anti c.args.u f.planes c.turn_even.new.self c.even_changes-changes.ensures.main
     c.even_changes-changes.ensures.anti e.part) marks f.even_calm)
@@ -46,13 +46,15 @@ pub invariant_of-self-2-clause-odd_calm : goal.invariant_of-self-2-clause-odd_ca
 invariant_of-self-2-clause-odd_calm c =
     let f = c.args.self.now in
     let v = c.deref_mut-3.ensures.value in
-    let items = with_items_is f.odd_marks c.mark_corners.new.marks (omega (arith, ap length v, f.odd_marks.ok.0)) in
-    let marks = rw (v, c.stride-stride.ensures.stride_is_exact) at c.mark_corners.ensures in
+    let items = with_items_is f.odd_marks c.mark_odd_neighbours.new.marks
+    (omega (arith, ap length v, f.odd_marks.ok.0)) in
+    let marks = rw (v, c.stride-stride.ensures.stride_is_exact) at c.mark_odd_neighbours.ensures in
     let e = c.turn_even.ensures in
     let main = c.even_changes-changes.result.main in
     let anti = c.even_changes-changes.result.anti in
-    subst (λ (m : List ℕ). OddCalm m c.turn_even.new.self) (sym items)
-    (odd_kept_by_even main anti c.args.u f.odd_marks.items c.mark_corners.new.marks f.planes c.turn_even.new.self e.size
+    subst (λ (m : List ℕ). AreOddBlocksStable m c.turn_even.new.self) (sym items)
+    (odd_kept_by_even main anti c.args.u f.odd_marks.items c.mark_odd_neighbours.new.marks f.planes c.turn_even.new.self
+    e.size
     (even_cells main anti c.args.u f.planes c.turn_even.new.self c.even_changes-changes.ensures.main
     c.even_changes-changes.ensures.anti e.part) marks f.odd_calm)
 

@@ -1,7 +1,7 @@
 use Rattle.std.proofs.Common.{◌≡◌, ℕ, not, ◌<◌, ◌+◌, ◌*◌, ◌/◌}
 use Rattle.module_job.specs.Signals.{is_live}
 use Rattle.local_run.specs.Calm.{ChangesCells}
-use Rattle.local_run.specs.Turns.{is_main}
+use Rattle.local_run.specs.Turns.{is_on_main_diagonal}
 use Rattle.local_run.specs.Lanes.{lane, HasSize}
 use Rattle.local_run.specs.Scans.{valuation}
 use Rattle.local_run.proofs.values.Values.put.Given as goal
@@ -13,5 +13,5 @@ invariant-loop-k l = record {
   rest : (a x' y' : ℕ) → a < 64 * l.self.words → x' / 2 < l.fn.planes.stride → ((x' ≡ l.x) × (y' ≡ l.y) → ⊥) →
       lane l.planes a x' y' ≡ lane l.fn.planes a x' y';
   cells : let u = l.fn.planes.stride * (l.y / 2) + l.x / 2 in
-      ChangesCells (is_main l.x l.y) (not (is_main l.x l.y)) u u u u l.fn.planes l.planes;
+      ChangesCells (is_on_main_diagonal l.x l.y) (not (is_on_main_diagonal l.x l.y)) u u u u l.fn.planes l.planes;
 }

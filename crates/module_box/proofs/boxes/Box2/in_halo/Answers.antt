@@ -7,4 +7,5 @@ returns c =
     let fx : SFits w32 c.args.cell.x = search rules in
     let fy : SFits w32 c.args.cell.y = search rules in
     halo_read c.args.self c.args.cell.x c.args.cell.y _ _ _ c.holds-inside.ensures
-    (simp to_z-of_z at c.is_beside-near_x.ensures) (simp to_z-of_z at c.is_beside-near_y.ensures)
+    (simp to_z-of_z at c.is_in_or_beside_range-near_x.ensures)
+    (simp to_z-of_z at c.is_in_or_beside_range-near_y.ensures)

@@ -11,6 +11,7 @@ invariant_of-self-2 c =
     let next : c.len-number.result ≡ length a.wires.items = omega (arith, c.len-number.ensures) in
     record {
       numbered = rw (c.in_ok-push-2.ensures.items, next)
-          (placed_more 32 a.wires.items a.numbers.items c.make_entry.new.numbers.items c.args.wire
-          c.self.invariant.numbered fresh c.in_ok-make_entry.ensures.kept c.in_ok-make_entry.ensures.entry);
+          (placed_more 32 a.wires.items a.numbers.items c.make_room_for_entry.new.numbers.items c.args.wire
+          c.self.invariant.numbered fresh c.in_ok-make_room_for_entry.ensures.kept
+          c.in_ok-make_room_for_entry.ensures.entry);
     }

@@ -2,7 +2,7 @@ use Rattle.std.proofs.Common.{◌≡◌, IsTrue, arith, rules, SFits, w32, to_z-
 use Rattle.std.specs.Int.RustNames.{unsigned_abs}
 use Rattle.module_box.specs.Boxes.{in_box}
 use Rattle.module_box.specs.Tiling.{rectangle}
-use Rattle.module_box.specs.OwnersView.{owning}
+use Rattle.module_box.specs.OwnersView.{owners_view}
 use Rattle.module_box.proofs.BoxCells.{owner_in_table, owner_read}
 use Rattle.module_box.proofs.owners.Owners.owner.Goals as goal
 
@@ -12,9 +12,10 @@ index-requires c =
     let fy : SFits w32 c.args.cell.y = search rules in
     let ex : c.unsigned_abs-2.result ≡ unsigned_abs c.args.cell.x = simp to_z-of_z at c.unsigned_abs-2.ensures.value in
     let ey : c.unsigned_abs.result ≡ unsigned_abs c.args.cell.y = simp to_z-of_z at c.unsigned_abs.ensures.value in
-    let inside : IsTrue (in_box (rectangle (owning c.self.inside)) c.args.cell.x c.args.cell.y) =
+    let inside : IsTrue (in_box (rectangle (owners_view c.self.inside)) c.args.cell.x c.args.cell.y) =
     rw (← c.self.view_is) at c.requires in
-    rw (ex, ey) (let h = owner_in_table (owning c.self.inside) c.args.cell.x c.args.cell.y c.self.invariant inside in
+    rw (ex, ey) (let h = owner_in_table
+    (owners_view c.self.inside) c.args.cell.x c.args.cell.y c.self.invariant inside in
     omega (arith, h, c.self.inside.numbers.ok))
 
 pub returns : goal.returns
@@ -23,8 +24,8 @@ returns c =
     let fy : SFits w32 c.args.cell.y = search rules in
     let ex : c.unsigned_abs-2.result ≡ unsigned_abs c.args.cell.x = simp to_z-of_z at c.unsigned_abs-2.ensures.value in
     let ey : c.unsigned_abs.result ≡ unsigned_abs c.args.cell.y = simp to_z-of_z at c.unsigned_abs.ensures.value in
-    let inside : IsTrue (in_box (rectangle (owning c.self.inside)) c.args.cell.x c.args.cell.y) =
+    let inside : IsTrue (in_box (rectangle (owners_view c.self.inside)) c.args.cell.x c.args.cell.y) =
     rw (← c.self.view_is) at c.requires in
     rw (← c.self.view_is) (owner_read
-    (owning c.self.inside) c.args.cell.x c.args.cell.y _ _ c.index.result.now c.self.invariant inside ey ex
+    (owners_view c.self.inside) c.args.cell.x c.args.cell.y _ _ c.index.result.now c.self.invariant inside ey ex
     c.index.ensures)

@@ -5,12 +5,12 @@ use Rattle.module_job.specs.CellLists.{numbered_demand}
 use Rattle.module_job.proofs.NumberedCells.{below, demand_found}
 use Rattle.module_job.proofs.cell_lists.EndDemands.at.Goals as goal
 
-pub numbered-requires : goal.numbered-requires
-numbered-requires c =
+pub decode_number-requires : goal.decode_number-requires
+decode_number-requires c =
     subst (λ n. n < 65539) (sym c.at.ensures)
     (below 65539 c.self.inside.numbers c.args.place (omega arith) c.self.invariant)
 
 pub returns : goal.returns
 returns c =
-    c.numbered.ensures ∙ ap numbered_demand c.at.ensures ∙ demand_found c.self.inside.numbers c.args.place
+    c.decode_number.ensures ∙ ap numbered_demand c.at.ensures ∙ demand_found c.self.inside.numbers c.args.place
     ∙ ap (λ cells. unwrap_or (slice_get cells c.args.place) Dead) c.self.view_is

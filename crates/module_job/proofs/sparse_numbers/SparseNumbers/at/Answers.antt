@@ -32,7 +32,7 @@ returns-then-index-place c =
     let lt : c.args.place < length ns =
     omega (arith, c.if-self-place.false, count_numbers a.count 0 a.entries.items) in
     let start : 2 * c.entries_before-at.result ≡ rank c.args.place ns =
-    c.entries_before-at.ensures.counted ns (c.deref-2.ensures.value ∙ c.self.invariant.entries) in
+    c.entries_before-at.ensures.length_prefixed ns (c.deref-2.ensures.value ∙ c.self.invariant.entries) in
     let size = ap length c.deref-2.ensures.value in
     let long : 2 * c.entries_before-at.result + 1 < length a.entries.items =
     omega (arith, size, c.deref-2.ensures.len, c.len-2.ensures, c.if-at-len.true) in
@@ -50,7 +50,7 @@ returns c =
     let lt : c.args.place < length ns =
     omega (arith, c.if-self-place.false, count_numbers a.count 0 a.entries.items) in
     let start : 2 * c.entries_before-at.result ≡ rank c.args.place ns =
-    c.entries_before-at.ensures.counted ns (c.deref-2.ensures.value ∙ c.self.invariant.entries) in
+    c.entries_before-at.ensures.length_prefixed ns (c.deref-2.ensures.value ∙ c.self.invariant.entries) in
     let size = ap length c.deref-2.ensures.value in
     let none : 0 ≡ unwrap_or (slice_get ns c.args.place) 0 = elim c.else-at-len.branch [
       | else-at-len-via-then-at-len+else-index-place w ↦

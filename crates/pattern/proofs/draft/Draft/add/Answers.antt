@@ -7,16 +7,16 @@ use Rattle.pattern.specs.Lines.{is_inside}
 use Rattle.pattern.proofs.TakenLemmas.{cells_on_board, begun_more, ended_more}
 use Rattle.pattern.proofs.draft.Draft.add.Goals as goal
 
-pub take_where-requires : goal.take_where-requires
-take_where-requires c =
+pub take_cells_if-requires : goal.take_cells_if-requires
+take_cells_if-requires c =
     let inside = subst (λ (p : Pattern). is_inside p.size c.args.part ≡ true)
     (sym c.self.view_is) c.in_ok-cells.ensures.inside in
-    cells_on_board c.self.inside.begun c.self.inside.layout.size c.self.invariant.begun_width
+    cells_on_board c.self.inside.taken_at_start c.self.inside.layout.size c.self.invariant.begun_width
     c.self.invariant.begun_height c.args.part c.deref.result.now
     (c.deref.ensures.value ∙ c.in_ok-cells.ensures.cells) inside
 
-pub take_where-requires-2 : goal.take_where-requires-2
-take_where-requires-2 c =
+pub take_cells_if-requires-2 : goal.take_cells_if-requires-2
+take_cells_if-requires-2 c =
     let inside = subst (λ (p : Pattern). is_inside p.size c.args.part ≡ true)
     (sym c.self.view_is) c.in_ok-cells.ensures.inside in
     cells_on_board c.self.inside.ended c.self.inside.layout.size c.self.invariant.ended_width
@@ -28,18 +28,19 @@ invariant_of-self-2 c =
     let size = ap (λ (s : LayoutHeader). s.w) (sym c.in-Ok.ensures.size) in
     let high = ap (λ (s : LayoutHeader). s.h) (sym c.in-Ok.ensures.size) in
     record {
-      begun_width = c.take_where.ensures.size.0 ∙ c.self.invariant.begun_width ∙ size;
-      begun_height = c.take_where.ensures.size.1 ∙ c.self.invariant.begun_height ∙ high;
-      ended_width = c.take_where-2.ensures.size.0 ∙ c.self.invariant.ended_width ∙ size;
-      ended_height = c.take_where-2.ensures.size.1 ∙ c.self.invariant.ended_height ∙ high;
-      begun = begun_more c.self.inside.begun c.take_where.new.grid (parts_of c.self.inside.layout)
+      begun_width = c.take_cells_if.ensures.size.0 ∙ c.self.invariant.begun_width ∙ size;
+      begun_height = c.take_cells_if.ensures.size.1 ∙ c.self.invariant.begun_height ∙ high;
+      ended_width = c.take_cells_if-2.ensures.size.0 ∙ c.self.invariant.ended_width ∙ size;
+      ended_height = c.take_cells_if-2.ensures.size.1 ∙ c.self.invariant.ended_height ∙ high;
+      taken_at_start = begun_more c.self.inside.taken_at_start c.take_cells_if.new.grid (parts_of c.self.inside.layout)
           (parts_of c.add.new.self) c.args.part c.deref.result.now
-          (c.deref.ensures.value ∙ c.in_ok-cells.ensures.cells) c.in-Ok.ensures.parts c.self.invariant.begun
-          (λ x y. c.take_where.ensures.taken x y
-          ∙ ap (λ b. live c.self.inside.begun x y || (b && in_cells c.deref.result.now x y)) c.begins-begins.ensures);
-      ended = ended_more c.self.inside.ended c.take_where-2.new.grid (parts_of c.self.inside.layout)
+          (c.deref.ensures.value ∙ c.in_ok-cells.ensures.cells) c.in-Ok.ensures.parts c.self.invariant.taken_at_start
+          (λ x y. c.take_cells_if.ensures.taken x y
+          ∙ ap (λ b. live c.self.inside.taken_at_start x y || (b && in_cells c.deref.result.now x y))
+          c.begins-begins.ensures);
+      ended = ended_more c.self.inside.ended c.take_cells_if-2.new.grid (parts_of c.self.inside.layout)
           (parts_of c.add.new.self) c.args.part c.deref-2.result.now
           (c.deref-2.ensures.value ∙ c.in_ok-cells.ensures.cells) c.in-Ok.ensures.parts c.self.invariant.ended
-          (λ x y. c.take_where-2.ensures.taken x y
+          (λ x y. c.take_cells_if-2.ensures.taken x y
           ∙ ap (λ b. live c.self.inside.ended x y || (b && in_cells c.deref-2.result.now x y)) c.ends-ends.ensures);
     }

@@ -18,50 +18,56 @@ all_inside c = ap (λ (s : LayoutHeader). is_inside s c.args.part.now) (sym c.si
 these_cells : (c : goal.After-deref) → c.deref.result.now ≡ cells_of c.args.part.now
 these_cells c = c.deref.ensures.value ∙ c.in-Ok.ensures
 
-pub meets_in-requires-clause-one : goal.meets_in-requires-clause-one
-meets_in-requires-clause-one c =
-    cells_on_board c.self.inside.begun c.self.inside.layout.size c.self.invariant.begun_width
+pub is_any_taken-requires-clause-one : goal.is_any_taken-requires-clause-one
+is_any_taken-requires-clause-one c =
+    cells_on_board c.self.inside.taken_at_start c.self.inside.layout.size c.self.invariant.begun_width
     c.self.invariant.begun_height c.args.part.now c.deref.result.now (these_cells c) (all_inside c)
 
-pub meets_in-requires-clause-other : goal.meets_in-requires-clause-other
-meets_in-requires-clause-other c =
+pub is_any_taken-requires-clause-other : goal.is_any_taken-requires-clause-other
+is_any_taken-requires-clause-other c =
     cells_on_board c.self.inside.ended c.self.inside.layout.size c.self.invariant.ended_width
     c.self.invariant.ended_height c.args.part.now c.deref.result.now (these_cells c) (all_inside c)
 
-taken_here : (c : goal.After-drop-cells) → c.meets_in.result ≡ is_taken (parts_of c.self.inside.layout) c.args.part.now
+taken_here : (c : goal.After-drop-cells) →
+    c.is_any_taken.result ≡ is_taken (parts_of c.self.inside.layout) c.args.part.now
 taken_here c =
-    c.meets_in.ensures
-    ∙ ap (λ b. if b then list_any (λ (k : Cell). live c.self.inside.begun k.x k.y) c.deref.result.now else list_any
+    c.is_any_taken.ensures
+    ∙ ap (λ b. if b then list_any
+    (λ (k : Cell). live c.self.inside.taken_at_start k.x k.y) c.deref.result.now else list_any
     (λ (k : Cell). live c.self.inside.ended k.x k.y) c.deref.result.now) c.begins.ensures
-    ∙ taken_by c.self.inside.begun c.self.inside.ended
-    (parts_of c.self.inside.layout) c.args.part.now c.deref.result.now c.self.invariant.begun c.self.invariant.ended
+    ∙ taken_by c.self.inside.taken_at_start c.self.inside.ended
+    (parts_of c.self.inside.layout) c.args.part.now c.deref.result.now c.self.invariant.taken_at_start
+    c.self.invariant.ended
     (c.deref.ensures.value ∙ c.in-Ok.ensures)
 
 inside_here : (c : goal.After-drop-cells) → is_inside c.self.inside.layout.size c.args.part.now ≡ true
 inside_here c = ap (λ (s : LayoutHeader). is_inside s c.args.part.now) (sym c.size-size.ensures.size)
     ∙ sym c.is_inside.ensures ∙ c.if-not-is_inside.false
 
-taken_else : (c : goal.Else-meets_in) → c.meets_in.result ≡ is_taken (parts_of c.self.inside.layout) c.args.part.now
+taken_else : (c : goal.Else-is_any_taken) →
+    c.is_any_taken.result ≡ is_taken (parts_of c.self.inside.layout) c.args.part.now
 taken_else c =
-    c.meets_in.ensures
-    ∙ ap (λ b. if b then list_any (λ (k : Cell). live c.self.inside.begun k.x k.y) c.deref.result.now else list_any
+    c.is_any_taken.ensures
+    ∙ ap (λ b. if b then list_any
+    (λ (k : Cell). live c.self.inside.taken_at_start k.x k.y) c.deref.result.now else list_any
     (λ (k : Cell). live c.self.inside.ended k.x k.y) c.deref.result.now) c.begins.ensures
-    ∙ taken_by c.self.inside.begun c.self.inside.ended
-    (parts_of c.self.inside.layout) c.args.part.now c.deref.result.now c.self.invariant.begun c.self.invariant.ended
+    ∙ taken_by c.self.inside.taken_at_start c.self.inside.ended
+    (parts_of c.self.inside.layout) c.args.part.now c.deref.result.now c.self.invariant.taken_at_start
+    c.self.invariant.ended
     (c.deref.ensures.value ∙ c.in-Ok.ensures)
 
-inside_else : (c : goal.Else-meets_in) → is_inside c.self.inside.layout.size c.args.part.now ≡ true
+inside_else : (c : goal.Else-is_any_taken) → is_inside c.self.inside.layout.size c.args.part.now ≡ true
 inside_else c = ap (λ (s : LayoutHeader). is_inside s c.args.part.now) (sym c.size-size.ensures.size)
     ∙ sym c.is_inside.ensures ∙ c.if-not-is_inside.false
 
-pub returns-then-meets_in-clause-fault : goal.returns-then-meets_in-clause-fault
-returns-then-meets_in-clause-fault c =
-    let taken = sym (taken_here c) ∙ c.if-meets_in.true in
+pub returns-then-is_any_taken-clause-fault : goal.returns-then-is_any_taken-clause-fault
+returns-then-is_any_taken-clause-fault c =
+    let taken = sym (taken_here c) ∙ c.if-is_any_taken.true in
     subst (λ (p : Pattern). cell_fault p.size (parts_of p) c.args.part.now ≡ Some TakenCell) c.self.view_is
     (cells_taken c.self.inside.layout.size (parts_of c.self.inside.layout) c.args.part.now (inside_here c) taken)
 
 pub returns-clause-free : goal.returns-clause-free
 returns-clause-free c =
-    let free = sym (taken_else c) ∙ c.if-meets_in.false in
+    let free = sym (taken_else c) ∙ c.if-is_any_taken.false in
     subst (λ (p : Pattern). cell_fault p.size (parts_of p) c.args.part.now ≡ None) c.self.view_is
     (cells_free c.self.inside.layout.size (parts_of c.self.inside.layout) c.args.part.now (inside_else c) free)

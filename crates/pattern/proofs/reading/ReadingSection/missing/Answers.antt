@@ -5,7 +5,7 @@ use Rattle.pattern.specs.Layout.{parts_of}
 use Rattle.pattern.specs.Readings.{ReadingView}
 use Rattle.section_text.specs.Words.{has}
 use Rattle.section_text.specs.Ports.{named_ports}
-use Rattle.pattern.specs.Lines.{is_any, missing_fault}
+use Rattle.pattern.specs.Lines.{allows_any_name, missing_fault}
 use Rattle.pattern.proofs.ReadingLemmas.{none_missing, missing_by}
 use Rattle.pattern.proofs.reading.ReadingSection.missing.Goals as goal
 use Rattle.section_text.specs.declared.code.RefusalCode.TheVariants.{SomethingMissing}
@@ -20,7 +20,7 @@ returns-then-has_ins-has_outs c =
     ∙ ap (list_all (λ (n : List ℕ). has c.self.inside.seen_ins.keys n)) c.deref.ensures.value in
     let outs = c.has_all-has_outs.ensures
     ∙ ap (list_all (λ (n : List ℕ). has c.self.inside.seen_outs.keys n)) c.deref-in-Only.ensures.value in
-    let only = ap (λ p. is_any (named_ports p)) c.in-Only.is in
+    let only = ap (λ p. allows_any_name (named_ports p)) c.in-Only.is in
     let both = sym (ap₂ (λ a b. a && b) ins outs) ∙ c.if-has_ins-has_outs.true in
     subst (λ (r : ReadingView). None ≡ missing_fault r.ports (parts_of r.layout)) c.self.view_is
     (missing_by c.self.inside.ports.now
@@ -33,7 +33,7 @@ returns-else-has_ins-has_outs c =
     ∙ ap (list_all (λ (n : List ℕ). has c.self.inside.seen_ins.keys n)) c.deref.ensures.value in
     let outs = c.has_all-has_outs.ensures
     ∙ ap (list_all (λ (n : List ℕ). has c.self.inside.seen_outs.keys n)) c.deref-in-Only.ensures.value in
-    let only = ap (λ p. is_any (named_ports p)) c.in-Only.is in
+    let only = ap (λ p. allows_any_name (named_ports p)) c.in-Only.is in
     let both = sym (ap₂ (λ a b. a && b) ins outs) ∙ c.if-has_ins-has_outs.false in
     subst (λ (r : ReadingView). Some SomethingMissing ≡ missing_fault r.ports (parts_of r.layout)) c.self.view_is
     (missing_by c.self.inside.ports.now

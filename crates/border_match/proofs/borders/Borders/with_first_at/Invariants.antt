@@ -1,8 +1,0 @@
-use Rattle.std.proofs.Common.{◌≡◌, ◌<◌}
-use Rattle.border_match.specs.Boards.{Faults}
-use Rattle.border_match.specs.declared.fault.BorderFault.{BorderFault}
-use Rattle.border_match.proofs.borders.Borders.with_first_at.Given as goal
-
--- The cell has no fault before.
-abbrev pub invariant-times : goal.invariant-times
-invariant-times l = (h : BorderFault) → Faults l.self h → h.cell ≡ l.cell → h.time < l.time → ⊥

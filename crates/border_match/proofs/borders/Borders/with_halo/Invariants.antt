@@ -1,8 +1,0 @@
--- The cells of halo lines, and of edge lines of the modules so far, are covered.
-use Rattle.std.proofs.Common.{take}
-use Rattle.border_match.specs.Boards.{Faults, IsStarredAmong}
-use Rattle.border_match.specs.Candidates.{IsBetter}
-use Rattle.border_match.proofs.borders.Borders.with_halo.Given as goal
-
-abbrev pub invariant-modules : goal.invariant-modules
-invariant-modules l = IsBetter (Faults l.self) (IsStarredAmong (take l.number-index l.near) l.self) l.fn.best l.least

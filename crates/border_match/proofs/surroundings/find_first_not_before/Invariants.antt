@@ -1,0 +1,27 @@
+-- The events before `low` are before the moment, and those from `high` on are not.
+use Rattle.std.proofs.Common.{◌-◌, ◌≤◌, length}
+use Rattle.border_match.proofs.FarEvents.{AreFrom, ArePassed}
+use Rattle.border_match.proofs.surroundings.find_first_not_before.Given as goal
+
+abbrev pub invariant-jumps : goal.invariant-jumps
+invariant-jumps l = record {
+  within : l.high ≤ length l.events;
+  after : l.from ≤ l.low;
+  ordered : l.low ≤ l.high;
+  passed : ArePassed l.events l.from l.low l.at;
+}
+
+abbrev pub decreases-jumps : goal.decreases-jumps
+decreases-jumps l = length l.events - l.high
+
+abbrev pub invariant-halves : goal.invariant-halves
+invariant-halves l = record {
+  within : l.high ≤ length l.events;
+  after : l.from ≤ l.low;
+  ordered : l.low ≤ l.high;
+  passed : ArePassed l.events l.from l.low l.at;
+  rest : AreFrom l.events l.high l.at;
+}
+
+abbrev pub decreases-halves : goal.decreases-halves
+decreases-halves l = l.high - l.low

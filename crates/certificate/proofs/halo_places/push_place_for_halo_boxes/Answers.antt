@@ -1,0 +1,52 @@
+use Rattle.std.proofs.Common.{◌∙◌, ◌&&◌, ◌||◌, Bool, false, not, map, ap₂}
+use Rattle.module_box.specs.Boxes.{in_box}
+use Rattle.module_box.specs.Tiling.{rectangle}
+use Rattle.certificate_lines.proofs.OddBlocks.{low_cell}
+use Rattle.certificate.proofs.HaloLists.{above, beside_places, corner, inner_block, same_test, side}
+use Rattle.certificate.proofs.halo_places.push_place_for_halo_boxes.Goals as goal
+
+pub odd_block_others-requires : goal.odd_block_others-requires
+odd_block_others-requires c =
+    let o = c.args.owners.now in
+    let low = low_cell o.width o.height c.args.cell.x c.args.cell.y c.requires.table.small.0 c.requires.table.small.1
+    c.requires.inner.0 in
+    record { column = low.0; row = low.1 }
+
+pub push_place_for_owner-requires-clause-inside : goal.push_place_for_owner-requires-clause-inside
+push_place_for_owner-requires-clause-inside c =
+    let box = rectangle c.args.owners.now in
+    ap₂ (in_box box) c.odd_block_others.ensures.side.0 c.odd_block_others.ensures.side.1
+    ∙ (inner_block box c.args.cell c.requires.inner).0
+
+pub push_place_for_owner-requires-2-clause-inside : goal.push_place_for_owner-requires-2-clause-inside
+push_place_for_owner-requires-2-clause-inside c =
+    let box = rectangle c.args.owners.now in
+    ap₂ (in_box box) c.odd_block_others.ensures.above.0 c.odd_block_others.ensures.above.1
+    ∙ (inner_block box c.args.cell c.requires.inner).1
+
+pub push_place_for_owner-requires-3-clause-inside : goal.push_place_for_owner-requires-3-clause-inside
+push_place_for_owner-requires-3-clause-inside c =
+    let box = rectangle c.args.owners.now in
+    ap₂ (in_box box) c.odd_block_others.ensures.corner.0 c.odd_block_others.ensures.corner.1
+    ∙ (inner_block box c.args.cell c.requires.inner).2
+
+pub returns : goal.returns
+returns c =
+    let x = c.args.cell.x in let y = c.args.cell.y in
+    let boxes = c.args.boxes.now in let place = c.args.place in
+    let old = map (λ l. l.items) c.args.lists.now.items in
+    let one = map (λ l. l.items) c.push_place_for_owner.new.lists.items in
+    let two = map (λ l. l.items) c.push_place_for_owner-2.new.lists.items in
+    let new = map (λ l. l.items) c.push_place_for_owner-3.new.lists.items in
+    let s = c.odd_block_others.ensures.side in let a = c.odd_block_others.ensures.above in let k =
+    c.odd_block_others.ensures.corner in
+    beside_places x y boxes place old one two new c.requires.table.even
+    (same_test boxes _ (side x y) place old one
+    (λ b. ap₂ (λ u v. in_box b u v && not (in_box b x y || false)) s.0 s.1) c.in_ok-push_place_for_owner.ensures)
+    (same_test boxes _ (above x y) place one two
+    (λ b. ap₂ (λ (t r : Bool). t && not (in_box b x y || (r || false))) (ap₂ (in_box b) a.0 a.1)
+    (ap₂ (in_box b) s.0 s.1)) c.in_ok-push_place_for_owner-2.ensures)
+    (same_test boxes _ (corner x y) place two new
+    (λ b. ap₂ (λ (t r : Bool). t && r) (ap₂ (in_box b) k.0 k.1)
+    (ap₂ (λ (r q : Bool). not (in_box b x y || (r || (q || false)))) (ap₂ (in_box b) s.0 s.1)
+    (ap₂ (in_box b) a.0 a.1))) c.in_ok-push_place_for_owner-3.ensures)

@@ -1,0 +1,50 @@
+use Rattle.std.proofs.Common.{◌∷◌, [], ◌+◌, arith, map, sym, ap, subst, ◌∙◌}
+use Rattle.std.specs.Arc.{arc_value}
+use Rattle.std.proofs.lemmas.List.{length-map, map-append}
+use Rattle.circuit.specs.Bridge.{circuit_of}
+use Rattle.certificate.specs.Jobs.{AreJobsOf, IsJobOf}
+use Rattle.certificate.specs.SliceLines.{slice_lines}
+use Rattle.certificate.proofs.BesideLines.{PartJobs, no_part_jobs, one_part_more, part_at, parts_done}
+use Rattle.certificate.proofs.SliceLemmas.{map_same}
+use Rattle.certificate.proofs.jobs.jobs_as_written.Goals as goal
+
+pub make_job-requires-clause-module : goal.make_job-requires-clause-module
+make_job-requires-clause-module c =
+    c.requires.each c.parts.part-index (slice_lines c.part-item.result)
+    (part_at c.args.parts.now c.parts.part-index c.part-item.result c.parts-test.true c.part-item.is)
+
+pub make_job-requires-clause-ports : goal.make_job-requires-clause-ports
+make_job-requires-clause-ports c =
+    c.requires.ports c.parts.part-index (slice_lines c.part-item.result)
+    (part_at c.args.parts.now c.parts.part-index c.part-item.result c.parts-test.true c.part-item.is)
+
+pub parts-init : goal.parts-init
+parts-init c =
+    let p = c.args.tables.now in
+    let ms = map slice_lines c.args.parts.now in
+    subst (λ vs. PartJobs (circuit_of p.circuit) p.layout (λ m. m) ms 0 (map arc_value vs))
+    (sym c.new-jobs.ensures.items)
+    (no_part_jobs (circuit_of p.circuit) p.layout (λ m. m) ms)
+
+pub parts-preserved : goal.parts-preserved
+parts-preserved c =
+    let p = c.args.tables.now in
+    let ms = map slice_lines c.args.parts.now in
+    let made = subst (IsJobOf (circuit_of p.circuit) p.layout (slice_lines c.part-item.result))
+    (sym c.in_ok-new.ensures.ok) c.in_ok-job.ensures in
+    subst (PartJobs (circuit_of p.circuit) p.layout (λ m. m) ms (c.parts.part-index + 1))
+    (sym (ap (map arc_value) c.in_ok-push.ensures.items
+    ∙ map-append arc_value c.parts.jobs.items (c.in_ok-new.field-0 ∷ [])))
+    (one_part_more (circuit_of p.circuit) p.layout (λ m. m) ms c.parts.part-index (map arc_value c.parts.jobs.items)
+    (slice_lines c.part-item.result) (arc_value c.in_ok-new.field-0)
+    (part_at c.args.parts.now c.parts.part-index c.part-item.result c.parts-test.true c.part-item.is) made
+    c.parts.invariant)
+
+pub returns : goal.returns
+returns c =
+    let p = c.args.tables.now in
+    let ms = map slice_lines c.args.parts.now in
+    let l = length-map c.args.parts.now slice_lines in
+    subst (λ ns. AreJobsOf (circuit_of p.circuit) p.layout ns (map arc_value c.parts.jobs.items)) (map_same ms)
+    (parts_done (circuit_of p.circuit) p.layout (λ m. m) ms c.parts.part-index _ (omega (arith, l, c.parts-test.false))
+    c.parts.invariant)

@@ -1,0 +1,73 @@
+use Rattle.std.proofs.Common.{◌∙◌, ◌+◌, ◌∷◌, [], arith, map}
+use Rattle.std.proofs.Common.{sym, ap, subst}
+use Rattle.std.specs.Arc.{arc_value}
+use Rattle.std.proofs.lemmas.List.{length-map, map-append}
+use Rattle.circuit.specs.Bridge.{circuit_of}
+use Rattle.certificate_lines.specs.Settings.{setting_of}
+use Rattle.certificate.specs.Jobs.{IsJobOf}
+use Rattle.certificate.specs.SliceLines.{slice_lines}
+use Rattle.certificate_lines.specs.Versions.{with_halos}
+use Rattle.certificate.proofs.BesideLines.{PartJobs, all_lists, full_part, no_part_jobs, one_list_less, one_part_more}
+use Rattle.certificate.proofs.BesideLines.{parts_done, within_lists}
+use Rattle.certificate.proofs.jobs.jobs_with_implied_halos.Goals as goal
+
+pub take_list-list-requires : goal.take_list-list-requires
+take_list-list-requires c =
+    within_lists (setting_of c.args.tables.now.circuit c.args.tables.now.layout) c.args.entries.now c.args.parts.now
+    c.requires.parts (λ l. l.items) c.parts.number c.parts.number c.parts.places.items c.parts.invariant.1
+    c.parts-test.true
+
+pub make_job-requires-clause-module : goal.make_job-requires-clause-module
+make_job-requires-clause-module c =
+    (full_part c.args.parts.now c.requires.parts c.requires.modules c.requires.complete c.parts.invariant.1
+    c.parts-test.true c.index-parts-number.is (c.take_list-list.ensures.taken ∙ sym c.as_slice.ensures.value)
+    c.in_ok-lines.ensures c.as_slice-in-parts.ensures.value).good
+
+pub make_job-requires-clause-ports : goal.make_job-requires-clause-ports
+make_job-requires-clause-ports c =
+    (full_part c.args.parts.now c.requires.parts c.requires.modules c.requires.complete c.parts.invariant.1
+    c.parts-test.true c.index-parts-number.is (c.take_list-list.ensures.taken ∙ sym c.as_slice.ensures.value)
+    c.in_ok-lines.ensures c.as_slice-in-parts.ensures.value).ports
+
+pub parts-preserved : goal.parts-preserved
+parts-preserved c =
+    let p = c.args.tables.now in
+    let g = setting_of p.circuit p.layout in
+    let ms = map slice_lines c.args.parts.now in
+    let m = slice_lines c.index-parts-number.result in
+    let is_job = IsJobOf (circuit_of p.circuit) p.layout in
+    let is = full_part c.args.parts.now c.requires.parts c.requires.modules c.requires.complete c.parts.invariant.1
+    c.parts-test.true c.index-parts-number.is (c.take_list-list.ensures.taken ∙ sym c.as_slice.ensures.value)
+    c.in_ok-lines.ensures c.as_slice-in-parts.ensures.value in
+    let made : is_job (with_halos g ms m) (arc_value c.in_ok-job.job) =
+    subst (is_job (with_halos g ms m)) (sym c.in_ok-job.ensures.ok)
+    (subst (λ n. is_job n c.in_ok-made.made) is.full c.in_ok-made.ensures) in (
+      subst (PartJobs (circuit_of p.circuit) p.layout (with_halos g ms) ms (c.parts.number + 1))
+          (sym (ap (map arc_value) c.in_ok-push.ensures.items
+          ∙ map-append arc_value c.parts.jobs.items (c.in_ok-job.job ∷ [])))
+          (one_part_more (circuit_of p.circuit) p.layout (with_halos g ms) ms c.parts.number
+          (map arc_value c.parts.jobs.items) m
+          (arc_value c.in_ok-job.job) is.at made c.parts.invariant.0),
+      one_list_less g c.args.entries.now (λ l. l.items) c.parts.number c.parts.places.items
+          c.take_list-list.new.lists.items c.take_list-list.ensures.count c.take_list-list.ensures.others
+          c.parts.invariant.1,
+    )
+
+pub parts-init : goal.parts-init
+parts-init c =
+    let p = c.args.tables.now in
+    let g = setting_of p.circuit p.layout in
+    let ms = map slice_lines c.args.parts.now in (
+      subst (λ vs. PartJobs (circuit_of p.circuit) p.layout (with_halos g ms) ms 0 (map arc_value vs))
+          (sym c.new-jobs.ensures.items)
+          (no_part_jobs (circuit_of p.circuit) p.layout (with_halos g ms) ms),
+      all_lists g c.args.entries.now (map (λ l. l.items) c.in_ok-places.places.items) c.in_ok-places.ensures,
+    )
+
+pub returns : goal.returns
+returns c =
+    let p = c.args.tables.now in
+    let l = length-map c.args.parts.now slice_lines in
+    parts_done (circuit_of p.circuit) p.layout
+    (with_halos (setting_of p.circuit p.layout) (map slice_lines c.args.parts.now))
+    (map slice_lines c.args.parts.now) c.parts.number _ (omega (arith, l, c.parts-test.false)) c.parts.invariant.0

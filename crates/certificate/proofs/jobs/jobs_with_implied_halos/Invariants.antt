@@ -1,0 +1,15 @@
+-- The modules before have their jobs, and the others have their lists of places.
+use Rattle.std.proofs.Common.{map}
+use Rattle.std.specs.Arc.{arc_value}
+use Rattle.circuit.specs.Bridge.{circuit_of}
+use Rattle.certificate_lines.specs.Settings.{setting_of}
+use Rattle.certificate_lines.specs.Versions.{with_halos}
+use Rattle.certificate.specs.SliceLines.{slice_lines}
+use Rattle.certificate.proofs.BesideLines.{HaveListsFrom, PartJobs}
+use Rattle.certificate.proofs.jobs.jobs_with_implied_halos.Given as goal
+
+abbrev pub invariant-parts : goal.invariant-parts
+invariant-parts l = PartJobs (circuit_of l.tables.circuit) l.tables.layout
+    (with_halos (setting_of l.tables.circuit l.tables.layout) (map slice_lines l.parts))
+    (map slice_lines l.parts) l.number (map arc_value l.jobs.items)
+    × HaveListsFrom (setting_of l.tables.circuit l.tables.layout) l.entries l.number (map (λ l. l.items) l.places.items)

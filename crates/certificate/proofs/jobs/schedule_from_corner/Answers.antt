@@ -1,0 +1,94 @@
+use Rattle.std.proofs.Common.{◌≡◌, ℕ, ℤ, arith, to_z, of_z, w32, sym, ap, ap₂, subst, ◌∙◌}
+use Rattle.std.specs.List.{All, flat_map}
+use Rattle.std.proofs.lemmas.Int.{ints}
+use Rattle.circuit.specs.Bridge.{circuit_of}
+use Rattle.circuit.specs.Meaning.{wires}
+use Rattle.certificate.specs.Jobs.{line_signals}
+use Rattle.module_box.specs.Locals.{circuit_wire}
+use Rattle.module_box.specs.Moves.{IsInShiftRange, IsSmallShift, moved_signals}
+use Rattle.module_box.specs.Schedules.{Signals}
+use Rattle.module_box.specs.declared.boxes.Box2.{Box2}
+use Rattle.module_box.specs.declared.schedules.TimedSignal.{TimedSignal}
+use Rattle.module_job.specs.Shapes.{shift_to_origin, signals_from_corner}
+use Rattle.module_job.specs.Signals.{IsBelow, renumber_signals}
+use Rattle.certificate.specs.Timetables.{borders_in}
+use Rattle.certificate.proofs.NearLines.{low_all_times, low_events, near_all_times, near_events, near_moved}
+use Rattle.module_job.proofs.ShapeParts.{placed_again}
+use Rattle.certificate.proofs.jobs.schedule_from_corner.Goals as goal
+
+-- a small number is passed as it is
+passed : (z r : ℤ) → r ≡ z → IsSmallShift r → to_z w32 (of_z w32 r) ≡ z
+passed z r e small = omega (arith, ints, e, small)
+
+pub moved-requires-clause-all_times : goal.moved-requires-clause-all_times
+moved-requires-clause-all_times c =
+    near_all_times c.in_ok-signals.signals.all_times
+    (low_all_times (circuit_wire c.args.locals.now) (circuit_of c.args.circuit.now)
+    (flat_map (borders_in c.args.side) c.args.lines.now) c.in_ok-signals.signals
+    (c.in_ok-signals.ensures.same_signals
+    ∙ ap (line_signals (circuit_of c.args.circuit.now)) c.side_lines.ensures.borders) c.requires.low)
+
+pub moved-requires-clause-events : goal.moved-requires-clause-events
+moved-requires-clause-events c =
+    near_events c.in_ok-signals.signals.events
+    (low_events (circuit_wire c.args.locals.now) (circuit_of c.args.circuit.now)
+    (flat_map (borders_in c.args.side) c.args.lines.now) c.in_ok-signals.signals
+    (c.in_ok-signals.ensures.same_signals
+    ∙ ap (line_signals (circuit_of c.args.circuit.now)) c.side_lines.ensures.borders) c.requires.low)
+
+-- what is moved back by these numbers
+moved_back : (x y : ℕ) (dx dy : ℤ) (s own : Signals) → dx ≡ shift_to_origin x → IsSmallShift dx →
+    dy ≡ shift_to_origin y →
+    IsSmallShift dy →
+    own ≡ moved_signals (to_z w32 (of_z w32 dx)) (to_z w32 (of_z w32 dy)) s →
+    own ≡ moved_signals (shift_to_origin x) (shift_to_origin y) s
+moved_back x y dx dy s own e p f q is =
+    is ∙ ap₂ (λ u v. moved_signals u v s) (passed (shift_to_origin x) dx e p) (passed (shift_to_origin y) dy f q)
+
+-- and so is counted from the corner of the box
+there : (b : Box2) (s own : Signals) → own ≡ moved_signals (shift_to_origin b.x) (shift_to_origin b.y) s →
+    signals_from_corner b own ≡ s
+there b s own is = ap (signals_from_corner b) is ∙ placed_again b.x b.y s
+
+pub returns-clause-same_signals : goal.returns-clause-same_signals
+returns-clause-same_signals c =
+    let s = c.in_ok-signals.signals in
+    ap (renumber_signals (circuit_wire c.args.locals.now))
+    (there c.args.area s c.moved.result (moved_back c.args.area.x c.args.area.y _ _ s c.moved.result
+    c.shift_to_origin.ensures.distance_is_exact c.shift_to_origin.ensures.small
+    c.shift_to_origin-2.ensures.distance_is_exact c.shift_to_origin-2.ensures.small c.moved.ensures))
+    ∙ c.in_ok-signals.ensures.same_signals
+    ∙ ap (line_signals (circuit_of c.args.circuit.now)) c.side_lines.ensures.borders
+
+pub returns-clause-all_times : goal.returns-clause-all_times
+returns-clause-all_times c =
+    let s = c.in_ok-signals.signals in
+    subst (λ (t : Signals). All (λ h. IsBelow (wires c.args.locals.now.netlist) h.signal) t.all_times)
+    (sym (there c.args.area s c.moved.result (moved_back c.args.area.x c.args.area.y _ _ s c.moved.result
+    c.shift_to_origin.ensures.distance_is_exact c.shift_to_origin.ensures.small
+    c.shift_to_origin-2.ensures.distance_is_exact c.shift_to_origin-2.ensures.small c.moved.ensures)))
+    c.in_ok-signals.ensures.all_times
+
+pub returns-clause-events : goal.returns-clause-events
+returns-clause-events c =
+    let s = c.in_ok-signals.signals in
+    subst (λ (t : Signals). All (λ e. IsBelow (wires c.args.locals.now.netlist) e.signal) t.events)
+    (sym (there c.args.area s c.moved.result (moved_back c.args.area.x c.args.area.y _ _ s c.moved.result
+    c.shift_to_origin.ensures.distance_is_exact c.shift_to_origin.ensures.small
+    c.shift_to_origin-2.ensures.distance_is_exact c.shift_to_origin-2.ensures.small c.moved.ensures)))
+    c.in_ok-signals.ensures.events
+
+pub returns-clause-near : goal.returns-clause-near
+returns-clause-near c =
+    let s = c.in_ok-signals.signals in
+    let x = c.args.area.x in
+    let y = c.args.area.y in
+    let low = low_events (circuit_wire c.args.locals.now) (circuit_of c.args.circuit.now)
+    (flat_map (borders_in c.args.side) c.args.lines.now) s
+    (c.in_ok-signals.ensures.same_signals
+    ∙ ap (line_signals (circuit_of c.args.circuit.now)) c.side_lines.ensures.borders) c.requires.low in
+    subst (λ (t : Signals). All (λ (e : TimedSignal). IsInShiftRange e.at.cell) t.events)
+    (sym (moved_back x y _ _ s c.moved.result c.shift_to_origin.ensures.distance_is_exact
+    c.shift_to_origin.ensures.small c.shift_to_origin-2.ensures.distance_is_exact
+    c.shift_to_origin-2.ensures.small c.moved.ensures))
+    (near_moved x y s.events c.requires.corner.0 c.requires.corner.1 low)

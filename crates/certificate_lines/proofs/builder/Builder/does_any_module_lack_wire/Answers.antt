@@ -1,0 +1,40 @@
+use Rattle.std.proofs.Common.{◌≡◌, ◌∙◌, ◌+◌, ◌<◌, ◌∷◌, [], ◌||◌, false, length, suc, take, get_or, sym}
+use Rattle.std.proofs.Common.{ap, ap₂, arith}
+use Rattle.std.specs.List.{flat_map, list_any}
+use Rattle.std.proofs.Math.Seq.{take-suc}
+use Rattle.std.proofs.lemmas.List.{length-map}
+use Rattle.std.proofs.lemmas.List.Folds.{list_any-append, list_any_at}
+use Rattle.std.proofs.lemmas.Option.{slice_get-get_or}
+use Rattle.certificate_lines.specs.BuilderView.{BuilderView, lacks_edge_wire}
+use Rattle.certificate_lines.specs.Entries.{ModuleLines, counts_of, edge_in, modules_of}
+use Rattle.certificate_lines.proofs.builder.Builder.does_any_module_lack_wire.Goals as goal
+
+pub returns-then-lacks_wire_in : goal.returns-then-lacks_wire_in
+returns-then-lacks_wire_in c =
+    let ms = modules_of c.args.self.now.entries in
+    let k = c.modules.number in
+    let none : ModuleLines = record { area = c.args.area; lines = [] } in
+    let counted : length c.self.inside.modules.items ≡ length ms =
+    ap length c.self.invariant.kept.built.counted ∙ length-map (modules_of c.self.inside.entries.items) counts_of
+    ∙ ap (λ (s : BuilderView). length (modules_of s.entries)) c.self.view_is in
+    let below = c.modules-test.true in let count = c.len-number-end.ensures in
+    let lt : k < length ms = omega (arith, below, count, counted) in
+    sym (list_any_at (lacks_edge_wire c.args.self.now.setting.circuit (flat_map edge_in c.args.lines.now)) ms k none lt
+    (sym (c.lacks_wire_in.ensures (get_or ms k none) (slice_get-get_or ms k none lt)) ∙ c.if-lacks_wire_in.true))
+
+pub modules-preserved : goal.modules-preserved
+modules-preserved c =
+    let ms = modules_of c.args.self.now.entries in
+    let k = c.modules.number in
+    let none : ModuleLines = record { area = c.args.area; lines = [] } in
+    let test = lacks_edge_wire c.args.self.now.setting.circuit (flat_map edge_in c.args.lines.now) in
+    let counted : length c.self.inside.modules.items ≡ length ms =
+    ap length c.self.invariant.kept.built.counted ∙ length-map (modules_of c.self.inside.entries.items) counts_of
+    ∙ ap (λ (s : BuilderView). length (modules_of s.entries)) c.self.view_is in
+    let below = c.modules-test.true in let count = c.len-number-end.ensures in
+    let lt : k < length ms = omega (arith, below, count, counted) in
+    let one : k + 1 ≡ suc k = omega arith in
+    ap (λ n. list_any test (take n ms)) one ∙ ap (list_any test) (take-suc ms k none lt)
+    ∙ list_any-append test (take k ms) (get_or ms k none ∷ [])
+    ∙ ap₂ (λ a b. a || (b || false)) c.modules.invariant
+    (sym (c.lacks_wire_in.ensures (get_or ms k none) (slice_get-get_or ms k none lt)) ∙ c.if-lacks_wire_in.false)

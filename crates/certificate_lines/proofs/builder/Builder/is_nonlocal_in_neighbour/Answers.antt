@@ -1,0 +1,53 @@
+use Rattle.std.proofs.Common.{◌≡◌, ◌∙◌, ◌&&◌, ◌||◌, Bool, ℤ, true, SFits, w32, rules, to_z-of_z, ap, ap₂}
+use Rattle.std.specs.List.{list_any}
+use Rattle.bbm_rule.specs.Plane.{partner}
+use Rattle.module_box.specs.Boxes.{in_box}
+use Rattle.module_box.specs.Tiling.{rectangle_of}
+use Rattle.module_box.specs.declared.boxes.Box2.{Box2}
+use Rattle.certificate_lines.specs.BuilderView.{is_nonlocal_outside}
+use Rattle.certificate_lines.specs.Entries.{ModuleLines, modules_of}
+use Rattle.certificate_lines.proofs.OddBlocks.{lacked_beside, low_cell}
+use Rattle.certificate_lines.proofs.builder.Builder.is_nonlocal_in_neighbour.Goals as goal
+
+pub odd_partner-column-requires : goal.odd_partner-column-requires
+odd_partner-column-requires c =
+    let o = c.args.owners.now in let cell = c.args.cell in
+    let fx : SFits w32 cell.x = search rules in
+    let inside : in_box (rectangle_of o.width o.height) cell.x cell.y ≡ true =
+    ap (λ (b : Box2). in_box b cell.x cell.y)
+    (ap₂ rectangle_of c.requires.owners.width c.requires.owners.height) ∙ c.requires.inside in
+    let low = low_cell o.width o.height cell.x cell.y c.requires.owners.small.0 c.requires.owners.small.1 inside in
+    simp to_z-of_z low.0
+
+pub odd_partner-row-requires : goal.odd_partner-row-requires
+odd_partner-row-requires c =
+    let o = c.args.owners.now in let cell = c.args.cell in
+    let fy : SFits w32 cell.y = search rules in
+    let inside : in_box (rectangle_of o.width o.height) cell.x cell.y ≡ true =
+    ap (λ (b : Box2). in_box b cell.x cell.y)
+    (ap₂ rectangle_of c.requires.owners.width c.requires.owners.height) ∙ c.requires.inside in
+    let low = low_cell o.width o.height cell.x cell.y c.requires.owners.small.0 c.requires.owners.small.1 inside in
+    simp to_z-of_z low.1
+
+pub returns-clause-lacked : goal.returns-clause-lacked
+returns-clause-lacked c =
+    let v = c.args.self.now in let cell = c.args.cell in
+    let ms = modules_of v.entries in
+    let fx : SFits w32 cell.x = search rules in
+    let fy : SFits w32 cell.y = search rules in
+    let px : c.odd_partner-column.result ≡ partner 1 cell.x = simp to_z-of_z at c.odd_partner-column.ensures in
+    let py : c.odd_partner-row.result ≡ partner 1 cell.y = simp to_z-of_z at c.odd_partner-row.ensures in
+    let asks : ℤ → ℤ → Bool = λ x y.
+    list_any (λ (m : ModuleLines). in_box m.area x y && is_nonlocal_outside v.setting.circuit cell c.args.wire m) ms in
+    let fc : SFits w32 c.odd_partner-column.result = search rules in
+    let fr : SFits w32 c.odd_partner-row.result = search rules in
+    let beside : c.is_nonlocal_at_owner-beside.result ≡ asks c.odd_partner-column.result cell.y =
+    simp to_z-of_z at c.is_nonlocal_at_owner-beside.ensures.lacked in
+    let above : c.is_nonlocal_at_owner-above.result ≡ asks cell.x c.odd_partner-row.result =
+    simp to_z-of_z at c.is_nonlocal_at_owner-above.ensures.lacked in
+    let corner : c.is_nonlocal_at_owner-corner.result ≡ asks c.odd_partner-column.result c.odd_partner-row.result =
+    simp to_z-of_z at c.is_nonlocal_at_owner-corner.ensures.lacked in
+    ap₂ (λ a b. a || b)
+    (ap₂ (λ a b. a || b) (beside ∙ ap (λ x. asks x cell.y) px) (above ∙ ap (asks cell.x) py))
+    (corner ∙ ap₂ asks px py)
+    ∙ lacked_beside v.setting.circuit ms cell c.args.wire c.requires.owners.even

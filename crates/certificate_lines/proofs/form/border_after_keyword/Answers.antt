@@ -1,0 +1,39 @@
+use Rattle.std.proofs.Common.{◌≡◌, Some, pos, to_z, w32, ap, sym, ◌∙◌, rules}
+use Rattle.section_text.specs.Words.{words_of, ◌>>=◌}
+use Rattle.pattern.specs.Layout.{cell}
+use Rattle.certificate_lines.proofs.BorderText.{border_is, no_column, no_row, no_time, signal_is}
+use Rattle.certificate_lines.proofs.form.border_after_keyword.Goals as goal
+
+pub returns-in_err-time : goal.returns-in_err-time
+returns-in_err-time c k =
+    rw c.from_residual.ensures (no_time k (words_of c.args.line.now) (sym c.in_err-time.ensures))
+
+pub returns-in_err-x : goal.returns-in_err-x
+returns-in_err-x c k = rw c.from_residual-in_err-x.ensures
+    (no_column k (words_of c.args.line.now) c.in_ok-time.time (words_of c.in_ok-time.line.now)
+    (sym c.in_ok-time.ensures) (sym c.in_err-x.ensures.number))
+
+pub returns-in_err-y : goal.returns-in_err-y
+returns-in_err-y c k = rw c.from_residual-in_err-y.ensures
+    (no_row k (words_of c.args.line.now) c.in_ok-time.time (words_of c.in_ok-time.line.now)
+    c.in_ok-x.x (words_of c.in_ok-x.line.now)
+    (sym c.in_ok-time.ensures) (sym c.in_ok-x.ensures.number) (sym c.in_err-y.ensures.number))
+
+pub returns-in_err-signal : goal.returns-in_err-signal
+returns-in_err-signal c k = rw c.from_residual-in_err-signal.ensures
+    (ap (λ o. o >>= λ s. Some (record { time = c.in_ok-time.time; cell = cell c.in_ok-x.x c.in_ok-y.y; signal = s }))
+    (c.in_err-signal.ensures ∙ sym (signal_is c.in_ok-y.line.now))
+    ∙ border_is k (words_of c.args.line.now) c.in_ok-time.time (words_of c.in_ok-time.line.now)
+    c.in_ok-x.x (words_of c.in_ok-x.line.now) c.in_ok-y.y (words_of c.in_ok-y.line.now)
+    (sym c.in_ok-time.ensures) (sym c.in_ok-x.ensures.number) (sym c.in_ok-y.ensures.number))
+
+pub returns : goal.returns
+returns c k =
+    let x : to_z w32 c.in_ok-x.x ≡ pos c.in_ok-x.x = search rules in
+    let y : to_z w32 c.in_ok-y.y ≡ pos c.in_ok-y.y = search rules in
+    rw (x, y) (ap (λ o. o >>= λ s.
+    Some (record { time = c.in_ok-time.time; cell = cell c.in_ok-x.x c.in_ok-y.y; signal = s }))
+    (c.in_ok-signal.ensures ∙ sym (signal_is c.in_ok-y.line.now))
+    ∙ border_is k (words_of c.args.line.now) c.in_ok-time.time (words_of c.in_ok-time.line.now)
+    c.in_ok-x.x (words_of c.in_ok-x.line.now) c.in_ok-y.y (words_of c.in_ok-y.line.now)
+    (sym c.in_ok-time.ensures) (sym c.in_ok-x.ensures.number) (sym c.in_ok-y.ensures.number))

@@ -1,5 +1,0 @@
-use Rattle.check_main.proofs.Words.{each_number_asks}
-use Rattle.check_main.proofs.laws.each_number_of_workers_asks.Goals as goal
-
-pub returns : goal.returns
-returns c = each_number_asks

@@ -1,0 +1,13 @@
+-- The text so far is what the reader gave, at least one byte a turn.
+use Rattle.std.proofs.Common.{◌≡◌, ◌≤◌, false, None, length}
+use Rattle.std.specs.Io.KnownBytes.{Consumes}
+use Rattle.section_text.specs.Feeds.{text_limit}
+use Rattle.check_main.proofs.stream.read_by_blocks.Given as goal
+
+abbrev pub invariant-loop : goal.invariant-loop
+invariant-loop g l =
+    (g.R.Source.has_failed l.reader ≡ false)
+    × Consumes (g.R.Source.left l.fn.reader) (g.R.Source.left l.reader) l.feed.text
+    × (l.counter ≤ length l.feed.text)
+    × (length l.feed.text ≤ text_limit)
+    × (l.feed ≡ record { text = l.feed.text; taken = 0; closed = false; stop = None })

@@ -1,0 +1,34 @@
+use Rattle.std.proofs.Common.{rules, ◌∙◌, sym, arith, take}
+use Rattle.circuit.specs.Entries.{defined}
+use Rattle.circuit.specs.Rules.{consumed}
+use Rattle.circuit.proofs.WireMarks.{Next, named_twice, consumed_next, wires_next}
+use Rattle.circuit.proofs.draft.Draft.unconsumed_wires.Goals as goal
+
+pub returns-then-contains-clause-err : goal.returns-then-contains-clause-err
+returns-then-contains-clause-err c =
+    let next : Next (defined c.args.self.now) (consumed c.args.self.now) c.args.names.now c.names.place
+    c.index-names-place.result c.in_ok-wire.wire (take c.names.place c.names.ins) = record {
+      so_far = c.names.invariant.so_far;
+      here = omega arith;
+      name = c.index-names-place.is;
+      known = search rules;
+      wire = search rules;
+      wires = c.names.invariant.wires;
+    } in
+    named_twice _ _ _ _ _ _ _ next (sym c.contains.ensures.value ∙ c.if-contains.true)
+
+pub names-preserved : goal.names-preserved
+names-preserved c =
+    let next : Next (defined c.args.self.now) (consumed c.args.self.now) c.args.names.now c.names.place
+    c.index-names-place.result c.in_ok-wire.wire (take c.names.place c.names.ins) = record {
+      so_far = c.names.invariant.so_far;
+      here = omega arith;
+      name = c.index-names-place.is;
+      known = search rules;
+      wire = search rules;
+      wires = c.names.invariant.wires;
+    } in
+    record {
+      so_far = consumed_next _ _ _ _ _ _ _ next (search rules) (sym c.contains.ensures.value ∙ c.if-contains.false);
+      wires = wires_next _ _ _ _ _ _ c.names.ins next (omega arith);
+    }

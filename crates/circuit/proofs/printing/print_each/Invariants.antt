@@ -1,6 +1,0 @@
-use Rattle.std.proofs.Common.{◌≡◌, ◌++◌, take}
-use Rattle.circuit.specs.Text.{value_lines}
-use Rattle.circuit.proofs.printing.print_each.Given as goal
-
-abbrev pub invariant-loop-i : goal.invariant-loop-i
-invariant-loop-i l = l.out.items ≡ l.fn.out.items ++ value_lines (take l.i l.names) (take l.i l.values)

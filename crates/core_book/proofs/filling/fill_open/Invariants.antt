@@ -1,8 +1,0 @@
--- the numbers so far have a finding, and one job of each shape was run at most
-use Rattle.std.specs.Prelude.{◌≤◌, ◌+◌}
-use Rattle.core_book.specs.Filling.{firsts}
-use Rattle.core_book.proofs.Fillings.{IsFilling}
-use Rattle.core_book.proofs.filling.fill_open.Given as goal
-
-abbrev pub invariant-numbers : goal.invariant-numbers
-invariant-numbers l = IsFilling l.fn.state l.state l.number × (l.runs ≤ l.fn.runs + firsts l.groups.items l.number)

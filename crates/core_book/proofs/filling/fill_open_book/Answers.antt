@@ -1,0 +1,95 @@
+use Rattle.std.proofs.Common.{◌∙◌, ◌+◌, ◌<◌, ℕ, List, ap, map, length, refl, sym, subst, ◌≤◌, arith}
+use Rattle.std.specs.Arc.{arc_value}
+use Rattle.std.specs.Prelude.{slice_get}
+use Rattle.std.proofs.lemmas.List.{length-map}
+use Rattle.core_book.proofs.Fillings.{filled-all, filling-step, is-full, open-stays}
+use Rattle.core_book.proofs.FillingRuns.{first-read, holds_alike, runs_end, runs_step}
+use Rattle.core_book.proofs.HeldJobs.{job-at}
+use Rattle.module_job.specs.Groups.{AreGroups}
+use Rattle.module_job.specs.Jobs.{JobView}
+use Rattle.module_job.specs.Shapes.{shape_of}
+use Rattle.core_book.specs.Filling.{HoldsAlike, shapes_of}
+use Rattle.core_book.proofs.filling.fill_open_book.Goals as goal
+
+pub returns-then-is_full-clause-full : goal.returns-then-is_full-clause-full
+returns-then-is_full-clause-full c =
+    is-full c.args.digest
+    (map arc_value c.args.jobs.now) c.args.state.now c.requires.open_for_jobs c.history-history.ensures.replays
+    c.if-is_full.ensures.book (c.if-is_full.ensures.full refl)
+
+pub fill_number-requires-clause-job : goal.fill_number-requires-clause-job
+fill_number-requires-clause-job c =
+    let at = job-at arc_value c.args.jobs.now c.numbers.number c.index-jobs-number.result c.numbers-test.true
+    c.index-jobs-number.is in
+    let own = open-stays c.args.digest
+    (map arc_value c.args.jobs.now) c.args.state.now c.numbers.state c.numbers.number c.requires.open_for_jobs
+    c.numbers.invariant.0.filled in
+    ap (λ js. slice_get js c.numbers.number) own.jobs_are ∙ at
+
+-- each job has a group
+within : {Y : Type 0} (view : Y → JobView) (jobs : List Y) (g : List ℕ) (n : ℕ) →
+    AreGroups (shapes_of (map view jobs)) g → n < length jobs → n < length g
+within view jobs g n are lt =
+    let count = are.count in
+    let all = length-map (map view jobs) shape_of in
+    let same = length-map jobs view in
+    omega (arith, count, all, same, lt)
+
+pub fill_number-requires-clause-alike : goal.fill_number-requires-clause-alike
+fill_number-requires-clause-alike c = λ other.
+    let jobs = map arc_value c.args.jobs.now in
+    let g = c.in_ok-groups.groups.items in
+    let n = c.numbers.number in
+    let at = job-at arc_value c.args.jobs.now n c.index-jobs-number.result c.numbers-test.true c.index-jobs-number.is in
+    let own = open-stays c.args.digest jobs c.args.state.now c.numbers.state n c.requires.open_for_jobs
+    c.numbers.invariant.0.filled in
+    let first = first-read g n c.index.result.now
+    (within arc_value c.args.jobs.now g n c.in_ok-groups.ensures c.numbers-test.true) c.index.ensures in
+    let are = subst (λ js. AreGroups (shapes_of js) g) (sym own.jobs_are) c.in_ok-groups.ensures in
+    let many = ap (λ js. length (shapes_of js)) own.jobs_are in
+    let all = length-map jobs shape_of in
+    let same = length-map c.args.jobs.now arc_value in
+    let below : n < length (shapes_of c.numbers.state.jobs) = omega (arith, many, all, same, c.numbers-test.true) in
+    let here = ap (λ js. slice_get js n) own.jobs_are ∙ at in
+    subst (λ k. HoldsAlike c.numbers.state k (arc_value c.index-jobs-number.result)) first
+    (holds_alike c.args.state.now c.numbers.state g n
+    (arc_value c.index-jobs-number.result) c.numbers.invariant.0 are below here (λ e. other (sym first ∙ e)))
+
+pub numbers-preserved : goal.numbers-preserved
+numbers-preserved c =
+    let first = first-read c.in_ok-groups.groups.items c.numbers.number c.index.result.now
+    (within arc_value c.args.jobs.now c.in_ok-groups.groups.items c.numbers.number c.in_ok-groups.ensures
+    c.numbers-test.true) c.index.ensures in (
+      filling-step c.args.state.now c.numbers.state c.fill_number.new.state c.numbers.number c.numbers.invariant.0
+          c.in_ok-fill_number.ensures.held,
+      runs_step c.in_ok-groups.groups.items c.numbers.number c.args.runs.now c.numbers.runs c.fill_number.new.runs
+          c.numbers.invariant.1
+          (λ other. c.fill_number.ensures.no_run (λ e. other (first ∙ e))) c.fill_number.ensures.one_run,
+    )
+
+pub returns-in_err-fill_number-clause-one_run_a_shape : goal.returns-in_err-fill_number-clause-one_run_a_shape
+returns-in_err-fill_number-clause-one_run_a_shape c =
+    let first = first-read c.in_ok-groups.groups.items c.numbers.number c.index.result.now
+    (within arc_value c.args.jobs.now c.in_ok-groups.groups.items c.numbers.number c.in_ok-groups.ensures
+    c.numbers-test.true) c.index.ensures in
+    let all = length-map (map arc_value c.args.jobs.now) shape_of in
+    let same = length-map c.args.jobs.now arc_value in
+    runs_end c.in_ok-groups.groups.items
+    (c.numbers.number + 1) c.args.runs.now c.fill_number.new.runs c.in_ok-groups.ensures
+    (omega (arith, all, same, c.numbers-test.true))
+    (runs_step c.in_ok-groups.groups.items c.numbers.number c.args.runs.now c.numbers.runs c.fill_number.new.runs
+    c.numbers.invariant.1
+    (λ other. c.fill_number.ensures.no_run (λ e. other (first ∙ e))) c.fill_number.ensures.one_run)
+
+pub returns-clause-full : goal.returns-clause-full
+returns-clause-full c =
+    let b = c.args.state.now in
+    let all = length-map c.args.jobs.now arc_value in
+    let own = ap length c.requires.open_for_jobs.jobs_are in
+    let past : length b.jobs ≤ c.numbers.number = omega (arith, all, own, c.numbers-test.false) in
+    is-full c.args.digest (map arc_value c.args.jobs.now) c.numbers.state
+    (open-stays c.args.digest
+    (map arc_value c.args.jobs.now) b c.numbers.state c.numbers.number c.requires.open_for_jobs
+    c.numbers.invariant.0.filled)
+    c.history-history-2.ensures.replays c.numbers.invariant.0.book
+    (filled-all b c.numbers.state c.numbers.number past c.numbers.invariant.0)

@@ -1,0 +1,9 @@
+-- the numbers so far have a finding, and one job of each shape was run at most
+use Rattle.std.specs.Prelude.{◌≤◌, ◌+◌}
+use Rattle.core_book.specs.Filling.{group_count_below}
+use Rattle.core_book.proofs.Fillings.{IsFilling}
+use Rattle.core_book.proofs.filling.fill_open_book.Given as goal
+
+abbrev pub invariant-numbers : goal.invariant-numbers
+invariant-numbers l = IsFilling l.fn.state l.state l.number
+    × (l.runs ≤ l.fn.runs + group_count_below l.groups.items l.number)

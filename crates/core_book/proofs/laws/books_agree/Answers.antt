@@ -1,5 +1,0 @@
-use Rattle.core_book.proofs.BookLaws.{books-agree}
-use Rattle.core_book.proofs.laws.books_agree.Goals as goal
-
-pub returns : goal.returns
-returns c = books-agree

@@ -1,5 +1,0 @@
-use Rattle.core_book.proofs.OneVerdict.{verdict-is-one}
-use Rattle.core_book.proofs.laws.verdict_is_one.Goals as goal
-
-pub returns : goal.returns
-returns c = verdict-is-one

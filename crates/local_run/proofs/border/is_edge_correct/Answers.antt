@@ -1,0 +1,28 @@
+use Rattle.std.proofs.Common.{◌≡◌, ◌≢◌, ℕ, Option, Some, None, arith, ap, ◌∙◌, true, not}
+use Rattle.std.specs.Option.{is_some}
+use Rattle.module_box.specs.declared.boxes.Box2.{Box2}
+use Rattle.module_job.specs.Signals.{is_live}
+use Rattle.local_run.specs.Faults.{assignments}
+use Rattle.local_run.specs.Lanes.{lane}
+use Rattle.local_run.specs.Scans.{IsLeastBelow, is_defined, valuation}
+use Rattle.local_run.proofs.Silence.{between_edges, right_edge}
+use Rattle.local_run.proofs.border.is_edge_correct.Goals as goal
+
+none_from : (n : ℕ) (P : ℕ → Type 0) (o : Option ℕ) → is_some o ≡ not true → IsLeastBelow n P o → IsLeastBelow n P None
+none_from n P None e h = h
+none_from n P (Some a) e h = cc
+
+pub returns-then-y-area : goal.returns-then-y-area
+returns-then-y-area c = λ h.
+    let ew : c.area-area.result.w ≡ c.args.job.now.area.w = ap (λ (b : Box2). b.w) c.area-area.ensures.area in
+    let eh : c.area-area.result.h ≡ c.args.job.now.area.h = ap (λ (b : Box2). b.h) c.area-area.ensures.area in
+    between_edges c.args.job.now c.args.values.now c.args.time c.args.x c.args.y (omega arith) (omega arith)
+    (omega arith) (omega arith)
+
+pub returns : goal.returns
+returns c = λ h. right_edge c.args.job.now c.args.values.now c.args.marked_planes.now.planes c.args.time c.args.x
+    c.args.y c.edge_signal-signal.result c.requires.shows c.edge_signal-signal.ensures.signal_is_exact
+    (none_from (assignments c.args.job.now) (λ a. (is_defined c.args.values.now a ≡ true)
+    × (lane c.args.marked_planes.now.planes a c.args.x c.args.y
+    ≢ is_live (valuation c.args.values.now a) c.edge_signal-signal.result)) c.first_difference.result
+    (c.is_none.ensures ∙ ap not h) (rw (c.planes.ensures, c.requires.ready.count) at c.first_difference.ensures))

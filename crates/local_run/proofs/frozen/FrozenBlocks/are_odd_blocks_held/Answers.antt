@@ -1,0 +1,11 @@
+use Rattle.std.proofs.Common.{rules, ◌≡◌, true, below_more}
+use Rattle.std.proofs.lemmas.Bool.{not-false}
+use Rattle.local_run.proofs.frozen.FrozenBlocks.are_odd_blocks_held.Goals as goal
+
+pub loop-u-preserved : goal.loop-u-preserved
+loop-u-preserved c =
+    let h : c.is_odd_mark_correct.result ≡ true = first_of (cc, search (rules, not-false)) in
+    record {
+      held = below_more _ _ c.loop-u.invariant.held (c.is_odd_mark_correct.ensures.held h);
+      empty = below_more _ _ c.loop-u.invariant.empty (λ m e. c.is_odd_mark_correct.ensures.empty h e);
+    }

@@ -1,5 +1,0 @@
-use Rattle.local_run.proofs.Leasts.{IsKeepFree}
-use Rattle.local_run.proofs.keep.least_keep.Given as goal
-
-abbrev pub invariant-gates : goal.invariant-gates
-invariant-gates l = IsKeepFree l.job l.gate

@@ -1,5 +1,0 @@
-use Rattle.local_run.proofs.LeapLemmas.{quiet_runs}
-use Rattle.local_run.proofs.laws.quiet_runs_stay.Goals as goal
-
-pub returns : goal.returns
-returns c = quiet_runs

@@ -1,0 +1,13 @@
+use Rattle.std.proofs.Common.{◌-◌, ◌<◌, length, arith}
+use Rattle.std.proofs.lemmas.Option.{slice_get-get_or}
+use Rattle.local_run.proofs.LeapLemmas.{any_place, sure}
+use Rattle.local_run.proofs.leaps.valid_start_place.Goals as goal
+
+pub returns-then-events-place-2-clause-below : goal.returns-then-events-place-2-clause-below
+returns-then-events-place-2-clause-below c =
+    let within : c.args.place - 1 < length c.args.events.now = omega arith in
+    sure c.args.events.now c.args.time c.args.place _ c.requires.rising (omega arith)
+    (slice_get-get_or c.args.events.now (c.args.place - 1) _ within) c.if-events-place-2.true
+
+pub returns-clause-below : goal.returns-clause-below
+returns-clause-below c = any_place c.args.events.now c.args.time

@@ -1,5 +1,0 @@
-use Rattle.local_run.proofs.LeapLemmas.{AreOther}
-use Rattle.local_run.proofs.lines.first_all_times.Given as goal
-
-abbrev pub invariant-loop-k : goal.invariant-loop-k
-invariant-loop-k l = AreOther l.all_times l.cell l.k

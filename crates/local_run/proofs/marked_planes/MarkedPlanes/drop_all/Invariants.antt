@@ -1,5 +1,0 @@
-use Rattle.std.proofs.Common.{◌≡◌}
-use Rattle.local_run.proofs.marked_planes.MarkedPlanes.drop_all.Given as goal
-
-abbrev pub invariant-loop-u : goal.invariant-loop-u
-invariant-loop-u l = l.self.planes ≡ l.fn.self.planes

@@ -1,9 +1,0 @@
-use Rattle.std.proofs.Common.{map}
-use Rattle.circuit.specs.Bridge.{netlist_of}
-use Rattle.module_box.specs.LocalGates.{kept_gate}
-use Rattle.module_box.proofs.LocalNets.{IsPart}
-use Rattle.module_box.proofs.locals.add_lines.Given as goal
-
-abbrev pub invariant-gates : goal.invariant-gates
-invariant-gates l = IsPart (netlist_of l.circuit) l.cuts l.fn.gates l.used-index l.known
-    (map kept_gate l.made.items)

@@ -1,0 +1,74 @@
+use Rattle.std.proofs.Common.{◌≡◌, ◌+◌, ◌++◌, [], ◌∷◌, List, ℕ, map, refl, sym, ap, subst, ◌∙◌, arith}
+use Rattle.std.proofs.lemmas.List.{map_push}
+use Rattle.std.proofs.lemmas.Option.{slice_get_within}
+use Rattle.std.specs.List.{range_with_len}
+use Rattle.circuit.specs.Gates.{defines}
+use Rattle.circuit.specs.Meaning.{Gate, Netlist}
+use Rattle.module_box.specs.declared.locals.LocalGate.{LocalGate}
+use Rattle.circuit.specs.Bridge.{netlist_of}
+use Rattle.circuit.specs.Wiring.{gate_of}
+use Rattle.module_box.specs.LocalGates.{as_gate}
+use Rattle.module_box.specs.Locals.{AreDifferent}
+use Rattle.module_box.proofs.WireLists.{different_front}
+use Rattle.module_box.proofs.LocalNets.{IsOver, IsPart, part_none, part_more, part_all, next_known, known_ins, next_new}
+use Rattle.module_box.proofs.locals.number_cuts_and_gates.Goals as goal
+
+pub add_wires-requires-clause-different : goal.add_wires-requires-clause-different
+add_wires-requires-clause-different c =
+    subst (λ (l : List ℕ). AreDifferent (l ++ c.args.cuts.now)) (sym c.requires.none)
+    (different_front c.args.cuts.now _ c.requires.lines.different)
+
+pub gates-init : goal.gates-init
+gates-init c =
+    let none : map as_gate c.in_ok-made.made.items ≡ [] = ap (map as_gate) c.in_ok-made.ensures.items in
+    subst (λ (done : List Gate). IsPart
+    (netlist_of c.args.circuit.now) c.args.cuts.now c.args.gates.now 0 c.add_wires.new.known done) (sym none)
+    (part_none (netlist_of c.args.circuit.now) c.args.cuts.now c.args.gates.now c.add_wires.new.known
+    c.requires.lines (c.in_ok-add_wires.ensures ∙ ap (λ (l : List ℕ). l ++ c.args.cuts.now) c.requires.none))
+
+pub prove-unreachable-requires : goal.prove-unreachable-requires
+prove-unreachable-requires c =
+    let n : Netlist = netlist_of c.args.circuit.now in
+    let known = next_known n c.args.cuts.now c.args.gates.now c.gates.used-index c.used-item.result c.gates.known _
+    c.requires.lines c.gates.invariant c.gates-test.true c.used-item.is in
+    let below = slice_get_within n.gates c.used-item.result known.gate known.numbered in
+    omega (arith, below)
+
+pub local_gate-local-requires-clause-known : goal.local_gate-local-requires-clause-known
+local_gate-local-requires-clause-known c =
+    let n : Netlist = netlist_of c.args.circuit.now in
+    let known = next_known n c.args.cuts.now c.args.gates.now c.gates.used-index c.used-item.result c.gates.known _
+    c.requires.lines c.gates.invariant c.gates-test.true c.used-item.is in
+    known_ins n c.gates.known c.used-item.result (gate_of c.gate-gate.result) known c.gate-gate.ensures
+
+pub add_wires-requires-in-gates-clause-different : goal.add_wires-requires-in-gates-clause-different
+add_wires-requires-in-gates-clause-different c =
+    subst (λ (l : List ℕ). AreDifferent (c.gates.known ++ l)) (sym c.outs.ensures)
+    (next_new (netlist_of c.args.circuit.now) c.args.cuts.now c.args.gates.now c.gates.used-index c.used-item.result
+    c.gates.known _ (gate_of c.gate-gate.result) c.requires.lines c.gates.invariant c.gates-test.true
+    c.used-item.is c.gate-gate.ensures)
+
+pub gates-preserved : goal.gates-preserved
+gates-preserved c =
+    let n : Netlist = netlist_of c.args.circuit.now in
+    let local : LocalGate = c.local_gate-local.result in
+    let over : IsOver c.gates.known (gate_of c.gate-gate.result) (as_gate local) = record {
+      kind = c.local_gate-local.ensures.kind;
+      within = c.local_gate-local.ensures.within;
+      ins = c.local_gate-local.ensures.ins;
+      outs = ap (λ m. range_with_len m (defines (as_gate local).kind)) c.local_gate-local.ensures.first;
+    } in
+    let done : map as_gate c.push.new.self.items ≡ map as_gate c.gates.made.items ++ as_gate local ∷ [] =
+    ap (map as_gate) c.in_ok-push.ensures.items ∙ map_push as_gate c.gates.made.items local in
+    subst (λ (done : List Gate). IsPart n c.args.cuts.now c.args.gates.now
+    (c.gates.used-index + 1) c.add_wires-in-gates.new.known done) (sym done)
+    (part_more n c.args.cuts.now c.args.gates.now c.gates.used-index c.used-item.result c.gates.known
+    c.add_wires-in-gates.new.known _ (gate_of c.gate-gate.result) (as_gate local)
+    c.gates-gate_count.ensures.ordered c.gates.invariant c.gates-test.true c.used-item.is c.gate-gate.ensures over
+    (c.in_ok-add_wires-2.ensures ∙ ap (λ (l : List ℕ). c.gates.known ++ l) c.outs.ensures))
+
+pub returns-clause-locals : goal.returns-clause-locals
+returns-clause-locals c =
+    part_all (netlist_of c.args.circuit.now) c.args.cuts.now c.args.gates.now c.gates.known _ _ c.gates.used-index
+    _ c.requires.lines c.gates.invariant (omega (arith, c.gates.auto.used-index-end))
+    refl refl

@@ -1,5 +1,0 @@
-use Rattle.module_box.proofs.WordRows.{AreInColumn}
-use Rattle.module_box.proofs.values.words_of.Given as goal
-
-abbrev pub invariant-gates : goal.invariant-gates
-invariant-gates l = AreInColumn l.fn.given l.gates l.gate-index l.words.items l.undefined.items l.defined

@@ -1,0 +1,9 @@
+-- No shape before is the same.
+use Rattle.std.proofs.Common.{ℕ, ◌<◌, map}
+use Rattle.std.specs.Prelude.{◌≢◌, slice_get}
+use Rattle.std.specs.Arc.{arc_value}
+use Rattle.module_job.proofs.groups.first_equal_shape.Given as goal
+
+abbrev pub invariant-earlier : goal.invariant-earlier
+invariant-earlier l = (i : ℕ) → i < l.earlier →
+    slice_get (map arc_value l.shapes) i ≢ slice_get (map arc_value l.shapes) l.number

@@ -1,8 +1,0 @@
-use Rattle.std.proofs.Common.{◌≡◌, ◌++◌, take, map}
-use Rattle.std.specs.List.{filter}
-use Rattle.section_text.specs.Words.{has}
-use Rattle.pattern.proofs.run.push_ports_in.Given as goal
-
-abbrev pub invariant-loop-port : goal.invariant-loop-port
-invariant-loop-port l = l.out.items
-    ≡ l.fn.out.items ++ map (λ q. q.cell) (filter (λ q. has l.on.keys q.name) (take l.port-index l.ports))

@@ -1,5 +1,0 @@
-use Rattle.soundness.proofs.WholeRuns.{ends}
-use Rattle.soundness.proofs.laws.ends_as_asked.Goals as goal
-
-pub returns : goal.returns
-returns c = ends

@@ -1,8 +1,0 @@
-use Rattle.soundness.proofs.KeptGates.{none_is_undefined, accepted_has_valuation}
-use Rattle.soundness.proofs.laws.no_gate_is_undefined.Goals as goal
-
-pub returns-clause-none : goal.returns-clause-none
-returns-clause-none c = none_is_undefined
-
-pub returns-clause-valuation : goal.returns-clause-valuation
-returns-clause-valuation c = accepted_has_valuation

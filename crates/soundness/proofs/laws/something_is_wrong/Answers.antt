@@ -1,5 +1,0 @@
-use Rattle.soundness.proofs.WrongExamples.{wrong_example}
-use Rattle.soundness.proofs.laws.something_is_wrong.Goals as goal
-
-pub returns : goal.returns
-returns c = wrong_example

@@ -1,5 +1,0 @@
-use Rattle.soundness.proofs.WholeRuns.{starts}
-use Rattle.soundness.proofs.laws.starts_as_jobs.Goals as goal
-
-pub returns : goal.returns
-returns c = starts
