@@ -113,8 +113,9 @@ fn turn_words_shifted(
     (next_main, next_anti, changed)
 }
 
-// The same, where the blocks begin at the second cell of each. The compiler turns several words at a time only if the
-// loop keeps whole words of flips, and does not read the lower row's first word as the one behind the upper row.
+// Turns the blocks of two rows that begin at the second cell of each word. The compiler turns several words at a time
+// only if the loop keeps whole words of flips, and does not read the lower row's first word as the one behind the upper
+// row.
 #[inline(always)]
 fn turn_shifted(words: &mut [u64], upper: usize, stride: usize) -> bool
     requires rows_inside { upper + stride + stride < length words.old }

@@ -80,7 +80,8 @@ impl<'a> Borders<'a> {
             != signal_at(owner, RingOrHalo::Ring, time, cell)
     }
 
-    // Returns the same for the cell and the time of an event of the module's halo, with one search less.
+    // Returns whether the module says another thing of the cell and time of an event of its halo than the module that
+    // has the cell. It needs one search less than for any cell.
     fn halo_event_differs(&self, event: TimedSignal) -> bool
         requires ready { AreReadyBorders self.now }
         requires inside { IsTrue (in_box self.now.whole event.at.cell.x event.at.cell.y) }
@@ -93,8 +94,8 @@ impl<'a> Borders<'a> {
             != signal_at(owner, RingOrHalo::Ring, event.at.time, event.at.cell)
     }
 
-    // Returns the same for the cell and the time of an event of the ring of the module that has the cell, where `own`
-    // is what the module says of them.
+    // Returns whether the module says another thing, `own`, of the cell and time of an event than the module whose ring
+    // has the event.
     fn edge_event_differs(&self, owner: &Job, event: TimedSignal, own: Signal) -> bool
         requires ready { AreReadyBorders self.now }
         requires inside { IsTrue (in_box self.now.whole event.at.cell.x event.at.cell.y) }

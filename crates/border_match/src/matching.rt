@@ -46,7 +46,7 @@ fn owners_of(alloc: Global, cert: &Cert, boxes: &[Box2]) -> Result<Owners, Alloc
     }
 }
 
-// For each of so many modules that it has none.
+// No fault for each of `count` modules.
 fn no_faults(alloc: Global, count: usize) -> Result<Vec<Option<BorderFault>>, AllocError>
     ensures { IfOk result (λ faults. faults.items ≡ replicate count None) }
 {

@@ -69,7 +69,8 @@ impl<'a> Borders<'a> {
         least
     }
 
-    // The same for the lines of a module's ring or halo.
+    // The least of the candidate and the faults of those cells of the lines of a module's ring or halo for which the
+    // signals differ at times without an event.
     fn with_stars_of(
         &self,
         best: Option<BorderFault>,

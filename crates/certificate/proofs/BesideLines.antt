@@ -118,7 +118,7 @@ within_module es place area ps counts n lt at counted few h =
     let here : slice_get counts (length ps) ≡ Some (counts_of m) =
     subst (λ cs. slice_get cs (length ps) ≡ Some (counts_of m)) all
     (subst (λ k. slice_get (map counts_of (map slice_lines ps ++ m ∷ modules_of rest)) k ≡ Some (counts_of m))
-    (length-map slice_lines ps) (counted_at (map slice_lines ps) m (modules_of rest))) in
+    (length-map ps slice_lines) (counted_at (map slice_lines ps) m (modules_of rest))) in
     let le = few (counts_of m) here in
     let all_lines = few_borders (inner rest) in
     omega (arith, le, all_lines)

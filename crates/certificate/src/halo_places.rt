@@ -148,7 +148,7 @@ fn push_edge_place(
     Ok(())
 }
 
-// The same of lines, of which the first has the place `from`.
+// Adds the places of the edge lines among lines, of which the first has the place `from`.
 fn push_edge_places(
     lists: &mut Vec<Vec<u32>>,
     owners: &Owners,
@@ -171,7 +171,7 @@ fn push_edge_places(
     Ok(())
 }
 
-// An empty list for each of so many boxes.
+// An empty list for each of `count` boxes.
 fn empty_place_lists(alloc: Global, count: usize) -> Result<Vec<Vec<u32>>, AllocError>
     ensures count { IfOk result (λ lists. length lists.items ≡ count) }
     ensures empty { IfOk result (λ lists. (i : ℕ) →

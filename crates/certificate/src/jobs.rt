@@ -37,42 +37,6 @@ use std::alloc::{AllocError, Global};
 use std::sync::Arc;
 
 // The wires and gates that a module's lines name, and the gates that they keep, by their places among the used ones.
-fn named_locals(
-    alloc: Global,
-    circuit: &Circuit,
-    lines: &[StoredLine],
-) -> Result<(Locals, Vec<u16>), AllocError>
-    requires lines { AreLocalLines (netlist_of circuit.now)
-        (flat_map (λ n. option_to_list (wire_of (circuit_of circuit.now) n))
-        (flat_map cut_in lines.now)) (flat_map use_in lines.now) }
-    requires kept { All (λ k. IsTrue (is_among (flat_map use_in lines.now) k))
-        (flat_map keep_in lines.now) }
-    ensures locals { IfOk result (λ l. AreLocalsOf (netlist_of circuit.now) l.0) }
-    ensures wires { IfOk result (λ l. l.0.circuit_wires
-        ≡ local_wires (netlist_of circuit.now)
-        (flat_map (λ n. option_to_list (wire_of (circuit_of circuit.now) n))
-        (flat_map cut_in lines.now)) (flat_map use_in lines.now)) }
-    ensures gates { IfOk result (λ l. l.0.circuit_gates ≡ flat_map use_in lines.now) }
-    ensures count { IfOk result (λ l. length l.0.netlist.gates
-        ≡ length (flat_map use_in lines.now)) }
-    ensures given { IfOk result (λ l. l.0.netlist.given
-        ≡ length (flat_map (λ n. option_to_list (wire_of (circuit_of circuit.now) n))
-        (flat_map cut_in lines.now))) }
-    ensures kept { IfOk result (λ l. map (slice_index (flat_map use_in lines.now)) l.1.items
-        ≡ flat_map keep_in lines.now) }
-    ensures within { IfOk result (λ l. All (λ k. k < length (flat_map use_in lines.now))
-        l.1.items) }
-{
-    // A circuit has at most 1024 gates, so their numbers fit.
-    let _gate_count = circuit.gates();
-    let cuts = cut_list(alloc, circuit, lines)?;
-    let gates = used_gates(alloc, lines)?;
-    let kept = kept_places(alloc, gates.as_slice(), lines)?;
-    let locals = Locals::new(alloc, circuit, cuts.as_slice(), gates.as_slice())?;
-    Ok((locals, kept))
-}
-
-// The same, without a look at edge lines, halo lines and stops.
 fn module_locals(
     alloc: Global,
     circuit: &Circuit,
@@ -100,7 +64,14 @@ fn module_locals(
     ensures within { IfOk result (λ l. All (λ k. k < length (flat_map use_in lines.now))
         l.1.items) }
 {
-    named_locals(alloc, circuit, wiring_lines(lines))
+    // A circuit has at most 1024 gates, so their numbers fit.
+    let _gate_count = circuit.gates();
+    let wiring = wiring_lines(lines);
+    let cuts = cut_list(alloc, circuit, wiring)?;
+    let gates = used_gates(alloc, wiring)?;
+    let kept = kept_places(alloc, gates.as_slice(), wiring)?;
+    let locals = Locals::new(alloc, circuit, cuts.as_slice(), gates.as_slice())?;
+    Ok((locals, kept))
 }
 
 // The signals of a module's lines about cells of its ring or of its halo, where the corner of its box is at (0, 0).

@@ -17,7 +17,7 @@ use circuit::GateNo;
 use indexmap::IndexSet;
 use std::alloc::{AllocError, Global};
 
-// Notes the gate that a line keeps, if it is such a line.
+// Notes the gate that a line keeps, if it is a keep line.
 fn note_keep(kept: &mut IndexSet<u32>, line: &StoredLine) -> Result<(), AllocError>
     ensures { OnOk result ((n : ℕ) →
         is_among kept.new.keys n ≡ (is_among kept.old.keys n || is_among (keep_in line.now) n)) }

@@ -12,29 +12,14 @@ ghost use Rattle.certificate_lines.specs.declared.certificate_line.BorderLine.{B
 ghost use Rattle.certificate_lines.specs.declared.certificate_line.CertificateLine.{CertificateLine};
 
 use crate::timetable::RingOrHalo;
-use certificate_lines::{CertificateLine, StoredLine};
+use certificate_lines::{StoredLine, rank};
 
-// The ranks of the kinds that `specs/Orders.antt` of `certificate_lines` orders.
+// The ranks of edge lines, halo lines and stops.
 const EDGE_RANK: u8 = 4;
 
 const HALO_RANK: u8 = 5;
 
 const STOP_RANK: u8 = 6;
-
-#[tactic(auto, unfolding(certificate_lines::specs::Orders::rank_of))]
-fn rank(line: &StoredLine) -> u8
-    ensures { result ≡ rank_of line.now }
-{
-    match line.line() {
-        CertificateLine::Module(_) => 0,
-        CertificateLine::Cut(_) => 1,
-        CertificateLine::Use(_) => 2,
-        CertificateLine::Keep(_) => 3,
-        CertificateLine::Edge(_) => EDGE_RANK,
-        CertificateLine::Halo(_) => HALO_RANK,
-        CertificateLine::Stop(_) => STOP_RANK,
-    }
-}
 
 // The lines before the first one of this rank or a higher one, and the others.
 fn split_at_rank<'b, 'a>(
@@ -44,7 +29,7 @@ fn split_at_rank<'b, 'a>(
     requires { AreInOrder lines.now }
     ensures { IsSplitAt first lines.now result.0.now result.1.now }
 {
-    let place = lines.partition_point(|line| rank(line) < first);
+    let place = lines.partition_point(|line| rank(&line.line()) < first);
     (&lines[..place], &lines[place..])
 }
 

@@ -81,7 +81,7 @@ fn chosen(choice: FirstOrLast, before: Option<u32>, time: u32) -> Option<u32>
     }
 }
 
-// Takes a stop into a table of the wires.
+// Notes the time of a stop in a table of the wires.
 fn note_stop(table: &mut [Option<u32>], circuit: &Circuit, choice: FirstOrLast, stop: &StoredStop)
     requires { length table.old ≡ wires (netlist_of circuit.now) }
     ensures table { (ss : List Line) →
@@ -95,7 +95,7 @@ fn note_stop(table: &mut [Option<u32>], circuit: &Circuit, choice: FirstOrLast, 
     }
 }
 
-// Takes a line into it, if it is a stop.
+// Notes the time of a line in a table of the wires, if the line is a stop.
 fn note_line(table: &mut [Option<u32>], circuit: &Circuit, choice: FirstOrLast, line: &StoredLine)
     requires { length table.old ≡ wires (netlist_of circuit.now) }
     ensures table { (ss : List Line) →
@@ -108,7 +108,7 @@ fn note_line(table: &mut [Option<u32>], circuit: &Circuit, choice: FirstOrLast, 
     }
 }
 
-// Takes the stops among lines into it.
+// Notes the times of the stops among lines in a table of the wires.
 fn note_lines(
     table: &mut [Option<u32>],
     circuit: &Circuit,

@@ -35,7 +35,7 @@ fn is_nonlocal_signal(tables: &LineTables, known: &WireList, border: &StoredBord
     }
 }
 
-// Whether the signal of an edge line is such, and the line is for a cell of the halo.
+// Whether a line is an edge line for a cell of the halo, with a signal that is neither `1` nor a local wire.
 fn is_nonlocal_halo_edge(
     tables: &LineTables,
     known: &WireList,
@@ -139,7 +139,8 @@ impl<'a> Builder<'a> {
         has_nonlocal_halo_edge(&self.tables, self.wires_of(number), own, lines)
     }
 
-    // The same of some module. It asks each module, and takes no memory.
+    // Whether one of the edge lines of a module names a wire that is not local in a module beside it. It asks each
+    // module, and takes no memory.
     fn does_any_module_lack_wire(&self, area: Box2, lines: &[StoredLine]) -> bool
         requires inside { AreInBox area (flat_map edge_in lines.now) }
         ensures { result
@@ -236,8 +237,8 @@ impl<'a> Builder<'a> {
         }
     }
 
-    // The same of the module that has the cell `beside`, if one has it. Inlined, since it runs three times for each
-    // edge line.
+    // Whether some module has the cell `beside` and not the cell, and there is no such wire or it is not local in it.
+    // Inlined, since it runs three times for each edge line.
     #[inline(always)]
     fn is_nonlocal_at_owner(
         &self,
@@ -324,7 +325,7 @@ impl<'a> Builder<'a> {
 }
 
 impl<'a> Builder<'a> {
-    // The same of a line, if it is an edge line.
+    // Whether a line is an edge line of which some module has the cell in its halo, and lacks the wire.
     fn does_neighbour_lack_line_wire<'b>(
         &self,
         owners: &Owners,
@@ -366,7 +367,8 @@ impl<'a> Builder<'a> {
         false
     }
 
-    // The same of the edge lines of a module, by a table of owners if there is one.
+    // Whether one of the edge lines of a module names a wire that is not local in a module beside it, by a table of
+    // owners if there is one.
     fn lacks_some_in(&self, owners: &Option<Owners>, area: Box2, lines: &[StoredLine]) -> bool
         requires owners { IfSome owners.now (AreModuleOwners self.now) }
         requires inside { AreInBox area (flat_map edge_in lines.now) }
@@ -381,7 +383,8 @@ impl<'a> Builder<'a> {
         }
     }
 
-    // The same of the edge lines of all modules, if there are odd times.
+    // Whether one of the edge lines of all modules names a wire that is not local in a module beside it. There are odd
+    // times.
     fn lacks_some_wire(&self, owners: &Option<Owners>) -> bool
         requires owners { IfSome owners.now (AreModuleOwners self.now) }
         requires long { 1 < self.now.setting.size.steps }

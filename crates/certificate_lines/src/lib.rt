@@ -31,7 +31,7 @@ pub use line_tables::LineTables;
 pub use lines::{
     cut_list, is_module, kept_places, lines_of_module, lines_of_module_past, used_gates,
 };
-pub use order::compare_borders;
+pub use order::{compare_borders, rank};
 pub use ports::{PortTable, port_tables};
 pub use stored_line::{StoredBorder, StoredLine, StoredStop};
 pub use tiles::is_live;

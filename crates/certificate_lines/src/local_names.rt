@@ -80,7 +80,8 @@ fn look_up<'a>(
     Some(circuit_name)
 }
 
-// The same. The name is looked up only if its slot does not hold it.
+// Returns the circuit's name of the wire of this name, if it is local. It looks the name up only if its slot does not
+// hold it.
 #[inline(always)]
 fn find_in<'a>(
     tables: &LineTables<'a>,

@@ -14,8 +14,10 @@ use bbm_rule::Cell;
 use module_box::compare_cells;
 use std::cmp::Ordering;
 
+/// Returns the rank of a line by its kind: the lines of a module are in order of their ranks.
+#[inline(always)]
 #[tactic(auto, unfolding(crate::specs::Orders::rank_of))]
-fn rank(entry: &CertificateLine) -> u8
+pub fn rank(entry: &CertificateLine) -> u8
     ensures { result ≡ rank_of entry.now }
 {
     match entry {
@@ -163,7 +165,8 @@ fn does_any_precede_line(first: &StoredLine, second: &CertificateLine) -> bool
     does_any_precede(&first.line(), second)
 }
 
-// The same. Most lines follow a line of their kind, or begin with cuts and gates.
+// Whether the first line may stand before the second. Most lines follow a line of their kind, or begin with cuts and
+// gates, so it compares these without a copy of the first line.
 #[inline(always)]
 fn does_precede(first: &StoredLine, second: &CertificateLine) -> bool
     ensures { result ≡ may_precede first.now second.now }

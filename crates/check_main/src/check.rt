@@ -51,7 +51,7 @@ struct Concluded {
     verdict: Verdict,
 }
 
-// What is concluded on a certificate, whose modules so many workers run.
+// What is concluded on a certificate, whose modules `workers` threads run.
 fn conclude_on<G: Gate + Sync, R: Threads + Wait + Sync>(
     rt: &R,
     alloc: Global,

@@ -182,7 +182,7 @@ fn read_text<T: RandomSource, R: Source>(
     read_by_blocks(feed, reader, &mut block)
 }
 
-// The same, by reads that ask for as many bytes as the block has.
+// Reads up to the end, by reads that ask for as many bytes as the block has.
 fn read_by_blocks<R: Source>(
     empty: Feed,
     reader: &mut R,

@@ -68,7 +68,7 @@ pub fn read_words<'a>(alloc: Global, words: &'a [&'a str]) -> Result<Asked, Erro
     Ok(Asked { request, workers })
 }
 
-// The same error. One about the number of workers says which numbers there are.
+// The error, and if it is about the number of workers, one that says which numbers there are.
 fn explain_number_error(alloc: Global, error: Error) -> Error
     ensures kind { (kind_of result ≡ kind_of error) ⊎ (kind_of result ≡ ErrorKind.OutOfMemory) }
 {

@@ -219,7 +219,8 @@ impl FrozenBlocks {
         is_some
     }
 
-    // The same of the even partition, and counts the blocks without a mark.
+    // Takes the marks off the blocks of the even partition that are not held, and returns whether there were some. It
+    // counts the blocks without a mark.
     fn sweep_even(&mut self, planes: &Planes) -> bool
         requires room { HasRoomForMarks self.old planes.now }
         ensures room { HasRoomForMarks self.new planes.now }

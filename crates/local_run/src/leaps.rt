@@ -28,7 +28,7 @@ pub fn first_event(events: &[TimedSignal], time: u32) -> usize
     low
 }
 
-// A place before which all events are earlier than the time: the one that is asked about, if it is such, or the first.
+// A place before which all events are earlier than the time: `place`, if it is one, or the first.
 fn valid_start_place(events: &[TimedSignal], place: usize, time: u32) -> usize
     requires rising { IsRising moment_cmp moment_of events.now }
     ensures range { result ≤ length events.now }
@@ -43,7 +43,8 @@ fn valid_start_place(events: &[TimedSignal], place: usize, time: u32) -> usize
     0
 }
 
-/// Returns the same as [`first_event`], by a search from a place on. If the event is near it, a few looks are enough.
+/// Returns the place of the first event at or after the time, as [`first_event`] does, by a search from a place on. If
+/// the event is near it, a few looks are enough.
 pub fn first_event_from(events: &[TimedSignal], place: usize, time: u32) -> usize
     requires rising { IsRising moment_cmp moment_of events.now }
     ensures range { result ≤ length events.now }

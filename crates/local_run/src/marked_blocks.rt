@@ -61,7 +61,7 @@ impl MarkedPlanes {
         self.planes.swap_main(u, u);
     }
 
-    // The same for one cell of its other diagonal.
+    // Turns block u of the odd partition, of which no cell is live but one of its other diagonal: they change places.
     fn move_odd_anti(&mut self, u: usize)
         requires place { u < self.old.planes.stride * self.old.planes.rows }
         requires lone { IsLoneAnti self.old.live_marks u u u u }
@@ -111,7 +111,8 @@ impl MarkedPlanes {
         }
     }
 
-    // The same for a cell of the other diagonal.
+    // Takes the mark off the block of the even partition that a cell of the other diagonal of block u of the odd
+    // partition has left, if nothing else is in it.
     #[inline(always)]
     fn unmark_block_left_by_anti(&mut self, u: usize)
         requires { u < self.old.planes.stride * self.old.planes.rows }
@@ -217,7 +218,7 @@ impl MarkedPlanes {
         self.planes.swap_main(u + stride + 1, u);
     }
 
-    // The same for one cell of its other diagonal.
+    // Turns block u of the even partition, of which no cell is live but one of its other diagonal: they change places.
     fn move_even_anti(&mut self, u: usize)
         requires place { u + self.old.planes.stride + 1 < self.old.planes.stride
             * self.old.planes.rows }

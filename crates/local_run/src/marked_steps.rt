@@ -20,7 +20,7 @@ impl MarkedPlanes {
     ghost use Rattle.local_run.specs.Sweeps.{IsNumberNotInRest, IsInnerNumberNotInRest, TurnsEven, TurnsEvenBlocksWhere, TurnsOdd, TurnsOddBlocksWhere};
     ghost use Rattle.local_run.specs.Lanes.{HasSize, AreSameInBox, lane};
 
-    // Looks whether the next steps are to turn whole planes, after a step by marks in which so many blocks changed.
+    // Looks whether the next steps are to turn whole planes, after a step by marks in which `changed` blocks changed.
     // Where few did, they are not, even if most blocks are frozen.
     #[inline(always)]
     fn plan_next_steps(&mut self, changed: usize)

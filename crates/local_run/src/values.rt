@@ -15,7 +15,7 @@ use module_box::{Signal, ValueRows};
 use module_job::Job;
 use std::alloc::{AllocError, Global};
 
-// The same rows, in which the values are false under the assignments under which some used gate lacks a row.
+// The rows, in which the values are made false under the assignments under which some used gate lacks a row.
 fn without_undefined(rows: ValueRows) -> ValueRows
     requires wide { 0 < length rows.defined.items }
     ensures defined { result.defined ≡ rows.defined }
@@ -142,7 +142,8 @@ impl Values {
         self.seek_difference(planes, x, y, signal)
     }
 
-    // The same, word by word.
+    // The least assignment at which each used gate has a row and a cell is not as the signal says. It looks at each
+    // word.
     fn seek_difference(&self, planes: &Planes, x: usize, y: usize, signal: Signal) -> Option<u32>
         requires place { (x / 2 < planes.now.stride) × (y / 2 < planes.now.rows) }
         requires words { (self.now.words ≡ planes.now.words) × (self.now.words ≤ 64) }

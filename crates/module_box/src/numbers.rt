@@ -47,7 +47,7 @@ fn push_wires(numbers: &mut Vec<u64>, wires: &[u16]) -> Result<(), AllocError>
     Ok(())
 }
 
-// The same of `count` wires from `first` on.
+// Adds `count`, and then the numbers of as many wires from `first` on.
 fn push_wires_from(numbers: &mut Vec<u64>, first: u16, count: usize) -> Result<(), AllocError>
     requires { count ≤ 4 }
     ensures { OnOk result (numbers.new.items

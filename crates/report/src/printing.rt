@@ -39,7 +39,7 @@ pub fn report_text(alloc: Global, cert: &Cert<'_>, verdict: &Verdict) -> Result<
     report_with_digest(alloc, cert, digest, verdict)
 }
 
-/// Returns the same report for a caller that has the certificate's digest already, by [`Cert::digest`].
+/// Returns the report for a caller that has the certificate's digest already, by [`Cert::digest`].
 #[tactic(auto, unfolding(crate::specs::ReportText::report_lines))]
 pub fn report_with_digest(
     alloc: Global,

@@ -1,4 +1,4 @@
-use Rattle.pattern.proofs.assign.AssigningSection.add.Goals as goal
+use Rattle.pattern.proofs.assign.AssignReaderSection.add.Goals as goal
 
 pub returns-then-not-contains-clause-ok : goal.returns-then-not-contains-clause-ok
 returns-then-not-contains-clause-ok c = search
