@@ -1,8 +1,9 @@
 -- Pairs of rows that stay, while others are turned
 use Rattle.std.proofs.Common.{◌≡◌, ◌≢◌, ℕ, Bool, true, false, ◌||◌, not, nat_eq, ◌<◌, ◌≤◌, ◌+◌, ◌-◌, ◌*◌, ◌/◌, ◌%◌}
-use Rattle.std.proofs.Common.{zero, suc, refl, arith, ◌∙◌, sym, ap, List, length, length-set, get_or, set, bit_or}
+use Rattle.std.proofs.Common.{zero, suc, refl, arith, ◌∙◌, sym, List, length, length-set, get_or, set, bit_or}
 use Rattle.std.proofs.lemmas.Bool.Decides.{nat_tests}
 use Rattle.std.proofs.Math.Nat.{mul-le-mul_right}
+use Rattle.std.proofs.lemmas.Grind.{common_steps}
 use Rattle.bbm_rule.specs.Bits.{bit, AreSameBits, HasNoSetBit}
 use Rattle.bbm_rule.specs.Plane.{turned}
 use Rattle.bbm_rule.specs.Rows.{cell_at, mate, AreSameCells, HasWindow, FillsRun, SetsPlace, SetsWindow, TurnsRun}
@@ -15,9 +16,7 @@ use Rattle.bbm_rule.proofs.PlaneLemmas.{turned_twice, mate_twice, dead_block}
 
 -- ---- what a turn of two rows changes
 pub blank_from_test : (n : ℕ) → not (nat_eq n 0) ≡ false → HasNoSetBit n
-blank_from_test n h j =
-    let e : n ≡ 0 = grind (arith, nat_tests) in
-    ap (λ m. bit m j) e ∙ bit-zero j
+blank_from_test n h j = grind (arith, common_steps, nat_tests, bit-zero)
 
 or_none : (a b : Bool) → (a || b) ≡ false → (a ≡ false) × (b ≡ false)
 or_none true b h = cc
@@ -114,23 +113,20 @@ others_kept p s r k marks old new whole run calm i l other free =
 -- all of them but pair k, which gets a mark
 pub calm_marked : (p s r k : ℕ) (marks marks' old new : List ℕ) → s % 2 ≡ 0 → TurnsRun (p + 2 * (k * s)) s s old new →
     MarksOne k marks marks' → AreRowPairsStable p s r marks old → AreRowPairsStable p s r marks' new
-calm_marked p s r k marks marks' old new whole run marked calm i l free =
-    let was = marked i free in others_kept p s r k marks old new whole run calm i l was.1 was.0
+calm_marked p s r k marks marks' old new whole run marked calm i l free = grind (arith, common_steps, others_kept)
 
 -- and pair k too, where no cell of it changed
 pub calm_settled : (p s r k : ℕ) (marks marks' old new : List ℕ) → s % 2 ≡ 0 → TurnsRun (p + 2 * (k * s)) s s old new →
     AreSameCells old new → SetsPlace k false marks marks' → AreRowPairsStable p s r marks old →
     AreRowPairsStable p s r marks' new
-calm_settled p s r k marks marks' old new whole run same sets calm i l free = by_eq_or_not i k
-    (λ e. rw e (pair_settled (p + 2 * (k * s)) s old new whole run same))
-    (λ other. others_kept p s r k marks old new whole run calm i l other (sym (sets.elsewhere i other) ∙ free))
+calm_settled p s r k marks marks' old new whole run same sets calm i l free =
+    grind (arith, common_steps, by_eq_or_not, pair_settled, others_kept)
 
 -- pairs stay where no cell changed
 pub calm_same : (p s r : ℕ) (marks old new : List ℕ) → s % 2 ≡ 0 → AreSameCells old new →
     AreRowPairsStable p s r marks old →
     AreRowPairsStable p s r marks new
-calm_same p s r marks old new whole same calm i l free =
-    pair_kept (p + 2 * (i * s)) s old new whole (λ q low high. same q) (calm i l free)
+calm_same p s r marks old new whole same calm i l free = grind (arith, common_steps, pair_kept)
 
 -- the pairs of the odd partition stay, while pair k of the even partition is turned, but for the two that share its
 -- rows

@@ -7,6 +7,7 @@ use Rattle.std.proofs.lemmas.Bool.Decides.{leb_tells, eqb_tells}
 use Rattle.std.proofs.lemmas.Nat.{shr-shr, shr_split}
 use Rattle.std.proofs.lemmas.Nat.Bits.{bit_at_and, bit_at_or, bit_at_xor, bit_at-lt, bit_at_cat_low, bit_at_cat_high}
 use Rattle.std.proofs.lemmas.Nat.Bits.{bit_at-zero, bit_at_above}
+use Rattle.std.proofs.lemmas.Grind.{common_steps}
 use Rattle.bbm_rule.specs.Bits.{bit}
 
 pub by_lt_or_le : {P : Type 0} (a b : ℕ) → (a < b → P) → (b ≤ a → P) → P
@@ -59,28 +60,13 @@ unfolding bit
 bit-is n j = refl
 
 pub bit-and : (a b j : ℕ) → bit (bit_and a b) j ≡ (bit a j && bit b j)
-bit-and a b j =
-    rw (bit-is (bit_and a b) j, bit-is a j, bit-is b j, bit_at_and a b j)
-    (elim (zero_or_one (bit_at a j) (bit_at-lt a j)) [
-      | inl p ↦ rw p (elim (zero_or_one (bit_at b j) (bit_at-lt b j)) [ inl q ↦ rw q refl | inr q ↦ rw q refl ])
-      | inr p ↦ rw p (elim (zero_or_one (bit_at b j) (bit_at-lt b j)) [ inl q ↦ rw q refl | inr q ↦ rw q refl ])
-    ])
+bit-and a b j = grind (arith, common_steps, bit-is, bit_at_and, zero_or_one, bit_at-lt)
 
 pub bit-or : (a b j : ℕ) → bit (bit_or a b) j ≡ (bit a j || bit b j)
-bit-or a b j =
-    rw (bit-is (bit_or a b) j, bit-is a j, bit-is b j, bit_at_or a b j)
-    (elim (zero_or_one (bit_at a j) (bit_at-lt a j)) [
-      | inl p ↦ rw p (elim (zero_or_one (bit_at b j) (bit_at-lt b j)) [ inl q ↦ rw q refl | inr q ↦ rw q refl ])
-      | inr p ↦ rw p (elim (zero_or_one (bit_at b j) (bit_at-lt b j)) [ inl q ↦ rw q refl | inr q ↦ rw q refl ])
-    ])
+bit-or a b j = grind (arith, common_steps, bit-is, bit_at_or, zero_or_one, bit_at-lt)
 
 pub bit-xor : (a b j : ℕ) → bit (bit_xor a b) j ≡ xor (bit a j) (bit b j)
-bit-xor a b j =
-    rw (bit-is (bit_xor a b) j, bit-is a j, bit-is b j, bit_at_xor a b j)
-    (elim (zero_or_one (bit_at a j) (bit_at-lt a j)) [
-      | inl p ↦ rw p (elim (zero_or_one (bit_at b j) (bit_at-lt b j)) [ inl q ↦ rw q refl | inr q ↦ rw q refl ])
-      | inr p ↦ rw p (elim (zero_or_one (bit_at b j) (bit_at-lt b j)) [ inl q ↦ rw q refl | inr q ↦ rw q refl ])
-    ])
+bit-xor a b j = grind (arith, common_steps, bit-is, bit_at_xor, zero_or_one, bit_at-lt)
 
 pub bit-zero : (j : ℕ) → bit 0 j ≡ false
 bit-zero j = rw (bit-is 0 j, bit_at-zero j) refl

@@ -3,6 +3,7 @@ use Rattle.std.proofs.Common.{◌≡◌, ◌≢◌, ℕ, ◌<◌, ◌≤◌, ◌
 use Rattle.std.proofs.Common.{get_or, set}
 use Rattle.std.proofs.lemmas.List.{get_or-set_same, get_or-set_other, length-set}
 use Rattle.std.proofs.Math.Nat.{mul-le-mul_right}
+use Rattle.std.proofs.lemmas.Grind.{common_steps}
 use Rattle.bbm_rule.specs.Plane.{turned}
 use Rattle.bbm_rule.specs.Rows.{cell_at, mate, ArePairsTurned, HasWindow, SetsWindow, TurnsRun, TurnsRows}
 use Rattle.bbm_rule.proofs.BitLemmas.{by_lt_or_le, by_eq_or_not}
@@ -201,5 +202,4 @@ aligned_step upper k stride first second a b l room run pairs =
     (windows_turned (64 * upper + 64 * k) (64 * stride) _ _ a b second _ _ (omega arith) has_a has_b pairs set_a set_b))
 
 pub rows_room : (r pairs stride : ℕ) → r < pairs → 2 * (r * stride) + stride + stride ≤ 2 * (pairs * stride)
-rows_room r pairs stride l = let h : (r + 1) * stride ≤ pairs * stride = mul-le-mul_right stride (omega arith) in
-    omega arith
+rows_room r pairs stride l = grind (arith, common_steps, mul-le-mul_right)

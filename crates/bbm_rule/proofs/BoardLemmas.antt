@@ -1,13 +1,13 @@
 -- The board that the rows of a grid stand for.
-use Rattle.std.proofs.Common.{◌≡◌, ℕ, Bool, true, false, ◌&&◌, ◌<◌, ◌≤◌, ◌+◌, ◌-◌, ◌*◌, ◌/◌, ◌%◌, zero, suc, refl}
+use Rattle.std.proofs.Common.{◌≡◌, ℕ, true, false, ◌<◌, ◌≤◌, ◌+◌, ◌-◌, ◌*◌, ◌/◌, ◌%◌, zero, suc, refl}
 use Rattle.std.proofs.Common.{arith, ◌∙◌, sym, ap, List, [], ◌∷◌, inl, inr, map}
 use Rattle.std.specs.Prelude.{pos, nat_lt, nat_le}
-use Rattle.std.specs.List.{range_with_len}
 use Rattle.std.proofs.lemmas.Bool.Decides.{nat_tests}
 use Rattle.std.proofs.lemmas.List.FromFn.{get_or-map-range_with_len}
 use Rattle.std.proofs.lemmas.Nat.{div-mul-add, mod-mul-add, div_below, mod_below}
 use Rattle.std.proofs.Math.Nat.{mul-le-mul_right, div-add-mod, mul-le-mul_left}
 use Rattle.std.proofs.Math.Bool.{and-false}
+use Rattle.std.proofs.lemmas.Grind.{common_steps}
 use Rattle.bbm_rule.specs.Plane.{step, turned}
 use Rattle.bbm_rule.specs.Rows.{cell_at, mate, TurnsRows, is_inner, HasLiveMargin, HasDeadMargin}
 use Rattle.bbm_rule.specs.Board.{Board, live, is_inside, IsStep, Leaves}
@@ -45,13 +45,7 @@ pub not_inner_row : (w h x y : ℕ) → h < y → is_inner w h x y ≡ false
 not_inner_row w h x y l = rw (not_le_test y h l) (and-false _)
 
 pub not_inner_first_row : (w h x : ℕ) → is_inner w h x 0 ≡ false
-not_inner_first_row w h x = ends (nat_le 1 x) (nat_le x w)
-  where
-    ends : (a b : Bool) → (a && b && false && nat_le 0 h) ≡ false
-    ends true true = refl
-    ends true false = refl
-    ends false true = refl
-    ends false false = refl
+not_inner_first_row w h x = grind (arith, common_steps)
 
 pub live_inner : (w h s : ℕ) (words : List ℕ) (x y : ℕ) → x < w → y < h →
     live (board w h s words) (pos x) (pos y) ≡ cell_at words (s * (y + 1) + (x + 1))
@@ -222,11 +216,7 @@ map_same f g same (x ∷ xs) = rw (same x, map_same f g same xs) refl
 
 pub board_same : (w h s : ℕ) (old new : List ℕ) → ((p : ℕ) → cell_at new p ≡ cell_at old p) →
     board w h s new ≡ board w h s old
-board_same w h s old new same =
-    let cells = map_same (λ (n : ℕ). cell_at new (s * (n / w + 1) + (n % w + 1)))
-    (λ (n : ℕ). cell_at old (s * (n / w + 1) + (n % w + 1))) (λ n. same (s * (n / w + 1) + (n % w + 1)))
-    (range_with_len 0 (w * h)) in
-    rw cells refl
+board_same w h s old new same = grind (arith, common_steps, map_same)
 
 pub plane_same : (w h s : ℕ) (old new : List ℕ) → ((p : ℕ) → cell_at new p ≡ cell_at old p) → IsPlane w h s old →
     IsPlane w h s new

@@ -1,16 +1,15 @@
 -- The places of the cells of a board.
-use Rattle.std.proofs.Common.{◌≡◌, ℕ, Bool, true, false, ◌&&◌, ◌+◌, ◌∙◌, refl, arith}
+use Rattle.std.proofs.Common.{◌≡◌, ℕ, Bool, true, false, ◌&&◌, refl, arith}
 use Rattle.std.specs.Prelude.{ℤ, pos, negsuc, nat_lt}
 use Rattle.std.proofs.lemmas.Bool.{le-leb}
 use Rattle.std.proofs.Math.Bool.{and-false}
+use Rattle.std.proofs.lemmas.Grind.{common_steps}
 use Rattle.bbm_rule.specs.Spans.{in_span}
 use Rattle.bbm_rule.specs.Board.{Board, live, is_inside}
 use Rattle.bbm_rule.proofs.Spans.{in_span-pos, in_span-negsuc}
 
 pub in_span-from_zero : (n k : ℕ) → in_span 0 n (pos k) ≡ nat_lt k n
-in_span-from_zero n k =
-    let e : 0 + n ≡ n = omega arith in
-    in_span-pos 0 n k ∙ rw (le-leb 0 k (omega arith), e) refl
+in_span-from_zero n k = grind (arith, common_steps, in_span-pos, le-leb)
 
 pub inside_is_span : (b : Board) (x y : ℤ) → is_inside b x y ≡ (in_span 0 b.width x && in_span 0 b.height y)
 inside_is_span b (pos x) (pos y) = rw (in_span-from_zero b.width x, in_span-from_zero b.height y) refl
@@ -22,17 +21,7 @@ first_two true true c h = refl
 first_two true false c h = h
 first_two false b c h = h
 
-none_of_two : (a b c : Bool) → (a && b) ≡ false → (a && b && c) ≡ false
-none_of_two true true c h = cc
-none_of_two true false c h = refl
-none_of_two false b c h = refl
-
 pub live_is_inside : (b : Board) (x y : ℤ) → live b x y ≡ true → is_inside b x y ≡ true
 live_is_inside b (pos x) (pos y) h = first_two (nat_lt x b.width) (nat_lt y b.height) _ h
 live_is_inside b (pos x) (negsuc y) h = h
 live_is_inside b (negsuc x) y h = h
-
-pub dead_outside : (b : Board) (x y : ℤ) → is_inside b x y ≡ false → live b x y ≡ false
-dead_outside b (pos x) (pos y) h = none_of_two (nat_lt x b.width) (nat_lt y b.height) _ h
-dead_outside b (pos x) (negsuc y) h = refl
-dead_outside b (negsuc x) y h = refl

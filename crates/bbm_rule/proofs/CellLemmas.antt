@@ -5,6 +5,7 @@ use Rattle.std.proofs.Common.{get_or, set, bit_and, bit_or, w64, nat_eq, sym}
 use Rattle.std.proofs.lemmas.List.{get_or-set_same, get_or-set_other}
 use Rattle.std.proofs.lemmas.Nat.Bits.{shr_and_one, bit_at_set_same, bit_at_set_other, bit_at_clear_same}
 use Rattle.std.proofs.lemmas.Nat.Bits.{bit_at_clear_other}
+use Rattle.std.proofs.lemmas.Grind.{common_steps}
 use Rattle.bbm_rule.specs.Bits.{bit}
 use Rattle.bbm_rule.specs.Rows.{cell_at, SetsPlace}
 use Rattle.bbm_rule.proofs.BitLemmas.{by_eq_or_not, bit-is}
@@ -12,8 +13,7 @@ use Rattle.bbm_rule.proofs.PairLemmas.{cell_in_word}
 
 pub live_in : (words : List ℕ) (i b : ℕ) → b < 64 →
     nat_eq (bit_and (get_or words i 0 / 2 ^ b) 1) 1 ≡ cell_at words (64 * i + b)
-live_in words i b l =
-    rw (shr_and_one (get_or words i 0) b, cell_in_word words i b l) (sym (bit-is (get_or words i 0) b))
+live_in words i b l = grind (arith, common_steps, shr_and_one, cell_in_word, bit-is)
 
 pub cell_is : (words : List ℕ) (p : ℕ) → nat_eq (bit_and (get_or words (p / 64) 0 / 2 ^ (p % 64)) 1) 1 ≡ cell_at words p
 unfolding cell_at

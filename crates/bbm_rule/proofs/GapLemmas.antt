@@ -1,10 +1,11 @@
 -- The first number without a mark: it is the first one with a mark in the complement of the words.
 use Rattle.std.proofs.Common.{◌≡◌, ◌≢◌, ℕ, Bool, true, false, not, ◌<◌, ◌≤◌, ◌+◌, ◌*◌, ◌/◌, ◌^◌, ◌%◌, refl, arith, sym}
-use Rattle.std.proofs.Common.{ap, inl, inr, List, length, map, get_or, w64, ◌∙◌}
+use Rattle.std.proofs.Common.{inl, inr, List, length, map, get_or, w64, ◌∙◌}
 use Rattle.std.specs.Int.{bit_not, trailing_zeros}
 use Rattle.std.proofs.lemmas.List.{get_or-map}
 use Rattle.std.proofs.lemmas.Nat.Bits.{bit_at-lt, bit_at_not}
 use Rattle.std.specs.Int.{bit_at}
+use Rattle.std.proofs.lemmas.Grind.{common_steps}
 use Rattle.bbm_rule.specs.Bits.{bit}
 use Rattle.bbm_rule.specs.Rows.{cell_at}
 use Rattle.bbm_rule.specs.Marks.{IsUnmarked}
@@ -26,9 +27,7 @@ word_flipped words k room = get_or-map (bit_not w64) words k 0 0 room
 cell_flipped : (words : List ℕ) (u : ℕ) → u / 64 < length words → get_or words (u / 64) 0 < 2 ^ 64 →
     cell_at (flipped words) u ≡ not (cell_at words u)
 unfolding cell_at
-cell_flipped words u room fits =
-    ap (λ n. bit n (u % 64)) (word_flipped words (u / 64) room)
-    ∙ bit_flipped (get_or words (u / 64) 0) (u % 64) fits (omega arith)
+cell_flipped words u room fits = grind (arith, common_steps, word_flipped, bit_flipped)
 
 not_false : (b : Bool) → not b ≡ false → b ≡ true
 not_false true e = refl
@@ -41,9 +40,7 @@ not_true false e = refl
 -- the same for a number in the word of another one
 flipped_in : (words : List ℕ) (at u : ℕ) → at / 64 < length words → get_or words (at / 64) 0 < 2 ^ 64 → at ≤ u →
     u < 64 * (at / 64 + 1) → cell_at (flipped words) u ≡ not (cell_at words u)
-flipped_in words at u room fits l h =
-    let same : at / 64 ≡ u / 64 = omega arith in
-    cell_flipped words u (rw (← same) room) (rw (← same) fits)
+flipped_in words at u room fits l h = grind (arith, common_steps, cell_flipped)
 
 -- all numbers in the rest of a word without a gap have a mark
 pub all_in_word : (words : List ℕ) (at u : ℕ) → at / 64 < length words → get_or words (at / 64) 0 < 2 ^ 64 →

@@ -2,6 +2,7 @@
 use Rattle.std.proofs.Common.{◌-◌, ◌≡◌, ℕ, ◌<◌, ◌≤◌, ◌+◌, List, length, get_or, bit_and, bit_or, refl, arith, ◌∙◌}
 use Rattle.std.specs.Prelude.{bit_xor}
 use Rattle.std.specs.Simd.Lanes.{zip2, chunk, put_chunk}
+use Rattle.std.proofs.lemmas.Grind.{common_steps}
 use Rattle.bbm_rule.proofs.BitLemmas.{by_lt_or_le}
 use Rattle.std.proofs.lemmas.Simd.{length-zip2, get_or-zip2, get_or-chunk, get_or-put_chunk_below, get_or-put_chunk_at}
 use Rattle.std.proofs.lemmas.Simd.{get_or-put_chunk_above}
@@ -63,19 +64,7 @@ vectors_turned ul ur ll lr lul lur ldl ldr k l =
 pub vectors_long : (ul ur ll lr : List ℕ) → length ul ≡ 4 → length ur ≡ 4 → length ll ≡ 4 → length lr ≡ 4 →
     (length (xor_l ul (flip_main_l ul ur ll lr)) ≡ 4) × (length (xor_l ur (flip_anti_l ul ur ll lr)) ≡ 4)
     × (length (xor_l ll (flip_anti_l ul ur ll lr)) ≡ 4) × (length (xor_l lr (flip_main_l ul ur ll lr)) ≡ 4)
-vectors_long ul ur ll lr lul lur ldl ldr =
-    let long : (v w : List ℕ) (op : ℕ → ℕ → ℕ) → length v ≡ 4 → length w ≡ 4 → length (zip2 op v w) ≡ 4 =
-    λ v w op p q. length-zip2 op v w (omega (arith, p, q)) ∙ p in
-    let main = long ul lr bit_xor lul ldr in
-    let anti = long ur ll bit_xor lur ldl in
-    let changed = long _ _ bit_xor (long ul lr bit_or lul ldr) (long ur ll bit_or lur ldl) in
-    let flip_main = long _ _ bit_xor changed (long _ _ bit_and changed anti) in
-    let flip_anti = long _ _ bit_xor changed (long _ _ bit_and changed main) in (
-      long _ _ bit_xor lul flip_main,
-      long _ _ bit_xor lur flip_anti,
-      long _ _ bit_xor ldl flip_anti,
-      long _ _ bit_xor ldr flip_main,
-    )
+vectors_long ul ur ll lr lul lur ldl ldr = grind (arith, common_steps, length-zip2)
 
 -- a chunk that is loaded, turned and stored
 pub chunk_turned : (at : ℕ) (ul ur ll lr a b c d : List ℕ) → at + 4 ≤ length ul → at + 4 ≤ length ur →

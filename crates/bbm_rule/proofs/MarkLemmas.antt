@@ -5,6 +5,7 @@ use Rattle.std.specs.Int.{bit_at, trailing_zeros}
 use Rattle.std.proofs.lemmas.Bool.{false≢true}
 use Rattle.std.proofs.Math.Nat.{div-le_self}
 use Rattle.std.proofs.lemmas.Nat.Bits.{bit_at-trailing_zeros, bit_at_ones}
+use Rattle.std.proofs.lemmas.Grind.{common_steps}
 use Rattle.bbm_rule.specs.Bits.{bit}
 use Rattle.bbm_rule.specs.Rows.{cell_at, SetsPlace}
 use Rattle.bbm_rule.proofs.BitLemmas.{by_lt_or_le, by_eq_or_not, bit-is, bit-zero, bit-shr, bit_above}
@@ -12,27 +13,19 @@ use Rattle.bbm_rule.specs.Marks.{IsUnmarked, MarksOne}
 
 -- where one number is set, each number without a mark is another, and had none before
 pub one_marked : (p : ℕ) (old new : List ℕ) → SetsPlace p true old new → MarksOne p old new
-one_marked p old new sets u free = by_eq_or_not u p
-    (λ e. absurd (false≢true (sym (ap (cell_at new) (sym e) ∙ free) ∙ sets.there)))
-    (λ ne. (sym (sets.elsewhere u ne) ∙ free, ne))
+one_marked p old new sets u free = grind (arith, common_steps, by_eq_or_not, false≢true)
 
 bit_none : (n j : ℕ) → bit_at n j ≡ 0 → bit n j ≡ false
 bit_none n j e = rw (bit-is n j, e) refl
 
 cell_in : (marks : List ℕ) (q r u : ℕ) → r < 64 → u ≡ 64 * q + r → cell_at marks u ≡ bit (get_or marks q 0) r
 unfolding cell_at
-cell_in marks q r u l e =
-    let eq : u / 64 ≡ q = omega arith in
-    let er : u % 64 ≡ r = omega arith in
-    rw (eq, er) refl
+cell_in marks q r u l e = grind (arith, common_steps)
 
 -- a number that is at or after `at` in the same word
 rest_bit : (marks : List ℕ) (at u : ℕ) → at ≤ u → u < 64 * (at / 64 + 1) →
     cell_at marks u ≡ bit (get_or marks (at / 64) 0 / 2 ^ (at % 64)) (u - at)
-rest_bit marks at u l h =
-    let e : at % 64 + (u - at) ≡ u % 64 = omega arith in
-    cell_in marks (at / 64) (u % 64) u (omega arith) (omega arith)
-    ∙ sym (bit-shr (get_or marks (at / 64) 0) (at % 64) (u - at) ∙ ap (bit (get_or marks (at / 64) 0)) e)
+rest_bit marks at u l h = grind (arith, common_steps, cell_in, bit-shr)
 
 -- none is marked in the rest of a word that is zero
 pub none_in_word : (marks : List ℕ) (at u : ℕ) → get_or marks (at / 64) 0 / 2 ^ (at % 64) ≡ 0 → at ≤ u →

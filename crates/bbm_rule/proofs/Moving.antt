@@ -1,8 +1,9 @@
 -- A step commutes with an even move
-use Rattle.std.proofs.Common.{◌≡◌, ℕ, suc, Bool, ◌+◌, ◌-◌, ◌%◌, eqb, refl, sym, ap, ap₂, ◌∙◌, arith, inl, inr}
+use Rattle.std.proofs.Common.{◌≡◌, ℕ, suc, Bool, ◌+◌, ◌-◌, ◌%◌, refl, ap, ◌∙◌, arith, inl, inr}
 use Rattle.std.specs.Prelude.{ℤ, pos, negsuc, ◌+ℤ◌, ◌-ℤ◌}
 use Rattle.std.proofs.lemmas.Bool.{cases_Bool, cases_lt, cond-true, cond-false}
 use Rattle.std.proofs.lemmas.Int.{ints}
+use Rattle.std.proofs.lemmas.Grind.{common_steps}
 use Rattle.bbm_rule.specs.Plane.{parity, partner, turned, step}
 use Rattle.bbm_rule.specs.Moves.{StepCommutesWithMoves}
 
@@ -57,23 +58,11 @@ down_moved x d = omega (arith, ints)
 pub partner_moved : (t : ℕ) (x d : ℤ) → parity d ≡ 0 → partner t (x +ℤ d) ≡ partner t x +ℤ d
 unfolding partner
 partner_moved t x d even =
-    let same : eqb (parity (x +ℤ d)) (t % 2) ≡ eqb (parity x) (t % 2) =
-    ap (λ p. eqb p (t % 2)) (parity_moved x d even) in
-    elim (cases_Bool (eqb (parity x) (t % 2))) [
-      | inl up ↦ cond-true _ _ _ (same ∙ up) ∙ up_moved x d ∙ ap (λ z. z +ℤ d) (sym (cond-true _ _ _ up))
-      | inr down ↦ cond-false _ _ _ (same ∙ down) ∙ down_moved x d ∙ ap (λ z. z +ℤ d) (sym (cond-false _ _ _ down))
-    ]
+    grind (arith, common_steps, parity_moved, cases_Bool, cond-true, up_moved, cond-false, down_moved)
 
 same_turned : (a a' b b' c c' d d' : Bool) → a ≡ a' → b ≡ b' → c ≡ c' → d ≡ d' → turned a b c d ≡ turned a' b' c' d'
 same_turned a a' b b' c c' d d' p q r s = λ i. turned (p i) (q i) (r i) (s i)
 
 pub step_moved : StepCommutesWithMoves
 unfolding step
-step_moved t dx dy s s' even_x even_y moved x y =
-    let px : partner t (x +ℤ dx) ≡ partner t x +ℤ dx = partner_moved t x dx even_x in
-    let py : partner t (y +ℤ dy) ≡ partner t y +ℤ dy = partner_moved t y dy even_y in
-    same_turned _ _ _ _ _ _ _ _
-    (moved x y)
-    (ap₂ s' px py ∙ moved (partner t x) (partner t y))
-    (ap (λ u. s' u (y +ℤ dy)) px ∙ moved (partner t x) y)
-    (ap (λ v. s' (x +ℤ dx) v) py ∙ moved x (partner t y))
+step_moved t dx dy s s' even_x even_y moved x y = grind (arith, common_steps, partner_moved, same_turned)

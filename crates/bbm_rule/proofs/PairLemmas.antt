@@ -4,8 +4,8 @@ use Rattle.std.proofs.Common.{◌%◌, ◌||◌, zero, suc, refl, arith, bit_or,
 use Rattle.std.specs.Prelude.{bit_xor}
 use Rattle.std.proofs.lemmas.Nat.{div-mul-add, mod-mul-add}
 use Rattle.std.proofs.Math.Nat.{div-add-mod}
-use Rattle.std.proofs.Math.Dec.{eqb}
 use Rattle.std.proofs.Math.Bool.{or-false}
+use Rattle.std.proofs.lemmas.Grind.{common_steps}
 use Rattle.bbm_rule.specs.Plane.{turned}
 use Rattle.bbm_rule.specs.Bits.{bit, AreSameBits, HasNoSetBit}
 use Rattle.bbm_rule.specs.Rows.{cell_at, mate, AreFlips, ArePairsTurned, HasWindow}
@@ -60,9 +60,7 @@ mate_even j even = rw even (omega arith)
 
 pub mate_odd : (i : ℕ) → i % 2 ≡ 0 → mate (1 + i) ≡ i
 unfolding mate
-mate_odd i even =
-    let odd : (1 + i) % 2 ≡ 1 = omega arith in
-    rw odd (omega arith)
+mate_odd i even = grind (arith, common_steps)
 
 -- the flips are those of the lower row and the upper one too
 pub flips_below : (f a n b m main anti : ℕ) → AreFlips f a n b m main anti → AreFlips f b m a n anti main
@@ -154,9 +152,7 @@ flipped_same a main anti no_main no_anti (suc j) l =
 -- ---- windows
 pub cell_in_word : (words : List ℕ) (i b : ℕ) → b < 64 → cell_at words (64 * i + b) ≡ bit (get_or words i 0) b
 unfolding cell_at
-cell_in_word words i b l =
-    let e : 64 * i ≡ i * 64 = omega arith in
-    rw (e, div-mul-add i 64 b l, mod-mul-add i 64 b l) refl
+cell_in_word words i b l = grind (arith, common_steps, div-mul-add, mod-mul-add)
 
 pub window_is : (words : List ℕ) (i : ℕ) → get_or words i 0 < 2 ^ 64 →
     HasWindow words (64 * i + 1) (bit_or (get_or words i 0 / 2)

@@ -4,6 +4,7 @@ use Rattle.std.proofs.Common.{◌⊎◌, inl, inr}
 use Rattle.std.specs.Prelude.{ℤ, pos, negsuc, ◌+ℤ◌, ◌-ℤ◌, nat_lt}
 use Rattle.std.proofs.lemmas.Int.{ints}
 use Rattle.std.proofs.lemmas.Bool.Decides.{nat_tests}
+use Rattle.std.proofs.lemmas.Grind.{common_steps}
 use Rattle.bbm_rule.specs.Plane.{State, partner, step, turned}
 use Rattle.bbm_rule.specs.Rows.{mate}
 use Rattle.bbm_rule.specs.Board.{Board, live}
@@ -131,8 +132,7 @@ partner_twice t u = by_eq_or_not (t % 2) 0 (λ even. at_even u even) (λ odd. at
 -- a step undoes itself
 pub step_twice : (t : ℕ) (s : State) (x y : ℤ) → step t (step t s) x y ≡ s x y
 unfolding step
-step_twice t s x y = rw (partner_twice t x, partner_twice t y)
-    (turned_twice (s x y) (s (partner t x) y) (s x (partner t y)) (s (partner t x) (partner t y)))
+step_twice t s x y = grind (arith, common_steps, partner_twice, turned_twice)
 
 -- ---- outside a board
 abbrev pub is_out : ℕ → ℤ → Bool
@@ -167,14 +167,10 @@ pub record IsFar (t : ℕ) (n : ℕ) (u : ℤ) : Type 0 where
   pub other : is_out n (partner t u) ≡ true
 
 pub far_column : (t : ℕ) (b : Board) (u v : ℤ) → IsFar t b.width u → step t (live b) u v ≡ false
-far_column t b u v far = step_dead t (live b) u v (column_dead b u v far.own)
-    (column_dead b (partner t u) (partner t v) far.other) (column_dead b (partner t u) v far.other)
-    (column_dead b u (partner t v) far.own)
+far_column t b u v far = grind (arith, common_steps, step_dead, column_dead)
 
 pub far_row : (t : ℕ) (b : Board) (u v : ℤ) → IsFar t b.height v → step t (live b) u v ≡ false
-far_row t b u v far = step_dead t (live b) u v (row_dead b u v far.own)
-    (row_dead b (partner t u) (partner t v) far.other) (row_dead b (partner t u) v far.own)
-    (row_dead b u (partner t v) far.other)
+far_row t b u v far = grind (arith, common_steps, step_dead, row_dead)
 
 out_pos : (n x : ℕ) → n ≤ x → is_out n (pos x) ≡ true
 out_pos n x le = let e : nat_lt x n ≡ false = grind (arith, nat_tests) in rw e refl

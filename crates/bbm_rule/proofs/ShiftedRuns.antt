@@ -6,6 +6,7 @@ use Rattle.std.specs.Int.Bits.{xor_assoc}
 use Rattle.std.proofs.lemmas.Nat.{xor_comm}
 use Rattle.std.proofs.lemmas.List.{get_or-set_same, get_or-set_other, set-set, set_comm}
 use Rattle.std.proofs.Math.Bool.{or-false}
+use Rattle.std.proofs.lemmas.Grind.{common_steps}
 use Rattle.bbm_rule.specs.Plane.{turned}
 use Rattle.bbm_rule.specs.Bits.{bit, HasNoSetBit}
 use Rattle.bbm_rule.specs.Rows.{cell_at, mate, AreFlips, ArePairsTurned, AreSameCells, HasWindow, SetsWindow, TurnsRun}
@@ -23,18 +24,12 @@ xor_swap a b c = xor_assoc a b c ∙ ap (bit_xor a) (xor_comm b c) ∙ sym (xor_
 
 flip_twice : (i f g : ℕ) (words : List ℕ) → i < length words →
     flip i g (flip i f words) ≡ set words i (bit_xor (bit_xor (get_or words i 0) f) g)
-flip_twice i f g words room =
-    rw (get_or-set_same words i (bit_xor (get_or words i 0) f) 0 room) (set-set words i _ _)
+flip_twice i f g words room = grind (arith, common_steps, get_or-set_same, set-set)
 
 flip_swap : (i k f g : ℕ) (words : List ℕ) → i < length words → k < length words →
     flip k g (flip i f words) ≡ flip i f (flip k g words)
-flip_swap i k f g words room room' = by_eq_or_not i k
-    (λ same. rw same (flip_twice k f g words room'
-    ∙ ap (set words k) (xor_swap (get_or words k 0) f g) ∙ sym (flip_twice k g f words room')))
-    (λ other. rw (
-      get_or-set_other words i k (bit_xor (get_or words i 0) f) 0 (λ e. other (sym e)),
-      get_or-set_other words k i (bit_xor (get_or words k 0) g) 0 other,
-    ) (set_comm words i k _ _ other))
+flip_swap i k f g words room room' =
+    grind (arith, common_steps, by_eq_or_not, flip_twice, xor_swap, get_or-set_other, set_comm)
 
 -- two words that get what is carried to them and then flips of their own
 stored : (i k f f' g g' : ℕ) (words : List ℕ) → i ≢ k → i < length words → k < length words →

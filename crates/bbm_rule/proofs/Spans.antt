@@ -6,6 +6,7 @@ use Rattle.std.proofs.lemmas.Bool.{and_parts, and_from, ne_eqb, cases_Bool, cond
 use Rattle.std.proofs.lemmas.Bool.{leb-true, ltb-true, le-leb, lt-ltb}
 use Rattle.std.proofs.lemmas.Int.{ints}
 use Rattle.std.proofs.lemmas.Bool.Decides.{nat_tests}
+use Rattle.std.proofs.lemmas.Grind.{common_steps}
 use Rattle.bbm_rule.specs.Plane.{parity, partner}
 use Rattle.bbm_rule.specs.Spans.{in_span}
 
@@ -57,13 +58,11 @@ more_one_negative k = omega (arith, ints)
 
 up_even : (f n k : ℕ) → f % 2 ≡ 0 → n % 2 ≡ 0 → k % 2 ≡ 0 → in_span f n (pos (k + 1)) ≡ in_span f n (pos k)
 unfolding in_span
-up_even f n k pf pn pk = same_tests f n (k + 1) k (λ h. omega arith) (λ h. omega arith) (λ h. omega arith)
-    (λ h. omega arith)
+up_even f n k pf pn pk = grind (arith, common_steps, same_tests)
 
 even_up : (f n t k : ℕ) → f % 2 ≡ 0 → n % 2 ≡ 0 → t % 2 ≡ 0 → eqb (k % 2) (t % 2) ≡ true →
     in_span f n (partner t (pos k)) ≡ in_span f n (pos k)
-even_up f n t k pf pn pt e =
-    ap (in_span f n) (partner_up t (pos k) e) ∙ up_even f n k pf pn (eqb-true (k % 2) (t % 2) e ∙ pt)
+even_up f n t k pf pn pt e = grind (arith, common_steps, partner_up, up_even, eqb-true)
 
 even_down : (f n t k : ℕ) → f % 2 ≡ 0 → n % 2 ≡ 0 → t % 2 ≡ 0 → eqb (k % 2) (t % 2) ≡ false →
     in_span f n (partner t (pos k)) ≡ in_span f n (pos k)

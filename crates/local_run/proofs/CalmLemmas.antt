@@ -1,8 +1,9 @@
 -- Which blocks are still known to stay, after cells or marks changed
-use Rattle.std.proofs.Common.{◌≡◌, ◌≢◌, ℕ, Bool, true, false, ◌<◌, ◌≤◌, ◌+◌, ◌*◌, ◌%◌, arith, refl, sym, ◌∙◌, ap, subst}
-use Rattle.std.proofs.Common.{List, get_or, inl, inr}
+use Rattle.std.proofs.Common.{◌≡◌, ◌≢◌, ℕ, Bool, true, false, ◌<◌, ◌≤◌, ◌+◌, ◌*◌, ◌%◌, arith}
+use Rattle.std.proofs.Common.{List, get_or}
 use Rattle.std.proofs.lemmas.Bool.{cases_Bool}
 use Rattle.std.proofs.Math.Nat.{mul-le-mul_left}
+use Rattle.std.proofs.lemmas.Grind.{common_steps}
 use Rattle.bbm_rule.specs.Rows.{SetsPlace}
 use Rattle.bbm_rule.proofs.BitLemmas.{by_lt_or_le, by_eq_or_not}
 use Rattle.bbm_rule.specs.Marks.{IsUnmarked, MarksOne}
@@ -24,12 +25,7 @@ other_cell w c u k xs ys same l ne = by_lt_or_le u c
 kept_cell : (changes : Bool) (w c v k : ℕ) (xs ys : List ℕ) → SameBeside (w * c) w xs ys → k < w →
     (changes ≡ true → v ≢ c) → (changes ≡ false → get_or ys (w * c + k) 0 ≡ get_or xs (w * c + k) 0) →
     get_or ys (w * v + k) 0 ≡ get_or xs (w * v + k) 0
-kept_cell changes w c v k xs ys same l other stays = by_eq_or_not v c
-    (λ e. elim (cases_Bool changes) [
-      | inl t ↦ absurd (other t e)
-      | inr f ↦ subst (λ n. get_or ys (w * n + k) 0 ≡ get_or xs (w * n + k) 0) (sym e) (stays f)
-    ])
-    (λ ne. other_cell w c v k xs ys same l ne)
+kept_cell changes w c v k xs ys same l other stays = grind (arith, common_steps, by_eq_or_not, cases_Bool, other_cell)
 
 pub odd_cells : (main anti : Bool) (u : ℕ) (p q : Planes) →
     (main ≡ false → MainStays p.words u u u u p.odd.items p.right.items p.down.items p.even.items) →
@@ -136,57 +132,28 @@ pub odd_kept_by_even : (main anti : Bool) (u : ℕ) (m m' : List ℕ) (p q : Pla
     ChangesCells main anti (u + p.stride + 1) (u + p.stride) (u + 1) u p q →
     MarksOddNeighbours main anti p.stride u m m' →
     AreOddBlocksStable m p → AreOddBlocksStable m' q
-odd_kept_by_even main anti u m m' p q size ch marks calm =
-    odd_kept main anti (u + p.stride + 1) (u + p.stride) (u + 1) u m m' p q size ch
-    (others_by_even main anti p.stride u m m' marks) calm
+odd_kept_by_even main anti u m m' p q size ch marks calm = grind (arith, common_steps, odd_kept, others_by_even)
 
 pub even_kept_by_even : (main anti : Bool) (u : ℕ) (m m' : List ℕ) (p q : Planes) → HasSize p.words p.stride p.rows q →
     ChangesCells main anti (u + p.stride + 1) (u + p.stride) (u + 1) u p q → MarksOne u m m' → AreEvenBlocksStable m p →
     AreEvenBlocksStable m' q
-even_kept_by_even main anti u m m' p q size ch marks calm =
-    even_kept main anti (u + p.stride + 1) (u + p.stride) (u + 1) u m m' p q size ch
-    (λ v free. let f = marks v free in
-    (f.0, (λ t. (f.1, (λ e. f.1 (omega arith)))), (λ t. ((λ e. f.1 (omega arith)), (λ e. f.1 (omega arith)))))) calm
+even_kept_by_even main anti u m m' p q size ch marks calm = grind (arith, common_steps, even_kept)
 
 -- ---- after a mark was taken off a block that stays
 pub odd_unmarked : (c : ℕ) (m m' : List ℕ) (p : Planes) → SetsPlace c false m m' →
     IsStableBlock p.words c c c c p.odd.items p.right.items p.down.items p.even.items → AreOddBlocksStable m p →
     AreOddBlocksStable m' p
-odd_unmarked c m m' p sets block calm u l free = by_eq_or_not u c
-    (λ e. subst (λ (v : ℕ). IsStableBlock p.words v v v v p.odd.items p.right.items p.down.items p.even.items)
-    (sym e) block)
-    (λ ne. calm u l (sym (sets.elsewhere u ne) ∙ free))
+odd_unmarked c m m' p sets block calm u l free = grind (arith, common_steps, by_eq_or_not)
 
 pub even_unmarked : (c : ℕ) (m m' : List ℕ) (p : Planes) → SetsPlace c false m m' →
     IsStableBlock p.words c (c + 1) (c + p.stride)
     (c + p.stride + 1) p.even.items p.down.items p.right.items p.odd.items → AreEvenBlocksStable m p →
     AreEvenBlocksStable m' p
-even_unmarked c m m' p sets block calm u l inside free = by_eq_or_not u c
-    (λ e. subst (λ (v : ℕ). IsStableBlock p.words v (v + 1) (v + p.stride)
-    (v + p.stride + 1) p.even.items p.down.items p.right.items p.odd.items) (sym e) block)
-    (λ ne. calm u l inside (sym (sets.elsewhere u ne) ∙ free))
+even_unmarked c m m' p sets block calm u l inside free = grind (arith, common_steps, by_eq_or_not)
 
 -- or off the last one of a row, of which nothing is known
 pub last_unmarked : (c : ℕ) (m m' : List ℕ) (p : Planes) → SetsPlace c false m m' → (c + 1) % p.stride ≡ 0 →
     AreEvenBlocksStable m p → AreEvenBlocksStable m' p
-last_unmarked c m m' p sets last calm u l inside free = by_eq_or_not u c
-    (λ e. absurd (inside (ap (λ (n : ℕ). (n + 1) % p.stride) e ∙ last)))
-    (λ ne. calm u l inside (sym (sets.elsewhere u ne) ∙ free))
+last_unmarked c m m' p sets last calm u l inside free = grind (arith, common_steps, by_eq_or_not)
 
 -- ---- cells that change one after another
-pub no_cells : (main anti : Bool) (a b c d : ℕ) (p : Planes) → ChangesCells main anti a b c d p p
-no_cells main anti a b c d p = record {
-  odd_same = λ u k l ne. refl;
-  right_same = λ u k l ne. refl;
-  down_same = λ u k l ne. refl;
-  even_same = λ u k l ne. refl;
-}
-
-pub cells_join : (main anti : Bool) (a b c d : ℕ) (p q r : Planes) → q.words ≡ p.words →
-    ChangesCells main anti a b c d p q → ChangesCells main anti a b c d q r → ChangesCells main anti a b c d p r
-cells_join main anti a b c d p q r e f g = record {
-  odd_same = λ u k l ne. let h = g.odd_same in let h = rw e at h in h u k l ne ∙ f.odd_same u k l ne;
-  right_same = λ u k l ne. let h = g.right_same in let h = rw e at h in h u k l ne ∙ f.right_same u k l ne;
-  down_same = λ u k l ne. let h = g.down_same in let h = rw e at h in h u k l ne ∙ f.down_same u k l ne;
-  even_same = λ u k l ne. let h = g.even_same in let h = rw e at h in h u k l ne ∙ f.even_same u k l ne;
-}

@@ -1,10 +1,11 @@
 -- Values that are cleared under the assignments under which some used gate lacks a row
-use Rattle.std.proofs.Common.{◌≡◌, ℕ, true, ◌<◌, ◌≤◌, ◌+◌, ◌*◌, ◌/◌, ◌%◌, arith, sym, ◌∙◌, ap, subst}
-use Rattle.std.proofs.Common.{List, ◌&&◌, length, bit_and}
+use Rattle.std.proofs.Common.{◌≡◌, ℕ, true, ◌<◌, ◌≤◌, ◌*◌, ◌%◌, arith, sym, ◌∙◌, ap, subst}
+use Rattle.std.proofs.Common.{List, length, bit_and}
 use Rattle.std.specs.Prelude.{slice_index}
 use Rattle.std.proofs.Math.Nat.{mul_comm}
 use Rattle.std.proofs.lemmas.Nat.{mod-mul-add}
 use Rattle.std.proofs.Math.Bool.{and-true}
+use Rattle.std.proofs.lemmas.Grind.{common_steps}
 use Rattle.bbm_rule.specs.Bits.{bit}
 use Rattle.bbm_rule.proofs.BitLemmas.{by_lt_or_le, bit-and}
 use Rattle.circuit.specs.Meaning.{Netlist, Satisfies, Valuation}
@@ -23,19 +24,8 @@ pub record AreCleared (defined : List ℕ) (place : ℕ) (old new : List ℕ) : 
 pub cleared_keeps : (defined : List ℕ) (place : ℕ) (old new : List ℕ) → AreCleared defined place old new →
     KeepsDefinedValues defined old new
 unfolding value_of bit_of_row
-cleared_keeps defined place old new c a w small is = by_lt_or_le at place
-    (λ l. ap (λ n. bit n (a % 64))
-    (c.below at l ∙ ap (λ k. bit_and (slice_index old at) (slice_index defined k)) column)
-    ∙ bit-and (slice_index old at) (slice_index defined (a / 64)) (a % 64)
-    ∙ ap (λ b. bit (slice_index old at) (a % 64) && b) is ∙ and-true _)
-    (λ g. ap (λ n. bit n (a % 64)) (c.above at g))
-  where
-    at : ℕ
-    at = length defined * w + a / 64
-
-    column : at % length defined ≡ a / 64
-    column = ap (λ n. (n + a / 64) % length defined) (mul_comm (length defined) w)
-        ∙ mod-mul-add w (length defined) (a / 64) (omega (arith, small))
+cleared_keeps defined place old new c a w small is =
+    grind (arith, common_steps, by_lt_or_le, bit-and, and-true, mul_comm, mod-mul-add)
 
 -- so the rows of words stay what they are to be
 pub rows_kept : (n : Netlist) (words : ℕ) (old new : ValueRows) → new.defined ≡ old.defined →

@@ -1,21 +1,20 @@
 -- Whether a job has a fault does not depend on the local valuation that is taken
-use Rattle.std.proofs.Common.{◌≡◌, ◌≢◌, ℕ, zero, suc, ◌<◌, Bool, true, false, List, [], ◌∷◌, Some, refl, sym, ap, subst}
-use Rattle.std.proofs.Common.{◌∙◌, arith, eqb, eq-eqb, ◌⊎◌, inl, inr}
-use Rattle.std.specs.Prelude.{ℤ, Contains, slice_get}
+use Rattle.std.proofs.Common.{◌≡◌, ◌≢◌, ℕ, zero, suc, ◌<◌, Bool, true, false, List, [], ◌∷◌, refl, sym, ap, subst}
+use Rattle.std.proofs.Common.{◌∙◌, arith, eq-eqb, ◌⊎◌, inl, inr}
+use Rattle.std.specs.Prelude.{ℤ, Contains}
 use Rattle.std.proofs.Props.{props}
 use Rattle.std.proofs.lemmas.Bool.{and_from, and_parts, cases_Bool, eqb-true, true≢false}
 use Rattle.std.proofs.lemmas.Option.{same_Some, slice_get-get_or}
 use Rattle.std.proofs.Math.Logic.{∥∥₁_elim, ∥∥₁_map}
+use Rattle.std.proofs.lemmas.Grind.{common_steps}
 use Rattle.circuit.specs.Meaning.{Valuation, AreOrdered, wires}
 use Rattle.circuit.proofs.Valuations.{at_most_one}
 use Rattle.module_box.specs.LocalValues.{IsLocalValuation}
-use Rattle.module_box.specs.Moments.{moment_cmp}
-use Rattle.bbm_rule.specs.Plane.{is_at}
 use Rattle.module_box.specs.Schedules.{is_moment_at}
 use Rattle.module_box.specs.declared.schedules.Moment.{Moment}
 use Rattle.module_box.proofs.Rising.{is_first, moment_total}
 use Rattle.bbm_rule.proofs.SameCells.{cell_same, cell_itself}
-use Rattle.module_job.specs.Jobs.{JobView, IsJob, NamesOwnWires, job_demand, stop_moment}
+use Rattle.module_job.specs.Jobs.{JobView, IsJob, NamesOwnWires, job_demand}
 use Rattle.module_job.specs.Signals.{Meets, IsDemandBelow}
 use Rattle.module_job.specs.declared.job.Demand.{Demand}
 use Rattle.module_job.specs.declared.job.Demand.TheVariants as Demanded
@@ -98,22 +97,11 @@ found_stop (r ∷ stops) t x y = elim (cases_Bool (is_moment_at r.at t x y)) [
 -- stops at one moment are one stop
 one_stop : (j : JobView) (r s : listed.Stop) → IsJob j → Contains j.stops r → Contains j.stops s → r.at ≡ s.at → r ≡ s
 one_stop j r s is hr hs same =
-    let er : slice_get j.stops hr.0 ≡ Some r = slice_get-get_or j.stops hr.0 r hr.1 ∙ ap Some hr.2 in
-    let es : slice_get j.stops hs.0 ≡ Some s = slice_get-get_or j.stops hs.0 s hs.1 ∙ ap Some hs.2 in
-    elim (three_ways hr.0 hs.0) [
-      | inl lt ↦ absurd (is_first moment_cmp stop_moment j.stops hs.0 s moment_total is.stops_rise es hr.0 r lt er same)
-      | inr (inl e) ↦ same_Some _ _ (sym er ∙ ap (slice_get j.stops) e ∙ es)
-      | inr (inr gt) ↦ absurd (is_first moment_cmp stop_moment j.stops hr.0 r moment_total is.stops_rise er hs.0 s gt es
-          (sym same))
-    ]
+    grind (arith, common_steps, slice_get-get_or, three_ways, is_first, moment_total, same_Some)
 
 is_moment : (m : Moment) (t : ℕ) (x y : ℤ) → is_moment_at m t x y ≡ true →
     m ≡ record { time = t; cell = record { x = x; y = y } }
-is_moment m t x y h =
-    let p = and_parts (eqb m.time t) (is_at m.cell x y) h in
-    let time : m.time ≡ t = eqb-true m.time t p.0 in
-    let cell = cell_same m.cell (record { x = x; y = y }) p.1 in
-    λ i. record { time = time i; cell = cell i }
+is_moment m t x y h = grind (arith, common_steps, and_parts, eqb-true, cell_same)
 
 then_moment : (j : JobView) (u : Valuation) (t : ℕ) (x y : ℤ) (f : IsStopFault j u t x y) →
     f.stop.at ≡ record { time = t; cell = record { x = x; y = y } }

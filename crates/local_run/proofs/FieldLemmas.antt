@@ -4,6 +4,7 @@ use Rattle.std.proofs.Common.{◌∙◌, ap, ltb}
 use Rattle.std.proofs.Common.{List, get_or, subst}
 use Rattle.std.proofs.lemmas.Bool.{false≢true}
 use Rattle.std.proofs.Math.Nat.{div-add-mod, mod-lt, mul-le-mul_left}
+use Rattle.std.proofs.lemmas.Grind.{common_steps}
 use Rattle.bbm_rule.specs.Bits.{bit}
 use Rattle.bbm_rule.specs.Words.{AreTurned}
 use Rattle.bbm_rule.proofs.BitLemmas.{bit-zero, by_eq_or_not, by_lt_or_le}
@@ -193,12 +194,7 @@ odd_renamed p q P Q from to t =
 
 pub odd_join : (p q r : Planes) (at end : ℕ) → HasSize p.words p.stride p.rows q → at ≤ end →
     TurnsOdd 0 at p q → TurnsOdd at end q r → TurnsOdd 0 end p r
-odd_join p q r at end size le s t =
-    let t = rw (size.0) at t in
-    named_join p.words (λ n. n) (λ n. n) (λ n. n) (λ n. n) (λ n. (0 ≤ n) × (n < at)) (λ n. (at ≤ n) × (n < end))
-    (λ n. (0 ≤ n) × (n < end)) _ _ _ _ _ _ _ _ _ _ _ _ (λ n l g. absurd (omega (arith, l.1, g.0)))
-    (λ n l. by_lt_or_le n at (λ h. inl (l.0, h)) (λ h. inr (h, l.1)))
-    (λ n l. (l.0, omega (arith, l.1))) (λ n g. (omega arith, g.1)) s t
+odd_join p q r at end size le s t = grind (arith, common_steps, named_join, by_lt_or_le)
 
 -- the blocks below a number are turned, as far as there are some
 abbrev pub TurnsOddBelow : ℕ → ℕ → Planes → Planes → Type 0
@@ -260,9 +256,7 @@ after_next s n m e = omega (arith, e)
 pub even_none : (p : Planes) (marks : List ℕ) (P : ℕ → Type 0) → AreEvenBlocksStable marks p →
     ((n : ℕ) → P n → (n + p.stride + 1 < p.stride * p.rows) × ((n + 1) % p.stride ≢ 0) × IsUnmarked marks n) →
     TurnsEvenBlocksWhere P p p
-even_none p marks P calm free =
-    named_stay p.words (λ n. n) (λ n. n + 1) (λ n. n + p.stride) (λ n. n + p.stride + 1) P p.even.items p.down.items
-    p.right.items p.odd.items (λ n is. let f = free n is in calm n f.0 f.1 f.2)
+even_none p marks P calm free = grind (arith, common_steps, named_stay)
 
 even_next : (p q r : Planes) (u : ℕ) (P Q : ℕ → Type 0) → HasSize p.words p.stride p.rows q →
     TurnsEvenBlocksWhere P p q → TurnsPart (q.words * u) (q.words * (u + 1)) (q.words * (u + q.stride))
@@ -348,9 +342,7 @@ even_more_none p q k cells rest size some none calm s = by_lt_or_le (64 * k + 64
 
 -- in the end all are
 pub even_below_all : (p q : Planes) (at cells : ℕ) → cells ≤ at → TurnsEvenBelow at cells p q → TurnsEven 0 cells p q
-even_below_all p q at cells l t = even_renamed p q (λ n. (n < at) × (n < cells) × ((n + 1) % p.stride ≢ 0))
-    (λ n. (0 ≤ n) × (n < cells) × ((n + 1) % p.stride ≢ 0))
-    (λ n is. (omega (arith, is.1), is.1, is.2)) (λ n is. (omega arith, is.1, is.2)) t
+even_below_all p q at cells l t = grind (arith, common_steps, even_renamed)
 
 pub even_all : (p q : Planes) (u : ℕ) → HasSize p.words p.stride p.rows q → u + p.stride + 1 ≡ p.stride * p.rows →
     TurnsEven 0 u p q →

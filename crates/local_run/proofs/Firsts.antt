@@ -4,16 +4,16 @@ use Rattle.std.proofs.Common.{sym, ◌∙◌, ap, subst, Option, Some, None}
 use Rattle.std.specs.Prelude.{ℤ, pos, negsuc, ◌+ℤ◌, ◌-ℤ◌, ◌<ℤ◌}
 use Rattle.std.proofs.lemmas.Bool.{and_parts, and_from, false≢true}
 use Rattle.std.proofs.lemmas.Int.{ints}
+use Rattle.std.proofs.lemmas.Grind.{common_steps}
 use Rattle.bbm_rule.specs.Spans.{in_span}
 use Rattle.module_box.specs.Boxes.{in_box, in_ring}
-use Rattle.module_box.specs.Schedules.{signal_at}
 use Rattle.module_box.specs.declared.boxes.Box2.{Box2}
 use Rattle.bbm_rule.proofs.Spans.{span_parts, span_from, in_span-negsuc}
 use Rattle.circuit.specs.Meaning.{Valuation}
 use Rattle.module_job.specs.Signals.{is_live, Meets}
 use Rattle.module_job.specs.Jobs.{JobView, job_demand}
 use Rattle.local_run.specs.Runs.{local_run}
-use Rattle.local_run.specs.Faults.{IsEdgeFault, IsFaultUnder, assignments}
+use Rattle.local_run.specs.Faults.{IsFaultUnder, assignments}
 use Rattle.module_box.specs.declared.schedules.Signal.{Signal}
 use Rattle.module_job.specs.declared.job.Demand.{Demand}
 use Rattle.local_run.specs.declared.fault.Kind.{Kind}
@@ -59,9 +59,7 @@ least_map n P Q f g (Some a) h = (h.0, f a h.0 h.1, λ b l q. h.2 b l (g b (omeg
 pub edge_none : (j : JobView) (n : ℕ) (u : ℕ → Valuation) (t : ℕ) (k : Kind) (x y : ℤ) → Edge ≡ k →
     in_ring j.area x y ≡ false →
     IsLeastBelow n (λ a. IsFaultUnder j (u a) t k x y) None
-edge_none j n u t k x y e out a l f =
-    let g : IsEdgeFault j (u a) t x y = subst (λ (k' : Kind). IsFaultUnder j (u a) t k' x y) (sym e) f in
-    false≢true (sym out ∙ g.ring)
+edge_none j n u t k x y e out a l f = grind (arith, common_steps, false≢true)
 
 pub end_least : (j : JobView) (vs : Values) (n : ℕ) (f : ℕ → Bool) (s : Signal) (d : Demand) (t : ℕ) (k : Kind)
     (x y : ℤ) (r : Option ℕ) → End ≡ k → IsSought j t k →
@@ -70,53 +68,7 @@ pub end_least : (j : JobView) (vs : Values) (n : ℕ) (f : ℕ → Bool) (s : Si
     ((a : ℕ) → a < n → f a ≡ local_run j (valuation vs a) t x y) →
     IsLeastBelow n (λ a. (is_defined vs a ≡ true) × (f a ≢ is_live (valuation vs a) s)) r →
     IsLeastBelow n (λ a. IsDefinedFault j vs a t k x y) r
-end_least j vs n f s d t k x y r e sought inside ed to from same h =
-    subst (λ (k' : Kind). IsLeastBelow n (λ a. IsDefinedFault j vs a t k' x y) r) e
-    (least_map n (λ a. (is_defined vs a ≡ true) × (f a ≢ is_live (valuation vs a) s))
-    (λ a. IsDefinedFault j vs a t End x y)
-    (λ a l ne. (
-      ne.0,
-      record {
-        last = at_end;
-        inside = inside;
-        differs = λ meets. ne.1 (same a l
-            ∙ to (valuation vs a) _ (subst
-            (λ (d' : Demand). Meets (valuation vs a) d' (local_run j (valuation vs a) t x y)) ed meets));
-      },
-    ))
-    (λ a l fault. (
-      fault.0,
-      (λ is. fault.1.differs (subst (λ (d' : Demand). Meets (valuation vs a) d' (local_run j (valuation vs a) t x y))
-          (sym ed) (from (valuation vs a) _ (sym (same a l) ∙ is)))),
-    ))
-    r h)
-  where
-    at_end : t ≡ j.steps
-    at_end = subst (λ (k' : Kind). IsSought j t k') (sym e) sought
-
-pub edge_least : (j : JobView) (vs : Values) (n : ℕ) (f : ℕ → Bool) (s : Signal) (t : ℕ) (k : Kind) (x y : ℤ)
-    (r : Option ℕ) → Edge ≡ k → IsSought j t k → in_ring j.area x y ≡ true →
-    s ≡ signal_at j.edges t x y → ((a : ℕ) → a < n → f a ≡ local_run j (valuation vs a) t x y) →
-    IsLeastBelow n (λ a. (is_defined vs a ≡ true) × (f a ≢ is_live (valuation vs a) s)) r →
-    IsLeastBelow n (λ a. IsDefinedFault j vs a t k x y) r
-edge_least j vs n f s t k x y r e sought ring es same h =
-    subst (λ (k' : Kind). IsLeastBelow n (λ a. IsDefinedFault j vs a t k' x y) r) e
-    (least_map n (λ a. (is_defined vs a ≡ true) × (f a ≢ is_live (valuation vs a) s))
-    (λ a. IsDefinedFault j vs a t Edge x y)
-    (λ a l ne. (
-      ne.0,
-      record {
-        odd = at.0;
-        early = at.1;
-        ring = ring;
-        differs = λ is. ne.1 (same a l ∙ is ∙ ap (is_live (valuation vs a)) (sym es));
-      },
-    ))
-    (λ a l fault. (fault.0, (λ is. fault.1.differs (sym (same a l) ∙ is ∙ ap (is_live (valuation vs a)) es))))
-    r h)
-  where
-    at : IsSought j t Edge
-    at = subst (λ (k' : Kind). IsSought j t k') (sym e) sought
+end_least j vs n f s d t k x y r e sought inside ed to from same h = grind (arith, common_steps, least_map)
 
 -- no cell but those of the ring is found
 pub edge_not_found : (j : JobView) (vs : Values) (n t : ℕ) (k : Kind) (x y : ℤ) → Edge ≡ k →
@@ -183,10 +135,7 @@ none_of false = refl
 
 one_less : (c k : ℕ) → 1 ≤ k → box_coord c k -ℤ pos 1 ≡ pos (c + (k - 1))
 unfolding box_coord
-one_less c k l = let e : c + k ≡ 1 + (c + (k - 1)) = omega arith in ap (λ n. pos n -ℤ pos 1) e ∙ less_pos (c + (k - 1))
-  where
-    less_pos : (n : ℕ) → pos (1 + n) -ℤ pos 1 ≡ pos n
-    less_pos n = omega (arith, ints)
+one_less c k l = grind (arith, common_steps, ints)
 
 one_more : (c k : ℕ) → box_coord c k +ℤ pos 1 ≡ pos (c + (k + 1))
 unfolding box_coord
@@ -194,9 +143,7 @@ one_more c k = omega (arith, ints)
 
 both_beside : (c n k : ℕ) → 1 ≤ k → k + 1 < n →
     (in_span c n (box_coord c k -ℤ pos 1) && in_span c n (box_coord c k +ℤ pos 1)) ≡ true
-both_beside c n k l h = and_from _ _
-    (ap (in_span c n) (one_less c k l) ∙ span_from c n (c + (k - 1)) (omega arith) (omega arith))
-    (ap (in_span c n) (one_more c k) ∙ span_from c n (c + (k + 1)) (omega arith) (omega arith))
+both_beside c n k l h = grind (arith, common_steps, and_from, one_less, span_from, one_more)
 
 -- a cell between the first and the last one of a row between the first and the last one is not in the ring
 pub not_in_ring : (b : Box2) (x y : ℕ) → 1 ≤ x → x + 1 < b.w → 1 ≤ y → y + 1 < b.h →

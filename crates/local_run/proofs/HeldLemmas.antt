@@ -4,23 +4,20 @@ use Rattle.std.proofs.Common.{ap}
 use Rattle.std.proofs.Common.{List, get_or, ◌||◌}
 use Rattle.std.proofs.lemmas.Bool.{false≢true}
 use Rattle.std.proofs.Math.Nat.{mul-le-mul_left}
+use Rattle.std.proofs.lemmas.Grind.{common_steps}
 use Rattle.bbm_rule.specs.Bits.{bit}
 use Rattle.bbm_rule.specs.Plane.{turned}
 use Rattle.bbm_rule.proofs.BitLemmas.{bit_above, bit-zero, by_lt_or_le}
 use Rattle.bbm_rule.proofs.MarkLemmas.{bit_ones}
 use Rattle.local_run.specs.Turns.{IsStableBlock}
-use Rattle.local_run.specs.Held.{HasValueUnderAll, HasLiveDiagonals, IsEmptyBlock, IsHeldBlock, bits_of}
+use Rattle.local_run.specs.Held.{HasValueUnderAll, IsEmptyBlock, IsHeldBlock, bits_of}
 
 -- ---- cells whose words are the same
 pub room_of : (w u n long : ℕ) → u < n → long ≡ w * n → w * u + w ≤ long
 room_of w u n long l e = let m : w * (u + 1) ≤ w * n = mul-le-mul_left w (omega arith) in omega (arith, m, e)
 
 pub run_room : (w first end n long : ℕ) → first ≤ end → end ≤ n → long ≡ w * n → w * first + w * (end - first) ≤ long
-run_room w first end n long l h e =
-    let m : w * end ≤ w * n = mul-le-mul_left w h in
-    let s : first + (end - first) ≡ end = omega arith in
-    let t : w * (first + (end - first)) ≡ w * end = ap (λ (k : ℕ). w * k) s in
-    omega (arith, m, t, e)
+run_room w first end n long l h e = grind (arith, common_steps, mul-le-mul_left)
 
 pub all_live : (w at : ℕ) (cells : List ℕ) →
     ((k : ℕ) → k < w → get_or cells (w * at + k) 0 ≡ 18446744073709551615) →
@@ -181,25 +178,3 @@ still_held w A B C D a b c d a' b' c' d' sa sb sc sd (inl h) = inl (record {
 })
 still_held w A B C D a b c d a' b' c' d' sa sb sc sd (inr h) =
     inr (still_empty w A B C D a b c d a' b' c' d' sa sb sc sd h)
-
--- conditions that follow from others
-pub emptied : (w : ℕ) (A B C D A' B' C' D' : Type 0) (a b c d : ℕ → ℕ → Bool) → (A → A') → (B → B') → (C → C') →
-    (D → D') → IsEmptyBlock w A B C D a b c d → IsEmptyBlock w A' B' C' D' a b c d
-emptied w A B C D A' B' C' D' a b c d fa fb fc fd h = record {
-  conditions = (fa h.conditions.0, fb h.conditions.1, fc h.conditions.2, fd h.conditions.3);
-  upper_left = h.upper_left;
-  upper_right = h.upper_right;
-  lower_left = h.lower_left;
-  lower_right = h.lower_right;
-}
-
-one_met : (w : ℕ) (A D A' D' : Type 0) (a d : ℕ → ℕ → Bool) → (A → A') → (D → D') →
-    (A × HasValueUnderAll true w a) ⊎ (D × HasValueUnderAll true w d) →
-    (A' × HasValueUnderAll true w a) ⊎ (D' × HasValueUnderAll true w d)
-one_met w A D A' D' a d fa fd (inl h) = inl (fa h.0, h.1)
-one_met w A D A' D' a d fa fd (inr h) = inr (fd h.0, h.1)
-
-pub lit : (w : ℕ) (A B C D A' B' C' D' : Type 0) (a b c d : ℕ → ℕ → Bool) → (A → A') → (B → B') → (C → C') →
-    (D → D') → HasLiveDiagonals w A B C D a b c d → HasLiveDiagonals w A' B' C' D' a b c d
-lit w A B C D A' B' C' D' a b c d fa fb fc fd h =
-    record { main = one_met w A D A' D' a d fa fd h.main; anti = one_met w B C B' C' b c fb fc h.anti }

@@ -1,9 +1,9 @@
 -- The cells of planes, by assignment.
 use Rattle.std.proofs.Common.{◌≡◌, ℕ, ◌<◌, ◌≤◌, ◌+◌, ◌-◌, ◌*◌, ◌/◌, ◌%◌, refl, arith, ◌∙◌, ap, List, length, get_or}
-use Rattle.std.proofs.Common.{take, ◌++◌}
 use Rattle.std.proofs.Math.Nat.{mul-le-mul_left}
 use Rattle.std.proofs.Common.{drop}
 use Rattle.std.proofs.lemmas.List.{get_or-take, get_or-drop, get_or-append_right, get_or_append_left, length-take-le}
+use Rattle.std.proofs.lemmas.Grind.{common_steps}
 use borrow.Rule.Slice.PartMut.{mid_of, put_mid, post_of}
 use Rattle.local_run.specs.Across.{TurnsAcross}
 use Rattle.bbm_rule.specs.Plane.{turned}
@@ -21,49 +21,26 @@ place p i j k = p.words * (p.stride * j + i) + k
 lane_ul : (p : Planes) (a i j : ℕ) →
     lane p a (2 * i) (2 * j) ≡ bit (get_or p.odd.items (place p i j (a / 64)) 0) (a % 64)
 unfolding lane plane_of
-lane_ul p a i j =
-    let ex : 2 * i % 2 ≡ 0 = omega arith in
-    let ey : 2 * j % 2 ≡ 0 = omega arith in
-    let hx : 2 * i / 2 ≡ i = omega arith in
-    let hy : 2 * j / 2 ≡ j = omega arith in
-    rw (ex, ey, hx, hy) refl
+lane_ul p a i j = grind (arith, common_steps)
 
 lane_ur : (p : Planes) (a i j : ℕ) →
     lane p a (1 + 2 * i) (2 * j) ≡ bit (get_or p.right.items (place p i j (a / 64)) 0) (a % 64)
 unfolding lane plane_of
-lane_ur p a i j =
-    let ex : (1 + 2 * i) % 2 ≡ 1 = omega arith in
-    let ey : 2 * j % 2 ≡ 0 = omega arith in
-    let hx : (1 + 2 * i) / 2 ≡ i = omega arith in
-    let hy : 2 * j / 2 ≡ j = omega arith in
-    rw (ex, ey, hx, hy) refl
+lane_ur p a i j = grind (arith, common_steps)
 
 lane_dl : (p : Planes) (a i j : ℕ) →
     lane p a (2 * i) (1 + 2 * j) ≡ bit (get_or p.down.items (place p i j (a / 64)) 0) (a % 64)
 unfolding lane plane_of
-lane_dl p a i j =
-    let ex : 2 * i % 2 ≡ 0 = omega arith in
-    let ey : (1 + 2 * j) % 2 ≡ 1 = omega arith in
-    let hx : 2 * i / 2 ≡ i = omega arith in
-    let hy : (1 + 2 * j) / 2 ≡ j = omega arith in
-    rw (ex, ey, hx, hy) refl
+lane_dl p a i j = grind (arith, common_steps)
 
 lane_dr : (p : Planes) (a i j : ℕ) →
     lane p a (1 + 2 * i) (1 + 2 * j) ≡ bit (get_or p.even.items (place p i j (a / 64)) 0) (a % 64)
 unfolding lane plane_of
-lane_dr p a i j =
-    let ex : (1 + 2 * i) % 2 ≡ 1 = omega arith in
-    let ey : (1 + 2 * j) % 2 ≡ 1 = omega arith in
-    let hx : (1 + 2 * i) / 2 ≡ i = omega arith in
-    let hy : (1 + 2 * j) / 2 ≡ j = omega arith in
-    rw (ex, ey, hx, hy) refl
+lane_dr p a i j = grind (arith, common_steps)
 
 -- the words of a cell are within its plane
 pub place_below : (w s r i j k : ℕ) → i < s → j < r → k < w → w * (s * j + i) + k < w * (s * r)
-place_below w s r i j k li lj lk =
-    let row : s * (j + 1) ≤ s * r = mul-le-mul_left s (omega arith) in
-    let cell : w * (s * j + i + 1) ≤ w * (s * r) = mul-le-mul_left w (omega arith) in
-    omega arith
+place_below w s r i j k li lj lk = grind (arith, common_steps, mul-le-mul_left)
 
 -- where the four planes are turned at each place, each cell is turned in its block
 pub odd_lane : (p q : Planes) → HasSize p.words p.stride p.rows q →
@@ -155,11 +132,7 @@ part_read a k i xs l = get_or-take k (drop a xs) i 0 l ∙ get_or-drop a xs i 0
 
 pub part_written : (a k i : ℕ) (xs ys : List ℕ) → a ≤ length xs → i < length ys →
     get_or (put_mid a k xs ys) (a + i) 0 ≡ get_or ys i 0
-part_written a k i xs ys within l =
-    let front : length (take a xs) ≡ a = length-take-le a xs within in
-    let after : a + i - a ≡ i = omega arith in
-    get_or-append_right (take a xs) (ys ++ post_of a k xs) a (a + i) 0 front (omega arith)
-    ∙ rw after (get_or_append_left ys (post_of a k xs) 0 i l)
+part_written a k i xs ys within l = grind (arith, common_steps, length-take-le, get_or-append_right, get_or_append_left)
 
 pub across_turned : (across below n n0 n1 n2 n3 : ℕ) (ul ur dl dr a b c d : List ℕ) → n0 ≡ n → n1 ≡ n → n2 ≡ n →
     n3 ≡ n → n + below + across ≡ length ul → length ur ≡ length ul → length dl ≡ length ul → length dr ≡ length ul →

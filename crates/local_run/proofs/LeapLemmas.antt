@@ -7,6 +7,7 @@ use Rattle.std.proofs.lemmas.Option.{slice_get_within}
 use Rattle.std.specs.Ordering.{int_eq, nat_cmp, ordering_then}
 use Rattle.std.proofs.Common.{rules, true, false}
 use Rattle.std.proofs.lemmas.Bool.{and_parts, false≢true}
+use Rattle.std.proofs.lemmas.Grind.{common_steps}
 use Rattle.bbm_rule.specs.Plane.{State, is_at, partner, turned, step}
 use Rattle.bbm_rule.specs.declared.block.Cell.{Cell}
 use Rattle.module_box.specs.declared.schedules.AllTimes.{AllTimes}
@@ -42,10 +43,7 @@ int_itself : (a : ℤ) → int_eq a a ≡ true
 int_itself a = search rules
 
 at_cell : (c d : Cell) → is_at c d.x d.y ≡ true → c ≡ d
-at_cell c d e =
-    let p = and_parts (int_eq c.x d.x) (int_eq c.y d.y) e in
-    let cell : ℤ → ℤ → Cell = λ x y. record { x = x; y = y } in
-    ap₂ cell (int_same c.x d.x p.0) (int_same c.y d.y p.1)
+at_cell c d e = grind (arith, common_steps, and_parts, int_same)
 
 at_itself : (c : Cell) → is_at c c.x c.y ≡ true
 at_itself c = rw (int_itself c.x, int_itself c.y) refl
@@ -56,22 +54,11 @@ AreOther hs c k = (i : ℕ) (h : AllTimes) → i < k → slice_get hs i ≡ Some
 
 pub one_more_other : (hs : List AllTimes) (c : Cell) (k : ℕ) (h : AllTimes) → slice_get hs k ≡ Some h →
     is_at h.cell c.x c.y ≡ false → AreOther hs c k → AreOther hs c (k + 1)
-one_more_other hs c k h at differs other i g l e same = by_lt_or_le i k
-    (λ before. other i g before e same)
-    (λ from. let here : i ≡ k = omega arith in
-    let e' : slice_get hs k ≡ Some g = subst (λ (n : ℕ). slice_get hs n ≡ Some g) here e in
-    let eg : h ≡ g = some_same h g (sym at ∙ e') in
-    false≢true (sym (subst (λ (z : AllTimes). is_at z.cell c.x c.y ≡ false) eg differs)
-    ∙ subst (λ (z : Cell). is_at z c.x c.y ≡ true) (sym same) (at_itself c)))
-  where
-    some_same : (a b : AllTimes) → Some a ≡ Some b → a ≡ b
-    some_same a b e = cc
+one_more_other hs c k h at differs other i g l e same = grind (arith, common_steps, by_lt_or_le, false≢true, at_itself)
 
 pub all_times_there : (hs : List AllTimes) (k : ℕ) (c : Cell) (h : AllTimes) → AreOther hs c k →
     slice_get hs k ≡ Some h → is_at h.cell c.x c.y ≡ true → all_times_at hs c.x c.y ≡ Some h.signal
-all_times_there hs k c h other at same =
-    let e = at_cell h.cell c same in
-    all_times_found hs k h c e at (λ j g l got is. other j g l got (is ∙ e))
+all_times_there hs k c h other at same = grind (arith, common_steps, at_cell, all_times_found)
 
 pub all_times_nowhere : (hs : List AllTimes) (c : Cell) → AreOther hs c (length hs) → all_times_at hs c.x c.y ≡ None
 all_times_nowhere hs c other = all_times_none hs c (λ i h e. other i h (slice_get_within hs i h e) e)
@@ -241,9 +228,7 @@ drop_time es t low high m a rising b at le = record {
 -- the bounds have met at an event: there is none between t and its time
 pub none_until : (es : List TimedSignal) (t low high n : ℕ) (a : TimedSignal) → IsRising moment_cmp moment_of es →
     IsTimeBetween es t low high → high ≤ low → slice_get es low ≡ Some a → n ≤ a.at.time → HasNoEvents es t n
-none_until es t low high n a rising b met at le i e ei from to = by_lt_or_le i low
-    (λ l. let h = b.below i e l ei in omega arith)
-    (λ ge. let h = later es low i a e rising ge at ei in omega arith)
+none_until es t low high n a rising b met at le i e ei from to = grind (arith, common_steps, by_lt_or_le, later)
 
 pub none_before : (es : List TimedSignal) (t low high : ℕ) (a : TimedSignal) → IsRising moment_cmp moment_of es →
     IsTimeBetween es t low high → high ≤ low → slice_get es low ≡ Some a → HasNoEvents es t a.at.time
@@ -257,12 +242,7 @@ above_at es t low high a b met at = b.above low a met at
 -- or at the end
 pub none_at_all : (es : List TimedSignal) (t low high n : ℕ) → IsTimeBetween es t low high → length es ≤ low →
     HasNoEvents es t n
-none_at_all es t low high n b met i e ei from to = by_lt_or_le i low
-    (λ l. let h = b.below i e l ei in omega arith)
-    (λ ge. none_there i e (omega arith) ei)
-  where
-    none_there : (i : ℕ) (e : TimedSignal) → length es ≤ i → slice_get es i ≡ Some e → ⊥
-    none_there i e l ei = let h = slice_get_within es i e ei in omega arith
+none_at_all es t low high n b met i e ei from to = grind (arith, common_steps, by_lt_or_le, slice_get_within)
 
 -- ---- where there are no events, signals stay
 pub steady : (s : Signals) (t n : ℕ) → HasNoEvents s.events t n → HasSameSignalsAtOddTimes s t n

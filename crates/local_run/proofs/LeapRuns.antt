@@ -1,8 +1,9 @@
 -- Runs under all assignments that leap over times
-use Rattle.std.proofs.Common.{◌≡◌, ℕ, Bool, true, false, ◌||◌, ◌<◌, ◌≤◌, ◌+◌, ◌-◌, ◌%◌, refl, arith, sym, ◌∙◌, ap}
+use Rattle.std.proofs.Common.{◌≡◌, ℕ, Bool, true, false, ◌||◌, ◌<◌, ◌≤◌, ◌+◌, ◌-◌, ◌%◌, refl, arith, sym, ◌∙◌}
 use Rattle.std.proofs.Common.{subst, inl, inr, ◌⊎◌}
 use Rattle.std.specs.Prelude.{ℤ}
 use Rattle.std.proofs.lemmas.Bool.{and_parts, cases_Bool, false≢true}
+use Rattle.std.proofs.lemmas.Grind.{common_steps}
 use Rattle.bbm_rule.specs.Spans.{in_span}
 use Rattle.bbm_rule.proofs.BitLemmas.{by_lt_or_le, by_eq_or_not}
 use Rattle.module_box.specs.Boxes.{in_box}
@@ -50,12 +51,7 @@ shows_same j vs k m p shows same = record {
 -- a run that did not change at the odd time o and at the even time after it
 stays_both : (j : JobView) (vs : Values) (o a : ℕ) → a < assignments j → SameRuns j vs (o + 1) o →
     SameRuns j vs (o + 2) (o + 1) → IsRunUnchangedUntil j (valuation vs a) o (o + 2)
-stays_both j vs o a la first second k x y from to = by_eq_or_not k o
-    (λ e. ap (λ m. local_run j (valuation vs a) m x y) e)
-    (λ n. by_eq_or_not k (o + 1)
-    (λ e. ap (λ m. local_run j (valuation vs a) m x y) e ∙ first a la x y)
-    (λ n'. let e : k ≡ o + 2 = omega (arith, n, n', from, to) in
-    ap (λ m. local_run j (valuation vs a) m x y) e ∙ second a la x y ∙ first a la x y))
+stays_both j vs o a la first second k x y from to = grind (arith, common_steps, by_eq_or_not)
 
 is_odd_of : (o : ℕ) → o % 2 ≡ 1 → IsOddOf o o
 is_odd_of o odd = record {
@@ -151,20 +147,3 @@ next_run j vs t n old place p q before changed ready run l passed next same rang
   where
     back : t + 1 - 1 ≡ t
     back = omega arith
-
--- it begins at time 0
-pub first_run : (j : JobView) (vs : Values) (p : Planes) → Shows j vs 0 p → InRun j vs 0 0 p true
-first_run j vs p shows = record {
-  shows = shows;
-  early = omega arith;
-  next = record {
-    within = omega arith;
-    before = λ k s l e. absurd (omega (arith, l));
-    from = λ k s l e. omega arith;
-  };
-  free = record {
-    edges = λ k l odd. absurd (omega (arith, l));
-    stops = λ k l. absurd (omega (arith, l));
-  };
-  still = λ e. absurd (false≢true (sym e));
-}

@@ -4,6 +4,7 @@ use Rattle.std.proofs.Common.{Option, Some, None, Ordering, Less, Equal, Greater
 use Rattle.std.specs.Prelude.{ℤ, ◌<ℤ◌, ◌↔◌, MatchOption, IsTrue}
 use Rattle.std.proofs.Props.{props}
 use Rattle.std.proofs.lemmas.Option.{slice_get_within}
+use Rattle.std.proofs.lemmas.Grind.{common_steps}
 use Rattle.module_box.specs.Locals.{is_among}
 use Rattle.std.proofs.lemmas.Bool.{cases_Bool, cases_lt, true≢false}
 use Rattle.std.proofs.Math.Logic.{∥∥₁_elim}
@@ -165,9 +166,7 @@ none_before j vs t ready early free f h l =
 
 is_first : (j : JobView) (vs : Values) (t : ℕ) (k : Kind) (f : Fault) → IsFirst j vs t k f →
     IsFirst j vs f.time f.kind f
-is_first j vs t k f first =
-    subst (λ (t' : ℕ). IsFirst j vs t' f.kind f) (sym first.at_time)
-    (subst (λ (k' : Kind). IsFirst j vs t k' f) (sym first.same_kind) first)
+is_first j vs t k f first = grind (arith, common_steps)
 
 -- from the first fault of a kind at a time, where the kinds before it have no fault at the time
 least_at : (j : JobView) (vs : Values) (t : ℕ) (k : Kind) (f : Fault) → IsReady j vs → t ≤ j.steps →

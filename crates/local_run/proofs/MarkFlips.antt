@@ -1,6 +1,6 @@
 -- Marks that are flipped or change places
 use Rattle.std.proofs.Common.{◌≡◌, ◌≢◌, ℕ, Bool, true, false, not, ◌<◌, ◌*◌, ◌/◌, ◌^◌, ◌%◌, refl, arith, sym, ◌∙◌, ap}
-use Rattle.std.proofs.Common.{List, length, get_or, set, bit_and, bit_or, w64, inl, inr, ◌&&◌}
+use Rattle.std.proofs.Common.{List, length, get_or, set, bit_and, bit_or, w64, ◌&&◌}
 use Rattle.std.specs.Bool.{beq}
 use Rattle.std.specs.Int.{bit_at, trailing_zeros}
 use Rattle.std.specs.Int.Count.{trailing_of_zero}
@@ -11,6 +11,7 @@ use Rattle.std.proofs.lemmas.List.{get_or-set_same, get_or-set_other}
 use Rattle.std.proofs.Math.Nat.{mod-lt}
 use Rattle.std.proofs.lemmas.Nat.{xor_lt}
 use Rattle.std.proofs.lemmas.Nat.Bits.{bit_at-trailing_zeros, bit_at_set_same, bit_at_set_other}
+use Rattle.std.proofs.lemmas.Grind.{common_steps}
 use Rattle.bbm_rule.specs.Bits.{bit}
 use Rattle.bbm_rule.specs.Rows.{cell_at}
 use Rattle.bbm_rule.specs.Marks.{IsUnmarked}
@@ -125,9 +126,7 @@ flipped_elsewhere marks at u room ne = by_eq_or_not (u / 64) (at / 64)
 -- the mark of a becomes what that of b was
 pub took : (a b : ℕ) (m o m' : List ℕ) → cell_at m' a ≡ cell_at o b →
     ((u : ℕ) → u ≢ a → cell_at m' u ≡ cell_at m u) → TakesMark a b m o m'
-took a b m o m' there elsewhere u free = by_eq_or_not u a
-    (λ e. inr (e, sym there ∙ ap (cell_at m') (sym e) ∙ free))
-    (λ ne. inl (ne, sym (elsewhere u ne) ∙ free))
+took a b m o m' there elsewhere u free = grind (arith, common_steps, by_eq_or_not)
 
 -- of two marks that differ, each is the other one flipped
 second_flipped : (r s : Bool) → beq r s ≡ false → not r ≡ s
@@ -171,12 +170,7 @@ lacking_bit first second marks u e =
 -- a number that lacks no mark
 pub in_both : (first second marks : List ℕ) (u : ℕ) →
     cell_at marks u ≡ not (cell_at first u && cell_at second u) → IsUnmarked marks u → IsInBoth first second u
-in_both first second marks u e free = both (cell_at first u) (cell_at second u) (sym e ∙ free)
-  where
-    both : (v w : Bool) → not (v && w) ≡ false → (v ≡ true) × (w ≡ true)
-    both true true e = (refl, refl)
-    both true false e = absurd (false≢true (sym e))
-    both false w e = absurd (false≢true (sym e))
+in_both first second marks u e free = grind (arith, common_steps, false≢true)
 
 -- a word without bits
 pub zero_word : (n : ℕ) → n < 2 ^ 64 → ((j : ℕ) → j < 64 → bit n j ≡ false) → n ≡ 0

@@ -1,8 +1,9 @@
 -- Words of marks: numbers that have a mark in one list, and one in another
-use Rattle.std.proofs.Common.{◌≡◌, ℕ, Bool, true, false, ◌&&◌, ◌||◌, ◌⊎◌, inl, inr, ◌/◌}
+use Rattle.std.proofs.Common.{arith, ◌≡◌, ℕ, Bool, true, false, ◌&&◌, ◌||◌, ◌⊎◌, inl, inr, ◌/◌}
 use Rattle.std.proofs.Common.{◌%◌}
 use Rattle.std.proofs.Common.{refl, sym, ◌∙◌, ap, List, get_or, bit_and, bit_or}
 use Rattle.std.proofs.lemmas.Bool.{false≢true}
+use Rattle.std.proofs.lemmas.Grind.{common_steps}
 use Rattle.bbm_rule.specs.Bits.{bit}
 use Rattle.bbm_rule.specs.Marks.{IsUnmarked}
 use Rattle.bbm_rule.specs.Rows.{cell_at}
@@ -36,16 +37,7 @@ parts false b c e = inl refl
 -- none of the four cells has a mark, if the word has none
 pub word_of : (l : LiveMarks) (q a b c d : ℕ) → get_or l.odd.items q 0 ≡ a → get_or l.right.items q 0 ≡ b →
     get_or l.down.items q 0 ≡ c → get_or l.even.items q 0 ≡ d → IsWordOf l q (bit_or (bit_or a b) (bit_or c d))
-word_of l q a b c d ea eb ec ed u e none =
-    let bits = rw (bit-or (bit_or a b) (bit_or c d) (u % 64), bit-or a b (u % 64), bit-or c d (u % 64)) at none in
-    let both = or_parts _ _ bits in
-    let upper = or_parts _ _ both.0 in
-    let lower = or_parts _ _ both.1 in (
-      cell_is l.odd.items q u e ∙ ap (λ n. bit n (u % 64)) ea ∙ upper.0,
-      cell_is l.right.items q u e ∙ ap (λ n. bit n (u % 64)) eb ∙ upper.1,
-      cell_is l.down.items q u e ∙ ap (λ n. bit n (u % 64)) ec ∙ lower.0,
-      cell_is l.even.items q u e ∙ ap (λ n. bit n (u % 64)) ed ∙ lower.1,
-    )
+word_of l q a b c d ea eb ec ed u e none = grind (arith, common_steps, bit-or, or_parts, cell_is)
 
 -- a word that is zero
 pub whole_zero : (w u : ℕ) → w ≡ 0 → bit w u ≡ false
@@ -54,13 +46,7 @@ whole_zero w u e = ap (λ n. bit n u) e ∙ bit-zero u
 -- ---- numbers without a mark
 pub lacks_mark : (a : List ℕ) (l : LiveMarks) (w : ℕ) (c : List ℕ) (q u : ℕ) → IsWordOf l q w → u / 64 ≡ q →
     bit (joined a w c q) (u % 64) ≡ false → LacksMark a l c u
-lacks_mark a l w c q u says e word =
-    let bits = rw (bit-and (get_or a q 0) (bit_or w (get_or c q 0)) (u % 64), bit-or w (get_or c q 0) (u % 64)) at
-    word in
-    elim (parts (bit (get_or a q 0) (u % 64)) (bit w (u % 64)) (bit (get_or c q 0) (u % 64)) bits) [
-      | inl first ↦ inl (cell_is a q u e ∙ first)
-      | inr both ↦ inr (says u e both.0, cell_is c q u e ∙ both.1)
-    ]
+lacks_mark a l w c q u says e word = grind (arith, common_steps, bit-and, bit-or, parts, cell_is)
 
 and_lacks : (a b : Bool) → (a && b) ≡ false → (a ≡ false) ⊎ (b ≡ false)
 and_lacks true b e = inr e
@@ -68,12 +54,7 @@ and_lacks false b e = inl refl
 
 pub lacks_live : (a : List ℕ) (l : LiveMarks) (w q u : ℕ) → IsWordOf l q w → u / 64 ≡ q →
     bit (bit_and (get_or a q 0) w) (u % 64) ≡ false → IsUnmarked a u ⊎ AreUnmarked l u u u u
-lacks_live a l w q u says e word =
-    let bits = rw (bit-and (get_or a q 0) w (u % 64)) at word in
-    elim (and_lacks (bit (get_or a q 0) (u % 64)) (bit w (u % 64)) bits) [
-      | inl first ↦ inl (cell_is a q u e ∙ first)
-      | inr second ↦ inr (says u e second)
-    ]
+lacks_live a l w q u says e word = grind (arith, common_steps, bit-and, and_lacks, cell_is)
 
 pub lacks_own : (a : List ℕ) (q u : ℕ) → u / 64 ≡ q → bit (get_or a q 0) (u % 64) ≡ false → IsUnmarked a u
 lacks_own a q u e word = cell_is a q u e ∙ word

@@ -1,19 +1,18 @@
 -- Jobs of the same shape have the same faults but for where they lie
-use Rattle.std.proofs.Common.{◌≡◌, ℕ, zero, suc, ◌+◌, ◌-◌, ◌*◌, ◌<◌, ◌≤◌, ◌%◌, ◌^◌, ◌&&◌, ◌||◌, Bool, true, false, List}
-use Rattle.std.proofs.Common.{[], ◌∷◌, map, length, get_or, Some, None, refl, sym, ap, ap₂, subst, ◌∙◌, arith, inl, inr}
-use Rattle.std.specs.Prelude.{ℤ, pos, ◌+ℤ◌, ◌-ℤ◌, Contains, if◌then◌else◌, slice_get, unwrap_or, unsigned_abs}
-use Rattle.std.specs.Ordering.{nat_cmp, ordering_then}
+use Rattle.std.proofs.Common.{◌≡◌, ℕ, zero, suc, ◌+◌, ◌-◌, ◌<◌, ◌≤◌, ◌%◌, ◌^◌, ◌&&◌, ◌||◌, Bool, true, false, List}
+use Rattle.std.proofs.Common.{[], ◌∷◌, map, Some, None, refl, sym, ap, ap₂, subst, ◌∙◌, arith, inl, inr}
+use Rattle.std.specs.Prelude.{ℤ, pos, ◌+ℤ◌, ◌-ℤ◌, Contains, if◌then◌else◌, slice_get, unwrap_or}
 use Rattle.std.proofs.Props.{props}
 use Rattle.std.proofs.Math.Logic.{∥∥₁_map, ∥∥₁_elim}
 use Rattle.std.proofs.lemmas.Bool.{cases_Bool, and_parts}
 use Rattle.std.proofs.lemmas.Int.{ints}
+use Rattle.std.proofs.lemmas.Grind.{common_steps}
 use Rattle.bbm_rule.specs.Bits.{bit}
 use Rattle.bbm_rule.specs.Moves.{IsMoved}
 use Rattle.bbm_rule.specs.Plane.{State, parity}
 use Rattle.bbm_rule.proofs.Moving.{parity_moved, step_moved}
-use Rattle.circuit.specs.Meaning.{IsUndefined, Netlist, Satisfies, Valuation}
+use Rattle.circuit.specs.Meaning.{Netlist, Satisfies, Valuation}
 use Rattle.module_box.specs.Boxes.{IsEven, in_box, in_ring}
-use Rattle.module_box.specs.Locals.{is_among}
 use Rattle.module_box.specs.Moves.{BoxMovesAlong, IsMovedBox, IsInShiftRange, IsSmallShift, moved_cell, moved_signals}
 use Rattle.module_box.specs.Schedules.{Signals, signal_at}
 use Rattle.module_box.specs.declared.boxes.Box2.{Box2}
@@ -31,7 +30,7 @@ use Rattle.local_run.specs.Faults.{HasFault, IsFault, IsFaultUnder, IsKeepFault}
 use Rattle.local_run.specs.Moves.{FaultsMoveWithJob, LeastFaultMovesWithJob, SameShapeSameLeastKeepFault}
 use Rattle.local_run.specs.Moves.{columns_between, fault_moved_to_job}
 use Rattle.local_run.specs.Moves.{rows_between}
-use Rattle.local_run.specs.Order.{fault_cmp, kind_number}
+use Rattle.local_run.specs.Order.{fault_cmp}
 use Rattle.local_run.specs.Runs.{local_run, with_halo}
 use Rattle.local_run.specs.declared.fault.Fault.{Fault}
 use Rattle.local_run.specs.declared.fault.KeepFault.{KeepFault}
@@ -73,17 +72,7 @@ run_alike dx dy j k a u (suc t) x y =
     ]
 
 contains_mapped : {X Y : Type 0} (f : X → Y) (xs : List X) (x : X) → Contains xs x → Contains (map f xs) (f x)
-contains_mapped f xs x h = (h.0, here xs h.0 h.1, there xs h.0 h.1 ∙ ap f h.2)
-  where
-    here : (xs : List _) (k : ℕ) → k < length xs → k < length (map f xs)
-    here [] k lt = lt
-    here (z ∷ zs) zero lt = omega arith
-    here (z ∷ zs) (suc k) lt = let more = here zs k (omega (arith, lt)) in omega (arith, more)
-
-    there : (xs : List _) (k : ℕ) → k < length xs → get_or (map f xs) k (f x) ≡ f (get_or xs k x)
-    there [] k lt = absurd (omega (arith, lt))
-    there (z ∷ zs) zero lt = refl
-    there (z ∷ zs) (suc k) lt = there zs k (omega (arith, lt))
+contains_mapped f xs x h = grind (arith, common_steps)
 
 under_alike : (dx dy : ℤ) (j k : JobView) → AreAlike dx dy j k → (u : Valuation) (t : ℕ) (kind : Kind) (x y : ℤ) →
     IsFaultUnder j u t kind x y → IsFaultUnder k u t kind (x +ℤ dx) (y +ℤ dy)
@@ -149,18 +138,7 @@ place_number f f' n m z d e p q l l' = omega (arith, ints, e, p, q, l, l')
 
 place_moved : (dx dy : ℤ) (b b' : Box2) (x y : ℤ) → IsMovedBox dx dy b b' → in_box b x y ≡ true →
     in_box b' (x +ℤ dx) (y +ℤ dy) ≡ true → place_in b' (x +ℤ dx) (y +ℤ dy) ≡ place_in b x y
-place_moved dx dy b b' x y m h h' =
-    let p = in_box_nats b x y h in
-    let q = in_box_nats b' (x +ℤ dx) (y +ℤ dy) h' in
-    let px = p.0 in let py = p.1 in
-    let qx = q.0 in let qy = q.1 in
-    let column : unsigned_abs (x +ℤ dx) - b'.x ≡ unsigned_abs x - b.x =
-    ap (λ z. unsigned_abs z - b'.x) qx.1 ∙ place_number b.x b'.x px.0 qx.0 x dx m.x px.1 qx.1 px.2 qx.2
-    ∙ sym (ap (λ z. unsigned_abs z - b.x) px.1) in
-    let row : unsigned_abs (y +ℤ dy) - b'.y ≡ unsigned_abs y - b.y =
-    ap (λ z. unsigned_abs z - b'.y) qy.1 ∙ place_number b.y b'.y py.0 qy.0 y dy m.y py.1 qy.1 py.2 qy.2
-    ∙ sym (ap (λ z. unsigned_abs z - b.y) py.1) in
-    λ i. row i * m.w i + column i
+place_moved dx dy b b' x y m h h' = grind (arith, common_steps, in_box_nats, place_number)
 
 -- what a list has for the cells of a box
 looked_up : {A : Type 0} (dx dy : ℤ) (b b' : Box2) (other : A) (xs xs' : List A) → IsMovedBox dx dy b b' →
@@ -260,10 +238,7 @@ fault_back j k f = λ i. record {
 
 cmp_on : (j k : JobView) (f g : Fault) → fault_cmp (fault_moved_to_job j k f) (fault_moved_to_job j k g) ≡ fault_cmp f g
 unfolding fault_cmp
-cmp_on j k f g = λ i.
-    ordering_then (nat_cmp f.time g.time) (ordering_then (nat_cmp (kind_number f.kind) (kind_number g.kind))
-    (ordering_then (cell_cmp_moved (columns_between j k) (rows_between j k) f.cell g.cell i)
-    (nat_cmp f.assignment g.assignment)))
+cmp_on j k f g = grind (arith, common_steps, cell_cmp_moved)
 
 pub least_moved : LeastFaultMovesWithJob
 least_moved j k None is_j is_k same least =
@@ -277,14 +252,7 @@ least_moved j k (Some f) is_j is_k same least = (
 
 -- ---- keep faults say nothing of places
 keep_stays : (j k : JobView) (f : KeepFault) → shape_of j ≡ shape_of k → IsKeepFault j f → IsKeepFault k f
-keep_stays j k f same is =
-    let netlist : j.locals.netlist ≡ k.locals.netlist = ap (λ (s : ShapeView). s.netlist) same in
-    let kept : j.kept ≡ k.kept = ap (λ (s : ShapeView). s.kept) same in
-    record {
-      in_range = subst (λ (n : Netlist). f.assignment < 2 ^ n.given) netlist is.in_range;
-      is_kept = subst (λ (l : List ℕ). is_among l f.gate ≡ true) kept is.is_kept;
-      shown = subst (λ (n : Netlist). ∥ IsUndefined n (bit f.assignment) f.gate ∥₁) netlist is.shown;
-    }
+keep_stays j k f same is = grind (arith, common_steps)
 
 pub least_keep_stays : SameShapeSameLeastKeepFault
 least_keep_stays j k None same least = λ f is. least f (keep_stays k j f (sym same) is)

@@ -1,8 +1,9 @@
 -- Cells of a row that are known to be dead
-use Rattle.std.proofs.Common.{◌≡◌, ◌+◌, ◌-◌, ◌*◌, ◌<◌, ◌≤◌, ℕ, Bool, true, false, if◌then◌else◌, refl, sym, ap, ap₂}
+use Rattle.std.proofs.Common.{◌≡◌, ◌+◌, ◌*◌, ◌<◌, ◌≤◌, ℕ, Bool, true, false, if◌then◌else◌, refl, sym, ap}
 use Rattle.std.proofs.Common.{◌∙◌}
-use Rattle.std.proofs.Common.{arith, inl, inr, subst, None, ◌≢◌}
+use Rattle.std.proofs.Common.{arith}
 use Rattle.std.specs.Prelude.{ℤ, slice_get, unwrap_or}
+use Rattle.std.proofs.lemmas.Grind.{common_steps}
 use Rattle.circuit.specs.Meaning.{Valuation}
 use Rattle.module_box.specs.Places.{place_in}
 use Rattle.module_box.specs.declared.boxes.Box2.{Box2}
@@ -16,7 +17,7 @@ use Rattle.local_run.specs.Places.{box_coord}
 use Rattle.local_run.specs.Runs.{local_run}
 use Rattle.local_run.specs.Scans.{IsReady, IsSought, IsScanStride, Shows}
 use Rattle.local_run.specs.declared.fault.Kind.{Kind}
-use Rattle.local_run.specs.declared.fault.Kind.TheVariants.{Edge, End}
+use Rattle.local_run.specs.declared.fault.Kind.TheVariants.{End}
 use Rattle.local_run.specs.declared.planes.Planes.{Planes}
 use Rattle.local_run.specs.declared.values.Values.{Values}
 use Rattle.bbm_rule.proofs.BitLemmas.{by_eq_or_not, by_lt_or_le}
@@ -30,10 +31,7 @@ either false s t e = refl
 -- the place of a cell, row by row
 placed : (b : Box2) (x y : ℕ) → place_in b (box_coord b.x x) (box_coord b.y y) ≡ b.w * y + x
 unfolding box_coord
-placed b x y =
-    let column : b.x + x - b.x ≡ x = omega arith in
-    let row : b.y + y - b.y ≡ y = omega arith in
-    ap₂ (λ (k l : ℕ). k * b.w + l) row column ∙ omega arith
+placed b x y = grind (arith, common_steps)
 
 pub start_dead : (j : JobView) (x y : ℕ) → unwrap_or (slice_get j.starts (j.area.w * y + x)) Zero ≡ Zero →
     job_start j (box_coord j.area.x x) (box_coord j.area.y y) ≡ Zero
@@ -60,13 +58,7 @@ end_free : (j : JobView) (vs : Values) (t : ℕ) (kind : Kind) (x y : ℕ) (p : 
     job_demand j (box_coord j.area.x x) (box_coord j.area.y y) ≡ Demanded.Dead →
     ((a : ℕ) → a < 64 * p.words → lane p a (1 + x) (1 + y) ≡ false) →
     (a : ℕ) → a < assignments j → FreeAt j vs t kind x y a
-end_free j vs t kind x y p ready sought shows lx ly end must dead =
-    let room = ready.room in
-    let count = ready.count in
-    let words = shows.size.0 in
-    end_least j vs (assignments j) (λ a. lane p a (1 + x) (1 + y)) Zero Demanded.Dead t kind _ _ None (sym end) sought
-    (inner_in_box j.area x y lx ly) must (λ v b h. h) (λ v b h. h) (λ a l. shows.cells a x y l lx ly)
-    (λ a l ne. ne.1 (dead a (omega (arith, l, room, count, words))))
+end_free j vs t kind x y p ready sought shows lx ly end must dead = grind (arith, common_steps, end_least, inner_in_box)
 
 -- nor do cells that are passed over
 pub free_to : (j : JobView) (vs : Values) (t : ℕ) (kind : Kind) (x next y : ℕ) (p : Planes) → IsReady j vs →
@@ -75,20 +67,10 @@ pub free_to : (j : JobView) (vs : Values) (t : ℕ) (kind : Kind) (x next y : �
     ((k : ℕ) → x ≤ k → k < next → job_demand j (box_coord j.area.x k) (box_coord j.area.y y) ≡ Demanded.Dead) →
     ((a k : ℕ) → a < 64 * p.words → x ≤ k → k < next → lane p a (1 + k) (1 + y) ≡ false) →
     (k a : ℕ) → k < next → k < j.area.w → a < assignments j → FreeAt j vs t kind k y a
-free_to j vs t kind x next y p ready sought shows ly before end must dead k a lk lw la = by_lt_or_le k x
-    (λ l. before k a l lw la)
-    (λ g. end_free j vs t kind k y p ready sought shows lw ly (end (omega (arith, g, lk))) (must k g lk)
-    (λ b lb. dead b k lb g lk) a la)
+free_to j vs t kind x next y p ready sought shows ly before end must dead k a lk lw la =
+    grind (arith, common_steps, by_lt_or_le, end_free)
 
 -- only at the last time are cells passed over, and there the next one is looked at after each
 pub next_at_end : (kind : Kind) (w h y x next stride : ℕ) → IsScanStride kind w h y stride → x ≤ next →
     (x < next → kind ≡ End) → IsAtEnd w x stride → IsAtEnd w next stride
-next_at_end kind w h y x next stride s le end at = by_eq_or_not next x
-    (λ same. subst (λ (n : ℕ). IsAtEnd w n stride) (sym same) at)
-    (λ other. elim s.2 [
-      | inl one ↦ inl one
-      | inr both ↦ absurd (edge_is_not_end (both.edge ∙ end (omega (arith, le, other))))
-    ])
-  where
-    edge_is_not_end : Edge ≢ End
-    edge_is_not_end e = cc
+next_at_end kind w h y x next stride s le end at = grind (arith, common_steps, by_eq_or_not)

@@ -3,6 +3,7 @@ use Rattle.std.proofs.Common.{◌≡◌, ℕ, ◌<◌, ◌+◌, ◌*◌, ◌/◌
 use Rattle.std.proofs.Common.{inl, inr}
 use Rattle.std.specs.Prelude.{ℤ, pos, ◌+ℤ◌, ◌-ℤ◌}
 use Rattle.std.proofs.lemmas.Int.{ints}
+use Rattle.std.proofs.lemmas.Grind.{common_steps}
 use Rattle.bbm_rule.specs.declared.block.Cell.{Cell}
 use Rattle.module_box.specs.Schedules.{Signals, signal_at}
 use Rattle.module_box.specs.declared.boxes.Box2.{Box2}
@@ -27,20 +28,12 @@ outer_same c a b e = omega (arith, ints, e)
 
 pub number_below : (b : Box2) (x y : ℕ) → b.w % 2 ≡ 0 → b.h % 2 ≡ 0 → x < b.w + 2 → y < b.h + 2 →
     number_at b x y < (b.w / 2 + 1) * (b.h / 2 + 1)
-number_below b x y ew eh lx ly =
-    let h = place_below 1 (b.w / 2 + 1) (b.h / 2 + 1) (x / 2) (y / 2) 0 (omega arith) (omega arith) (omega arith) in
-    omega arith
+number_below b x y ew eh lx ly = grind (arith, common_steps, place_below)
 
 pub cell_marked : (b : Box2) (c : Cell) (x y : ℕ) (old middle new : List ℕ) → c.x ≡ halo_coord b.x x →
     c.y ≡ halo_coord b.y y →
     MarksOne (number_at b x y) old middle → MarksOne (cell_mark_number_at b x y) middle new → IsCellMarked b c new
-cell_marked b c x y old middle new ex ey one own x' y' lx ly ex' ey' free =
-    let hx : x' ≡ x = outer_same b.x x' x (sym ex' ∙ ex) in
-    let hy : y' ≡ y = outer_same b.y y' y (sym ey' ∙ ey) in
-    elim free [
-      | inl number ↦ (one (number_at b x' y') (own (number_at b x' y') number).0).1 (ap₂ (number_at b) hx hy)
-      | inr line ↦ (own (cell_mark_number_at b x' y') line).1 (ap₂ (cell_mark_number_at b) hx hy)
-    ]
+cell_marked b c x y old middle new ex ey one own x' y' lx ly ex' ey' free = grind (arith, common_steps, outer_same)
 
 lacks_line : (b : Box2) (x y : ℕ) (old new : List ℕ) → KeepsMarks old new → LacksCellMark b x y new →
     LacksCellMark b x y old
@@ -90,9 +83,7 @@ pub events_between : (es : List TimedSignal) (t m n : ℕ) (P : TimedSignal → 
     IsTimeBetween es (t + 1) n n →
     ((i : ℕ) (e : TimedSignal) → m ≤ i → i < n → slice_get es i ≡ Some e → P e) → (i : ℕ) (e : TimedSignal) →
     slice_get es i ≡ Some e → e.at.time ≡ t → P e
-events_between es t m n P from to have i e at same =
-    by_lt_or_le i m (λ l. let h = from.below i e l at in absurd (omega arith)) (λ after.
-    by_lt_or_le i n (λ l. have i e after l at) (λ past. let h = to.above i e past at in absurd (omega arith)))
+events_between es t m n P from to have i e at same = grind (arith, common_steps, by_lt_or_le)
 
 -- ---- signals counted from the corner of the box
 outer_back : (c k : ℕ) → halo_coord c k +ℤ shift_to_origin c ≡ halo_coord 0 k

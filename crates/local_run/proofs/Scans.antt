@@ -8,6 +8,7 @@ use Rattle.std.proofs.lemmas.Nat.Bits.{bit_at-trailing_zeros}
 use Rattle.std.proofs.lemmas.Bool.{and_parts}
 use Rattle.std.proofs.lemmas.Nat.{xor_lt}
 use Rattle.std.specs.Int.Bits.{and_lt}
+use Rattle.std.proofs.lemmas.Grind.{common_steps}
 use Rattle.bbm_rule.specs.Bits.{bit}
 use Rattle.bbm_rule.proofs.BitLemmas.{by_lt_or_le, by_eq_or_not, xor, bit-and, bit-xor, bit-zero}
 use Rattle.module_job.specs.Signals.{IsBelow, is_live}
@@ -143,9 +144,7 @@ shown_all vs p x y s n same a l =
 pub defined_in_word : (vs : Values) (k b v d : ℕ) → b < 64 → k < length vs.rows.defined.items →
     v ≡ get_or vs.rows.defined.items k d → bit v b ≡ is_defined vs (64 * k + b)
 unfolding bit_of_row
-defined_in_word vs k b v d l room is =
-    ap (λ n. bit n b) (is ∙ get_or_any vs.rows.defined.items k d 0 room)
-    ∙ ap₂ (λ i j. bit (get_or vs.rows.defined.items i 0) j) (sym (quotient k b l)) (sym (remainder k b l))
+defined_in_word vs k b v d l room is = grind (arith, common_steps, get_or_any, quotient, remainder)
 
 pub difference_small : (v w d : ℕ) → v < 2 ^ 64 → w < 2 ^ 64 → d < 2 ^ 64 → bit_and (bit_xor v w) d < 2 ^ 64
 difference_small v w d sv sw sd = and_lt 64 (bit_xor v w) d (xor_lt 64 v w sv sw) sd
@@ -156,9 +155,7 @@ differs_is vs p x y s a e = let parts = and_parts _ _ e in (parts.1, xor_differ 
 
 pub differs_not : (vs : Values) (p : Planes) (x y : ℕ) (s : Signal) (a : ℕ) → differs vs p x y s a ≡ false →
     ¬ ((is_defined vs a ≡ true) × (lane p a x y ≢ is_live (valuation vs a) s))
-differs_not vs p x y s a e h =
-    h.1 (xor_same _ _ (sym (and-true _)
-    ∙ ap (λ (v : Bool). xor (lane p a x y) (is_live (valuation vs a) s) && v) (sym h.0) ∙ e))
+differs_not vs p x y s a e h = grind (arith, common_steps, xor_same, and-true, xor)
 
 -- ---- the row of a signal
 pub row_from : (vs : Values) (n : ℕ) (s : Signal) → IsBelow n s → vs.words * n ≤ length vs.rows.values.items →
@@ -188,9 +185,7 @@ other_word w u k v l word xs lk ll ne =
 lane_at : (q : Planes) (a x y w st : ℕ) (s : List ℕ) → q.words ≡ w → q.stride ≡ st → plane_of q x y ≡ s →
     lane q a x y ≡ bit (get_or s (w * (st * (y / 2) + x / 2) + a / 64) 0) (a % 64)
 unfolding lane
-lane_at q a x y w st s ew es e =
-    ap₂ (λ v r. bit (get_or (plane_of q x y) (v * (r * (y / 2) + x / 2) + a / 64) 0) (a % 64)) ew es
-    ∙ ap (λ z. bit (get_or z (w * (st * (y / 2) + x / 2) + a / 64) 0) (a % 64)) e
+lane_at q a x y w st s ew es e = grind (arith, common_steps)
 
 pub sets_word : (p q : Planes) (x y k word : ℕ) → q.words ≡ p.words → q.stride ≡ p.stride → x / 2 < p.stride →
     k < p.words →

@@ -4,6 +4,7 @@ use Rattle.std.proofs.Common.{subst}
 use Rattle.std.proofs.Common.{refl, inl, inr, List, None}
 use Rattle.std.specs.Prelude.{ℤ}
 use Rattle.std.proofs.lemmas.Bool.{and_parts, false≢true}
+use Rattle.std.proofs.lemmas.Grind.{common_steps}
 use Rattle.bbm_rule.specs.Spans.{in_span}
 use Rattle.module_box.specs.Boxes.{in_box, in_ring}
 use Rattle.module_box.specs.Schedules.{signal_at}
@@ -88,13 +89,7 @@ silent_edges j vs p t column row ready shows lc silent x y lx ly ex ey a l f =
 -- and what their signals say comes to those of them in the halo
 pub silent_halo : (j : JobView) (vs : Values) (p : Planes) (t column row : ℕ) → IsReady j vs → Shows j vs t p →
     IsSilent j t p (p.stride * row + column) → IsHaloSetIn j vs t p column row
-silent_halo j vs p t column row ready shows silent x y lx ly ex ey a l outside =
-    let room = ready.room in
-    let count = ready.count in
-    let s0 = shows.size.0 in
-    let number : number_at j.area x y ≡ p.stride * row + column =
-    ap₂ (λ r c. (j.area.w / 2 + 1) * r + c) ey ex ∙ ap (λ s. s * row + column) (sym shows.size.1) in
-    silent.dead a x y (omega arith) lx ly number ∙ sym (ap (is_live (valuation vs a)) (silent.halo x y lx ly number))
+silent_halo j vs p t column row ready shows silent x y lx ly ex ey a l outside = grind (arith, common_steps)
 
 pub silent_from : (j : JobView) (p : Planes) (t u : ℕ) (marks : List ℕ) → p.stride ≡ j.area.w / 2 + 1 → IsDeadAt u p →
     AreLines j t marks → IsUnmarked marks u → IsSilent j t p u
@@ -129,13 +124,7 @@ pub right_edge : (j : JobView) (vs : Values) (p : Planes) (t x y : ℕ) (s : Sig
     s ≡ signal_at j.edges t (halo_coord j.area.x x) (halo_coord j.area.y y) →
     IsLeastBelow (assignments j) (λ a. (is_defined vs a ≡ true) × (lane p a x y ≢ is_live (valuation vs a) s)) None →
     IsEdgeCorrectAt j vs t x y
-right_edge j vs p t x y s shows es none a l f =
-    let inside = ring_in_box j.area _ _ f.1.ring in
-    none a l (
-      f.0,
-      (λ e. f.1.differs (sym (shown_at j vs p t x y a shows l inside) ∙ e
-          ∙ ap (is_live (valuation vs a)) es)),
-    )
+right_edge j vs p t x y s shows es none a l f = grind (arith, common_steps, ring_in_box, shown_at)
 
 -- a place in the box, counted from the halo
 pub inner_is_outer : (c k : ℕ) → 1 ≤ k → box_coord c (k - 1) ≡ halo_coord c k
@@ -163,12 +152,7 @@ pub unsaid_halo : (j : JobView) (vs : Values) (p : Planes) (t x y : ℕ) (marks 
     Shows j vs t p → AreLines j t marks → x < j.area.w + 2 → y < j.area.h + 2 →
     IsUnmarked marks (p.stride * (y / 2) + x / 2 + 1152 * (1 + 2 * (y % 2) + x % 2)) →
     ((a : ℕ) → a < 64 * p.words → lane p a x y ≡ false) → IsHaloSetAt j vs t p x y
-unsaid_halo j vs p t x y marks ready shows lines lx ly free dead a l out =
-    let room = ready.room in
-    let count = ready.count in
-    let s0 = shows.size.0 in
-    let free = rw shows.size.1 at free in
-    dead a (omega arith) ∙ sym (ap (is_live (valuation vs a)) (lines.halos x y lx ly (inr free)))
+unsaid_halo j vs p t x y marks ready shows lines lx ly free dead a l out = grind (arith, common_steps)
 
 -- ---- cells that are known to be dead by their mark
 small_number : (s r x y : ℕ) → x / 2 < s → y / 2 < r → s * (y / 2) + x / 2 < s * r
@@ -177,42 +161,28 @@ small_number s r x y lx ly = let m : s * (y / 2 + 1) ≤ s * r = mul-le-mul_left
 pub dead_odd : (l : LiveMarks) (p : Planes) (x y a : ℕ) → x % 2 ≡ 0 → y % 2 ≡ 0 → x / 2 < p.stride → y / 2 < p.rows →
     AllUnmarkedDead l p → IsUnmarked l.odd.items (p.stride * (y / 2) + x / 2) → a < 64 * p.words → lane p a x y ≡ false
 unfolding lane
-dead_odd l p x y a ex ey lx ly dead free la =
-    rw (plane_odd p x y ex ey, dead.0 _ (small_number p.stride p.rows x y lx ly) free (a / 64) (omega arith))
-    (bit-zero (a % 64))
+dead_odd l p x y a ex ey lx ly dead free la = grind (arith, common_steps, plane_odd, small_number, bit-zero)
 
 pub dead_down : (l : LiveMarks) (p : Planes) (x y a : ℕ) → x % 2 ≡ 0 → y % 2 ≡ 1 → x / 2 < p.stride → y / 2 < p.rows →
     AllUnmarkedDead l p → IsUnmarked l.down.items (p.stride * (y / 2) + x / 2) → a < 64 * p.words → lane p a x y ≡ false
 unfolding lane
-dead_down l p x y a ex ey lx ly dead free la =
-    rw (plane_down p x y ex ey, dead.2 _ (small_number p.stride p.rows x y lx ly) free (a / 64) (omega arith))
-    (bit-zero (a % 64))
+dead_down l p x y a ex ey lx ly dead free la = grind (arith, common_steps, plane_down, small_number, bit-zero)
 
 pub dead_right : (l : LiveMarks) (p : Planes) (x y a : ℕ) → x % 2 ≡ 1 → y % 2 ≡ 0 → x / 2 < p.stride → y / 2 < p.rows →
     AllUnmarkedDead l p → IsUnmarked l.right.items (p.stride * (y / 2) + x / 2) → a < 64 * p.words →
     lane p a x y ≡ false
 unfolding lane
-dead_right l p x y a ex ey lx ly dead free la =
-    rw (plane_right p x y ex ey, dead.1 _ (small_number p.stride p.rows x y lx ly) free (a / 64) (omega arith))
-    (bit-zero (a % 64))
+dead_right l p x y a ex ey lx ly dead free la = grind (arith, common_steps, plane_right, small_number, bit-zero)
 
 pub dead_even : (l : LiveMarks) (p : Planes) (x y a : ℕ) → x % 2 ≡ 1 → y % 2 ≡ 1 → x / 2 < p.stride → y / 2 < p.rows →
     AllUnmarkedDead l p → IsUnmarked l.even.items (p.stride * (y / 2) + x / 2) → a < 64 * p.words → lane p a x y ≡ false
 unfolding lane
-dead_even l p x y a ex ey lx ly dead free la =
-    rw (plane_even p x y ex ey, dead.3 _ (small_number p.stride p.rows x y lx ly) free (a / 64) (omega arith))
-    (bit-zero (a % 64))
+dead_even l p x y a ex ey lx ly dead free la = grind (arith, common_steps, plane_even, small_number, bit-zero)
 
 -- the four cells in a column and row of the planes
 pub four_cells : (c r : ℕ) (P : ℕ → ℕ → Type 0) → P (2 * c) (2 * r) → P (2 * c + 1) (2 * r) → P (2 * c) (2 * r + 1) →
     P (2 * c + 1) (2 * r + 1) → (x y : ℕ) → x / 2 ≡ c → y / 2 ≡ r → P x y
-four_cells c r P first second third fourth x y ex ey = by_eq_or_not x (2 * c)
-    (λ e. by_eq_or_not y (2 * r)
-    (λ f. subst (λ m. P m y) (sym e) (subst (P (2 * c)) (sym f) first))
-    (λ n. let f : y ≡ 2 * r + 1 = omega arith in subst (λ m. P m y) (sym e) (subst (P (2 * c)) (sym f) third)))
-    (λ n. let e : x ≡ 2 * c + 1 = omega arith in by_eq_or_not y (2 * r)
-    (λ f. subst (λ m. P m y) (sym e) (subst (P (2 * c + 1)) (sym f) second))
-    (λ m. let f : y ≡ 2 * r + 1 = omega arith in subst (λ m. P m y) (sym e) (subst (P (2 * c + 1)) (sym f) fourth)))
+four_cells c r P first second third fourth x y ex ey = grind (arith, common_steps, by_eq_or_not)
 
 -- nor have cells between the ring's columns and rows
 pub between_edges : (j : JobView) (vs : Values) (t x y : ℕ) → 2 ≤ x → x < j.area.w → 2 ≤ y → y < j.area.h →
@@ -255,27 +225,9 @@ pub passed_halo : (j : JobView) (vs : Values) (p : Planes) (t from to x y : ℕ)
     x < j.area.w + 2 → y < j.area.h + 2 → from ≤ number_at j.area x y → number_at j.area x y < to →
     IsHaloSetAt j vs t p x y
 passed_halo j vs p t from to x y marks ready shows lines passed lx ly after before =
-    let s1 = shows.size.1 in
-    let s2 = shows.size.2 in
-    let even_w = ready.job.even.w in
-    let even_h = ready.job.even.h in
-    let e = number_in j vs t p x y shows in
-    elim (passed (x / 2) (y / 2) (omega arith) (omega arith) (omega (arith, e, after)) (omega (arith, e, before))) [
-      | inl box_coord ↦ let i0 = box_coord.0 in let i1 = box_coord.1 in let i2 = box_coord.2 in let i3 = box_coord.3 in
-          λ a l out. absurd (out (omega arith, omega arith, omega arith, omega arith))
-      | inr silent ↦ silent_halo j vs p t (x / 2) (y / 2) ready shows
-          (silent_from j p t (p.stride * (y / 2) + x / 2) marks s1 silent.0 lines silent.1) x y lx ly refl refl
-    ]
+    grind (arith, common_steps, number_in, silent_halo, silent_from)
 
 -- the cells with a number are those in one column and row
 pub same_place : (s column row x y : ℕ) → column < s → x / 2 < s → s * row + column ≡ s * (y / 2) + x / 2 →
     (x / 2 ≡ column) × (y / 2 ≡ row)
-same_place s column row x y lc lx e =
-    let ex : x / 2 ≡ column = sym (in_row s (y / 2) (x / 2) lx) ∙ sym (ap (λ n. n % s) e) ∙ in_row s row column lc in
-    (ex, by_rows (y / 2) row (omega arith))
-  where
-    by_rows : (r r' : ℕ) → s * r ≡ s * r' → r ≡ r'
-    by_rows r r' h = by_lt_or_le r r'
-        (λ l. let m : s * (r + 1) ≤ s * r' = mul-le-mul_left s (omega arith) in absurd (omega arith))
-        (λ l. by_eq_or_not r r' (λ same. same)
-        (λ ne. let m : s * (r' + 1) ≤ s * r = mul-le-mul_left s (omega arith) in absurd (omega arith)))
+same_place s column row x y lc lx e = grind (arith, common_steps, in_row, by_lt_or_le, mul-le-mul_left, by_eq_or_not)

@@ -1,15 +1,16 @@
 -- The steps of the planes are those of the definition
-use Rattle.std.proofs.Common.{◌≡◌, ◌≢◌, ℕ, zero, suc, Bool, true, false, not, ◌&&◌, ◌||◌, ◌<◌, ◌≤◌, ◌+◌, ◌-◌, ◌*◌, ◌/◌}
+use Rattle.std.proofs.Common.{◌≡◌, ◌≢◌, ℕ, zero, suc, Bool, true, false, ◌&&◌, ◌||◌, ◌<◌, ◌≤◌, ◌+◌, ◌-◌, ◌*◌, ◌/◌}
 use Rattle.std.proofs.Common.{◌%◌, refl, arith, sym, ◌∙◌, ap, ap₂, subst, eq-eqb, ne_eqb, add-one, inl, inr}
 use Rattle.std.specs.Prelude.{ℤ, pos, negsuc, ◌+ℤ◌, ◌-ℤ◌}
 use Rattle.std.proofs.lemmas.Bool.{and_parts, and_from, cases_Bool, false≢true, cond-true, cond-false, not_from_false}
 use Rattle.std.proofs.lemmas.Int.{ints}
+use Rattle.std.proofs.lemmas.Grind.{common_steps}
 use Rattle.bbm_rule.specs.Rows.{mate}
 use Rattle.bbm_rule.proofs.BitLemmas.{by_lt_or_le, by_eq_or_not}
 use Rattle.bbm_rule.proofs.PairLemmas.{mate_even, mate_odd}
 use Rattle.bbm_rule.specs.Plane.{State, partner, turned, step}
 use Rattle.bbm_rule.specs.Spans.{in_span}
-use Rattle.module_box.specs.Boxes.{in_box, in_halo, some_neighbour}
+use Rattle.module_box.specs.Boxes.{in_box, in_halo}
 use Rattle.module_box.specs.declared.boxes.Box2.{Box2}
 use Rattle.bbm_rule.proofs.Spans.{span_parts, span_from, in_span-negsuc, less_one}
 use Rattle.module_box.proofs.RingTests.{halo_read}
@@ -186,12 +187,7 @@ odd_shows j vs t p q ready odd sized halo size turns = record {
 -- ---- the cells around the box
 span_outer_parts : (c n x : ℕ) → in_span c n (halo_coord c x) ≡ true → (1 ≤ x) × (x ≤ n)
 unfolding halo_coord
-span_outer_parts c n x h = outer_case (c + x) refl h
-  where
-    outer_case : (m : ℕ) → c + x ≡ m → in_span c n (pos m -ℤ pos 1) ≡ true → (1 ≤ x) × (x ≤ n)
-    outer_case zero e k = absurd (false≢true (sym (ap (in_span c n) less_none ∙ in_span-negsuc c n 0) ∙ k))
-    outer_case (suc m) e k = let p = span_parts c n m (sym (ap (in_span c n) (less_one m)) ∙ k) in
-        (omega arith, omega arith)
+span_outer_parts c n x h = grind (arith, common_steps, false≢true, less_none, in_span-negsuc, span_parts, less_one)
 
 pub box_out : (b : Box2) (x y : ℕ) → IsOutsideBox b x y → in_box b (halo_coord b.x x) (halo_coord b.y y) ≡ false
 unfolding in_box
@@ -253,9 +249,7 @@ or-false false = refl
 with_halo_inside : (j : JobView) (u : Valuation) (t : ℕ) (s : State) (x y : ℤ) → in_box j.area x y ≡ true →
     with_halo j u t s x y ≡ s x y
 unfolding with_halo in_halo
-with_halo_inside j u t s x y h =
-    ap (λ p. s x y || ((not p && some_neighbour (in_box j.area) x y) && is_live u (signal_at j.halos t x y))) h
-    ∙ or-false (s x y)
+with_halo_inside j u t s x y h = grind (arith, common_steps, or-false)
 
 with_halo_outside : (j : JobView) (u : Valuation) (t : ℕ) (s : State) (x y : ℤ) → s x y ≡ false →
     in_halo j.area x y ≡ true → with_halo j u t s x y ≡ is_live u (signal_at j.halos t x y)

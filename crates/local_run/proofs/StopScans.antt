@@ -67,14 +67,6 @@ pub record AreTried (j : JobView) (vs : Values) (t place : ℕ) : Type 0 where
       a < assignments j →
       ¬ IsStopMissed j vs a s
 
-pub none_tried : (j : JobView) (vs : Values) (t place : ℕ) → IsNextStop j t place → AreTried j vs t place
-none_tried j vs t place next = record {
-  within = next.within;
-  before = λ k s l e. (let lt = next.before k s l e in omega (arith, lt));
-  from = next.from;
-  free = λ k s a l e at la. absurd (let lt = next.before k s l e in omega (arith, lt, at));
-}
-
 below_or_there : (k n : ℕ) → k < n + 1 → (k < n) ⊎ (k ≡ n)
 below_or_there k n l = grind arith
 

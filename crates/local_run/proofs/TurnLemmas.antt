@@ -1,5 +1,5 @@
 -- Parts of lists whose blocks are turned, and blocks that stay
-use Rattle.std.proofs.Common.{◌≡◌, ℕ, Bool, true, false, ◌<◌, ◌≤◌, ◌+◌, ◌*◌, refl, arith, sym, ◌∙◌, ap}
+use Rattle.std.proofs.Common.{◌≡◌, ℕ, false, ◌<◌, ◌≤◌, ◌+◌, ◌*◌, refl, arith, sym, ◌∙◌, ap}
 use Rattle.std.proofs.Common.{List, length, get_or, inl, inr, nat_eq, not, bit_and, bit_or, ◌↔◌}
 use Rattle.std.proofs.lemmas.Nat.{and_or_self, or_comm}
 use Rattle.std.specs.Int.Bits.{and_zero_l, xor_assoc, xor_self, xor_zero_l, xor_zero_r}
@@ -9,6 +9,7 @@ use Rattle.std.proofs.lemmas.Bool.{eqb-true, false≢true, not-false}
 use Rattle.std.proofs.lemmas.Nat.Bits.{bit_at-lt, same_from_bits}
 use Rattle.std.proofs.lemmas.List.{get_or-take, get_or-drop}
 use Rattle.std.proofs.lemmas.Slice.{take-put_mid_below, drop-put_mid}
+use Rattle.std.proofs.lemmas.Grind.{common_steps}
 use borrow.Rule.Slice.PartMut.{mid_of, put_mid}
 use Rattle.bbm_rule.specs.Bits.{bit}
 use Rattle.bbm_rule.specs.Words.{AreTurned, AreTurnedAt}
@@ -83,11 +84,7 @@ same_beside a n xs = record { below = λ k l. refl; above = λ k l. refl }
 
 -- ---- blocks that stay
 flips_none : (a f j : ℕ) → f ≡ 0 → bit (bit_xor a f) j ≡ bit a j
-flips_none a f j e = rw (e, bit-xor a 0 j, bit-zero j) (xor_false (bit a j))
-  where
-    xor_false : (b : Bool) → xor b false ≡ b
-    xor_false true = refl
-    xor_false false = refl
+flips_none a f j e = grind (arith, common_steps, bit-xor, bit-zero, xor)
 
 pub main_stays : (ul ur ll lr : ℕ) → flip_main_of ul ur ll lr ≡ 0 → DiagonalStays ul lr ur ll
 main_stays ul ur ll lr e j =

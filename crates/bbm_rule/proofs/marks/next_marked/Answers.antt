@@ -1,26 +1,22 @@
 use Rattle.std.proofs.Common.{◌≡◌, true, ◌+◌, ◌*◌, ◌/◌, ◌%◌, ◌^◌, arith, get_or, subst, w64}
 use Rattle.std.specs.Int.{trailing_zeros}
+use Rattle.std.proofs.lemmas.Grind.{common_steps}
 use Rattle.bbm_rule.specs.Rows.{cell_at}
 use Rattle.bbm_rule.proofs.BitLemmas.{by_lt_or_le}
 use Rattle.bbm_rule.proofs.MarkLemmas.{first_marked, none_before, none_in_word, whole_before, whole_marked, whole_zero}
 use Rattle.bbm_rule.proofs.marks.next_marked.Goals as goal
 
 pub returns-then-rest-ne0-clause-passed : goal.returns-then-rest-ne0-clause-passed
-returns-then-rest-ne0-clause-passed c = λ u l h.
-    none_before c.args.marks.now c.args.from u c.if-rest-ne0.true (c.type_inv.marks (c.args.from / 64)).fits l
-    (omega arith)
+returns-then-rest-ne0-clause-passed c = grind (arith, common_steps, none_before)
 
 pub words-init : goal.words-init
 words-init c = λ u l h. none_in_word c.args.marks.now c.args.from u c.if-rest-ne0.false l (omega arith)
 
 pub returns-then-whole-ne0-clause-passed : goal.returns-then-whole-ne0-clause-passed
-returns-then-whole-ne0-clause-passed c = λ u l h. by_lt_or_le u (64 * c.words.k) (c.words.invariant u l)
-    (λ g. whole_before c.args.marks.now c.words.k u c.if-whole-ne0.true (c.type_inv.marks c.words.k).fits g
-    (omega arith))
+returns-then-whole-ne0-clause-passed c = grind (arith, common_steps, by_lt_or_le, whole_before)
 
 pub words-preserved : goal.words-preserved
-words-preserved c = λ u l h. by_lt_or_le u (64 * c.words.k) (c.words.invariant u l)
-    (λ g. whole_zero c.args.marks.now c.words.k u c.if-whole-ne0.false g (omega arith))
+words-preserved c = grind (arith, common_steps, by_lt_or_le, whole_zero)
 
 pub returns-then-rest-ne0-clause-marked : goal.returns-then-rest-ne0-clause-marked
 returns-then-rest-ne0-clause-marked c = λ l.

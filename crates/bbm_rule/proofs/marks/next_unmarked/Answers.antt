@@ -1,22 +1,17 @@
 use Rattle.std.proofs.Common.{arith, ◌/◌}
+use Rattle.std.proofs.lemmas.Grind.{common_steps}
 use Rattle.bbm_rule.proofs.BitLemmas.{by_lt_or_le}
 use Rattle.bbm_rule.proofs.GapLemmas.{all_before, all_in_word, first_unmarked}
 use Rattle.bbm_rule.proofs.marks.next_unmarked.Goals as goal
 
 pub returns-then-found-end-clause-passed : goal.returns-then-found-end-clause-passed
-returns-then-found-end-clause-passed c = λ u l h. by_lt_or_le u c.search.at (c.search.invariant.passed u l)
-    (λ g. all_before c.args.marks.now c.search.at u (omega arith) (c.type_inv.marks (c.search.at / 64)).fits
-    c.if-rest-ne0.true g h)
+returns-then-found-end-clause-passed c = grind (arith, common_steps, by_lt_or_le, all_before)
 
 pub returns-else-found-end-clause-passed : goal.returns-else-found-end-clause-passed
-returns-else-found-end-clause-passed c = λ u l h. by_lt_or_le u c.search.at (c.search.invariant.passed u l)
-    (λ g. all_before c.args.marks.now c.search.at u (omega arith) (c.type_inv.marks (c.search.at / 64)).fits
-    c.if-rest-ne0.true g (omega (arith, c.if-found-end.false)))
+returns-else-found-end-clause-passed c = grind (arith, common_steps, by_lt_or_le, all_before)
 
 pub returns-then-found-end-clause-unmarked : goal.returns-then-found-end-clause-unmarked
-returns-then-found-end-clause-unmarked c = λ l.
-    first_unmarked c.args.marks.now c.search.at (omega arith) (c.type_inv.marks (c.search.at / 64)).fits
-    c.if-rest-ne0.true
+returns-then-found-end-clause-unmarked c = grind (arith, common_steps, first_unmarked)
 
 pub search-preserved : goal.search-preserved
 search-preserved c = record {

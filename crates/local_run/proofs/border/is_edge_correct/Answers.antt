@@ -1,6 +1,6 @@
 use Rattle.std.proofs.Common.{◌≡◌, ◌≢◌, ℕ, Option, Some, None, arith, ap, ◌∙◌, true, not}
 use Rattle.std.specs.Option.{is_some}
-use Rattle.module_box.specs.declared.boxes.Box2.{Box2}
+use Rattle.std.proofs.lemmas.Grind.{common_steps}
 use Rattle.module_job.specs.Signals.{is_live}
 use Rattle.local_run.specs.Faults.{assignments}
 use Rattle.local_run.specs.Lanes.{lane}
@@ -13,11 +13,7 @@ none_from n P None e h = h
 none_from n P (Some a) e h = cc
 
 pub returns-then-y-area : goal.returns-then-y-area
-returns-then-y-area c = λ h.
-    let ew : c.area-area.result.w ≡ c.args.job.now.area.w = ap (λ (b : Box2). b.w) c.area-area.ensures.area in
-    let eh : c.area-area.result.h ≡ c.args.job.now.area.h = ap (λ (b : Box2). b.h) c.area-area.ensures.area in
-    between_edges c.args.job.now c.args.values.now c.args.time c.args.x c.args.y (omega arith) (omega arith)
-    (omega arith) (omega arith)
+returns-then-y-area c = grind (arith, common_steps, between_edges)
 
 pub returns : goal.returns
 returns c = λ h. right_edge c.args.job.now c.args.values.now c.args.marked_planes.now.planes c.args.time c.args.x

@@ -1,4 +1,4 @@
-use Rattle.std.proofs.Common.{arith, ℕ, ◌<◌, ◌≤◌, ◌+◌, ◌*◌, ◌/◌, ◌%◌, ◌≡◌, ◌∙◌, ap, ap₂, subst, sym, refl, vec_items}
+use Rattle.std.proofs.Common.{arith, ℕ, ◌<◌, ◌≤◌, ◌+◌, ◌*◌, ◌/◌, ◌%◌, ◌≡◌, ◌∙◌, ap, ap₂, subst, sym, vec_items}
 use Rattle.std.specs.Prelude.{ℤ}
 use Rattle.std.proofs.lemmas.Bool.{and_parts}
 use Rattle.bbm_rule.proofs.BitLemmas.{by_lt_or_le}
@@ -14,14 +14,6 @@ use Rattle.local_run.proofs.QuietLemmas.{number_below}
 use Rattle.local_run.proofs.Silence.{passed_edges, passed_halo}
 use Rattle.local_run.proofs.Stepping.{outer_inner}
 use Rattle.local_run.proofs.border.set_halo_check_ring.Goals as goal
-
-pub words-init : goal.words-init
-words-init c = record {
-  shows = c.requires.shows;
-  lines = refl;
-  halo = λ x y lx ly before. absurd (omega arith);
-  right = λ e x y lx ly before. absurd (omega arith);
-}
 
 pub set_or_test_word-is_right-requires-clause-passed : goal.set_or_test_word-is_right-requires-clause-passed
 set_or_test_word-is_right-requires-clause-passed c = λ u e none.

@@ -30,15 +30,3 @@ returns-clause-halo c =
     ∙ e3.rest a _ _ l (omega arith) (λ s. let s1 = s.1 in omega arith) ∙ e2.halo a l out)
     (λ a l out. e4.rest a _ _ l (omega arith) (λ s. let s0 = s.0 in omega arith) ∙ e3.halo a l out)
     e4.halo x y ex ey
-
-pub returns-clause-rest : goal.returns-clause-rest
-returns-clause-rest c =
-    let e1 = c.set_or_test_cell-first.ensures in
-    let e2 = c.set_or_test_cell-second.ensures in
-    let e3 = c.set_or_test_cell-third.ensures in
-    let e4 = c.set_or_test_cell-fourth.ensures in
-    λ a x y l lx other.
-    e4.rest a x y l lx (λ s. let s0 = s.0 in let s1 = s.1 in other (omega arith, omega arith))
-    ∙ e3.rest a x y l lx (λ s. let s0 = s.0 in let s1 = s.1 in other (omega arith, omega arith))
-    ∙ e2.rest a x y l lx (λ s. let s0 = s.0 in let s1 = s.1 in other (omega arith, omega arith))
-    ∙ e1.rest a x y l lx (λ s. let s0 = s.0 in let s1 = s.1 in other (omega arith, omega arith))

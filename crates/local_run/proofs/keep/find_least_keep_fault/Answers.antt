@@ -1,10 +1,10 @@
-use Rattle.std.proofs.Common.{◌≡◌, Bool, true, false, rules, arith, ap, ◌∙◌, length}
+use Rattle.std.proofs.Common.{◌≡◌, true, false, rules, arith, ap, ◌∙◌, length}
 use Rattle.std.specs.Prelude.{IsTrue}
+use Rattle.std.proofs.lemmas.Grind.{common_steps}
 use Rattle.circuit.specs.Meaning.{Netlist}
 use Rattle.module_box.specs.Locals.{is_among}
 use Rattle.local_run.proofs.Leasts.{keep_found, keep_free_more, keep_none}
 use Rattle.local_run.proofs.keep.find_least_keep_fault.Goals as goal
-use Rattle.local_run.proofs.keep.find_least_keep_fault.Goals.{then-keeps+in_default, else-keeps}
 
 pub returns-in-Some : goal.returns-in-Some
 returns-in-Some c =
@@ -17,19 +17,7 @@ returns-in-Some c =
 
 -- a gate that is not kept has no keep fault
 pub gates-preserved : goal.gates-preserved
-gates-preserved c =
-    let j = c.args.job.now in
-    let count : c.gates-gates.result ≡ length j.locals.netlist.gates =
-    c.gates-gates.ensures.count ∙ ap (λ (l : Netlist). length l.gates) c.wiring.ensures.wiring in
-    keep_free_more j c.args.values.now c.gates.gate c.requires
-    (let test = c.gates-test.true in omega (arith, test, count)) c.gates.invariant
-    (elim c.if-keeps.branch [
-      | then-keeps+in_default w ↦ λ kept. w.in_default.ensures
-      | else-keeps w ↦ λ kept. absurd (differ _ kept (search rules))
-    ])
-  where
-    differ : (b : Bool) → b ≡ true → b ≡ false → ⊥
-    differ b e f = cc
+gates-preserved c = grind (arith, common_steps, keep_free_more)
 
 pub returns : goal.returns
 returns c =

@@ -1,5 +1,6 @@
 use Rattle.std.proofs.Common.{arith}
 use Rattle.std.proofs.lemmas.Option.{slice_get-get_or}
+use Rattle.std.proofs.lemmas.Grind.{common_steps}
 use Rattle.local_run.proofs.LeapLemmas.{above_at, none_until, none_before, none_at_all}
 use Rattle.local_run.proofs.leaps.next_event_time.Goals as goal
 
@@ -11,9 +12,7 @@ returns-then-next-end-clause-range c = (
 )
 
 pub returns-then-next-end-clause-none : goal.returns-then-next-end-clause-none
-returns-then-next-end-clause-none c =
-    none_before c.args.events.now _ _ _ _ c.requires.rising c.first_event-first.ensures.first (omega arith)
-    (slice_get-get_or c.args.events.now c.first_event-first.result _ c.if-first-events.true)
+returns-then-next-end-clause-none c = grind (arith, common_steps, none_before, slice_get-get_or)
 
 pub returns-else-next-end-clause-none : goal.returns-else-next-end-clause-none
 returns-else-next-end-clause-none c =

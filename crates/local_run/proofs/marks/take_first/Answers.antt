@@ -1,10 +1,10 @@
-use Rattle.std.proofs.Common.{refl}
+use Rattle.std.proofs.Common.{arith, refl}
+use Rattle.std.proofs.lemmas.Grind.{common_steps}
 use Rattle.local_run.proofs.MarkFlips.{clears_first}
 use Rattle.local_run.proofs.marks.take_first.Goals as goal
 
 pub returns-clause-first : goal.returns-clause-first
-returns-clause-first c =
-    let t = clears_first c.args.word c.requires c.ranges.word.fits in (t.within, t.first, t.none)
+returns-clause-first c = grind (arith, common_steps, clears_first)
 
 pub returns-clause-rest : goal.returns-clause-rest
 returns-clause-rest c = let t = clears_first c.args.word c.requires c.ranges.word.fits in (t.cleared, t.elsewhere)

@@ -1,9 +1,7 @@
-use Rattle.std.proofs.Common.{subst, sym}
-use Rattle.circuit.specs.Meaning.{wires}
-use Rattle.module_job.specs.Signals.{IsDemandBelow}
+use Rattle.std.proofs.Common.{arith}
+use Rattle.std.proofs.lemmas.Grind.{common_steps}
 use Rattle.local_run.proofs.OwnWires.{demand_below}
 use Rattle.local_run.proofs.places.demand_at.Goals as goal
 
 pub returns-clause-below : goal.returns-clause-below
-returns-clause-below c = subst (IsDemandBelow (wires c.args.job.now.locals.netlist)) (sym c.demand.ensures)
-    (demand_below c.args.job.now _ _ c.area.ensures.good.own)
+returns-clause-below c = grind (arith, common_steps, demand_below)

@@ -1,6 +1,7 @@
+use Rattle.std.proofs.lemmas.Grind.{common_steps}
+use Rattle.std.proofs.Common.{arith}
 use Rattle.local_run.proofs.Leasts.{none_undefined}
 use Rattle.local_run.proofs.run.least_fault_if_defined.Goals as goal
 
 pub returns-else-is_some_defined : goal.returns-else-is_some_defined
-returns-else-is_some_defined c =
-    none_undefined c.args.job.now c.args.values.now c.requires (c.is_some_defined.ensures c.if-is_some_defined.false)
+returns-else-is_some_defined c = grind (arith, common_steps, none_undefined)

@@ -1,4 +1,5 @@
 use Rattle.std.proofs.Common.{arith, ◌≡◌, sym, ap, ◌∙◌, ℕ, subst}
+use Rattle.std.proofs.lemmas.Grind.{common_steps}
 use Rattle.bbm_rule.proofs.BitLemmas.{by_lt_or_le, by_eq_or_not}
 use Rattle.module_box.specs.declared.boxes.Box2.{Box2}
 use Rattle.local_run.specs.Places.{box_coord}
@@ -53,9 +54,4 @@ cells-preserved c =
     }
 
 pub returns : goal.returns
-returns c =
-    let j = c.args.job.now in
-    let e = c.area-area.ensures.area in
-    let eh : c.area-area.result.h ≡ j.area.h = ap (λ (b : Box2). b.h) e in
-    free_from j c.args.values.now c.args.time c.args.kind c.requires.sought
-    (λ x y a lx ly la. c.rows.invariant x y a lx (omega arith) la)
+returns c = grind (arith, common_steps, free_from)

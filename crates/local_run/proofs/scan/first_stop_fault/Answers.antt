@@ -1,4 +1,5 @@
 use Rattle.std.proofs.Common.{arith}
+use Rattle.std.proofs.lemmas.Grind.{common_steps}
 use Rattle.local_run.proofs.StopScans.{one_more, past_all, past_these, stop_first}
 use Rattle.local_run.proofs.scan.first_stop_fault.Goals as goal
 
@@ -9,9 +10,7 @@ returns-in-Some c =
     c.stop-stop.ensures c.if-stop-time.false c.in-Some.ensures
 
 pub stops-preserved : goal.stops-preserved
-stops-preserved c =
-    one_more c.args.job.now c.args.values.now c.args.time c.stops.place _ c.stops.invariant
-    c.stop-stop.ensures c.if-stop-time.false c.in_default.ensures
+stops-preserved c = grind (arith, common_steps, one_more)
 
 pub returns-after-stops : goal.returns-after-stops
 returns-after-stops c =

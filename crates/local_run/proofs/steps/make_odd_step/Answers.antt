@@ -1,5 +1,3 @@
-use Rattle.std.proofs.Common.{sym, subst}
-use Rattle.local_run.specs.Scans.{Shows}
 use Rattle.local_run.proofs.Stepping.{odd_shows, halo_cells}
 use Rattle.local_run.proofs.steps.make_odd_step.Goals as goal
 
@@ -11,7 +9,3 @@ returns-clause-next c =
     odd_shows j c.args.values.now c.args.time p _ c.requires.ready c.requires.odd shows.size
     (halo_cells j c.args.values.now c.args.time p c.requires.ready shows c.requires.halo)
     c.odd_step.ensures.size c.odd_step.ensures.turned
-
-pub returns-clause-stays : goal.returns-clause-stays
-returns-clause-stays c e = subst (λ p. Shows c.args.job.now c.args.values.now c.args.time p)
-    (sym (c.odd_step.ensures.stays e)) c.requires.shows

@@ -1,4 +1,5 @@
 use Rattle.std.proofs.Common.{arith, ◌≡◌, ◌+◌, ℕ, ap, ◌∙◌, subst}
+use Rattle.std.proofs.lemmas.Grind.{common_steps}
 use Rattle.bbm_rule.proofs.BitLemmas.{by_lt_or_le}
 use Rattle.module_box.specs.declared.boxes.Box2.{Box2}
 use Rattle.local_run.specs.Runs.{local_run}
@@ -21,21 +22,7 @@ rows-init c =
     }
 
 pub cells-init : goal.cells-init
-cells-init c =
-    let j = c.args.job.now in
-    let m = c.rows.invariant in
-    let next = c.skip_dead_starts-x.ensures in
-    let room = c.requires.ready.room in
-    let count = c.requires.ready.count in
-    record {
-      size = m.size;
-      above = m.above;
-      here = λ a x la lx.
-          m.below a x c.rows.y (omega (arith, la, room, count)) (omega (arith, lx, next.range)) (omega arith)
-          ∙ dead_start j (valuation c.args.values.now a) _ _ (next.dead x (omega arith) lx);
-      beside = λ a x la lx gx. m.below a x c.rows.y la lx (omega arith);
-      below = λ a x y la lx gy. m.below a x y la lx (omega arith);
-    }
+cells-init c = grind (arith, common_steps, dead_start)
 
 pub put_start_cell-requires-clause-dead : goal.put_start_cell-requires-clause-dead
 put_start_cell-requires-clause-dead c a la =

@@ -1,39 +1,17 @@
-use Rattle.std.proofs.Common.{◌*◌, ◌+◌, ◌-◌, ◌/◌, ◌%◌, ◌≡◌, ◌∙◌, length, ap, arith}
+use Rattle.std.proofs.Common.{◌*◌, ◌+◌, ◌-◌, ◌/◌, ◌%◌, ◌≡◌, length, ap, arith}
 use Rattle.std.specs.Vec.{with_items}
 use Rattle.std.proofs.lemmas.List.{with_items_is}
+use Rattle.std.proofs.lemmas.Grind.{common_steps}
 use Rattle.bbm_rule.proofs.GridLemmas.{plane_of, grid_of, board_of_words, margin_kept, aligned_room, shifted_room}
 use Rattle.bbm_rule.proofs.BoardLemmas.{even_plane, even_step, odd_plane, odd_step, odd_leaves, undone, board_same}
 use Rattle.bbm_rule.proofs.BoardLemmas.{plane_same}
 use Rattle.bbm_rule.proofs.grid.Grid.step.Goals as goal
 
 pub turn_all_shifted-requires-clause-pairs_inside : goal.turn_all_shifted-requires-clause-pairs_inside
-turn_all_shifted-requires-clause-pairs_inside c =
-    let g = c.self.inside in let ok = c.self.invariant in
-    omega (
-      arith,
-      ap length c.deref_mut.ensures.value,
-      shifted_room g.height g.stride ok.height.2 (omega (arith, ok.stride)),
-      ok.words,
-    )
+turn_all_shifted-requires-clause-pairs_inside c = grind (arith, common_steps, shifted_room)
 
 pub invariant_of-self : goal.invariant_of-self
-invariant_of-self c =
-    let g = c.self.inside in let ok = c.self.invariant in
-    let rows = rw c.deref_mut.ensures.value at c.turn_all_shifted.ensures.turned in
-    let long : length c.turn_all_shifted.new.words ≡ length g.words.items =
-    omega (arith, c.turn_all_shifted.auto.words, ap length c.deref_mut.ensures.value) in
-    let long_e : length c.turn_all_shifted.new.own ≡ length g.even_marks.items =
-    omega (arith, c.turn_all_shifted.auto.own, ap length c.deref_mut-then-t-eq0.ensures.value) in
-    let long_o : length c.turn_all_shifted.new.others ≡ length g.odd_marks.items =
-    omega (arith, c.turn_all_shifted.auto.others, ap length c.deref_mut-then-t-eq0-2.ensures.value) in
-    grid_of g _ _ _ c.turn_all_shifted.new.words c.turn_all_shifted.new.own c.turn_all_shifted.new.others ok
-    (with_items_is g.words c.turn_all_shifted.new.words (omega (arith, g.words.ok.0)))
-    (with_items_is g.even_marks c.turn_all_shifted.new.own (omega (arith, g.even_marks.ok.0)))
-    (with_items_is g.odd_marks c.turn_all_shifted.new.others (omega (arith, g.odd_marks.ok.0)))
-    long long_e long_o
-    (even_plane g.width g.height (64 * g.stride) (g.height / 2) g.words.items _ (plane_of g ok) rows
-    (omega (arith, ok.height.2)))
-    c.turn_all_shifted.ensures.own_calm c.turn_all_shifted.ensures.others
+invariant_of-self c = grind (arith, common_steps, grid_of, with_items_is, even_plane, plane_of)
 
 pub returns-then-t-eq0-clause-stepped : goal.returns-then-t-eq0-clause-stepped
 returns-then-t-eq0-clause-stepped c =
@@ -51,53 +29,18 @@ returns-then-t-eq0-clause-stepped c =
     (plane_of g ok) rows (omega (arith, ok.height.2)))
 
 pub turn_all_aligned-requires-clause-pairs_inside : goal.turn_all_aligned-requires-clause-pairs_inside
-turn_all_aligned-requires-clause-pairs_inside c =
-    let g = c.self.inside in let ok = c.self.invariant in
-    omega (arith, ap length c.deref_mut-2.ensures.value, aligned_room g.height g.stride ok.height.2, ok.words)
+turn_all_aligned-requires-clause-pairs_inside c = grind (arith, common_steps, aligned_room)
 
 pub has_live_margin-requires-clause-unmarked : goal.has_live_margin-requires-clause-unmarked
-has_live_margin-requires-clause-unmarked c =
-    let g = c.self.inside in let ok = c.self.invariant in
-    let first = c.turn_all_aligned.new.words in
-    let rows = rw c.deref_mut-2.ensures.value at c.turn_all_aligned.ensures.turned in
-    let long : length first ≡ length g.words.items =
-    omega (arith, c.turn_all_aligned.auto.words, ap length c.deref_mut-2.ensures.value) in
-    let items = with_items_is g.words first (omega (arith, g.words.ok.0)) in
-    let items_o = with_items_is g.odd_marks c.turn_all_aligned.new.own
-    (omega (arith, g.odd_marks.ok.0, c.turn_all_aligned.auto.own, ap length c.deref_mut-3.ensures.value)) in
-    rw (c.deref.ensures.value, items, c.deref-2.ensures.value, items_o)
-    (margin_kept g.width g.height (64 * g.stride) (g.height / 2 + 1) _ g.words.items first (plane_of g ok)
-    (omega (arith, ok.height.2)) rows c.turn_all_aligned.ensures.own_calm)
+has_live_margin-requires-clause-unmarked c = grind (arith, common_steps, with_items_is, margin_kept, plane_of)
 
 pub turn_all_aligned-requires-then-has_live_margin-clause-pairs_inside :
     goal.turn_all_aligned-requires-then-has_live_margin-clause-pairs_inside
 turn_all_aligned-requires-then-has_live_margin-clause-pairs_inside c =
-    let g = c.self.inside in let ok = c.self.invariant in
-    let first = c.turn_all_aligned.new.words in
-    let rows = rw c.deref_mut-2.ensures.value at c.turn_all_aligned.ensures.turned in
-    let long : length first ≡ length g.words.items =
-    omega (arith, c.turn_all_aligned.auto.words, ap length c.deref_mut-2.ensures.value) in
-    let items = with_items_is g.words first (omega (arith, g.words.ok.0)) in
-    omega (
-      arith,
-      ap length c.deref_mut-then-has_live_margin.ensures.value,
-      ap length items,
-      aligned_room g.height g.stride ok.height.2,
-      ok.words,
-    )
+    grind (arith, common_steps, with_items_is, aligned_room)
 
 pub returns-then-has_live_margin-clause-left : goal.returns-then-has_live_margin-clause-left
-returns-then-has_live_margin-clause-left c =
-    let g = c.self.inside in let ok = c.self.invariant in
-    let odd : c.args.t % 2 ≡ 1 = omega (arith, c.if-t-eq0.false) in
-    let first = c.turn_all_aligned.new.words in
-    let rows = rw c.deref_mut-2.ensures.value at c.turn_all_aligned.ensures.turned in
-    let long : length first ≡ length g.words.items =
-    omega (arith, c.turn_all_aligned.auto.words, ap length c.deref_mut-2.ensures.value) in
-    let items = with_items_is g.words first (omega (arith, g.words.ok.0)) in
-    let live = rw (c.deref.ensures.value, items) at c.if-has_live_margin.ensures.live in
-    rw (← c.self.view_is) (odd_leaves c.args.t g.width g.height (64 * g.stride)
-    (g.height / 2 + 1) g.words.items first odd (plane_of g ok) rows (omega (arith, ok.height.2)) live)
+returns-then-has_live_margin-clause-left c = grind (arith, common_steps, with_items_is, odd_leaves, plane_of)
 
 pub invariant_of-self-then-has_live_margin : goal.invariant_of-self-then-has_live_margin
 invariant_of-self-then-has_live_margin c =
@@ -152,30 +95,7 @@ invariant_of-self-then-has_live_margin c =
 
 pub returns-then-has_live_margin-clause-unchanged : goal.returns-then-has_live_margin-clause-unchanged
 returns-then-has_live_margin-clause-unchanged c =
-    let g = c.self.inside in let ok = c.self.invariant in
-    let first = c.turn_all_aligned.new.words in
-    let rows = rw c.deref_mut-2.ensures.value at c.turn_all_aligned.ensures.turned in
-    let long : length first ≡ length g.words.items =
-    omega (arith, c.turn_all_aligned.auto.words, ap length c.deref_mut-2.ensures.value) in
-    let items = with_items_is g.words first (omega (arith, g.words.ok.0)) in
-    let second = c.turn_all_aligned-then-has_live_margin.new.words in
-    let rows' = rw (c.deref_mut-then-has_live_margin.ensures.value, items) at
-    c.turn_all_aligned-then-has_live_margin.ensures.turned in
-    let long' : length second ≡ length g.words.items = omega (
-      arith,
-      c.turn_all_aligned-then-has_live_margin.auto.words,
-      ap length c.deref_mut-then-has_live_margin.ensures.value,
-      ap length items,
-    ) in
-    let items' = with_items_is (with_items g.words first) second (omega (arith, g.words.ok.0)) in
-    let plane = plane_of g ok in
-    let same = undone (64 * g.stride) (g.height / 2 + 1) g.words.items first second plane.row
-    (omega (arith, plane.room)) rows rows' in
-    board_of_words g (with_items (with_items g.words first) second)
-    (with_items (with_items g.even_marks c.turn_all_aligned.new.others)
-    c.turn_all_aligned-then-has_live_margin.new.others)
-    (with_items (with_items g.odd_marks c.turn_all_aligned.new.own) c.turn_all_aligned-then-has_live_margin.new.own)
-    second items' ∙ (board_same g.width g.height (64 * g.stride) g.words.items second same ∙ c.self.view_is)
+    grind (arith, common_steps, with_items_is, plane_of, undone, board_of_words, board_same)
 
 pub invariant_of-self-else-has_live_margin : goal.invariant_of-self-else-has_live_margin
 invariant_of-self-else-has_live_margin c =

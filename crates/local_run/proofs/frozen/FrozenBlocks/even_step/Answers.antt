@@ -1,16 +1,13 @@
-use Rattle.std.proofs.Common.{◌≡◌, ◌≤◌, ◌+◌, ◌-◌, ◌*◌, List, ℕ, arith, sym, subst}
+use Rattle.std.proofs.Common.{◌≡◌, ◌≤◌, ◌+◌, ◌-◌, ◌*◌, arith}
 use Rattle.std.proofs.Math.Nat.{mul-le-mul_left}
+use Rattle.std.proofs.lemmas.Grind.{common_steps}
 use Rattle.local_run.specs.declared.planes.Planes.{Planes}
-use Rattle.local_run.specs.Frozen.{AreMarkedEvenBlocksStable}
 use Rattle.local_run.proofs.FieldLemmas.{even_all}
 use Rattle.local_run.proofs.FrozenLemmas.{even_all_may, even_calm_found, freezes_even}
 use Rattle.local_run.proofs.frozen.FrozenBlocks.even_step.Goals as goal
 
 pub even_step_between_marks-requires-clause-calm : goal.even_step_between_marks-requires-clause-calm
-even_step_between_marks-requires-clause-calm c =
-    subst (λ (m : List ℕ). AreMarkedEvenBlocksStable m c.args.planes.now) (sym c.deref.ensures.value)
-    (even_calm_found c.args.self.now c.args.planes.now c.prove_planes_are_words.ensures c.requires.frozen
-    c.if-self.true)
+even_step_between_marks-requires-clause-calm c = grind (arith, common_steps, even_calm_found)
 
 -- how many blocks of the even partition there are
 total : (p : Planes) → p.stride * p.rows - p.stride - 1 + p.stride + 1 ≡ p.stride * p.rows

@@ -1,5 +1,4 @@
-use Rattle.std.proofs.Common.{List, ℕ, length, ap, arith, sym, subst, ◌∙◌}
-use Rattle.std.proofs.lemmas.Bool.{false≢true}
+use Rattle.std.proofs.Common.{List, ℕ, length, ap, arith, sym, subst}
 use Rattle.std.proofs.lemmas.List.{with_items_is}
 use Rattle.local_run.specs.Borders.{AreUnmarkedAwayFromBorder}
 use Rattle.local_run.proofs.LiveLemmas.{dead_all, dead_even, dead_odd}
@@ -23,6 +22,3 @@ invariant_of-result-clause-all_inner c =
     let box_coord = c.mark_border.ensures in
     let box_coord = rw (c.stride.ensures.stride_is_exact, c.rows.ensures.count_is_exact) at box_coord in
     subst (λ (m : List ℕ). AreUnmarkedAwayFromBorder p.stride p.rows m) (sym items) box_coord
-
-pub invariant_of-result-clause-freezes : goal.invariant_of-result-clause-freezes
-invariant_of-result-clause-freezes c = ∣ (λ e. absurd (false≢true (sym c.unknown.ensures ∙ e))) ∣₁

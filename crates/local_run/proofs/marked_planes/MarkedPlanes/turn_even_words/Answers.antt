@@ -1,5 +1,6 @@
 use Rattle.std.proofs.Common.{List, ℕ, ◌+◌, length, ap, arith, sym, subst}
 use Rattle.std.proofs.lemmas.List.{with_items_is}
+use Rattle.std.proofs.lemmas.Grind.{common_steps}
 use Rattle.local_run.specs.Calm.{AreOddBlocksStable, AreEvenBlocksStable}
 use Rattle.local_run.proofs.TurnLemmas.{calm_block}
 use Rattle.local_run.proofs.CalmLemmas.{even_cells, even_unmarked, odd_kept_by_even, even_kept_by_even}
@@ -74,8 +75,4 @@ invariant_of-self-2-clause-all_dead c =
     c.even_changes-changes.ensures.anti e.part) l.odd l.right l.down l.even f.all_dead
 
 pub invariant_of-self-2-clause-freezes : goal.invariant_of-self-2-clause-freezes
-invariant_of-self-2-clause-freezes c =
-    let f = c.args.self.now in
-    let e = c.turn_even.ensures in
-    freezes_even f.frozen f.planes c.turn_even.new.self e.size
-    (even_part_may f.planes c.turn_even.new.self c.args.u c.requires.place c.requires.inside e.part) f.freezes
+invariant_of-self-2-clause-freezes c = grind (arith, common_steps, freezes_even, even_part_may)

@@ -1,16 +1,8 @@
-use Rattle.std.proofs.Common.{◌≢◌, ◌≤◌, ◌<◌, ◌+◌, ◌%◌, refl, arith, ◌∙◌}
+use Rattle.std.proofs.Common.{◌≢◌, ◌≤◌, ◌<◌, ◌+◌, ◌%◌, arith, ◌∙◌}
 use Rattle.local_run.proofs.FieldLemmas.{even_past, even_renamed, one_past}
 use Rattle.local_run.specs.Sweeps.{IsInnerNumberNotInRest}
 use Rattle.local_run.proofs.FieldLemmas.{past_all, past_before}
 use Rattle.local_run.proofs.marked_planes.MarkedPlanes.turn_marked_even_blocks.Goals as goal
-
-pub marked-init : goal.marked-init
-marked-init c = record {
-  size = (refl, refl, refl);
-  stays = λ e. refl;
-  count = (omega arith, omega arith);
-  turned = c.requires.calm;
-}
 
 pub returns-then-u-end-clause-turned : goal.returns-then-u-end-clause-turned
 returns-then-u-end-clause-turned c =

@@ -1,15 +1,7 @@
-use Rattle.std.proofs.Common.{◌≤◌, ◌<◌, ◌+◌, refl, arith, ◌∙◌}
+use Rattle.std.proofs.Common.{◌≤◌, ◌<◌, ◌+◌, arith, ◌∙◌}
 use Rattle.local_run.proofs.FieldLemmas.{odd_next, odd_renamed, one_past, past_all, past_before}
 use Rattle.local_run.specs.Sweeps.{IsNumberNotInRest}
 use Rattle.local_run.proofs.marked_planes.MarkedPlanes.turn_marked_odd_blocks.Goals as goal
-
-pub marked-init : goal.marked-init
-marked-init c = record {
-  size = (refl, refl, refl);
-  stays = λ e. refl;
-  count = (omega arith, omega arith);
-  turned = c.requires.calm;
-}
 
 pub returns-then-u-end-clause-turned : goal.returns-then-u-end-clause-turned
 returns-then-u-end-clause-turned c =

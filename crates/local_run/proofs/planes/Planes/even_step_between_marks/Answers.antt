@@ -1,6 +1,6 @@
-use Rattle.std.proofs.Common.{◌≡◌, ◌≢◌, ℕ, ◌<◌, ◌≤◌, ◌+◌, ◌-◌, ◌*◌, ◌%◌, refl, arith, ap, sym, ◌∙◌}
+use Rattle.std.proofs.Common.{◌≢◌, ℕ, ◌<◌, ◌≤◌, ◌+◌, ◌-◌, ◌*◌, ◌%◌, arith, ap, sym, ◌∙◌}
 use Rattle.std.proofs.lemmas.Bool.{false≢true}
-use Rattle.bbm_rule.specs.Rows.{cell_at}
+use Rattle.std.proofs.lemmas.Grind.{common_steps}
 use Rattle.bbm_rule.proofs.BitLemmas.{by_lt_or_le}
 use Rattle.local_run.specs.Lanes.{HasSize}
 use Rattle.local_run.proofs.FieldLemmas.{even_join}
@@ -8,17 +8,7 @@ use Rattle.local_run.proofs.RunLemmas.{even_nothing, even_part, even_skip, first
 use Rattle.local_run.proofs.planes.Planes.even_step_between_marks.Goals as goal
 
 pub runs-init : goal.runs-init
-runs-init c =
-    let p = c.args.self.now in
-    let next = c.next_unmarked-at.ensures in
-    record {
-      size = (refl, refl, refl);
-      within = next.range.1;
-      unmarked = next.unmarked;
-      turned = even_skip p p c.args.marks.now 0 c.next_unmarked-at.result c.requires.calm (omega (arith, next.range.1))
-          next.passed (even_nothing p) (omega arith);
-      first = first_none p;
-    }
+runs-init c = grind (arith, common_steps, even_skip, even_nothing, first_none)
 
 pub runs-preserved : goal.runs-preserved
 runs-preserved c =
@@ -47,11 +37,4 @@ runs-preserved c =
     }
 
 pub runs-smaller : goal.runs-smaller
-runs-smaller c =
-    let at = c.runs.at in
-    let end = c.next_marked-end.result in
-    let more : at < end = by_lt_or_le at end (λ h. h) (λ g.
-    let same : at ≡ end = omega (arith, g, c.next_marked-end.ensures.range.0) in
-    absurd (false≢true (sym (c.runs.invariant.unmarked c.runs-test.true) ∙ ap (cell_at c.args.marks.now) same
-    ∙ c.next_marked-end.ensures.marked (omega arith)))) in
-    omega (arith, more, c.next_unmarked-at-in-runs.ensures.range.0, c.next_unmarked-at-in-runs.ensures.range.1)
+runs-smaller c = grind (arith, common_steps, by_lt_or_le, false≢true)

@@ -1,19 +1,16 @@
-use Rattle.std.proofs.Common.{◌*◌, arith}
+use Rattle.std.proofs.Common.{arith}
+use Rattle.std.proofs.lemmas.Grind.{common_steps}
 use Rattle.local_run.proofs.HeldLemmas.{room_of}
 use Rattle.local_run.proofs.planes.Planes.is_odd_block_empty.Goals as goal
 
 pub is_always_dead-requires : goal.is_always_dead-requires
-is_always_dead-requires c = let p = c.args.self.now in
-    omega (arith, p.odd.ok.0, room_of p.words c.args.u (p.stride * p.rows) _ c.requires p.odd_long)
+is_always_dead-requires c = grind (arith, common_steps, room_of)
 
 pub is_always_dead-requires-then-is_always_dead : goal.is_always_dead-requires-then-is_always_dead
-is_always_dead-requires-then-is_always_dead c = let p = c.args.self.now in
-    omega (arith, p.right.ok.0, room_of p.words c.args.u (p.stride * p.rows) _ c.requires p.right_long)
+is_always_dead-requires-then-is_always_dead c = grind (arith, common_steps, room_of)
 
 pub is_always_dead-requires-then-is_always_dead-2 : goal.is_always_dead-requires-then-is_always_dead-2
-is_always_dead-requires-then-is_always_dead-2 c = let p = c.args.self.now in
-    omega (arith, p.down.ok.0, room_of p.words c.args.u (p.stride * p.rows) _ c.requires p.down_long)
+is_always_dead-requires-then-is_always_dead-2 c = grind (arith, common_steps, room_of)
 
 pub is_always_dead-requires-then-is_always_dead-3 : goal.is_always_dead-requires-then-is_always_dead-3
-is_always_dead-requires-then-is_always_dead-3 c = let p = c.args.self.now in
-    omega (arith, p.even.ok.0, room_of p.words c.args.u (p.stride * p.rows) _ c.requires p.even_long)
+is_always_dead-requires-then-is_always_dead-3 c = grind (arith, common_steps, room_of)

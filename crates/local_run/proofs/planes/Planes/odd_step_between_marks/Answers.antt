@@ -1,6 +1,6 @@
-use Rattle.std.proofs.Common.{◌≡◌, ◌<◌, ◌-◌, refl, arith, ap, sym, ◌∙◌}
+use Rattle.std.proofs.Common.{◌-◌, refl, arith, ◌∙◌}
 use Rattle.std.proofs.lemmas.Bool.{false≢true}
-use Rattle.bbm_rule.specs.Rows.{cell_at}
+use Rattle.std.proofs.lemmas.Grind.{common_steps}
 use Rattle.bbm_rule.proofs.BitLemmas.{by_lt_or_le}
 use Rattle.local_run.specs.Lanes.{HasSize}
 use Rattle.local_run.proofs.FieldLemmas.{odd_join}
@@ -42,11 +42,4 @@ runs-preserved c =
     }
 
 pub runs-smaller : goal.runs-smaller
-runs-smaller c =
-    let at = c.runs.at in
-    let end = c.next_marked-end.result in
-    let more : at < end = by_lt_or_le at end (λ h. h) (λ g.
-    let same : at ≡ end = omega (arith, g, c.next_marked-end.ensures.range.0) in
-    absurd (false≢true (sym (c.runs.invariant.unmarked c.runs-test.true) ∙ ap (cell_at c.args.marks.now) same
-    ∙ c.next_marked-end.ensures.marked (omega arith)))) in
-    omega (arith, more, c.next_unmarked-at-in-runs.ensures.range.0, c.next_unmarked-at-in-runs.ensures.range.1)
+runs-smaller c = grind (arith, common_steps, by_lt_or_le, false≢true)

@@ -1,4 +1,5 @@
-use Rattle.std.proofs.Common.{arith, refl, ◌≡◌, ◌≢◌, ◌+◌, ◌*◌, ◌/◌, ◌%◌, ℕ}
+use Rattle.std.proofs.Common.{arith, refl, ◌≡◌, ◌≢◌, ◌/◌, ◌%◌, ℕ}
+use Rattle.std.proofs.lemmas.Grind.{common_steps}
 use Rattle.local_run.proofs.LaneLemmas.{place_below}
 use Rattle.local_run.proofs.Scans.{sets_odd, sets_down, sets_right, sets_even, other_word}
 use Rattle.local_run.proofs.planes.Planes.set_word.Goals as goal
@@ -39,45 +40,13 @@ returns-else-y-eq0-2-clause-set c =
     (omega (arith, below, p.even.ok.0, p.even_long)) (omega arith) (omega arith) refl refl refl refl
 
 pub returns-then-y-eq0-clause-cells : goal.returns-then-y-eq0-clause-cells
-returns-then-y-eq0-clause-cells c =
-    let p = c.args.self.now in
-    let u : ℕ = p.stride * (c.args.y / 2) + c.args.x / 2 in record {
-      odd_same = λ v l h ne. other_word p.words u c.args.k v l c.args.word p.odd.items c.requires.2 h
-          (ne (rw (c.if-x-eq0.true, c.if-y-eq0.true) refl));
-      right_same = λ v l h ne. refl;
-      down_same = λ v l h ne. refl;
-      even_same = λ v l h ne. refl;
-    }
+returns-then-y-eq0-clause-cells c = grind (arith, common_steps, other_word)
 
 pub returns-else-y-eq0-clause-cells : goal.returns-else-y-eq0-clause-cells
-returns-else-y-eq0-clause-cells c =
-    let p = c.args.self.now in
-    let u : ℕ = p.stride * (c.args.y / 2) + c.args.x / 2 in record {
-      odd_same = λ v l h ne. refl;
-      right_same = λ v l h ne. refl;
-      down_same = λ v l h ne. other_word p.words u c.args.k v l c.args.word p.down.items c.requires.2 h
-          (ne (rw (c.if-x-eq0.true, odd_row c.args.y c.if-y-eq0.false) refl));
-      even_same = λ v l h ne. refl;
-    }
+returns-else-y-eq0-clause-cells c = grind (arith, common_steps, other_word, odd_row)
 
 pub returns-then-y-eq0-2-clause-cells : goal.returns-then-y-eq0-2-clause-cells
-returns-then-y-eq0-2-clause-cells c =
-    let p = c.args.self.now in
-    let u : ℕ = p.stride * (c.args.y / 2) + c.args.x / 2 in record {
-      odd_same = λ v l h ne. refl;
-      right_same = λ v l h ne. other_word p.words u c.args.k v l c.args.word p.right.items c.requires.2 h
-          (ne (rw (odd_row c.args.x c.if-x-eq0.false, c.if-y-eq0-2.true) refl));
-      down_same = λ v l h ne. refl;
-      even_same = λ v l h ne. refl;
-    }
+returns-then-y-eq0-2-clause-cells c = grind (arith, common_steps, other_word, odd_row)
 
 pub returns-else-y-eq0-2-clause-cells : goal.returns-else-y-eq0-2-clause-cells
-returns-else-y-eq0-2-clause-cells c =
-    let p = c.args.self.now in
-    let u : ℕ = p.stride * (c.args.y / 2) + c.args.x / 2 in record {
-      odd_same = λ v l h ne. refl;
-      right_same = λ v l h ne. refl;
-      down_same = λ v l h ne. refl;
-      even_same = λ v l h ne. other_word p.words u c.args.k v l c.args.word p.even.items c.requires.2 h
-          (ne (rw (odd_row c.args.x c.if-x-eq0.false, odd_row c.args.y c.if-y-eq0-2.false) refl));
-    }
+returns-else-y-eq0-2-clause-cells c = grind (arith, common_steps, other_word, odd_row)

@@ -30,6 +30,3 @@ returns-then-a-self c =
     c.args.self.now.rows.undefined.items h (omega arith) c.index-word.ensures in
     let d = block_first f c.loop-k.k _ (omega arith) bits c.loop-k.invariant c.if-word-ne0.true in
     (c.if-a-self.true, d.0, λ b l e. true≢false (sym e ∙ d.1 b l))
-
-pub returns : goal.returns
-returns c = λ a l e. true≢false (sym e ∙ c.loop-k.invariant a (omega arith))

@@ -8,6 +8,3 @@ loop-k-preserved c =
     block_clear (is_defined c.args.self.now) c.loop-k.k c.index.result.now
     (λ b l. defined_in_word c.args.self.now c.loop-k.k b c.index.result.now _ l (omega arith) c.index.ensures)
     c.loop-k.invariant c.if-index-ne0.false
-
-pub returns : goal.returns
-returns c = λ e a l. c.loop-k.invariant a (omega arith)

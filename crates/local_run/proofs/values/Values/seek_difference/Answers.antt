@@ -1,5 +1,6 @@
 use Rattle.std.proofs.Common.{◌≡◌, ◌<◌, ◌+◌, ◌*◌, arith, ℕ, Bool, bit_and}
 use Rattle.std.specs.Prelude.{bit_xor}
+use Rattle.std.proofs.lemmas.Grind.{common_steps}
 use Rattle.bbm_rule.specs.Bits.{bit}
 use Rattle.local_run.proofs.Scans.{block_clear, block_first, difference_small, differs, differs_bits, differs_is}
 use Rattle.local_run.proofs.Scans.{differs_not}
@@ -45,5 +46,4 @@ returns-then-a-self c =
     )
 
 pub returns : goal.returns
-returns c = λ a l. differs_not c.args.self.now c.args.planes.now c.args.x c.args.y c.args.signal a
-    (c.loop-k.invariant a (omega arith))
+returns c = grind (arith, common_steps, differs_not)
