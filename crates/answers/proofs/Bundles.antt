@@ -1,13 +1,12 @@
 -- The result of reading a bundle, and the answer to it.
 use Rattle.std.proofs.Common.{◌≡◌, ℕ, ◌+◌, List, [], ◌∷◌, ◌++◌, map, drop, Option, Some, None, Result, Ok, Err, refl}
-use Rattle.std.proofs.Common.{sym, ap, ap₂, subst, ◌∙◌, append-nil}
-use Rattle.std.specs.Prelude.{◌≢◌}
-use Rattle.section_text.specs.Words.{lines_of, bytes_after_lines}
+use Rattle.std.proofs.Common.{sym, ap, ap₂, subst, ◌∙◌, append-nil, ◌≢◌}
+use Rattle.section_text.specs.Words.{lines_of, bytes_after_last_line_feed}
 use Rattle.section_text.specs.Feeds.{FeedView, ahead}
 use Rattle.section_text.specs.Faults.{refusal}
 use Rattle.section_text.specs.Ports.{Named}
 use Rattle.section_text.specs.Section.{Reads, FailsAsReading}
-use Rattle.section_text.specs.Sections.{section_then, value_at_end}
+use Rattle.section_text.specs.Sections.{section_then, value_if_at_end}
 use Rattle.section_text.specs.declared.fault.Refusal.{Refusal}
 use Rattle.section_text.specs.declared.fault.ReadFault.{ReadFault}
 use Rattle.section_text.specs.declared.fault.ReadFault.TheVariants.{Refused}
@@ -28,7 +27,7 @@ use Rattle.certificate.specs.Grammars.{CertView, certificate_grammar, certificat
 use Rattle.certificate_lines.specs.Settings.{setting_of}
 use Rattle.certificate_lines.specs.declared.certificate_line.CertificateLine.{CertificateLine}
 use Rattle.answers.specs.Answers.{Answered}
-use Rattle.answers.specs.BundleReading.{TellsRefusal, bundle_by}
+use Rattle.answers.specs.BundleReading.{TellsRefusal, bundle_of_certificate}
 use Rattle.core_book.specs.Concluding.{port_names_of}
 use Rattle.pattern.specs.FromLines.{layout_of}
 use Rattle.answers.specs.BundleText.{Bundle, bundle_of}
@@ -92,7 +91,7 @@ module _ (text : List ℕ) where
   ended : List CircuitLine → LayoutHeader → List LayoutLine → ℕ → List CertificateLine → ℕ → List (List ℕ) →
       Result Bundle Refusal
   ended circuit size parts version entries k last =
-      value_at_end k last (bytes_after_lines text) (whole circuit size parts version entries)
+      value_if_at_end k last (bytes_after_last_line_feed text) (whole circuit size parts version entries)
 
   after_layout : List CircuitLine → LayoutHeader → List LayoutLine → ℕ → List (List ℕ) → Result Bundle Refusal
   after_layout circuit size parts m later =
@@ -194,24 +193,24 @@ module _ (f0 f1 : FeedView) (unread : f0.taken ≡ 0) (going : f0.stop ≡ None)
                 (ended f0.text circuit layout.size (parts_of layout)) cert right ∙ text_2
 
             pub bundle_read : cert.circuit ≡ circuit → cert.layout ≡ layout → ahead f3 ≡ [] →
-                bytes_after_lines f3.text ≡ [] →
-                bundle_of f0.text ≡ Ok (bundle_by cert)
+                bytes_after_last_line_feed f3.text ≡ [] →
+                bundle_of f0.text ≡ Ok (bundle_of_certificate cert)
             unfolding ended whole
             bundle_read same_circuit same_layout none over =
-                certificate_read ∙ at_the_end f3.taken (ahead f3) (bytes_after_lines f0.text)
+                certificate_read ∙ at_the_end f3.taken (ahead f3) (bytes_after_last_line_feed f0.text)
                 (whole f0.text circuit layout.size (parts_of layout) cert.version cert.entries) none
-                (ap bytes_after_lines (sym text_3) ∙ over)
+                (ap bytes_after_last_line_feed (sym text_3) ∙ over)
                 ∙ ap₂ (λ cs p. Ok (whole f0.text cs p.size (parts_of p) cert.version cert.entries)) (sym same_circuit)
                 (sym same_layout)
 
-            pub bundle_goes_on : (fault : ReadFault) → (ahead f3 ≡ [] → bytes_after_lines f3.text ≢ []) →
+            pub bundle_goes_on : (fault : ReadFault) → (ahead f3 ≡ [] → bytes_after_last_line_feed f3.text ≢ []) →
                 fault ≡ refusal (f3.taken + 1) TextCut → FailsAsReading fault (bundle_of f0.text)
             unfolding ended
             bundle_goes_on fault more is =
                 fails_along fault (bundle_of f0.text) _ certificate_read
-                (more_fails f3.taken (ahead f3) (bytes_after_lines f0.text)
+                (more_fails f3.taken (ahead f3) (bytes_after_last_line_feed f0.text)
                 (whole f0.text circuit layout.size (parts_of layout) cert.version cert.entries) fault
-                (λ none over. more none (ap bytes_after_lines text_3 ∙ over)) is)
+                (λ none over. more none (ap bytes_after_last_line_feed text_3 ∙ over)) is)
 
 -- ---- answers
 
@@ -224,7 +223,8 @@ refusal_answers says read fault output outcome fails told =
     subst (λ r. Answered says r output outcome) (sym fails') (told.says, told.ends)
 
 pub bundle_answers : (says : Bundle → List ℕ → Outcome → Type 0) (read : Result Bundle Refusal) (cert : CertView)
-    (output : List ℕ) (outcome : Outcome) → read ≡ Ok (bundle_by cert) → says (bundle_by cert) output outcome →
+    (output : List ℕ) (outcome : Outcome) → read ≡ Ok (bundle_of_certificate cert) →
+    says (bundle_of_certificate cert) output outcome →
     Answered says read output outcome
 bundle_answers says read cert output outcome was_read said =
     subst (λ r. Answered says r output outcome) (sym was_read) said

@@ -1,15 +1,13 @@
 -- The lines of modules.
 use Rattle.std.proofs.Common.{◌≡◌, ℕ, suc, ◌+◌, ◌<◌, List, [], ◌∷◌, ◌++◌, take, length, Some, refl, sym, ap, ap₂, ◌∙◌}
-use Rattle.std.proofs.Common.{arith, rules, append_assoc, append-nil}
-use Rattle.std.specs.Prelude.{codes, slice_get}
+use Rattle.std.proofs.Common.{arith, rules, append_assoc, append-nil, codes, slice_get, flat_map}
 use Rattle.std.specs.Fmt.{decimal}
-use Rattle.section_text.specs.Spelling.{spaced}
-use Rattle.std.specs.List.{flat_map}
+use Rattle.section_text.specs.Spelling.{space_and_word}
 use Rattle.std.proofs.Math.Seq.{take-suc}
 use Rattle.std.proofs.lemmas.Grind.{flat_map-append}
 use Rattle.std.proofs.lemmas.Option.{get_or_from_slice_get, slice_get_within}
 use Rattle.certificate_lines.specs.declared.certificate_line.Counts.{Counts}
-use Rattle.answers.specs.ModulesText.{area_words, count_words, module_line, module_lines}
+use Rattle.answers.specs.ModulesText.{area_words, words_of_counts, module_line, module_lines}
 
 -- ---- lines
 
@@ -53,15 +51,17 @@ four o w a b c z = rw (
 ) refl
 
 -- a line from its parts
-pub line_made : (n : ℕ) (k : Counts) (o p q r s t : List ℕ) → p ≡ o ++ codes "module" → q ≡ p ++ spaced (decimal n) →
-    r ≡ q ++ flat_map spaced (area_words k.area) → s ≡ r ++ flat_map spaced (count_words k) → t ≡ s ++ 10 ∷ [] →
+pub line_made : (n : ℕ) (k : Counts) (o p q r s t : List ℕ) → p ≡ o ++ codes "module" →
+    q ≡ p ++ space_and_word (decimal n) →
+    r ≡ q ++ flat_map space_and_word (area_words k.area) → s ≡ r ++ flat_map space_and_word (words_of_counts k) →
+    t ≡ s ++ 10 ∷ [] →
     t ≡ o ++ module_line n k
 unfolding module_line
 line_made n k o p q r s t e f g h i =
     i ∙ ap (λ l. l ++ 10 ∷ []) (h
-    ∙ ap (λ l. l ++ flat_map spaced (count_words k))
-    (g ∙ ap (λ l. l ++ flat_map spaced (area_words k.area)) (f ∙ ap (λ l. l ++ spaced (decimal n)) e)))
-    ∙ four o (codes "module") (spaced (decimal n)) (flat_map spaced (area_words k.area))
-    (flat_map spaced (count_words k)) 10
-    ∙ ap (λ l. o ++ ((codes "module" ++ (spaced (decimal n) ++ l)) ++ 10 ∷ []))
-    (sym (flat_map-append spaced (area_words k.area) (count_words k)))
+    ∙ ap (λ l. l ++ flat_map space_and_word (words_of_counts k))
+    (g ∙ ap (λ l. l ++ flat_map space_and_word (area_words k.area)) (f ∙ ap (λ l. l ++ space_and_word (decimal n)) e)))
+    ∙ four o (codes "module") (space_and_word (decimal n)) (flat_map space_and_word (area_words k.area))
+    (flat_map space_and_word (words_of_counts k)) 10
+    ∙ ap (λ l. o ++ ((codes "module" ++ (space_and_word (decimal n) ++ l)) ++ 10 ∷ []))
+    (sym (flat_map-append space_and_word (area_words k.area) (words_of_counts k)))

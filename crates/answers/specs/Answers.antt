@@ -1,7 +1,7 @@
 -- The part that the answers of all commands have in common.
 use Rattle.std.specs.Prelude.{◌≡◌, ℕ, List, Result, Ok, Err}
-use Rattle.section_text.specs.Words.{bytes_after_lines}
-use Rattle.section_text.specs.Sections.{section_then, value_at_end}
+use Rattle.section_text.specs.Words.{bytes_after_last_line_feed}
+use Rattle.section_text.specs.Sections.{section_then, value_if_at_end}
 use Rattle.section_text.specs.declared.fault.Refusal.{Refusal}
 use Rattle.pattern.specs.Assign.{assign_grammar}
 use Rattle.report.specs.ReportText.{refusal_line}
@@ -15,16 +15,17 @@ Answered says (Err refusal) output outcome = (output ≡ refusal_line refusal) �
 
 -- After a first section: an assign section in which these names may be on, and nothing more. It gives the names that
 -- are on.
-abbrev pub names_on_of : List ℕ → List (List ℕ) → ℕ → List (List ℕ) → Result (List (List ℕ)) Refusal
-names_on_of text names n ahead =
-    section_then (assign_grammar names) n ahead (λ _ on m rest. value_at_end m rest (bytes_after_lines text) on)
+abbrev pub names_on_to_text_end : List ℕ → List (List ℕ) → ℕ → List (List ℕ) → Result (List (List ℕ)) Refusal
+names_on_to_text_end text names n ahead =
+    section_then (assign_grammar names) n ahead
+    (λ _ on m rest. value_if_at_end m rest (bytes_after_last_line_feed text) on)
 
 -- a value before those that are read after it, or the refusal of what is read after it
-abbrev pub with_value : {A B : Type 0} → A → Result B Refusal → Result (A × B) Refusal
-with_value value (Ok more) = Ok (value, more)
-with_value value (Err refusal) = Err refusal
+abbrev pub pair_with_result : {A B : Type 0} → A → Result B Refusal → Result (A × B) Refusal
+pair_with_result value (Ok more) = Ok (value, more)
+pair_with_result value (Err refusal) = Err refusal
 
 -- the same, with the value of the first section
-abbrev pub with_names_on : {A : Type 0} → List ℕ → A → List (List ℕ) → ℕ → List (List ℕ) →
+abbrev pub value_and_names_on : {A : Type 0} → List ℕ → A → List (List ℕ) → ℕ → List (List ℕ) →
     Result (A × List (List ℕ)) Refusal
-with_names_on text value names n ahead = with_value value (names_on_of text names n ahead)
+value_and_names_on text value names n ahead = pair_with_result value (names_on_to_text_end text names n ahead)

@@ -11,8 +11,8 @@ use Rattle.answers.specs.declared.outcome.Outcome.TheVariants as ended
 use Rattle.answers.specs.BundleText.{Bundle}
 
 -- the bundle of a certificate, its circuit and its layout
-abbrev pub bundle_by : CertView → Bundle
-bundle_by c =
+abbrev pub bundle_of_certificate : CertView → Bundle
+bundle_of_certificate c =
     record {
       circuit = c.circuit;
       size = c.layout.size;

@@ -1,7 +1,7 @@
 -- A bundle: a circuit, a layout for it, and a certificate for both.
 use Rattle.std.specs.Prelude.{ℕ, List, Result, Some}
-use Rattle.section_text.specs.Words.{lines_of, bytes_after_lines}
-use Rattle.section_text.specs.Sections.{section_then, value_at_end}
+use Rattle.section_text.specs.Words.{lines_of, bytes_after_last_line_feed}
+use Rattle.section_text.specs.Sections.{section_then, value_if_at_end}
 use Rattle.section_text.specs.declared.fault.Refusal.{Refusal}
 use Rattle.circuit.specs.Grammars.{circuit_grammar}
 use Rattle.circuit.specs.declared.circuit_line.CircuitLine.{CircuitLine}
@@ -29,5 +29,5 @@ bundle_of text =
     section_then circuit_grammar 0 (lines_of text) (λ _ circuit n ahead.
     section_then (layout_grammar (Some (port_names_of circuit))) n ahead (λ size parts m later.
     section_then (certificate_grammar (setting_of circuit (layout_of size parts))) m later (λ version entries k last.
-    value_at_end k last (bytes_after_lines text)
+    value_if_at_end k last (bytes_after_last_line_feed text)
     (record { circuit = circuit; size = size; parts = parts; version = version; entries = entries }))))

@@ -31,12 +31,12 @@ bundle_text bundle = circuit_text bundle.circuit ++ layout_lines bundle.size bun
     ++ certificate_lines bundle.version bundle.entries
 
 -- a bundle with a certificate of version 2, which has no halo lines
-abbrev pub in_version_two : Bundle → Bundle
-in_version_two bundle = record bundle { version = 2; entries = without_halos bundle.entries }
+abbrev pub migrated_bundle : Bundle → Bundle
+migrated_bundle bundle = record bundle { version = 2; entries = without_halos bundle.entries }
 
 -- the text of the bundle in version 2
 abbrev pub migrate_of : Bundle → List ℕ
-migrate_of bundle = bundle_text (in_version_two bundle)
+migrate_of bundle = bundle_text (migrated_bundle bundle)
 
 -- the bundle is written in version 2
 pub record SaysMigration (bundle : Bundle) (output : List ℕ) (outcome : Outcome) : Type 0 where

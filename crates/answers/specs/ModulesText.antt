@@ -15,14 +15,14 @@ abbrev pub area_words : Box2 → List (List ℕ)
 area_words b = decimal b.x ∷ decimal b.y ∷ decimal b.w ∷ decimal b.h ∷ []
 
 -- how many lines of each kind there are
-abbrev pub count_words : Counts → List (List ℕ)
-count_words k =
+abbrev pub words_of_counts : Counts → List (List ℕ)
+words_of_counts k =
     codes "cuts" ∷ decimal k.cuts ∷ codes "gates" ∷ decimal k.gates
     ∷ codes "edges" ∷ decimal k.edges ∷ codes "halos" ∷ decimal k.halos ∷ codes "stops" ∷ decimal k.stops ∷ []
 
 -- the line of the module of this number
 unfoldable pub module_line : ℕ → Counts → List ℕ
-module_line n k = line_text (codes "module") (decimal n ∷ (area_words k.area ++ count_words k))
+module_line n k = line_text (codes "module") (decimal n ∷ (area_words k.area ++ words_of_counts k))
 
 -- the lines of modules, numbered from n on
 unfoldable pub module_lines : ℕ → List Counts → List ℕ

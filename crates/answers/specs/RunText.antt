@@ -17,49 +17,50 @@ use Rattle.pattern.specs.Grammars.{layout_grammar, layout_section}
 use Rattle.pattern.specs.Run.{IsRunEnd}
 use Rattle.answers.specs.declared.outcome.Outcome.{Outcome}
 use Rattle.answers.specs.declared.outcome.Outcome.TheVariants.{Yes, No}
-use Rattle.answers.specs.Answers.{Answered, with_names_on}
+use Rattle.answers.specs.Answers.{Answered, value_and_names_on}
 
 -- ---- what is read
 
 -- the name of an input cell
-abbrev pub in_name : LayoutLine → List (List ℕ)
-in_name (In p) = p.name ∷ []
-in_name _ = []
+abbrev pub name_of_in_line : LayoutLine → List (List ℕ)
+name_of_in_line (In p) = p.name ∷ []
+name_of_in_line _ = []
 
 -- the lines of a layout, and the names that are on
-abbrev pub RunSections : Type 0
-RunSections = (LayoutHeader × List LayoutLine) × List (List ℕ)
+abbrev pub LayoutAndNamesOn : Type 0
+LayoutAndNamesOn = (LayoutHeader × List LayoutLine) × List (List ℕ)
 
 -- a layout section, an assign section in which the names of its input cells may be on, and nothing more
-unfoldable pub run_sections_of : List ℕ → Result RunSections Refusal
+unfoldable pub run_sections_of : List ℕ → Result LayoutAndNamesOn Refusal
 run_sections_of text =
     section_then (layout_grammar None) 0 (lines_of text)
-    (λ size parts n ahead. with_names_on text (size, parts) (flat_map in_name parts) n ahead)
+    (λ size parts n ahead. value_and_names_on text (size, parts) (flat_map name_of_in_line parts) n ahead)
 
 -- ---- what is written
 
 -- the line for a live cell
-abbrev pub cell_line : Cell → List ℕ
-cell_line c = line_text (signed_decimal c.x) (signed_decimal c.y ∷ [])
+abbrev pub live_cell_line : Cell → List ℕ
+live_cell_line c = line_text (signed_decimal c.x) (signed_decimal c.y ∷ [])
 
 -- the lines for the end of a run: its live cells, or the time at which a ball left the rectangle
-abbrev pub end_text : RunEnd → List ℕ
-end_text (Cells cells) = line_text (codes "cells") (decimal (length cells.items) ∷ []) ++ flat_map cell_line cells.items
-end_text (LeftAt k) = line_text (codes "left") (decimal k ∷ [])
+abbrev pub run_end_text : RunEnd → List ℕ
+run_end_text (Cells cells) = line_text (codes "cells") (decimal (length cells.items) ∷ [])
+    ++ flat_map live_cell_line cells.items
+run_end_text (LeftAt k) = line_text (codes "left") (decimal k ∷ [])
 
 -- the outcome for the end of a run: no if a ball left the rectangle
-abbrev pub end_outcome : RunEnd → Outcome
-end_outcome (Cells cells) = Yes
-end_outcome (LeftAt k) = No
+abbrev pub run_end_outcome : RunEnd → Outcome
+run_end_outcome (Cells cells) = Yes
+run_end_outcome (LeftAt k) = No
 
 -- the layout of these lines was run with these names on, and this says how it ended
-pub record SaysRunEnd (asked : RunSections) (output : List ℕ) (outcome : Outcome) : Type 0 where
+pub record SaysRunEnd (asked : LayoutAndNamesOn) (output : List ℕ) (outcome : Outcome) : Type 0 where
   pub layout : Pattern
   pub end : RunEnd
   pub lines : layout_section layout ≡ asked.0
   pub run : IsRunEnd layout (has asked.1) end
-  pub says : output ≡ end_text end
-  pub ends : outcome ≡ end_outcome end
+  pub says : output ≡ run_end_text end
+  pub ends : outcome ≡ run_end_outcome end
 
 -- what `run` writes for a text, and how it ends
 abbrev pub IsRunOf : List ℕ → List ℕ → Outcome → Type 0

@@ -1,8 +1,8 @@
 //! The part that the commands over two sections have in common.
 ghost use Rattle.std.specs.Prelude.{◌≡◌, true, None};
 ghost use Rattle.section_text.specs.Feeds.{ahead};
-ghost use Rattle.section_text.specs.Section.{SectionGives};
-ghost use Rattle.answers.specs.Answers.{names_on_of};
+ghost use Rattle.section_text.specs.Section.{ReaderReturnsSection};
+ghost use Rattle.answers.specs.Answers.{names_on_to_text_end};
 
 use pattern::read_assign;
 use section_text::{Feed, Name, ReadFault};
@@ -16,8 +16,8 @@ pub(crate) fn read_names_on(
 ) -> Result<Vec<Name>, ReadFault>
     requires closed { feed.old.closed ≡ true }
     requires going { feed.old.stop ≡ None }
-    ensures { SectionGives (λ on. on.items) result
-        (names_on_of feed.old.text names.now feed.old.taken (ahead feed.old)) }
+    ensures { ReaderReturnsSection (λ on. on.items) result
+        (names_on_to_text_end feed.old.text names.now feed.old.taken (ahead feed.old)) }
 {
     match read_assign(alloc, feed, names) {
         Err(fault) => Err(fault),

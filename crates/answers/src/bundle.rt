@@ -1,7 +1,7 @@
 //! Reads a bundle, and answers what is asked of it.
 ghost use Rattle.std.specs.Prelude.{◌≡◌, true, None, IfOk};
 ghost use Rattle.answers.specs.Answers.{Answered as AnsweredAs};
-ghost use Rattle.answers.specs.BundleReading.{bundle_by};
+ghost use Rattle.answers.specs.BundleReading.{bundle_of_certificate};
 ghost use Rattle.answers.specs.BundleText.{bundle_of};
 ghost use Rattle.answers.specs.MigrateText.{IsMigrationOf};
 ghost use Rattle.answers.specs.ModulesText.{IsModulesOf};
@@ -85,8 +85,8 @@ fn answer_of_text(
 
 // Answers the question for the bundle of a certificate.
 fn answer(alloc: Global, cert: &Cert<'_>, question: Question) -> Result<Answered, AllocError>
-    ensures says { IfOk result (λ answered. AnswersQuestion question (bundle_by cert.now)
-        answered.output.items answered.outcome) }
+    ensures says { IfOk result (λ answered. AnswersQuestion question
+        (bundle_of_certificate cert.now) answered.output.items answered.outcome) }
 {
     match question {
         Question::Modules => list_modules(alloc, cert),

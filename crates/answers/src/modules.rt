@@ -1,11 +1,11 @@
 //! Lists the modules of a bundle's certificate.
 ghost use Rattle.std.specs.Prelude.{◌≡◌, ◌++◌, [], ◌∷◌, map, OnOk, IfOk};
-ghost use Rattle.section_text.specs.Spelling.{spaced};
+ghost use Rattle.section_text.specs.Spelling.{space_and_word};
 ghost use Rattle.std.specs.Fmt.{decimal};
 ghost use Rattle.std.specs.List.{flat_map};
 ghost use Rattle.certificate_lines.specs.Entries.{counts_of, modules_of};
-ghost use Rattle.answers.specs.BundleReading.{bundle_by};
-ghost use Rattle.answers.specs.ModulesText.{SaysModules, area_words, count_words, module_line, module_lines};
+ghost use Rattle.answers.specs.BundleReading.{bundle_of_certificate};
+ghost use Rattle.answers.specs.ModulesText.{SaysModules, area_words, words_of_counts, module_line, module_lines};
 
 use crate::outcome::{Answered, Outcome};
 use certificate::{Cert, Counts};
@@ -15,7 +15,7 @@ use std::alloc::{AllocError, Global};
 
 // A space and a number.
 fn print_count(alloc: Global, out: &mut Vec<u8>, count: usize) -> Result<(), AllocError>
-    ensures { OnOk result (out.new.items ≡ out.old.items ++ spaced (decimal count)) }
+    ensures { OnOk result (out.new.items ≡ out.old.items ++ space_and_word (decimal count)) }
 {
     let digits = count.to_string(alloc)?;
     print_word(out, digits.as_bytes())?;
@@ -24,7 +24,8 @@ fn print_count(alloc: Global, out: &mut Vec<u8>, count: usize) -> Result<(), All
 
 // The corner and the sides of a box.
 fn print_area(out: &mut Vec<u8>, area: Box2) -> Result<(), AllocError>
-    ensures { OnOk result (out.new.items ≡ out.old.items ++ flat_map spaced (area_words area)) }
+    ensures { OnOk result (out.new.items
+        ≡ out.old.items ++ flat_map space_and_word (area_words area)) }
 {
     print_number(out, area.x)?;
     print_number(out, area.y)?;
@@ -36,7 +37,7 @@ fn print_area(out: &mut Vec<u8>, area: Box2) -> Result<(), AllocError>
 // How many lines of a kind there are.
 fn print_kind(alloc: Global, out: &mut Vec<u8>, kind: &[u8], count: usize) -> Result<(), AllocError>
     ensures { OnOk result (out.new.items
-        ≡ out.old.items ++ flat_map spaced (kind.now ∷ decimal count ∷ [])) }
+        ≡ out.old.items ++ flat_map space_and_word (kind.now ∷ decimal count ∷ [])) }
 {
     print_word(out, kind)?;
     print_count(alloc, out, count)?;
@@ -45,7 +46,8 @@ fn print_kind(alloc: Global, out: &mut Vec<u8>, kind: &[u8], count: usize) -> Re
 
 // How many lines of each kind there are.
 fn print_counts(alloc: Global, out: &mut Vec<u8>, counts: Counts) -> Result<(), AllocError>
-    ensures { OnOk result (out.new.items ≡ out.old.items ++ flat_map spaced (count_words counts)) }
+    ensures { OnOk result (out.new.items
+        ≡ out.old.items ++ flat_map space_and_word (words_of_counts counts)) }
 {
     print_kind(alloc, out, b"cuts", counts.cuts)?;
     print_kind(alloc, out, b"gates", counts.gates)?;
@@ -87,8 +89,8 @@ fn print_modules(alloc: Global, cert: &Cert) -> Result<Vec<u8>, AllocError>
 
 /// Lists the modules of a certificate.
 pub(crate) fn list_modules(alloc: Global, cert: &Cert<'_>) -> Result<Answered, AllocError>
-    ensures says { IfOk result (λ answered. SaysModules (bundle_by cert.now) answered.output.items
-        answered.outcome) }
+    ensures says { IfOk result (λ answered. SaysModules (bundle_of_certificate cert.now)
+        answered.output.items answered.outcome) }
 {
     let output = print_modules(alloc, cert)?;
     Ok(Answered {

@@ -2,10 +2,10 @@
 ghost use Rattle.std.specs.Prelude.{◌≡◌, ◌++◌, [], ◌∷◌, true, None, IfOk, OnOk, codes, length, map};
 ghost use Rattle.std.specs.Fmt.{decimal};
 ghost use Rattle.std.specs.List.{flat_map};
-ghost use Rattle.section_text.specs.Section.{SectionGives};
+ghost use Rattle.section_text.specs.Section.{ReaderReturnsSection};
 ghost use Rattle.section_text.specs.Spelling.{line_text};
 ghost use Rattle.pattern.specs.Grammars.{layout_section};
-ghost use Rattle.answers.specs.RunText.{IsRunOf, SaysRunEnd, cell_line, end_outcome, end_text, run_sections_of};
+ghost use Rattle.answers.specs.RunText.{IsRunOf, SaysRunEnd, live_cell_line, run_end_outcome, run_end_text, run_sections_of};
 
 use crate::asking::read_names_on;
 use crate::outcome::{Answered, Outcome};
@@ -23,11 +23,14 @@ fn in_names(alloc: Global, layout: &Layout) -> Result<Vec<Name>, AllocError>
 }
 
 // Reads a layout, the names that are on, and the end of the text.
-fn read_both_sections(alloc: Global, feed: &mut Feed) -> Result<(Layout, Vec<Name>), ReadFault>
+fn read_section_and_names_on(
+    alloc: Global,
+    feed: &mut Feed,
+) -> Result<(Layout, Vec<Name>), ReadFault>
     requires closed { feed.old.closed ≡ true }
     requires unread { feed.old.taken ≡ 0 }
     requires going { feed.old.stop ≡ None }
-    ensures { SectionGives (λ asked. (layout_section asked.0, asked.1.items)) result
+    ensures { ReaderReturnsSection (λ asked. (layout_section asked.0, asked.1.items)) result
         (run_sections_of feed.old.text) }
 {
     let layout = match read_layout(alloc, feed, &PortNames::Any) {
@@ -44,7 +47,7 @@ fn read_both_sections(alloc: Global, feed: &mut Feed) -> Result<(Layout, Vec<Nam
 }
 
 fn print_cell(alloc: Global, out: &mut Vec<u8>, cell: Cell) -> Result<(), AllocError>
-    ensures { OnOk result (out.new.items ≡ out.old.items ++ cell_line cell) }
+    ensures { OnOk result (out.new.items ≡ out.old.items ++ live_cell_line cell) }
 {
     let line = format!(in alloc; "{} {}\n", cell.x, cell.y)?;
     out.extend_from_slice(line.as_bytes())?;
@@ -52,7 +55,7 @@ fn print_cell(alloc: Global, out: &mut Vec<u8>, cell: Cell) -> Result<(), AllocE
 }
 
 fn print_cells(alloc: Global, out: &mut Vec<u8>, cells: &[Cell]) -> Result<(), AllocError>
-    ensures { OnOk result (out.new.items ≡ out.old.items ++ flat_map cell_line cells.now) }
+    ensures { OnOk result (out.new.items ≡ out.old.items ++ flat_map live_cell_line cells.now) }
 {
     for cell in cells {
         print_cell(alloc, out, *cell)?;
@@ -60,7 +63,7 @@ fn print_cells(alloc: Global, out: &mut Vec<u8>, cells: &[Cell]) -> Result<(), A
     Ok(())
 }
 
-fn left_text(alloc: Global, step: u32) -> Result<Vec<u8>, AllocError>
+fn ball_left_text(alloc: Global, step: u32) -> Result<Vec<u8>, AllocError>
     ensures { IfOk result (λ text. text.items ≡ line_text (codes "left") (decimal step ∷ [])) }
 {
     let line = format!(in alloc; "left {step}\n")?;
@@ -77,7 +80,7 @@ fn live_count_text(alloc: Global, count: usize) -> Result<Vec<u8>, AllocError>
 fn cells_text(alloc: Global, cells: &[Cell]) -> Result<Vec<u8>, AllocError>
     ensures { IfOk result (λ text. text.items
         ≡ line_text (codes "cells") (decimal (length cells.now) ∷ [])
-        ++ flat_map cell_line cells.now) }
+        ++ flat_map live_cell_line cells.now) }
 {
     let mut text = live_count_text(alloc, cells.len())?;
     print_cells(alloc, &mut text, cells)?;
@@ -85,16 +88,16 @@ fn cells_text(alloc: Global, cells: &[Cell]) -> Result<Vec<u8>, AllocError>
 }
 
 fn run_end_lines(alloc: Global, end: &RunEnd) -> Result<Vec<u8>, AllocError>
-    ensures { IfOk result (λ text. text.items ≡ end_text end.now) }
+    ensures { IfOk result (λ text. text.items ≡ run_end_text end.now) }
 {
     match end {
-        RunEnd::LeftAt(step) => left_text(alloc, *step),
+        RunEnd::LeftAt(step) => ball_left_text(alloc, *step),
         RunEnd::Cells(cells) => cells_text(alloc, cells),
     }
 }
 
 fn outcome_of(end: &RunEnd) -> Outcome
-    ensures { result ≡ end_outcome end.now }
+    ensures { result ≡ run_end_outcome end.now }
 {
     match end {
         RunEnd::Cells(_) => Outcome::Yes,
@@ -121,7 +124,7 @@ pub fn run_text(alloc: Global, feed: &mut Feed) -> Result<Answered, AllocError>
     ensures { IfOk result (λ answered. IsRunOf feed.old.text answered.output.items
         answered.outcome) }
 {
-    match read_both_sections(alloc, feed) {
+    match read_section_and_names_on(alloc, feed) {
         Err(fault) => refused(alloc, fault),
         Ok((layout, on)) => answer(alloc, &layout, &on),
     }

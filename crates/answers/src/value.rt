@@ -5,7 +5,7 @@ ghost use Rattle.section_text.specs.Spelling.{line_text};
 ghost use Rattle.circuit.specs.Meaning.{wires};
 ghost use Rattle.circuit.specs.Entries.{defined};
 ghost use Rattle.circuit.specs.Text.{value_lines};
-ghost use Rattle.section_text.specs.Section.{SectionGives};
+ghost use Rattle.section_text.specs.Section.{ReaderReturnsSection};
 ghost use Rattle.circuit.specs.Bridge.{input_names, netlist_of};
 ghost use Rattle.answers.specs.ValueText.{IsValueOf, SaysValues, value_sections_of};
 
@@ -29,11 +29,14 @@ fn input_list(alloc: Global, circuit: &Circuit) -> Result<Vec<Name>, AllocError>
 }
 
 // Reads a circuit, the names that are on, and the end of the text.
-fn read_both_sections(alloc: Global, feed: &mut Feed) -> Result<(Circuit, Vec<Name>), ReadFault>
+fn read_section_and_names_on(
+    alloc: Global,
+    feed: &mut Feed,
+) -> Result<(Circuit, Vec<Name>), ReadFault>
     requires closed { feed.old.closed ≡ true }
     requires unread { feed.old.taken ≡ 0 }
     requires going { feed.old.stop ≡ None }
-    ensures { SectionGives (λ asked. (asked.0, asked.1.items)) result
+    ensures { ReaderReturnsSection (λ asked. (asked.0, asked.1.items)) result
         (value_sections_of feed.old.text) }
 {
     let circuit = match read_circuit(alloc, feed) {
@@ -50,7 +53,7 @@ fn read_both_sections(alloc: Global, feed: &mut Feed) -> Result<(Circuit, Vec<Na
 }
 
 // The values of the wires before a gate that has no row, and the gate.
-fn undefined_text(
+fn undefined_gate_text(
     alloc: Global,
     circuit: &Circuit,
     gate: usize,
@@ -85,7 +88,7 @@ fn answer(alloc: Global, circuit: &Circuit, on: &[Name]) -> Result<Answered, All
             })
         }
         Err(ValuesFault::OutOfDomain { gate, before }) => {
-            let output = undefined_text(alloc, circuit, gate, &before)?;
+            let output = undefined_gate_text(alloc, circuit, gate, &before)?;
             Ok(Answered {
                 outcome: Outcome::No,
                 output,
@@ -103,7 +106,7 @@ pub fn value_text(alloc: Global, feed: &mut Feed) -> Result<Answered, AllocError
     ensures { IfOk result (λ answered. IsValueOf feed.old.text answered.output.items
         answered.outcome) }
 {
-    match read_both_sections(alloc, feed) {
+    match read_section_and_names_on(alloc, feed) {
         Err(fault) => refused(alloc, fault),
         Ok((circuit, on)) => answer(alloc, &circuit, &on),
     }

@@ -7,10 +7,10 @@ ghost use Rattle.pattern.specs.Layout.{parts_of};
 ghost use Rattle.pattern.specs.Lines.{AreNamed};
 ghost use Rattle.border_match.specs.BorderFaults.{AreBorderFaultsOf};
 ghost use Rattle.certificate.specs.Times.{are_all_obeyed};
-ghost use Rattle.core_book.specs.Concluding.{AreOwnJobs, modules, port_names_of, setting};
+ghost use Rattle.core_book.specs.Concluding.{AreJobsOfCertificate, modules, port_names_of, setting};
 ghost use Rattle.meaning.specs.Implements.{IsCorrect};
 ghost use Rattle.soundness.specs.OnTime.{IsOnTime};
-ghost use Rattle.core_book.specs.Verdicts.{AreHeldBelow, AreLeastFaults, IsFirstMissing, IsToldOf, IsVerdict, border_line, keep_line, lines_from, local_line, timing_report};
+ghost use Rattle.core_book.specs.Verdicts.{AreFindingsHeldBelow, AreLeastFaults, IsFirstMissing, IsToldOf, IsVerdict, border_line, keep_line, report_lines_from, local_line, timing_report};
 ghost use Rattle.local_run.specs.Shown.{job_of};
 ghost use Rattle.core_book.specs.declared.verdict.ReportLine.TheVariants.{Unkept};
 ghost use Rattle.core_book.specs.declared.verdict.Unfinished.TheVariants.{Missing};
@@ -18,7 +18,7 @@ ghost use Rattle.core_book.specs.declared.verdict.Verdict.TheVariants.{Yes};
 
 use border_match::BorderFault;
 use certificate::{Cert, Job, TimeLine};
-use core_book::{BookState, Reasons, ReportLine, Unfinished, Verdict};
+use core_book::{BookState, LeastFaults, ReportLine, Unfinished, Verdict};
 use local_run::{Fault, Finding, KeepFault};
 use std::alloc::{AllocError, Global};
 use std::sync::Arc;
@@ -46,9 +46,10 @@ pub fn conclude(
     borders: &[Option<BorderFault>],
     book: &BookState,
 ) -> Result<Verdict, Unfinished>
-    requires own_jobs { AreOwnJobs cert.now (map arc_value jobs.now) }
+    requires own_jobs { AreJobsOfCertificate cert.now (map arc_value jobs.now) }
     requires borders { AreBorderFaultsOf (setting cert.now) (modules cert.now) borders.now }
-    ensures held { OnOk result (AreHeldBelow book.now (map arc_value jobs.now) (length jobs.now)) }
+    ensures held { OnOk result (AreFindingsHeldBelow book.now (map arc_value jobs.now)
+        (length jobs.now)) }
     ensures verdict { IfOk result (λ v. IsVerdict (setting cert.now) (modules cert.now)
         (map arc_value jobs.now) v) }
     ensures missing { (number : ℕ) → result ≡ Err (Missing number) →
@@ -60,7 +61,7 @@ pub fn conclude(
         AreNamed (Some (port_names_of cert.now.circuit)) (parts_of cert.now.layout) →
         IsOnTime (circuit_of cert.now.circuit) cert.now.layout (modules cert.now) }
 {
-    let faults = held_faults(alloc, jobs, book)?;
+    let faults = faults_of_held_findings(alloc, jobs, book)?;
     Ok(verdict_of(alloc, cert, jobs, &faults, borders)?)
 }
 
@@ -73,8 +74,8 @@ pub fn conclude_from_full_book(
     borders: &[Option<BorderFault>],
     book: &BookState,
 ) -> Result<Verdict, AllocError>
-    requires own_jobs { AreOwnJobs cert.now book.now.jobs }
-    requires held { AreHeldBelow book.now book.now.jobs (length book.now.jobs) }
+    requires own_jobs { AreJobsOfCertificate cert.now book.now.jobs }
+    requires held { AreFindingsHeldBelow book.now book.now.jobs (length book.now.jobs) }
     requires borders { AreBorderFaultsOf (setting cert.now) (modules cert.now) borders.now }
     ensures verdict { IfOk result (λ v. IsVerdict (setting cert.now) (modules cert.now)
         book.now.jobs v) }
@@ -85,7 +86,7 @@ pub fn conclude_from_full_book(
         AreNamed (Some (port_names_of cert.now.circuit)) (parts_of cert.now.layout) →
         IsOnTime (circuit_of cert.now.circuit) cert.now.layout (modules cert.now) }
 {
-    let faults = own_faults(alloc, book)?;
+    let faults = faults_in_full_book(alloc, book)?;
     verdict_of(alloc, cert, book.jobs(), &faults, borders)
 }
 
@@ -94,10 +95,10 @@ fn verdict_of(
     alloc: Global,
     cert: &Cert<'_>,
     jobs: &[Arc<Job>],
-    faults: &[Reasons],
+    faults: &[LeastFaults],
     borders: &[Option<BorderFault>],
 ) -> Result<Verdict, AllocError>
-    requires own_jobs { AreOwnJobs cert.now (map arc_value jobs.now) }
+    requires own_jobs { AreJobsOfCertificate cert.now (map arc_value jobs.now) }
     requires least { AreLeastFaults (map arc_value jobs.now) faults.now }
     requires borders { AreBorderFaultsOf (setting cert.now) (modules cert.now) borders.now }
     ensures verdict { IfOk result (λ v. IsVerdict (setting cert.now) (modules cert.now)
@@ -119,7 +120,7 @@ fn verdict_of(
     if obeyed & lines.is_empty() {
         return Ok(Verdict::Yes);
     }
-    push_times(&mut lines, &times)?;
+    push_time_lines(&mut lines, &times)?;
     Ok(Verdict::No(lines))
 }
 
@@ -141,7 +142,7 @@ fn timing_report(line: &TimeLine) -> ReportLine
 }
 
 // Adds what stops say of all gates.
-fn push_times(lines: &mut Vec<ReportLine>, times: &[TimeLine]) -> Result<(), AllocError>
+fn push_time_lines(lines: &mut Vec<ReportLine>, times: &[TimeLine]) -> Result<(), AllocError>
     ensures { OnOk result (lines.new.items ≡ lines.old.items ++ map timing_report times.now) }
 {
     'times: for line in times {
@@ -151,12 +152,13 @@ fn push_times(lines: &mut Vec<ReportLine>, times: &[TimeLine]) -> Result<(), All
 }
 
 // The least faults of the jobs, by the findings that the book holds for them.
-fn held_faults(
+fn faults_of_held_findings(
     alloc: Global,
     jobs: &[Arc<Job>],
     book: &BookState,
-) -> Result<Vec<Reasons>, Unfinished>
-    ensures held { OnOk result (AreHeldBelow book.now (map arc_value jobs.now) (length jobs.now)) }
+) -> Result<Vec<LeastFaults>, Unfinished>
+    ensures held { OnOk result (AreFindingsHeldBelow book.now (map arc_value jobs.now)
+        (length jobs.now)) }
     ensures least { IfOk result (λ fs. AreLeastFaults (map arc_value jobs.now) fs.items) }
     ensures missing { (number : ℕ) → result ≡ Err (Missing number) →
         IsFirstMissing book.now (map arc_value jobs.now) number }
@@ -166,21 +168,21 @@ fn held_faults(
         let Some(finding) = book.found_for(number, job) else {
             return Err(Unfinished::Missing(number));
         };
-        faults.push(reasons_of(finding))?;
+        faults.push(least_faults_of(finding))?;
     }
     Ok(faults)
 }
 
 // The least faults of a book's jobs, by the findings that it holds for each of them.
-fn own_faults(alloc: Global, book: &BookState) -> Result<Vec<Reasons>, AllocError>
-    requires { AreHeldBelow book.now book.now.jobs (length book.now.jobs) }
+fn faults_in_full_book(alloc: Global, book: &BookState) -> Result<Vec<LeastFaults>, AllocError>
+    requires { AreFindingsHeldBelow book.now book.now.jobs (length book.now.jobs) }
     ensures { IfOk result (λ fs. AreLeastFaults book.now.jobs fs.items) }
 {
     let count = book.jobs().len();
     let mut faults = Vec::with_capacity(alloc, count)?;
     'modules: for number in 0..count {
         match book.found(number) {
-            Some(finding) => faults.push(reasons_of(finding))?,
+            Some(finding) => faults.push(least_faults_of(finding))?,
             None => unreachable!(),
         }
     }
@@ -188,7 +190,7 @@ fn own_faults(alloc: Global, book: &BookState) -> Result<Vec<Reasons>, AllocErro
 }
 
 // What a finding tells of its job.
-fn reasons_of(finding: &Finding) -> Reasons
+fn least_faults_of(finding: &Finding) -> LeastFaults
     ensures { IsToldOf (job_of finding.now) result }
 {
     let keep = match finding.keep() {
@@ -198,26 +200,26 @@ fn reasons_of(finding: &Finding) -> Reasons
         }),
         None => None,
     };
-    Reasons {
+    LeastFaults {
         fault: finding.fault(),
         keep,
     }
 }
 
 // The lines on the modules, one after the other.
-fn module_lines(
+fn report_lines_on_modules(
     alloc: Global,
-    faults: &[Reasons],
+    faults: &[LeastFaults],
     borders: &[Option<BorderFault>],
 ) -> Result<Vec<ReportLine>, AllocError>
     requires { length faults.now ≡ length borders.now }
-    ensures { IfOk result (λ lines. lines.items ≡ lines_from 0 faults.now borders.now) }
+    ensures { IfOk result (λ lines. lines.items ≡ report_lines_from 0 faults.now borders.now) }
 {
     let mut lines = Vec::new(alloc);
     'modules: for (number, reasons) in faults.iter().enumerate() {
-        push_line(&mut lines, local_line(number, reasons.fault))?;
-        push_line(&mut lines, keep_line(number, reasons.keep))?;
-        push_line(&mut lines, border_line(number, borders[number]))?;
+        push_line_if_some(&mut lines, local_line(number, reasons.fault))?;
+        push_line_if_some(&mut lines, keep_line(number, reasons.keep))?;
+        push_line_if_some(&mut lines, border_line(number, borders[number]))?;
     }
     Ok(lines)
 }
@@ -225,15 +227,15 @@ fn module_lines(
 // The lines of the report: those on the modules, and then the gates that are not kept.
 fn report_lines(
     alloc: Global,
-    faults: &[Reasons],
+    faults: &[LeastFaults],
     borders: &[Option<BorderFault>],
     unkept: &[usize],
 ) -> Result<Vec<ReportLine>, AllocError>
     requires { length faults.now ≡ length borders.now }
     ensures { IfOk result (λ lines. lines.items
-        ≡ lines_from 0 faults.now borders.now ++ map (λ n. Unkept n) unkept.now) }
+        ≡ report_lines_from 0 faults.now borders.now ++ map (λ n. Unkept n) unkept.now) }
 {
-    let mut lines = module_lines(alloc, faults, borders)?;
+    let mut lines = report_lines_on_modules(alloc, faults, borders)?;
     'gates: for gate in unkept {
         lines.push(ReportLine::Unkept { gate: *gate })?;
     }
@@ -276,7 +278,10 @@ fn border_line(number: usize, fault: Option<BorderFault>) -> Option<ReportLine>
     }
 }
 
-fn push_line(lines: &mut Vec<ReportLine>, line: Option<ReportLine>) -> Result<(), AllocError>
+fn push_line_if_some(
+    lines: &mut Vec<ReportLine>,
+    line: Option<ReportLine>,
+) -> Result<(), AllocError>
     ensures { OnOk result (lines.new.items ≡ lines.old.items ++ option_to_list line) }
 {
     if let Some(line) = line {

@@ -17,6 +17,6 @@ pub mod laws;
 
 pub use concluding::{conclude, conclude_from_full_book};
 pub use core_book::{
-    Answer, BookState, Claim, Core, Event, Filing, LogEntry, Mismatch, NotApplied, NotFiled,
-    Reasons, Reply, ReportLine, Unfinished, Verdict, fill, fill_open_book,
+    Answer, BookState, Claim, Core, Event, Filing, LeastFaults, LogEntry, Mismatch, NotApplied,
+    NotFiled, Reply, ReportLine, Unfinished, Verdict, fill, fill_open_book,
 };

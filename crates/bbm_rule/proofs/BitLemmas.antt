@@ -1,7 +1,6 @@
 -- Bits of numbers as tests.
 use Rattle.std.proofs.Common.{◌≡◌, ◌≢◌, ℕ, Bool, true, false, ◌&&◌, ◌||◌, ◌<◌, ◌≤◌, ◌+◌, ◌-◌, ◌*◌, ◌/◌, ◌^◌, ◌%◌, zero}
-use Rattle.std.proofs.Common.{suc, refl, arith, ◌⊎◌, inl, inr, bit_and, bit_or, nat_eq, ◌∙◌, sym, ap}
-use Rattle.std.specs.Prelude.{bit_xor}
+use Rattle.std.proofs.Common.{suc, refl, arith, ◌⊎◌, inl, inr, bit_and, bit_or, nat_eq, ◌∙◌, sym, ap, bit_xor}
 use Rattle.std.specs.Int.{bit_at}
 use Rattle.std.proofs.lemmas.Bool.Decides.{leb_tells, eqb_tells}
 use Rattle.std.proofs.lemmas.Nat.{shr-shr, shr_split}

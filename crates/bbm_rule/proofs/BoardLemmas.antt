@@ -1,7 +1,6 @@
 -- The board that the rows of a grid stand for.
-use Rattle.std.proofs.Common.{◌≡◌, ℕ, true, false, ◌<◌, ◌≤◌, ◌+◌, ◌-◌, ◌*◌, ◌/◌, ◌%◌, zero, suc, refl}
-use Rattle.std.proofs.Common.{arith, ◌∙◌, sym, ap, List, [], ◌∷◌, inl, inr, map}
-use Rattle.std.specs.Prelude.{pos, nat_lt, nat_le}
+use Rattle.std.proofs.Common.{◌≡◌, ℕ, true, false, ◌<◌, ◌≤◌, ◌+◌, ◌-◌, ◌*◌, ◌/◌, ◌%◌, zero, suc, refl, arith, ◌∙◌, sym}
+use Rattle.std.proofs.Common.{ap, List, [], ◌∷◌, inl, inr, map, pos, nat_lt, nat_le}
 use Rattle.std.proofs.lemmas.Bool.Decides.{nat_tests}
 use Rattle.std.proofs.lemmas.List.FromFn.{get_or-map-range_with_len}
 use Rattle.std.proofs.lemmas.Nat.{div-mul-add, mod-mul-add, div_below, mod_below}
@@ -9,7 +8,7 @@ use Rattle.std.proofs.Math.Nat.{mul-le-mul_right, div-add-mod, mul-le-mul_left}
 use Rattle.std.proofs.Math.Bool.{and-false}
 use Rattle.std.proofs.lemmas.Grind.{common_steps}
 use Rattle.bbm_rule.specs.Plane.{step, turned}
-use Rattle.bbm_rule.specs.Rows.{cell_at, mate, TurnsRows, is_inner, HasLiveMargin, HasDeadMargin}
+use Rattle.bbm_rule.specs.Rows.{cell_at, mate, TurnsRows, is_inside_margin, HasLiveMargin, HasDeadMargin}
 use Rattle.bbm_rule.specs.Board.{Board, live, is_inside, IsStep, Leaves}
 use Rattle.bbm_rule.specs.GridView.{board}
 use Rattle.bbm_rule.proofs.BitLemmas.{by_lt_or_le, by_eq_or_not}
@@ -24,7 +23,7 @@ pub record IsPlane (w h s : ℕ) (words : List ℕ) : Type 0 where
   pub height : h % 2 ≡ 0
   pub row : s % 2 ≡ 0
   pub room : w + 2 ≤ s
-  pub margin : (x y : ℕ) → x < s → is_inner w h x y ≡ false → cell_at words (s * y + x) ≡ false
+  pub margin : (x y : ℕ) → x < s → is_inside_margin w h x y ≡ false → cell_at words (s * y + x) ≡ false
 
 lt_test : (a b : ℕ) → a < b → nat_lt a b ≡ true
 lt_test a b l = grind (arith, nat_tests)
@@ -38,13 +37,13 @@ le_test a b l = grind (arith, nat_tests)
 not_le_test : (a b : ℕ) → b < a → nat_le a b ≡ false
 not_le_test a b l = grind (arith, nat_tests)
 
-pub not_inner_column : (w h x y : ℕ) → w < x → is_inner w h x y ≡ false
+pub not_inner_column : (w h x y : ℕ) → w < x → is_inside_margin w h x y ≡ false
 not_inner_column w h x y l = rw (not_le_test x w l, and-false (nat_le 1 x)) refl
 
-pub not_inner_row : (w h x y : ℕ) → h < y → is_inner w h x y ≡ false
+pub not_inner_row : (w h x y : ℕ) → h < y → is_inside_margin w h x y ≡ false
 not_inner_row w h x y l = rw (not_le_test y h l) (and-false _)
 
-pub not_inner_first_row : (w h x : ℕ) → is_inner w h x 0 ≡ false
+pub not_inner_first_row : (w h x : ℕ) → is_inside_margin w h x 0 ≡ false
 not_inner_first_row w h x = grind (arith, common_steps)
 
 pub live_inner : (w h s : ℕ) (words : List ℕ) (x y : ℕ) → x < w → y < h →
@@ -120,7 +119,7 @@ pub odd_plane : (w h s r : ℕ) (old new : List ℕ) → IsPlane w h s old → T
 odd_plane w h s r old new plane rows e dead =
     record { width = plane.width; height = plane.height; row = plane.row; room = plane.room; margin = margin }
   where
-    beyond : (x y : ℕ) → x < s → h + 2 ≤ y → is_inner w h x y ≡ false → cell_at new (s * y + x) ≡ false
+    beyond : (x y : ℕ) → x < s → h + 2 ≤ y → is_inside_margin w h x y ≡ false → cell_at new (s * y + x) ≡ false
     beyond x y l le outer =
         let high : 2 * r * s ≤ y * s = mul-le-mul_right s (omega arith) in
         rows.after (s * y + x) (omega arith) ∙ plane.margin x y l outer
@@ -136,7 +135,7 @@ odd_plane w h s r old new plane rows e dead =
         aligned_cell s r old new rows x y l (omega arith)
         ∙ rw (none y, none' y, none (mate y), none' (mate y)) dead_block
 
-    margin : (x y : ℕ) → x < s → is_inner w h x y ≡ false → cell_at new (s * y + x) ≡ false
+    margin : (x y : ℕ) → x < s → is_inside_margin w h x y ≡ false → cell_at new (s * y + x) ≡ false
     margin x y l outer =
         by_lt_or_le y (h + 2) (λ ly. by_lt_or_le x (w + 2) (λ lx. dead x y lx ly outer) (λ gx. right x y l gx ly))
         (λ gy. beyond x y l gy outer)
@@ -154,7 +153,7 @@ odd_step t w h s r old new at_odd plane plane' rows e u v =
       ]
     ]
 
-inner_test : (w h x y : ℕ) → x < w → y < h → is_inner w h (suc x) (suc y) ≡ true
+inner_test : (w h x y : ℕ) → x < w → y < h → is_inside_margin w h (suc x) (suc y) ≡ true
 inner_test w h x y lx ly = rw (
   le_test 1 (suc x) (omega arith),
   le_test (suc x) w (omega arith),
@@ -162,13 +161,14 @@ inner_test w h x y lx ly = rw (
   le_test (suc y) h (omega arith),
 ) refl
 
-inside_ext : (b : Board) (x y : ℕ) → is_inner b.width b.height x y ≡ false → is_inside b (ext x) (ext y) ≡ false
+inside_ext : (b : Board) (x y : ℕ) → is_inside_margin b.width b.height x y ≡ false → is_inside b (ext x) (ext y) ≡ false
 inside_ext b zero y outer = refl
 inside_ext b (suc x) zero outer = refl
 inside_ext b (suc x) (suc y) outer =
     by_lt_or_le x b.width
     (λ lx. by_lt_or_le y b.height
-    (λ ly. let inner : is_inner b.width b.height (suc x) (suc y) ≡ true = inner_test b.width b.height x y lx ly in cc)
+    (λ ly. let inner : is_inside_margin b.width b.height (suc x) (suc y) ≡ true =
+    inner_test b.width b.height x y lx ly in cc)
     (λ gy. rw (not_lt_test y b.height gy) (and-false (nat_lt x b.width))))
     (λ gx. rw (not_lt_test x b.width gx) refl)
 
@@ -299,10 +299,11 @@ even_plane w h s r old new plane rows e =
           dead_from (mate j) (mate y) ge mj,
         ) dead_block
 
-    before : (x y : ℕ) → x < s → is_inner w h x y ≡ false → s * y + x < s + 1 → cell_at new (s * y + x) ≡ false
+    before : (x y : ℕ) → x < s → is_inside_margin w h x y ≡ false → s * y + x < s + 1 → cell_at new (s * y + x) ≡ false
     before x y l outer low = rows.before (s * y + x) low ∙ plane.margin x y l outer
 
-    after : (x y : ℕ) → x < s → is_inner w h x y ≡ false → s * (h + 1) + 1 ≤ s * y + x → cell_at new (s * y + x) ≡ false
+    after : (x y : ℕ) → x < s → is_inside_margin w h x y ≡ false → s * (h + 1) + 1 ≤ s * y + x →
+        cell_at new (s * y + x) ≡ false
     after x y l outer high = let size : s * (h + 1) ≡ s * (2 * r + 1) = ap (λ n. s * (n + 1)) (sym e) in
         rows.after (s * y + x) (omega arith) ∙ plane.margin x y l outer
 
@@ -321,13 +322,13 @@ even_plane w h s r old new plane rows e =
         (λ gy. after zero (suc (suc y)) (omega (arith, plane.room)) refl
         (let more = higher (h + 2) (suc (suc y)) (omega arith) in omega (arith, plane.room)))
 
-    margin : (x y : ℕ) → x < s → is_inner w h x y ≡ false → cell_at new (s * y + x) ≡ false
+    margin : (x y : ℕ) → x < s → is_inside_margin w h x y ≡ false → cell_at new (s * y + x) ≡ false
     margin zero y l outer = first_column y
     margin (suc x) zero l outer = before (suc x) zero l outer (omega arith)
     margin (suc x) (suc y) l outer =
         by_lt_or_le y h
         (λ ly. by_lt_or_le x w
-        (λ lx. let inner : is_inner w h (suc x) (suc y) ≡ true = inner_test w h x y lx ly in cc)
+        (λ lx. let inner : is_inside_margin w h (suc x) (suc y) ≡ true = inner_test w h x y lx ly in cc)
         (λ gx.
         let place : s * suc y + suc x ≡ s * (y + 1) + (x + 1) = omega arith in
         rw place (still_dead x y gx (omega arith) ly)))

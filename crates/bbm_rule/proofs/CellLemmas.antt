@@ -1,7 +1,6 @@
 -- Single cells.
 use Rattle.std.proofs.Common.{◌≡◌, ◌≢◌, ℕ, Bool, true, false, ◌<◌, ◌+◌, ◌-◌, ◌*◌, ◌/◌, ◌^◌, ◌%◌, refl, arith, List}
-use Rattle.std.proofs.Common.{length}
-use Rattle.std.proofs.Common.{get_or, set, bit_and, bit_or, w64, nat_eq, sym}
+use Rattle.std.proofs.Common.{length, get_or, set, bit_and, bit_or, w64, nat_eq, sym}
 use Rattle.std.proofs.lemmas.List.{get_or-set_same, get_or-set_other}
 use Rattle.std.proofs.lemmas.Nat.Bits.{shr_and_one, bit_at_set_same, bit_at_set_other, bit_at_clear_same}
 use Rattle.std.proofs.lemmas.Nat.Bits.{bit_at_clear_other}

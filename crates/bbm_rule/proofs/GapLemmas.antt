@@ -1,10 +1,9 @@
 -- The first number without a mark: it is the first one with a mark in the complement of the words.
 use Rattle.std.proofs.Common.{◌≡◌, ◌≢◌, ℕ, Bool, true, false, not, ◌<◌, ◌≤◌, ◌+◌, ◌*◌, ◌/◌, ◌^◌, ◌%◌, refl, arith, sym}
 use Rattle.std.proofs.Common.{inl, inr, List, length, map, get_or, w64, ◌∙◌}
-use Rattle.std.specs.Int.{bit_not, trailing_zeros}
+use Rattle.std.specs.Int.{bit_not, trailing_zeros, bit_at}
 use Rattle.std.proofs.lemmas.List.{get_or-map}
 use Rattle.std.proofs.lemmas.Nat.Bits.{bit_at-lt, bit_at_not}
-use Rattle.std.specs.Int.{bit_at}
 use Rattle.std.proofs.lemmas.Grind.{common_steps}
 use Rattle.bbm_rule.specs.Bits.{bit}
 use Rattle.bbm_rule.specs.Rows.{cell_at}

@@ -1,7 +1,6 @@
 -- Two words one above the other, and windows of 64 cells.
-use Rattle.std.proofs.Common.{◌≡◌, ℕ, Bool, true, false, nat_eq, ◌<◌, ◌+◌, ◌-◌, ◌*◌, ◌/◌, ◌^◌}
-use Rattle.std.proofs.Common.{◌%◌, ◌||◌, zero, suc, refl, arith, bit_or, ◌∙◌, List, get_or}
-use Rattle.std.specs.Prelude.{bit_xor}
+use Rattle.std.proofs.Common.{◌≡◌, ℕ, Bool, true, false, nat_eq, ◌<◌, ◌+◌, ◌-◌, ◌*◌, ◌/◌, ◌^◌, ◌%◌, ◌||◌, zero, suc}
+use Rattle.std.proofs.Common.{refl, arith, bit_or, ◌∙◌, List, get_or, bit_xor}
 use Rattle.std.proofs.lemmas.Nat.{div-mul-add, mod-mul-add}
 use Rattle.std.proofs.Math.Nat.{div-add-mod}
 use Rattle.std.proofs.Math.Bool.{or-false}
@@ -9,8 +8,8 @@ use Rattle.std.proofs.lemmas.Grind.{common_steps}
 use Rattle.bbm_rule.specs.Plane.{turned}
 use Rattle.bbm_rule.specs.Bits.{bit, AreSameBits, HasNoSetBit}
 use Rattle.bbm_rule.specs.Rows.{cell_at, mate, AreFlips, ArePairsTurned, HasWindow}
-use Rattle.bbm_rule.proofs.BitLemmas.{by_lt_or_le, by_eq_or_not, holds_below, below_from_test, bit-or, bit-shr}
-use Rattle.bbm_rule.proofs.BitLemmas.{bit-mod, bit-shl_low, bit-shl_high, bit_above, bit-xor, xor, xor_false}
+use Rattle.bbm_rule.proofs.BitLemmas.{by_lt_or_le, by_eq_or_not, holds_below, below_from_test, bit-or, bit-shr, bit-mod}
+use Rattle.bbm_rule.proofs.BitLemmas.{bit-shl_low, bit-shl_high, bit_above, bit-xor, xor, xor_false}
 
 -- ---- a pair
 abbrev pub first_mask : ℕ

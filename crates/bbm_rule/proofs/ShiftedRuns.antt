@@ -1,7 +1,6 @@
 -- Runs of blocks that begin at the second cell of each word
-use Rattle.std.proofs.Common.{◌≡◌, ◌≢◌, ℕ, true, false, ◌||◌, ◌<◌, ◌≤◌, ◌+◌, ◌-◌, ◌*◌, ◌/◌, ◌^◌, ◌%◌, refl}
-use Rattle.std.proofs.Common.{arith, ◌∙◌, sym, ap, List, length, length-set, get_or, set, bit_or}
-use Rattle.std.specs.Prelude.{bit_xor}
+use Rattle.std.proofs.Common.{◌≡◌, ◌≢◌, ℕ, true, false, ◌||◌, ◌<◌, ◌≤◌, ◌+◌, ◌-◌, ◌*◌, ◌/◌, ◌^◌, ◌%◌, refl, arith, ◌∙◌}
+use Rattle.std.proofs.Common.{sym, ap, List, length, length-set, get_or, set, bit_or, bit_xor}
 use Rattle.std.specs.Int.Bits.{xor_assoc}
 use Rattle.std.proofs.lemmas.Nat.{xor_comm}
 use Rattle.std.proofs.lemmas.List.{get_or-set_same, get_or-set_other, set-set, set_comm}
@@ -10,9 +9,9 @@ use Rattle.std.proofs.lemmas.Grind.{common_steps}
 use Rattle.bbm_rule.specs.Plane.{turned}
 use Rattle.bbm_rule.specs.Bits.{bit, HasNoSetBit}
 use Rattle.bbm_rule.specs.Rows.{cell_at, mate, AreFlips, ArePairsTurned, AreSameCells, HasWindow, SetsWindow, TurnsRun}
-use Rattle.bbm_rule.specs.Rows.{flip, carry_flips}
-use Rattle.bbm_rule.proofs.BitLemmas.{by_lt_or_le, by_eq_or_not, xor, xor_false, bit-or}
-use Rattle.bbm_rule.proofs.BitLemmas.{bit-xor, bit-shr, bit-zero, bit_above}
+use Rattle.bbm_rule.specs.Rows.{flip, flip_carried_bits}
+use Rattle.bbm_rule.proofs.BitLemmas.{by_lt_or_le, by_eq_or_not, xor, xor_false, bit-or, bit-xor, bit-shr, bit-zero}
+use Rattle.bbm_rule.proofs.BitLemmas.{bit_above}
 use Rattle.bbm_rule.proofs.PairLemmas.{by_place, cell_in_word, cells_turned, flips_below, joined_zero, row_flipped}
 use Rattle.bbm_rule.proofs.PairLemmas.{second_mask, bit_second}
 use Rattle.bbm_rule.proofs.BlockRuns.{run_join, windows_turned, word_set}
@@ -193,8 +192,8 @@ window_set i v a n b m main anti words room flips has = record {
 pub word_shifted : (i s x y main anti m a : ℕ) (words : List ℕ) → 0 < s → i + s + 1 < length words →
     (s ≡ 1 → main ≡ 0) → main < 2 ^ 64 → anti < 2 ^ 64 → HasWindow words (64 * i + 1) x →
     HasWindow words (64 * (i + s) + 1) y → AreFlips second_mask (get_or words i 0) x (get_or words (i + s) 0) y m a →
-    let old = carry_flips i s main anti words in
-    let new = carry_flips (i + 1) s m a (set (set words i
+    let old = flip_carried_bits i s main anti words in
+    let new = flip_carried_bits (i + 1) s m a (set (set words i
     (bit_xor (bit_xor (get_or words i 0) (anti / 9223372036854775808)) (bit_or m (a * 2 % 18446744073709551616))))
     (i + s) (bit_xor (bit_xor (get_or words (i + s) 0) (main / 9223372036854775808))
     (bit_or a (m * 2 % 18446744073709551616)))) in
@@ -203,7 +202,7 @@ word_shifted i s x y main anti m a words positive room alone small small' has_x 
     rw same_words (run, stays)
   where
     old : List ℕ
-    old = carry_flips i s main anti words
+    old = flip_carried_bits i s main anti words
 
     mid : List ℕ
     mid = flip_window i m a old
@@ -267,7 +266,7 @@ word_shifted i s x y main anti m a words positive room alone small small' has_x 
         window_same (64 * (i + s) + 1) _ y mid new (same_bits y a m no_a no_m) has_mid sets_below q
         ∙ window_same (64 * i + 1) _ x old mid (same_bits x m a no_m no_a) has_above sets_above q
 
-    same_words : carry_flips (i + 1) s m a (set (set words i
+    same_words : flip_carried_bits (i + 1) s m a (set (set words i
         (bit_xor (bit_xor (get_or words i 0) (anti / 9223372036854775808)) (bit_or m (a * 2 % 18446744073709551616))))
         (i + s) (bit_xor (bit_xor (get_or words (i + s) 0) (main / 9223372036854775808))
         (bit_or a (m * 2 % 18446744073709551616)))) ≡ new

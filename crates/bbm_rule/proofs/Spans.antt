@@ -1,7 +1,6 @@
 -- Numbers in a span, and the two coordinates of a block
 use Rattle.std.proofs.Common.{◌≡◌, ℕ, zero, suc, ◌+◌, ◌%◌, ◌<◌, ◌≤◌, true, false, ◌&&◌, eqb, ltb, leb, refl, sym, ap}
-use Rattle.std.proofs.Common.{◌∙◌, arith, inl, inr, ◌⊎◌, add-one}
-use Rattle.std.specs.Prelude.{ℤ, pos, negsuc, ◌+ℤ◌, ◌-ℤ◌}
+use Rattle.std.proofs.Common.{◌∙◌, arith, inl, inr, ◌⊎◌, add-one, ℤ, pos, negsuc, ◌+ℤ◌, ◌-ℤ◌}
 use Rattle.std.proofs.lemmas.Bool.{and_parts, and_from, ne_eqb, cases_Bool, cond-true, cond-false, eqb-true, eqb-false}
 use Rattle.std.proofs.lemmas.Bool.{leb-true, ltb-true, le-leb, lt-ltb}
 use Rattle.std.proofs.lemmas.Int.{ints}

@@ -1,9 +1,8 @@
 -- The bitwise formula of a turn.
 use Rattle.std.proofs.Common.{◌≡◌, ℕ, Bool, true, false, ◌&&◌, ◌||◌, refl, bit_and, bit_or, ◌<◌, List, [], ◌∷◌, get_or}
-use Rattle.std.proofs.Common.{nat_eq}
+use Rattle.std.proofs.Common.{nat_eq, bit_xor}
 use Rattle.std.proofs.lemmas.Bool.{eqb-true}
 use Rattle.std.proofs.Math.Bool.{and-false, and-true}
-use Rattle.std.specs.Prelude.{bit_xor}
 use Rattle.bbm_rule.specs.Plane.{turned}
 use Rattle.bbm_rule.specs.Words.{turn_of, AreTurned}
 use Rattle.bbm_rule.specs.Bits.{bit, HasNoSetBit}

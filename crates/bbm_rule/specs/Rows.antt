@@ -45,8 +45,8 @@ abbrev pub flip : ℕ → ℕ → List ℕ → List ℕ
 flip i f words = set words i (bit_xor (slice_index words i) f)
 
 -- the first bits of word i and of the word s words behind it flip where anti and main have their last bit
-abbrev pub carry_flips : ℕ → ℕ → ℕ → ℕ → List ℕ → List ℕ
-carry_flips i s main anti words = flip (i + s) (main / 2 ^ 63) (flip i (anti / 2 ^ 63) words)
+abbrev pub flip_carried_bits : ℕ → ℕ → ℕ → ℕ → List ℕ → List ℕ
+flip_carried_bits i s main anti words = flip (i + s) (main / 2 ^ 63) (flip i (anti / 2 ^ 63) words)
 
 -- The blocks of the n cells from place p on and the n cells a row of s cells below are turned, and no other cell
 -- changes.
@@ -94,8 +94,8 @@ place_in s (pos x) (negsuc y) = 0
 place_in s (negsuc x) y = 0
 
 -- whether a place of the rows is a cell of the board, and not of the margin
-abbrev pub is_inner : ℕ → ℕ → ℕ → ℕ → Bool
-is_inner w h x y = nat_le 1 x && nat_le x w && nat_le 1 y && nat_le y h
+abbrev pub is_inside_margin : ℕ → ℕ → ℕ → ℕ → Bool
+is_inside_margin w h x y = nat_le 1 x && nat_le x w && nat_le 1 y && nat_le y h
 
 -- some cell of the margin of one cell is live
 pub record HasLiveMargin (w h s : ℕ) (words : List ℕ) : Type 0 where
@@ -103,14 +103,15 @@ pub record HasLiveMargin (w h s : ℕ) (words : List ℕ) : Type 0 where
   pub y : ℕ
   pub column : x < w + 2
   pub row : y < h + 2
-  pub outer : is_inner w h x y ≡ false
+  pub outer : is_inside_margin w h x y ≡ false
   pub lives : cell_at words (s * y + x) ≡ true
 
 -- no cell of it is
 abbrev pub HasDeadMargin : ℕ → ℕ → ℕ → List ℕ → Type 0
-HasDeadMargin w h s words = (x y : ℕ) → x < w + 2 → y < h + 2 → is_inner w h x y ≡ false →
+HasDeadMargin w h s words = (x y : ℕ) → x < w + 2 → y < h + 2 → is_inside_margin w h x y ≡ false →
     cell_at words (s * y + x) ≡ false
 
 -- none of it in row y is
 abbrev pub HasDeadMarginInRow : ℕ → ℕ → ℕ → ℕ → List ℕ → Type 0
-HasDeadMarginInRow w h s y words = (x : ℕ) → x < w + 2 → is_inner w h x y ≡ false → cell_at words (s * y + x) ≡ false
+HasDeadMarginInRow w h s y words =
+    (x : ℕ) → x < w + 2 → is_inside_margin w h x y ≡ false → cell_at words (s * y + x) ≡ false

@@ -4,7 +4,7 @@
 ghost use Rattle.std.specs.Prelude.{◌≡◌, ◌+◌, ◌*◌, ◌<◌, ◌≤◌, ◌^◌, ◌-◌, length, false};
 ghost use Rattle.bbm_rule.specs.Bands.{AreRowPairsStable};
 ghost use Rattle.bbm_rule.specs.Bits.{AreSameBits, HasNoSetBit};
-ghost use Rattle.bbm_rule.specs.Rows.{AreFlips, ArePairsTurned, AreSameCells, HasWindow, TurnsRun, TurnsRows, carry_flips};
+ghost use Rattle.bbm_rule.specs.Rows.{AreFlips, ArePairsTurned, AreSameCells, HasWindow, TurnsRun, TurnsRows, flip_carried_bits};
 
 use crate::marks::{mark, mark_number_before, next_marked, unmark};
 
@@ -40,7 +40,7 @@ fn block_flips(
 
 // Turns the 32 blocks of two words that lie one above the other. The third word has a bit for each block that changes.
 #[inline(always)]
-fn turn_pairs(upper: u64, lower: u64) -> (u64, u64, u64)
+fn turn_word_pair(upper: u64, lower: u64) -> (u64, u64, u64)
     ensures turned { ArePairsTurned upper lower result.0 result.1 }
     ensures stays { HasNoSetBit result.2 → AreSameBits upper result.0 × AreSameBits lower result.1 }
 {
@@ -72,7 +72,7 @@ fn turn_aligned(words: &mut [u64], upper: usize, stride: usize) -> bool
     let mut changed = 0;
     for k in 0..stride {
         let i = upper + k;
-        let (a, b, told) = turn_pairs(words[i], words[i + stride]);
+        let (a, b, told) = turn_word_pair(words[i], words[i + stride]);
         changed |= told;
         words[i] = a;
         words[i + stride] = b;
@@ -95,10 +95,11 @@ fn turn_words_shifted(
     requires wide { 0 < stride }
     requires alone { stride ≡ 1 → main ≡ 0 }
     ensures turned { TurnsRun (64 * i + 1) 64 (64 * stride)
-        (carry_flips i stride main anti words.old)
-        (carry_flips (i + 1) stride result.0 result.1 words.new) }
-    ensures stays { HasNoSetBit result.2 → AreSameCells (carry_flips i stride main anti words.old)
-        (carry_flips (i + 1) stride result.0 result.1 words.new) }
+        (flip_carried_bits i stride main anti words.old)
+        (flip_carried_bits (i + 1) stride result.0 result.1 words.new) }
+    ensures stays { HasNoSetBit result.2 →
+        AreSameCells (flip_carried_bits i stride main anti words.old)
+        (flip_carried_bits (i + 1) stride result.0 result.1 words.new) }
 {
     let (upper, lower) = (words[i], words[i + stride]);
     let (next_main, next_anti, changed) = block_flips(

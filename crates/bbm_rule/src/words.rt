@@ -60,7 +60,7 @@ fn turn_vectors(
 
 // turns the words at four places from `at` on
 #[inline(always)]
-fn turn_chunk(
+fn turn_four_words_at(
     upper_left: &mut [u64],
     upper_right: &mut [u64],
     lower_left: &mut [u64],
@@ -86,7 +86,7 @@ fn turn_chunk(
 
 // turns the words at one place
 #[inline(always)]
-fn turn_one(
+fn turn_word_at(
     upper_left: &mut [u64],
     upper_right: &mut [u64],
     lower_left: &mut [u64],
@@ -128,10 +128,10 @@ pub fn turn_lanes(
     let n = upper_left.len();
     let mut at = 0;
     while n - at >= 4 {
-        turn_chunk(upper_left, upper_right, lower_left, lower_right, at);
+        turn_four_words_at(upper_left, upper_right, lower_left, lower_right, at);
         at += 4;
     }
     for k in at..n {
-        turn_one(upper_left, upper_right, lower_left, lower_right, k);
+        turn_word_at(upper_left, upper_right, lower_left, lower_right, k);
     }
 }

@@ -1,7 +1,6 @@
 -- From the jobs of modules to their lines
-use Rattle.std.proofs.Common.{◌≡◌, ℕ, ◌<◌, ◌%◌, List, [], Option, Some, None, true, sym, ap, ap₂, subst, ◌∙◌, arith}
-use Rattle.std.specs.Prelude.{ℤ, option_map, slice_get, IfSome}
-use Rattle.std.specs.List.{All}
+use Rattle.std.proofs.Common.{◌≡◌, ℕ, ◌<◌, ◌%◌, List, [], Option, Some, None, true, sym, ap, ap₂, subst, ◌∙◌, arith, ℤ}
+use Rattle.std.proofs.Common.{option_map, slice_get, IfSome, All}
 use Rattle.std.proofs.lemmas.Bool.{and_parts}
 use Rattle.std.proofs.lemmas.List.Elements.{All-cons, All-nil}
 use Rattle.std.proofs.lemmas.Option.{get_or_from_slice_get, slice_get-map, slice_get_within}
@@ -21,7 +20,7 @@ use Rattle.certificate_lines.specs.Entries.{ModuleLines, areas, edges, halos}
 use Rattle.certificate_lines.specs.Settings.{setting_of}
 use Rattle.module_job.specs.Jobs.{JobView}
 use Rattle.certificate.proofs.NearLines.{flat_all}
-use Rattle.certificate.specs.Jobs.{AreJobsOf, IsJobOf, events_of_line, line_signal, line_signals}
+use Rattle.certificate.specs.Jobs.{AreJobsOf, IsJobOf, events_of_line, one_or_named_wire, line_signals}
 use Rattle.certificate_lines.specs.Modules.{AreModules, IsModule}
 use Rattle.certificate_lines.specs.Rules.{whole}
 use Rattle.module_job.specs.Signals.{renumber_event, renumber_signals}
@@ -56,7 +55,7 @@ module _ (cs : List CircuitLine) (p : Pattern) where
   signals_quiet j s es x y same odd =
       no_event_back (circuit_wire j.locals) s.events 0 x y
       (ap (λ (s : Signals). event_at s.events 0 x y) same
-      ∙ lines_quiet p.size.steps (λ e. line_signal (circuit_of cs) e.signal) es x y odd)
+      ∙ lines_quiet p.size.steps (λ e. one_or_named_wire (circuit_of cs) e.signal) es x y odd)
 
   -- what holds of the cells of lines holds of those of their events
   one_cell : (P : Cell → Type 0) (d : BorderLine) (t : Option ℕ) (s : Signal) → P d.cell →
@@ -74,8 +73,8 @@ module _ (cs : List CircuitLine) (p : Pattern) where
       let got : slice_get by at.0 ≡ Some (f e) = ap (λ (r : Signals). slice_get r.events at.0) (sym same)
       ∙ slice_get-map f s.events at.0 ∙ ap (option_map f) at.1 in
       subst Q (get_or_from_slice_get by at.0 (f e) (f e) got)
-      (flat_all Q (λ d. events_of_line d d.time (line_signal (circuit_of cs) d.signal)) (λ d. P d.cell)
-      (λ d here. one_cell P d d.time (line_signal (circuit_of cs) d.signal) here) es all at.0 (f e)
+      (flat_all Q (λ d. events_of_line d d.time (one_or_named_wire (circuit_of cs) d.signal)) (λ d. P d.cell)
+      (λ d here. one_cell P d d.time (one_or_named_wire (circuit_of cs) d.signal) here) es all at.0 (f e)
       (slice_get_within by at.0 (f e) got))
 
   pub quiet : (m : ModuleLines) (j : JobView) → IsModule (setting_of cs p) m → IsJobOf (circuit_of cs) p m j →

@@ -1,9 +1,7 @@
 -- Cells of a halo, and the modules that have them
-use Rattle.std.proofs.Common.{◌≡◌, ℕ, ◌+◌, ◌-◌, ◌<◌, ◌≤◌, ◌%◌, List, map, length, Bool, true, false, ◌||◌}
-use Rattle.std.proofs.Common.{◌&&◌, Some}
-use Rattle.std.proofs.Common.{sym}
-use Rattle.std.proofs.Common.{ap, ap₂, subst, ◌∙◌, inl, inr, ◌⊎◌, arith, get_or}
-use Rattle.std.specs.Prelude.{ℤ, pos, ◌+ℤ◌, ◌-ℤ◌, ◌≢◌, ◌↔◌, IsTrue, slice_get, option_map}
+use Rattle.std.proofs.Common.{◌≡◌, ℕ, ◌+◌, ◌-◌, ◌<◌, ◌≤◌, ◌%◌, List, map, length, Bool, true, false, ◌||◌, ◌&&◌, Some}
+use Rattle.std.proofs.Common.{sym, ap, ap₂, subst, ◌∙◌, inl, inr, ◌⊎◌, arith, get_or, ℤ, pos, ◌+ℤ◌, ◌-ℤ◌, ◌≢◌, ◌↔◌}
+use Rattle.std.proofs.Common.{IsTrue, slice_get, option_map}
 use Rattle.std.specs.Arc.{arc_value}
 use Rattle.std.proofs.lemmas.List.{length-map}
 use Rattle.std.proofs.lemmas.Option.{slice_get-map, slice_get-get_or, slice_get_within}
@@ -20,9 +18,9 @@ use Rattle.module_box.specs.declared.schedules.Signal.{Signal}
 use Rattle.module_box.proofs.BoxCells.{in_span_nat, in_box_nats, same_some}
 use Rattle.module_box.proofs.NearBoxes.{near_one, near_parts}
 use Rattle.module_job.specs.Jobs.{JobView, IsJob}
-use Rattle.border_match.specs.Boards.{job_signal, jobs_of, IsAround, AreReadyBorders, IsSearchedFault}
+use Rattle.border_match.specs.Boards.{job_signal, jobs_of, IsAround, AreReadyBorders, IsFaultOfSearchedJob}
+use Rattle.border_match.specs.Boards.{SignalsDifferAt}
 use Rattle.border_match.specs.declared.signals.RingOrHalo.TheVariants.{Halo, Ring}
-use Rattle.border_match.specs.Boards.{Differ}
 use Rattle.border_match.specs.declared.borders.Borders.{Borders}
 use Rattle.border_match.specs.declared.fault.BorderFault.{BorderFault}
 
@@ -42,7 +40,7 @@ owner_within b x y ready h =
 pub differ_is : (b : Borders) (t : ℕ) (x y : ℤ) (owner : JobView) (halo edge : Signal) (r : Bool) →
     slice_get (jobs_of b) (owner_of b.owners.now x y) ≡ Some owner →
     halo ≡ job_signal Halo b.job.now t x y → edge ≡ job_signal Ring owner t x y → IsTrue r ↔ (halo ≢ edge) →
-    IsTrue r ↔ Differ b t x y
+    IsTrue r ↔ SignalsDifferAt b t x y
 differ_is b t x y owner halo edge r numbered e f h = (
   λ yes. record { owner = owner; numbered = numbered; differ = λ same. h.0 yes (e ∙ same ∙ sym f) },
   λ d. h.1 (λ same. d.differ (sym e ∙ same ∙ f
@@ -52,14 +50,14 @@ differ_is b t x y owner halo edge r numbered e f h = (
 
 pub fault_is : (b : Borders) (f : BorderFault) (r : Bool) → f.time % 2 ≡ 1 → f.time < b.job.now.steps →
     (in_box b.whole f.cell.x f.cell.y && in_halo b.job.now.area f.cell.x f.cell.y) ≡ true →
-    IsTrue r ↔ Differ b f.time f.cell.x f.cell.y → IsTrue r ↔ IsSearchedFault b f
+    IsTrue r ↔ SignalsDifferAt b f.time f.cell.x f.cell.y → IsTrue r ↔ IsFaultOfSearchedJob b f
 fault_is b f r odd early reached h =
     let both = and_parts (in_box b.whole f.cell.x f.cell.y) (in_halo b.job.now.area f.cell.x f.cell.y) reached in (
       λ yes. record { odd = odd; early = early; inside = both.0; halo = both.1; different = h.0 yes },
       λ g. h.1 g.different,
     )
 
-pub reached : (b : Borders) (f : BorderFault) → IsSearchedFault b f →
+pub reached : (b : Borders) (f : BorderFault) → IsFaultOfSearchedJob b f →
     (in_box b.whole f.cell.x f.cell.y && in_halo b.job.now.area f.cell.x f.cell.y) ≡ true
 reached b f g = and_from _ _ g.inside g.halo
 
@@ -176,11 +174,12 @@ area_from a x y left right top bottom =
     and_from _ _ (span_from a.x a.w x left right) (span_from a.y a.h y top bottom)
 
 -- where a fault is
-pub placed : (b : Borders) (f : BorderFault) → IsSearchedFault b f → IsPlaced b f.cell.x f.cell.y
+pub placed : (b : Borders) (f : BorderFault) → IsFaultOfSearchedJob b f → IsPlaced b f.cell.x f.cell.y
 placed b f g = cell_placed b f.cell.x f.cell.y g.inside g.halo
 
 -- a fault is around the module's box
-pub fault_around : (b : Borders) (f : BorderFault) → IsSearchedFault b f → IsAround b.job.now.area f.cell.x f.cell.y
+pub fault_around : (b : Borders) (f : BorderFault) → IsFaultOfSearchedJob b f →
+    IsAround b.job.now.area f.cell.x f.cell.y
 fault_around b f g =
     let p = placed b f g in
     let px = p.x in let py = p.y in

@@ -1,6 +1,5 @@
 -- The signal of the cell and time of an event
-use Rattle.std.proofs.Common.{◌≡◌, ℕ, List, [], ap, ap₂, subst, ◌∙◌, arith}
-use Rattle.std.specs.Prelude.{ℤ, pos, ◌+ℤ◌, unwrap_or}
+use Rattle.std.proofs.Common.{◌≡◌, ℕ, List, [], ap, ap₂, subst, ◌∙◌, arith, ℤ, pos, ◌+ℤ◌, unwrap_or}
 use Rattle.std.proofs.lemmas.Int.{ints}
 use Rattle.module_box.specs.Moments.{moment_cmp}
 use Rattle.module_box.specs.Moves.{moved_signals}
@@ -19,10 +18,10 @@ events_unmoved dx dy ex ey s p q rising =
     subst (λ (m : Signals). IsRising moment_cmp moment_of m.events) (signals_back dx dy ex ey s p q)
     (events_rising ex ey (moved_signals dx dy s).events rising)
 
-event_signal : (s : Signals) (e : TimedSignal) → s.all_times ≡ [] → IsRising moment_cmp moment_of s.events →
+signal_at_event : (s : Signals) (e : TimedSignal) → s.all_times ≡ [] → IsRising moment_cmp moment_of s.events →
     IsListed s.events e → signal_at s e.at.time e.at.cell.x e.at.cell.y ≡ e.signal
 unfolding signal_at all_times_at
-event_signal s e none rising at =
+signal_at_event s e none rising at =
     ap₂ (λ h z. unwrap_or (all_times_at h e.at.cell.x e.at.cell.y) (unwrap_or z Zero)) none
     (event_some s.events at.0 e at.1 (is_first moment_cmp moment_of s.events at.0 e moment_total rising at.1))
 
@@ -33,7 +32,7 @@ pub own_signal : (x y : ℕ) (s moved : Signals) (es : List TimedSignal) (e : Ti
     IsListed s.events e → signal_at s e.at.time e.at.cell.x e.at.cell.y ≡ e.signal
 own_signal x y s moved es e none same are rising at =
     let R : List TimedSignal → Type 0 = IsRising moment_cmp moment_of in
-    event_signal s e none
+    signal_at_event s e none
     (events_unmoved (shift_to_origin x) (shift_to_origin y) (pos x) (pos y) s (omega (arith, ints))
     (omega (arith, ints))
     (subst R (same ∙ ap (λ (m : Signals). m.events) are) rising)) at

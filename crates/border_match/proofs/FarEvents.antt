@@ -1,10 +1,10 @@
 -- Moments and events that a search for the cells around a box passes over
 use Rattle.std.proofs.Common.{◌≡◌, ℕ, ◌+◌, ◌<◌, ◌≤◌, ◌%◌, List, length, refl, sym, ap, subst, ◌∙◌, inl, inr, ◌⊎◌, arith}
-use Rattle.std.proofs.Common.{Ordering, Less, Equal, Greater, Some, get_or, Bool, true, false}
+use Rattle.std.proofs.Common.{Ordering, Less, Equal, Greater, Some, get_or, Bool, true, false, ℤ, pos, ◌+ℤ◌, ◌≤ℤ◌, ◌<ℤ◌}
+use Rattle.std.proofs.Common.{◌≢◌, slice_get, nat_cmp, int_cmp}
 use Rattle.std.proofs.lemmas.Bool.{false≢true}
 use Rattle.std.proofs.lemmas.Option.{slice_get_within, slice_get-get_or}
-use Rattle.std.specs.Prelude.{ℤ, pos, ◌+ℤ◌, ◌≤ℤ◌, ◌<ℤ◌, ◌≢◌, slice_get}
-use Rattle.std.specs.Ordering.{nat_cmp, int_cmp, ordering_then}
+use Rattle.std.specs.Ordering.{ordering_then}
 use Rattle.std.proofs.lemmas.Int.{ints}
 use Rattle.bbm_rule.specs.declared.block.Cell.{Cell}
 use Rattle.module_box.specs.Moments.{cell_cmp, moment_cmp}
@@ -14,8 +14,8 @@ use Rattle.module_box.specs.declared.schedules.TimedSignal.{TimedSignal}
 use Rattle.module_box.specs.declared.schedules.Moment.{Moment}
 use Rattle.module_box.proofs.BoxCells.{same_some}
 use Rattle.module_box.proofs.Rising.{moment_total}
-use Rattle.border_match.specs.Surroundings.{AreEventsFar, AreFarBetween, IsInOrAroundFrom, IsEventFarAt, IsSeen}
-use Rattle.border_match.specs.Surroundings.{IsWindow}
+use Rattle.border_match.specs.Surroundings.{AreEventsFar, AreMomentsFarBetween, IsInOrAroundFromCorner, IsEventFarAt}
+use Rattle.border_match.specs.Surroundings.{IsSeen, IsWindow}
 use Rattle.border_match.specs.declared.surroundings.Window.{Window}
 
 -- ---- the order of moments by their parts
@@ -72,36 +72,36 @@ behind w c far left top bottom = elim (up_to_or_after c.x w.last.x) [
 abbrev NoneSeen : Window → Moment → Moment → Type 0
 NoneSeen w at next = (m : Moment) → m.time % 2 ≡ 1 → IsBefore at m → IsBefore m next → IsSeen w m.cell → ⊥
 
-far_between : (w : Window) (at next : Moment) → NoneSeen w at next → AreFarBetween w at next
+far_between : (w : Window) (at next : Moment) → NoneSeen w at next → AreMomentsFarBetween w at next
 far_between w at next none m after less odd g = none m odd (before at m after) (before m next less) g
 
 -- above the first row the next one is the first cell at the same time
 pub above_rows : (w : Window) (at next : Moment) → at.cell.y <ℤ w.first.y → next.time ≡ at.time →
-    next.cell.x ≡ w.first.x → next.cell.y ≡ w.first.y → AreFarBetween w at next
+    next.cell.x ≡ w.first.x → next.cell.y ≡ w.first.y → AreMomentsFarBetween w at next
 above_rows w at next up et ex ey = far_between w at next (λ m odd k h g. grind (arith, ints))
 
 -- in a row before the first column it is the row's first cell
 pub before_columns : (w : Window) (at next : Moment) → at.cell.x <ℤ w.first.x → next.time ≡ at.time →
-    next.cell.x ≡ w.first.x → next.cell.y ≡ at.cell.y → AreFarBetween w at next
+    next.cell.x ≡ w.first.x → next.cell.y ≡ at.cell.y → AreMomentsFarBetween w at next
 before_columns w at next left et ex ey = far_between w at next (λ m odd k h g. grind (arith, ints))
 
 -- behind the last column it is the first cell of the next row
 pub behind_columns : (w : Window) (at next : Moment) → ¬ IsSeen w at.cell → w.first.x ≤ℤ at.cell.x →
     w.first.y ≤ℤ at.cell.y → at.cell.y ≤ℤ w.last.y → next.time ≡ at.time → next.cell.x ≡ w.first.x →
-    next.cell.y ≡ at.cell.y +ℤ pos 1 → AreFarBetween w at next
+    next.cell.y ≡ at.cell.y +ℤ pos 1 → AreMomentsFarBetween w at next
 behind_columns w at next far left top bottom et ex ey =
     let right = behind w at.cell far left top bottom in
     far_between w at next (λ m odd k h g. grind (arith, ints))
 
 -- below the last row it is the first cell at the next odd time
 pub below_rows : (w : Window) (at next : Moment) → w.last.y <ℤ at.cell.y → next.time ≤ at.time + (1 + at.time % 2) →
-    next.cell.x ≡ w.first.x → next.cell.y ≡ w.first.y → AreFarBetween w at next
+    next.cell.x ≡ w.first.x → next.cell.y ≡ w.first.y → AreMomentsFarBetween w at next
 below_rows w at next down et ex ey = far_between w at next (λ m odd k h g. grind (arith, ints))
 
 -- and behind the last column of the last row too
 pub behind_rows : (w : Window) (at next : Moment) → ¬ IsSeen w at.cell → w.first.x ≤ℤ at.cell.x →
     w.first.y ≤ℤ at.cell.y → at.cell.y ≡ w.last.y → next.time ≤ at.time + (1 + at.time % 2) →
-    next.cell.x ≡ w.first.x → next.cell.y ≡ w.first.y → AreFarBetween w at next
+    next.cell.x ≡ w.first.x → next.cell.y ≡ w.first.y → AreMomentsFarBetween w at next
 behind_rows w at next far left top last et ex ey =
     let right = behind w at.cell far left top (omega (arith, ints, last)) in
     far_between w at next (λ m odd k h g. grind (arith, ints))
@@ -166,7 +166,8 @@ passed_none events start at i e from lt got = absurd (omega (arith, from, lt))
 -- ---- events at far cells
 
 -- a cell around a box is seen in its window
-pub seen : (area corner : Box2) (w : Window) (c : Cell) → IsWindow area corner w → IsInOrAroundFrom area corner c →
+pub seen : (area corner : Box2) (w : Window) (c : Cell) → IsWindow area corner w →
+    IsInOrAroundFromCorner area corner c →
     IsSeen w c
 seen area corner w c is g =
     let e = is.left in let f = is.right in let p = is.top in let q = is.bottom in
@@ -181,7 +182,7 @@ seen area corner w c is g =
 -- cell of the window.
 pub far_to : (w : Window) (events : List TimedSignal) (place next : ℕ) (d : TimedSignal) (moment : Moment) →
     IsRising moment_cmp moment_of events → place < length events → IsEventFarAt w events place →
-    AreFarBetween w (get_or events place d).at moment → ArePassed events (place + 1) next moment →
+    AreMomentsFarBetween w (get_or events place d).at moment → ArePassed events (place + 1) next moment →
     AreEventsFar w events place next
 far_to w events place next d moment rising within far between passed i e from lt got odd =
     elim (same_or_higher i place from) [

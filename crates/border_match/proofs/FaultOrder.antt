@@ -1,7 +1,5 @@
 -- The order of border faults
-use Rattle.std.proofs.Common.{ℕ, ap}
-use Rattle.std.specs.Prelude.{ℤ}
-use Rattle.std.specs.Ordering.{nat_cmp, int_cmp}
+use Rattle.std.proofs.Common.{ℕ, ap, ℤ, nat_cmp, int_cmp}
 use Rattle.std.specs.Cmp.{IsTotalOrder}
 use Rattle.std.proofs.lemmas.Cmp.{then_total, on_total, nat_cmp_total}
 use Rattle.std.proofs.lemmas.Map.Lookups.{CmpEqualImpliesEq, exact_pairs, exact_unsigned, exact_signed}

@@ -1,11 +1,10 @@
 -- Candidates for a least border fault
 use Rattle.std.proofs.Common.{◌≡◌, true, false, Option, Some, None, Ordering, Less, Equal, Greater, refl, sym, ap}
-use Rattle.std.proofs.Common.{subst, ◌∙◌, inl, inr, ◌⊎◌}
-use Rattle.std.specs.Prelude.{◌≢◌}
-use Rattle.std.specs.Ordering.{is_gt, ordering_reverse}
+use Rattle.std.proofs.Common.{subst, ◌∙◌, inl, inr, ◌⊎◌, ◌≢◌, is_gt}
+use Rattle.std.specs.Ordering.{ordering_reverse}
 use Rattle.std.proofs.lemmas.Cmp.{tied_itself, upto}
 use Rattle.border_match.specs.BorderFaults.{border_cmp}
-use Rattle.border_match.specs.Candidates.{IsCandidateOf, IsCandidateAtMost, IsBetter, IsLeast}
+use Rattle.border_match.specs.Candidates.{CandidateSatisfies, HasCandidateAtMost, IsBetter, IsLeast}
 use Rattle.border_match.specs.declared.fault.BorderFault.{BorderFault}
 use Rattle.border_match.proofs.FaultOrder.{border_total}
 
@@ -32,16 +31,16 @@ at_most_itself a g = clash (sym (tied_itself border_total a) ∙ g)
     clash e = cc
 
 pub lesser_kept : (o m : BorderFault) (best : Option BorderFault) → best ≡ Some o → Greater ≡ border_cmp o m →
-    (h : BorderFault) → IsCandidateAtMost best h → border_cmp m h ≢ Greater
+    (h : BorderFault) → HasCandidateAtMost best h → border_cmp m h ≢ Greater
 lesser_kept o m best is greater h c =
     let less : border_cmp m o ≡ Less = border_total.antisymm m o ∙ ap ordering_reverse (sym greater) in
-    at_most_trans m o h (λ g. less_greater (sym less ∙ g)) (subst (λ b. IsCandidateAtMost b h) is c)
+    at_most_trans m o h (λ g. less_greater (sym less ∙ g)) (subst (λ b. HasCandidateAtMost b h) is c)
   where
     less_greater : Less ≡ Greater → ⊥
     less_greater e = cc
 
-pub covers_after : (o : Option BorderFault) (m h : BorderFault) → IsCandidateAtMost o m → border_cmp m h ≢ Greater →
-    IsCandidateAtMost o h
+pub covers_after : (o : Option BorderFault) (m h : BorderFault) → HasCandidateAtMost o m → border_cmp m h ≢ Greater →
+    HasCandidateAtMost o h
 covers_after None m h c l = c
 covers_after (Some b) m h c l = at_most_trans b m h c l
 
@@ -54,22 +53,22 @@ module _ (F : BorderFault → Type 0) where
   better_same P o none = record { sound = λ s. s; kept = λ h c. c; covers = λ h f p. absurd (none h f p) }
 
   -- the candidate is at most m
-  pub better_covered : (m : BorderFault) (o : Option BorderFault) → IsCandidateAtMost o m → IsBetter F (λ h. h ≡ m) o o
+  pub better_covered : (m : BorderFault) (o : Option BorderFault) → HasCandidateAtMost o m → IsBetter F (λ h. h ≡ m) o o
   better_covered m o covered = record {
     sound = λ s. s;
     kept = λ h c. c;
-    covers = λ h f same. subst (IsCandidateAtMost o) (sym same) covered;
+    covers = λ h f same. subst (HasCandidateAtMost o) (sym same) covered;
   }
 
   -- the new candidate is at most m, which is one of F and at most each of F with P
   pub better_with : (P : BorderFault → Type 0) (o o' : Option BorderFault) (m : BorderFault) → F m →
       ((h : BorderFault) → F h → P h → border_cmp m h ≢ Greater) →
-      ((h : BorderFault) → IsCandidateAtMost o h → IsCandidateAtMost o' h) → (o' ≡ o) ⊎ (o' ≡ Some m) →
-      IsCandidateAtMost o' m → IsBetter F P o o'
+      ((h : BorderFault) → HasCandidateAtMost o h → HasCandidateAtMost o' h) → (o' ≡ o) ⊎ (o' ≡ Some m) →
+      HasCandidateAtMost o' m → IsBetter F P o o'
   better_with P o o' m f least kept one covered = record {
     sound = λ s. elim one [
-      | inl e ↦ subst (IsCandidateOf F) (sym e) s
-      | inr e ↦ subst (IsCandidateOf F) (sym e) f
+      | inl e ↦ subst (CandidateSatisfies F) (sym e) s
+      | inr e ↦ subst (CandidateSatisfies F) (sym e) f
     ];
     kept = kept;
     covers = λ h g p. covers_after o' m h covered (least h g p);
@@ -92,7 +91,7 @@ module _ (F : BorderFault → Type 0) where
       record { sound = better.sound; kept = better.kept; covers = λ h f q. better.covers h f (weaker h f q) }
 
   pub better_rest : (P Q : BorderFault → Type 0) (a b : Option BorderFault) → IsBetter F P a b →
-      ((h : BorderFault) → Q h → P h ⊎ IsCandidateAtMost b h) → IsBetter F Q a b
+      ((h : BorderFault) → Q h → P h ⊎ HasCandidateAtMost b h) → IsBetter F Q a b
   better_rest P Q a b better split = record {
     sound = better.sound;
     kept = better.kept;

@@ -1,9 +1,7 @@
 -- Marks of the halo events that edges name
-use Rattle.std.proofs.Common.{◌≡◌, ℕ, ◌+◌, ◌≤◌, List, [], ◌∷◌, ◌++◌, length, take, replicate, Bool, true, false}
-use Rattle.std.proofs.Common.{Some}
-use Rattle.std.proofs.Common.{arith, refl, sym, ap, ◌∙◌, inl, inr, ◌⊎◌, zero, suc}
-use Rattle.std.proofs.Common.{map, ap₂}
-use Rattle.std.specs.Prelude.{ℤ, pos, slice_get, slice_set}
+use Rattle.std.proofs.Common.{◌≡◌, ℕ, ◌+◌, ◌≤◌, List, [], ◌∷◌, ◌++◌, length, take, replicate, Bool, true, false, Some}
+use Rattle.std.proofs.Common.{arith, refl, sym, ap, ◌∙◌, inl, inr, ◌⊎◌, zero, suc, map, ap₂, ℤ, pos, slice_get}
+use Rattle.std.proofs.Common.{slice_set}
 use Rattle.std.proofs.lemmas.Int.{ints}
 use Rattle.bbm_rule.specs.declared.block.Cell.{Cell}
 use Rattle.module_box.specs.Moves.{moved_cell, moved_event, moved_signals}
@@ -19,9 +17,9 @@ use Rattle.module_box.specs.declared.schedules.TimedSignal.{TimedSignal}
 use Rattle.module_box.specs.declared.schedules.Moment.{Moment}
 use Rattle.module_box.proofs.BoxCells.{same_some}
 use Rattle.module_job.specs.Jobs.{JobView}
-use Rattle.border_match.specs.Boards.{AddsMark, AreMarked, DiffersWithoutEvent, IsSearchedFault, IsAtEvent}
-use Rattle.border_match.specs.Boards.{IsAtEdgeEvent, IsListed}
-use Rattle.border_match.specs.Boards.{IsPlaceOf, AreReadyBorders, IsUnmarked, IsUnmarkedBelow, jobs_of}
+use Rattle.border_match.specs.Boards.{AddsMark, AreMarked, CellDiffersWithoutEvent, IsFaultOfSearchedJob, IsAtEvent}
+use Rattle.border_match.specs.Boards.{IsAtEdgeEvent, IsListed, IsPlaceOf, AreReadyBorders, IsUnmarked, IsUnmarkedBelow}
+use Rattle.border_match.specs.Boards.{jobs_of}
 use Rattle.border_match.specs.declared.borders.Borders.{Borders}
 use Rattle.border_match.specs.declared.fault.BorderFault.{BorderFault}
 use Rattle.border_match.proofs.Modules.{there, value_of}
@@ -154,8 +152,8 @@ mark_cases true = inl refl
 mark_cases false = inr refl
 
 pub fault_unmarked : (b : Borders) (seen : List Bool) (f : BorderFault) → AreReadyBorders b → AreMarked b seen →
-    IsSearchedFault b f →
-    IsAtEdgeEvent b f ⊎ (IsUnmarked seen b.job.now.halos.events f ⊎ DiffersWithoutEvent b f)
+    IsFaultOfSearchedJob b f →
+    IsAtEdgeEvent b f ⊎ (IsUnmarked seen b.job.now.halos.events f ⊎ CellDiffersWithoutEvent b f)
 fault_unmarked b seen f ready marked g = elim (fault_covered b f ready g) [
   | inl h ↦
       let within = slice_get_within b.job.now.halos.events h.place h.event h.got in

@@ -1,7 +1,6 @@
 -- The numbers of the modules that have cells of a module's halo, noted box by box.
 use Rattle.std.proofs.Common.{◌≡◌, ℕ, ◌+◌, ◌-◌, ◌<◌, ◌≤◌, List, [], ◌∷◌, ◌++◌, length, Bool, true, false, ◌||◌, Some}
-use Rattle.std.proofs.Common.{refl, sym, ap, ap₂, subst, ◌∙◌, inl, inr, ◌⊎◌, arith}
-use Rattle.std.specs.Prelude.{ℤ, pos, ◌==◌, slice_get}
+use Rattle.std.proofs.Common.{refl, sym, ap, ap₂, subst, ◌∙◌, inl, inr, ◌⊎◌, arith, ℤ, pos, ◌==◌, slice_get}
 use Rattle.std.proofs.lemmas.Bool.{and_parts, cases_Bool, cond-true, cond-false, false≢true}
 use Rattle.std.proofs.lemmas.Bool.Decides.{nat_tests}
 use Rattle.std.proofs.lemmas.List.Elements.{All-push}
@@ -13,9 +12,9 @@ use Rattle.module_box.specs.declared.boxes.Box2.{Box2}
 use Rattle.module_box.proofs.BoxCells.{same_some}
 use Rattle.module_job.specs.Jobs.{JobView}
 use Rattle.border_match.proofs.Cells.{area_at, area_from, cell_placed, halo_out, whole_parts}
-use Rattle.border_match.specs.Boards.{AreColumnOwnersListed, AreModuleNumbers, AreHaloOwnersListed, AreRowOwnersListed}
-use Rattle.border_match.specs.Boards.{AreAreaOwnersListed}
-use Rattle.border_match.specs.Boards.{IsOtherOwnerListed, AreReadyBorders, KeepsNumbers, jobs_of, with_number}
+use Rattle.border_match.specs.Boards.{AreOwnersListedToColumn, AreModuleNumbers, AreHaloOwnersListed}
+use Rattle.border_match.specs.Boards.{AreOwnersListedInRows, AreAreaOwnersListed, IsOtherOwnerListed, AreReadyBorders}
+use Rattle.border_match.specs.Boards.{KeepsAllNumbers, jobs_of, with_number_once}
 use Rattle.border_match.specs.declared.borders.Borders.{Borders}
 
 -- ---- one number more
@@ -45,7 +44,7 @@ or_right : (a b : Bool) → b ≡ true → (a || b) ≡ true
 or_right true b e = refl
 or_right false b e = e
 
-keeps_more : (ks : List ℕ) (k : ℕ) → KeepsNumbers ks (ks ++ k ∷ [])
+keeps_more : (ks : List ℕ) (k : ℕ) → KeepsAllNumbers ks (ks ++ k ∷ [])
 keeps_more ks k w h = list_any-append (is_it w) ks (k ∷ []) ∙ or_left (is_among ks w) (is_among (k ∷ []) w) h
 
 last_among : (ks : List ℕ) (k : ℕ) → is_among (ks ++ k ∷ []) k ≡ true
@@ -54,22 +53,22 @@ last_among ks k = list_any-append (is_it k) ks (k ∷ [])
 
 -- what holds of the old numbers and of those with one more holds of the two by the test
 with_either : (P : List ℕ → Type 0) (ks : List ℕ) (k : ℕ) → (is_among ks k ≡ true → P ks) → P (ks ++ k ∷ []) →
-    P (with_number ks k)
+    P (with_number_once ks k)
 with_either P ks k old more = elim (cases_Bool (is_among ks k)) [
   | inl there ↦ subst P (sym (cond-true _ _ _ there)) (old there)
   | inr none ↦ subst P (sym (cond-false _ _ _ none)) more
 ]
 
-pub with_keeps : (ks new : List ℕ) (k : ℕ) → new ≡ with_number ks k → KeepsNumbers ks new
+pub with_keeps : (ks new : List ℕ) (k : ℕ) → new ≡ with_number_once ks k → KeepsAllNumbers ks new
 with_keeps ks new k is =
-    subst (KeepsNumbers ks) (sym is) (with_either (KeepsNumbers ks) ks k (λ _ w h. h) (keeps_more ks k))
+    subst (KeepsAllNumbers ks) (sym is) (with_either (KeepsAllNumbers ks) ks k (λ _ w h. h) (keeps_more ks k))
 
-pub with_among : (ks new : List ℕ) (k : ℕ) → new ≡ with_number ks k → is_among new k ≡ true
+pub with_among : (ks new : List ℕ) (k : ℕ) → new ≡ with_number_once ks k → is_among new k ≡ true
 with_among ks new k is =
     let P : List ℕ → Type 0 = λ l. is_among l k ≡ true in
     subst P (sym is) (with_either P ks k (λ there. there) (last_among ks k))
 
-pub with_below : (b : Borders) (ks new : List ℕ) (k : ℕ) → new ≡ with_number ks k → AreModuleNumbers b ks →
+pub with_below : (b : Borders) (ks new : List ℕ) (k : ℕ) → new ≡ with_number_once ks k → AreModuleNumbers b ks →
     k < length b.jobs.now → AreModuleNumbers b new
 with_below b ks new k is below lt =
     subst (AreModuleNumbers b) (sym is) (with_either (AreModuleNumbers b) ks k (λ _. below)
@@ -77,7 +76,7 @@ with_below b ks new k is below lt =
 
 -- ---- columns and rows
 
-noted_still : (b : Borders) (old new : List ℕ) (x y : ℤ) → KeepsNumbers old new → IsOtherOwnerListed b old x y →
+noted_still : (b : Borders) (old new : List ℕ) (x y : ℤ) → KeepsAllNumbers old new → IsOtherOwnerListed b old x y →
     IsOtherOwnerListed b new x y
 noted_still b old new x y keeps noted inside out = keeps _ (noted inside out)
 
@@ -107,13 +106,13 @@ owner_holds b x y j a ready inside same got =
     ap (λ (z : Box2). in_box z x y) same
     ∙ ap (λ (z : JobView). in_box z.area x y) (same_some (slice_get (jobs_of b) _) j m.0 got m.1) ∙ m.2
 
-pub no_column : (b : Borders) (ks : List ℕ) (y z x : ℕ) → x ≡ b.job.now.area.x - 1 → AreColumnOwnersListed b ks y z x
+pub no_column : (b : Borders) (ks : List ℕ) (y z x : ℕ) → x ≡ b.job.now.area.x - 1 → AreOwnersListedToColumn b ks y z x
 no_column b ks y z x from c r left lt top under = absurd (omega (arith, lt, left, from))
 
 -- the columns up to the last one of an area that has the cell (x, y), as far down as the area
 pub columns_more : (b : Borders) (old new : List ℕ) (y z z' x : ℕ) (a : Box2) (cx cy : ℤ) → cx ≡ pos x → cy ≡ pos y →
-    in_box a cx cy ≡ true → z' ≤ z → z' ≤ a.y + a.h → AreColumnOwnersListed b old y z x → KeepsNumbers old new →
-    AreAreaOwnersListed b new a → AreColumnOwnersListed b new y z' (a.x + a.w)
+    in_box a cx cy ≡ true → z' ≤ z → z' ≤ a.y + a.h → AreOwnersListedToColumn b old y z x → KeepsAllNumbers old new →
+    AreAreaOwnersListed b new a → AreOwnersListedToColumn b new y z' (a.x + a.w)
 columns_more b old new y z z' x a cx cy ex ey has le within before keeps here c r left lt top under =
     let at = area_at a x y cx cy ex ey has in
     elim (below_or_from c x) [
@@ -124,8 +123,9 @@ columns_more b old new y z z' x a cx cy ex ey has le within before keeps here c 
 
 -- the columns behind x are outside of the rectangle or of the halo
 pub all_columns : (b : Borders) (ks : List ℕ) (y z x : ℕ) → AreReadyBorders b →
-    ((c : ℕ) → x ≤ c → c < b.job.now.area.x + b.job.now.area.w + 1 → b.whole.w ≤ c) → AreColumnOwnersListed b ks y z x →
-    AreRowOwnersListed b ks y z
+    ((c : ℕ) → x ≤ c → c < b.job.now.area.x + b.job.now.area.w + 1 → b.whole.w ≤ c) →
+    AreOwnersListedToColumn b ks y z x →
+    AreOwnersListedInRows b ks y z
 all_columns b ks y z x ready end before c r left lt top under = elim (below_or_from c x) [
   | inl l ↦ before c r left l top under
   | inr from ↦ λ there out.
@@ -133,11 +133,12 @@ all_columns b ks y z x ready end before c r left lt top under = elim (below_or_f
       let inside = (whole_parts b c r ready there).0 in absurd (omega (arith, outside, inside))
 ]
 
-pub no_row : (b : Borders) (ks : List ℕ) (y z : ℕ) → z ≡ y → AreRowOwnersListed b ks y z
+pub no_row : (b : Borders) (ks : List ℕ) (y z : ℕ) → z ≡ y → AreOwnersListedInRows b ks y z
 no_row b ks y z same c r left lt top under = absurd (omega (arith, top, under, same))
 
-pub rows_more : (b : Borders) (old new : List ℕ) (x y z : ℕ) → AreRowOwnersListed b old x y → KeepsNumbers old new →
-    AreRowOwnersListed b new y z → AreRowOwnersListed b new x z
+pub rows_more : (b : Borders) (old new : List ℕ) (x y z : ℕ) → AreOwnersListedInRows b old x y →
+    KeepsAllNumbers old new →
+    AreOwnersListedInRows b new y z → AreOwnersListedInRows b new x z
 rows_more b old new x y z above keeps here c r left lt top under = elim (below_or_from r y) [
   | inl l ↦ noted_still b old new (pos c) (pos r) keeps (above c r left lt top l)
   | inr from ↦ here c r left lt from under
@@ -146,7 +147,7 @@ rows_more b old new x y z above keeps here c r left lt top under = elim (below_o
 -- the rows behind y are outside of the rectangle or of the halo
 pub all_rows : (b : Borders) (ks : List ℕ) (y : ℕ) → AreReadyBorders b →
     ((r : ℕ) → y ≤ r → r < b.job.now.area.y + b.job.now.area.h + 1 → b.whole.h ≤ r) →
-    AreRowOwnersListed b ks (b.job.now.area.y - 1) y → AreHaloOwnersListed b ks
+    AreOwnersListedInRows b ks (b.job.now.area.y - 1) y → AreHaloOwnersListed b ks
 all_rows b ks y ready end above x z there =
     let area = b.job.now.area in
     let both = and_parts (in_box b.whole x z) (in_halo area x z) there in

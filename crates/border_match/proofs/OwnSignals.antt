@@ -1,7 +1,5 @@
 -- A wire that the signals of a job name is one of its own, at each cell and time
-use Rattle.std.proofs.Common.{ℕ, suc, List, [], ◌∷◌, arith, inl, inr, subst}
-use Rattle.std.specs.Prelude.{ℤ, unwrap_or}
-use Rattle.std.specs.List.{All}
+use Rattle.std.proofs.Common.{ℕ, suc, List, [], ◌∷◌, arith, inl, inr, subst, ℤ, unwrap_or, All}
 use Rattle.std.proofs.lemmas.Bool.{cases_Bool}
 use Rattle.std.proofs.lemmas.Option.{slice_get_within, get_or_from_slice_get}
 use Rattle.bbm_rule.specs.Plane.{is_at}
@@ -12,7 +10,7 @@ use Rattle.module_box.specs.declared.schedules.AllTimes.{AllTimes}
 use Rattle.module_box.specs.declared.schedules.Signal.{Signal}
 use Rattle.module_box.specs.declared.schedules.Signal.TheVariants.{Zero}
 use Rattle.module_job.specs.Jobs.{JobView, NamesOwnWires}
-use Rattle.module_job.specs.Signals.{IsBelow}
+use Rattle.module_job.specs.Signals.{IsSignalWireBelow}
 use Rattle.border_match.specs.Boards.{IsListed, job_signals}
 use Rattle.border_match.specs.declared.signals.RingOrHalo.{RingOrHalo}
 use Rattle.border_match.specs.declared.signals.RingOrHalo.TheVariants.{Halo, Ring}
@@ -23,48 +21,51 @@ all_tail P x xs all = λ k d h. all (suc k) d (omega arith)
 all_head : {A : Type 0} (P : A → Type 0) (x : A) (xs : List A) → All P (x ∷ xs) → P x
 all_head P x xs all = all 0 x (omega arith)
 
-all_times_below : (n : ℕ) (hs : List AllTimes) (x y : ℤ) (d : Signal) → All (λ h. IsBelow n h.signal) hs → IsBelow n d →
-    IsBelow n (unwrap_or (all_times_at hs x y) d)
+all_times_below : (n : ℕ) (hs : List AllTimes) (x y : ℤ) (d : Signal) → All (λ h. IsSignalWireBelow n h.signal) hs →
+    IsSignalWireBelow n d →
+    IsSignalWireBelow n (unwrap_or (all_times_at hs x y) d)
 unfolding all_times_at
 all_times_below n [] x y d all b = b
 all_times_below n (h ∷ hs) x y d all b = elim (cases_Bool (is_at h.cell x y)) [
-  | inl e ↦ rw e (all_head (λ (g : AllTimes). IsBelow n g.signal) h hs all)
-  | inr e ↦ rw e (all_times_below n hs x y d (all_tail (λ (g : AllTimes). IsBelow n g.signal) h hs all) b)
+  | inl e ↦ rw e (all_head (λ (g : AllTimes). IsSignalWireBelow n g.signal) h hs all)
+  | inr e ↦ rw e (all_times_below n hs x y d (all_tail (λ (g : AllTimes). IsSignalWireBelow n g.signal) h hs all) b)
 ]
 
-event_below : (n : ℕ) (es : List TimedSignal) (t : ℕ) (x y : ℤ) (d : Signal) → All (λ e. IsBelow n e.signal) es →
-    IsBelow n d → IsBelow n (unwrap_or (event_at es t x y) d)
+event_below : (n : ℕ) (es : List TimedSignal) (t : ℕ) (x y : ℤ) (d : Signal) →
+    All (λ e. IsSignalWireBelow n e.signal) es →
+    IsSignalWireBelow n d → IsSignalWireBelow n (unwrap_or (event_at es t x y) d)
 unfolding event_at
 event_below n [] t x y d all b = b
 event_below n (e ∷ es) t x y d all b = elim (cases_Bool (is_moment_at e.at t x y)) [
-  | inl h ↦ rw h (all_head (λ (g : TimedSignal). IsBelow n g.signal) e es all)
-  | inr h ↦ rw h (event_below n es t x y d (all_tail (λ (g : TimedSignal). IsBelow n g.signal) e es all) b)
+  | inl h ↦ rw h (all_head (λ (g : TimedSignal). IsSignalWireBelow n g.signal) e es all)
+  | inr h ↦ rw h (event_below n es t x y d (all_tail (λ (g : TimedSignal). IsSignalWireBelow n g.signal) e es all) b)
 ]
 
-signal_below : (n : ℕ) (s : Signals) (t : ℕ) (x y : ℤ) → All (λ h. IsBelow n h.signal) s.all_times →
-    All (λ e. IsBelow n e.signal) s.events → IsBelow n (signal_at s t x y)
+signal_below : (n : ℕ) (s : Signals) (t : ℕ) (x y : ℤ) → All (λ h. IsSignalWireBelow n h.signal) s.all_times →
+    All (λ e. IsSignalWireBelow n e.signal) s.events → IsSignalWireBelow n (signal_at s t x y)
 unfolding signal_at
 signal_below n s t x y hs es =
     all_times_below n s.all_times x y (unwrap_or (event_at s.events t x y) Zero) hs
     (event_below n s.events t x y Zero es tt)
 
 pub edge_below : (j : JobView) (t : ℕ) (x y : ℤ) → NamesOwnWires j →
-    IsBelow (wires j.locals.netlist) (signal_at j.edges t x y)
+    IsSignalWireBelow (wires j.locals.netlist) (signal_at j.edges t x y)
 edge_below j t x y own = signal_below (wires j.locals.netlist) j.edges t x y own.edge_all_times own.edge_events
 
 pub halo_below : (j : JobView) (t : ℕ) (x y : ℤ) → NamesOwnWires j →
-    IsBelow (wires j.locals.netlist) (signal_at j.halos t x y)
+    IsSignalWireBelow (wires j.locals.netlist) (signal_at j.halos t x y)
 halo_below j t x y own = signal_below (wires j.locals.netlist) j.halos t x y own.halo_all_times own.halo_events
 
 -- and so is one that an event of its ring or halo names
 pub listed_below : (b : RingOrHalo) (j : JobView) (e : TimedSignal) → NamesOwnWires j →
     IsListed (job_signals b j).events e →
-    IsBelow (wires j.locals.netlist) e.signal
+    IsSignalWireBelow (wires j.locals.netlist) e.signal
 listed_below b j e own at =
-    let P : TimedSignal → Type 0 = λ e. IsBelow (wires j.locals.netlist) e.signal in
+    let P : TimedSignal → Type 0 = λ e. IsSignalWireBelow (wires j.locals.netlist) e.signal in
     let es = (job_signals b j).events in
     subst P (get_or_from_slice_get es at.0 e e at.1) (all_below b at.0 e (slice_get_within es at.0 e at.1))
   where
-    all_below : (b : RingOrHalo) → All (λ e. IsBelow (wires j.locals.netlist) e.signal) (job_signals b j).events
+    all_below : (b : RingOrHalo) →
+        All (λ e. IsSignalWireBelow (wires j.locals.netlist) e.signal) (job_signals b j).events
     all_below Ring = own.edge_events
     all_below Halo = own.halo_events

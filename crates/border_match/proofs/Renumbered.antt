@@ -1,8 +1,7 @@
 -- Signals by other numbers of their wires, and times without an event
 use Rattle.std.proofs.Common.{◌≡◌, ℕ, suc, ◌<◌, ◌%◌, ◌++◌, List, [], ◌∷◌, map, Bool, false, ◌&&◌, ◌==◌, Option, Some}
-use Rattle.std.proofs.Common.{None, refl, sym, ap, ap₂, ◌∙◌, arith, inl, inr}
-use Rattle.std.specs.Prelude.{ℤ, unwrap_or, option_map, IfSome}
-use Rattle.std.specs.List.{All, flat_map}
+use Rattle.std.proofs.Common.{None, refl, sym, ap, ap₂, ◌∙◌, arith, inl, inr, ℤ, unwrap_or, option_map, IfSome, All}
+use Rattle.std.proofs.Common.{flat_map}
 use Rattle.std.proofs.lemmas.Bool.{cases_Bool, cond-true, cond-false}
 use Rattle.std.proofs.lemmas.Bool.Decides.{nat_tests}
 use Rattle.bbm_rule.specs.Plane.{is_at}

@@ -1,6 +1,5 @@
 -- Halo and edge signals are the same if a module has no border fault
-use Rattle.std.proofs.Common.{◌≡◌, ℕ, List, refl, sym, ap, ◌∙◌, inl, inr}
-use Rattle.std.specs.Prelude.{◌≢◌, ℤ}
+use Rattle.std.proofs.Common.{◌≡◌, ℕ, List, refl, sym, ap, ◌∙◌, inl, inr, ◌≢◌, ℤ}
 use Rattle.std.proofs.lemmas.Bool.{cases_Bool, false≢true}
 use Rattle.circuit.specs.Meaning.{Valuation}
 use Rattle.module_box.specs.Equality.{same_signal}

@@ -1,7 +1,7 @@
 -- Cells of which a line with a star speaks
-use Rattle.std.proofs.Common.{◌≡◌, ℕ, suc, ◌+◌, ◌<◌, ◌≤◌, List, [], ◌∷◌, ◌++◌, map, length, take}
-use Rattle.std.proofs.Common.{get_or, Some, None, refl, sym, ap, ap₂, subst, ◌∙◌, inl, inr, ◌⊎◌, arith}
-use Rattle.std.specs.Prelude.{ℤ, pos, ◌+ℤ◌, option_map, slice_get, unwrap_or}
+use Rattle.std.proofs.Common.{◌≡◌, ℕ, suc, ◌+◌, ◌<◌, ◌≤◌, List, [], ◌∷◌, ◌++◌, map, length, take, get_or, Some, None}
+use Rattle.std.proofs.Common.{refl, sym, ap, ap₂, subst, ◌∙◌, inl, inr, ◌⊎◌, arith, ℤ, pos, ◌+ℤ◌, option_map, slice_get}
+use Rattle.std.proofs.Common.{unwrap_or}
 use Rattle.std.proofs.lemmas.Bool.{cond-false, cases_Bool}
 use Rattle.std.proofs.lemmas.List.{length-map, take_all, take_more}
 use Rattle.std.proofs.lemmas.Option.{slice_get_within, slice_get-get_or, slice_get-map}
@@ -21,9 +21,9 @@ use Rattle.module_box.proofs.MovedBoxes.{signals_back}
 use Rattle.module_job.specs.Jobs.{JobView}
 use Rattle.module_job.specs.Shapes.{shift_to_origin}
 use Rattle.module_job.specs.Signals.{renumber_signal}
-use Rattle.border_match.specs.Boards.{AreHaloOwnersListed, DiffersWithoutEvent, DiffersWithoutEventAt, IsSearchedFault}
-use Rattle.border_match.specs.Boards.{IsAround}
-use Rattle.border_match.specs.Boards.{AreReadyBorders, IsStarred, HasStarLineAmong, IsStarredBelow, jobs_of}
+use Rattle.border_match.specs.Boards.{AreHaloOwnersListed, CellDiffersWithoutEvent, DiffersWithoutEventAt}
+use Rattle.border_match.specs.Boards.{IsFaultOfSearchedJob, IsAround, AreReadyBorders, IsStarred, HasStarLineInModules}
+use Rattle.border_match.specs.Boards.{IsStarredBelow, jobs_of}
 use Rattle.border_match.specs.declared.borders.Borders.{Borders}
 use Rattle.border_match.specs.declared.fault.BorderFault.{BorderFault}
 use Rattle.border_match.proofs.Cells.{fault_around, reached}
@@ -48,7 +48,7 @@ star_at dx dy b stars k d f lt h same =
 pub star_far : (a corner : Box2) (b : Borders) (stars : List AllTimes) (k : ℕ) (d : AllTimes) (f : BorderFault) →
     a ≡ b.job.now.area → k < length stars →
     (let at = moved_cell (pos corner.x) (pos corner.y) (get_or stars k d).cell in ¬ IsAround a at.x at.y) →
-    IsSearchedFault b f → IsStarredBelow (k + 1) b (map (moved_all_times (pos corner.x) (pos corner.y)) stars) f →
+    IsFaultOfSearchedJob b f → IsStarredBelow (k + 1) b (map (moved_all_times (pos corner.x) (pos corner.y)) stars) f →
     IsStarredBelow k b (map (moved_all_times (pos corner.x) (pos corner.y)) stars) f
 star_far a corner b stars k d f area lt far g h = elim (lower_or_same h.starred.place k h.below) [
   | inl lower ↦ record { starred = h.starred; below = lower }
@@ -102,8 +102,8 @@ starred_back b area corner stars own f same are h =
 -- ---- one more module
 
 pub modules_step : (b : Borders) (ks : List ℕ) (i k d : ℕ) (owner : JobView) (f : BorderFault) → i < length ks →
-    k ≡ get_or ks i d → slice_get (jobs_of b) k ≡ Some owner → HasStarLineAmong (take (i + 1) ks) b f →
-    HasStarLineAmong (take i ks) b f ⊎ IsStarred b owner.edges.all_times f
+    k ≡ get_or ks i d → slice_get (jobs_of b) k ≡ Some owner → HasStarLineInModules (take (i + 1) ks) b f →
+    HasStarLineInModules (take i ks) b f ⊎ IsStarred b owner.edges.all_times f
 modules_step b ks i k d owner f lt is got (inl halo) = inl (inl halo)
 modules_step b ks i k d owner f lt is got (inr (edge, among)) =
     let own = owner_of b.owners.now f.cell.x f.cell.y in
@@ -116,7 +116,7 @@ modules_step b ks i k d owner f lt is got (inr (edge, among)) =
           inr (subst (λ (j : JobView). IsStarred b j.edges.all_times f) is_owner edge.starred)
     ]
 
-pub no_module : (b : Borders) (ks : List ℕ) (f : BorderFault) → HasStarLineAmong (take 0 ks) b f →
+pub no_module : (b : Borders) (ks : List ℕ) (f : BorderFault) → HasStarLineInModules (take 0 ks) b f →
     IsStarred b b.job.now.halos.all_times f
 no_module b ks f (inl halo) = halo
 no_module b ks f (inr (edge, among)) = absurd (cc among)
@@ -148,7 +148,7 @@ dead_signal s x y none quiet = ap₂ (λ h z. unwrap_or h (unwrap_or z Zero)) no
 
 pub star_covered : (b : Borders) (ks : List ℕ) (f : BorderFault) (n : ℕ) → AreReadyBorders b →
     AreHaloOwnersListed b ks →
-    length ks ≤ n → IsSearchedFault b f → DiffersWithoutEvent b f → HasStarLineAmong (take n ks) b f
+    length ks ≤ n → IsFaultOfSearchedJob b f → CellDiffersWithoutEvent b f → HasStarLineInModules (take n ks) b f
 star_covered b ks f n ready noted le g d =
     let x = f.cell.x in let y = f.cell.y in
     elim (star_named b.job.now.halos.all_times f.cell) [

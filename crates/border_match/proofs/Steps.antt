@@ -1,10 +1,7 @@
 -- One more event, module or time
 use Rattle.std.proofs.Common.{◌≡◌, ℕ, suc, ◌+◌, ◌<◌, ◌≤◌, ◌%◌, List, [], ◌∷◌, ◌++◌, length, map, take, get_or, Bool}
-use Rattle.std.proofs.Common.{Option, true}
-use Rattle.std.proofs.Common.{false, Some, None, Less, Equal, Greater, refl, sym, ap, ap₂, subst, ◌∙◌, inl, inr, ◌⊎◌}
-use Rattle.std.proofs.Common.{arith}
-use Rattle.std.specs.Prelude.{ℤ, pos, ◌≢◌, option_map, slice_get, unwrap_or}
-use Rattle.std.specs.Ordering.{nat_cmp}
+use Rattle.std.proofs.Common.{Option, true, false, Some, None, Less, Equal, Greater, refl, sym, ap, ap₂, subst, ◌∙◌}
+use Rattle.std.proofs.Common.{inl, inr, ◌⊎◌, arith, ℤ, pos, ◌≢◌, option_map, slice_get, unwrap_or, nat_cmp}
 use Rattle.std.proofs.lemmas.List.{length-map, take_all, take_more}
 use Rattle.std.proofs.lemmas.Option.{slice_get_within, slice_get-map}
 use Rattle.std.proofs.lemmas.Bool.{cond-false, false≢true, cases_Bool}
@@ -28,17 +25,15 @@ use Rattle.module_job.specs.Jobs.{JobView}
 use Rattle.module_job.specs.Shapes.{shape_of, shift_to_origin}
 use Rattle.module_job.specs.Signals.{renumber_signal}
 use Rattle.border_match.specs.BorderFaults.{border_cmp}
-use Rattle.border_match.specs.Boards.{AreHaloOwnersListed, jobs_of, AreReadyBorders, IsSearchedFault, IsNamed}
-use Rattle.border_match.specs.Boards.{IsNamedBelow}
-use Rattle.border_match.specs.Boards.{IsAtEdgeEvent}
-use Rattle.border_match.specs.Boards.{IsAtEdgeEventOfAny, IsAtEdgeEventOf, DiffersWithoutEvent}
-use Rattle.border_match.specs.Boards.{IsAround}
+use Rattle.border_match.specs.Boards.{AreHaloOwnersListed, jobs_of, AreReadyBorders, IsFaultOfSearchedJob, IsNamed}
+use Rattle.border_match.specs.Boards.{IsNamedBelow, IsAtEdgeEvent, IsAtEdgeEventOfAny, IsAtEdgeEventOf}
+use Rattle.border_match.specs.Boards.{CellDiffersWithoutEvent, IsAround}
 use Rattle.border_match.specs.Surroundings.{AreEventsFar, IsWindow}
 use Rattle.border_match.specs.declared.surroundings.Window.{Window}
 use Rattle.border_match.proofs.FarEvents.{below_or_from, seen}
 use Rattle.border_match.specs.declared.borders.Borders.{Borders}
 use Rattle.border_match.specs.declared.fault.BorderFault.{BorderFault}
-use Rattle.border_match.specs.Candidates.{IsCandidateAtMost}
+use Rattle.border_match.specs.Candidates.{HasCandidateAtMost}
 use Rattle.border_match.proofs.FaultOrder.{border_total}
 use Rattle.border_match.proofs.Least.{covers_after}
 use Rattle.border_match.proofs.Cells.{fault_around, reached}
@@ -73,15 +68,15 @@ compared_alike a b = refl
 -- if the candidate is at most what one event names, it is at most what the events behind it name
 pub rest_covered : (events : List TimedSignal) (i : ℕ) (e : TimedSignal) (o : Option BorderFault) (f : BorderFault) →
     IsRising moment_cmp moment_of events → slice_get events i ≡ Some e →
-    IsCandidateAtMost o (record { time = e.at.time; cell = e.at.cell }) → IsNamed events f →
-    IsNamedBelow i events f ⊎ IsCandidateAtMost o f
+    HasCandidateAtMost o (record { time = e.at.time; cell = e.at.cell }) → IsNamed events f →
+    IsNamedBelow i events f ⊎ HasCandidateAtMost o f
 rest_covered events i e o f rising got covered h =
     let at : f ≡ record { time = h.event.at.time; cell = h.event.at.cell } =
     same_fault h.event.at.time h.event.at.cell f (sym h.time) (sym h.cell) in
     elim (before_at_after h.place i) [
       | inl lower ↦ inl (record { named = h; below = lower })
-      | inr rest ↦ inr (subst (IsCandidateAtMost o) (sym at) (elim rest [
-        | inl same ↦ subst (λ (z : TimedSignal). IsCandidateAtMost o (record { time = z.at.time; cell = z.at.cell }))
+      | inr rest ↦ inr (subst (HasCandidateAtMost o) (sym at) (elim rest [
+        | inl same ↦ subst (λ (z : TimedSignal). HasCandidateAtMost o (record { time = z.at.time; cell = z.at.cell }))
             (same_some (slice_get events i) e h.event got (ap (slice_get events) (sym same) ∙ h.got)) covered
         | inr after ↦ covers_after o _ _ covered (λ g. less_greater
             (sym (rising.rises i h.place e h.event after got h.got) ∙ sym (compared_alike e.at h.event.at) ∙ g))
@@ -113,7 +108,7 @@ cornered_all dx dy es events k are le =
 pub far_step : (b : Borders) (other : JobView) (a corner : Box2) (w : Window) (es : List TimedSignal) (i next : ℕ)
     (f : BorderFault) → a ≡ b.job.now.area → corner ≡ other.area → IsWindow a corner w →
     es ≡ map (moved_event (shift_to_origin other.area.x) (shift_to_origin other.area.y)) other.edges.events →
-    AreEventsFar w es i next → IsSearchedFault b f → IsNamedBelow next other.edges.events f →
+    AreEventsFar w es i next → IsFaultOfSearchedJob b f → IsNamedBelow next other.edges.events f →
     IsNamedBelow i other.edges.events f
 far_step b other a corner w es i next f same_area same_corner is are far g h =
     elim (below_or_from h.named.place i) [
@@ -148,7 +143,7 @@ edges_step b ks i k d f lt is h =
     ]
 
 pub edges_all : (b : Borders) (ks : List ℕ) (i : ℕ) (f : BorderFault) → length ks ≤ i → AreHaloOwnersListed b ks →
-    IsSearchedFault b f → IsAtEdgeEvent b f → IsAtEdgeEventOfAny (take i ks) b f
+    IsFaultOfSearchedJob b f → IsAtEdgeEvent b f → IsAtEdgeEventOfAny (take i ks) b f
 edges_all b ks i f le noted g h = (
   h,
   ap (λ l. is_among l (owner_of b.owners.now f.cell.x f.cell.y)) (take_all i ks le)
@@ -236,8 +231,8 @@ same_without : (s : Signals) (t t' : ℕ) (x y : ℤ) → event_at s.events t x 
 unfolding signal_at
 same_without s t t' x y e e' = ap (λ z. unwrap_or (all_times_at s.all_times x y) (unwrap_or z Zero)) (e ∙ sym e')
 
-pub fault_covered : (b : Borders) (f : BorderFault) → AreReadyBorders b → IsSearchedFault b f →
-    IsNamed b.job.now.halos.events f ⊎ (IsAtEdgeEvent b f ⊎ DiffersWithoutEvent b f)
+pub fault_covered : (b : Borders) (f : BorderFault) → AreReadyBorders b → IsFaultOfSearchedJob b f →
+    IsNamed b.job.now.halos.events f ⊎ (IsAtEdgeEvent b f ⊎ CellDiffersWithoutEvent b f)
 fault_covered b f ready g =
     let x = f.cell.x in
     let y = f.cell.y in

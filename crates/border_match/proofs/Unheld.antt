@@ -1,10 +1,8 @@
 -- Schedules in which no line has a star
-use Rattle.std.proofs.Common.{◌≡◌, Bool, true, false, not, ◌==◌, List, [], map, length}
-use Rattle.std.proofs.Common.{refl, sym, ap, ◌∙◌, arith}
+use Rattle.std.proofs.Common.{◌≡◌, Bool, true, false, not, ◌==◌, List, [], map, length, refl, sym, ap, ◌∙◌, arith, ℤ}
 use Rattle.std.proofs.lemmas.Bool.{false≢true}
 use Rattle.std.proofs.lemmas.Bool.Decides.{nat_tests}
 use Rattle.std.proofs.lemmas.List.{length-map, nil_from_length}
-use Rattle.std.specs.Prelude.{ℤ}
 use Rattle.module_box.specs.Moves.{moved_all_times, moved_signals}
 use Rattle.module_box.specs.Schedules.{Signals}
 

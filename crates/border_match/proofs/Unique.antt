@@ -1,6 +1,5 @@
 -- A module has one least border fault, or none
-use Rattle.std.proofs.Common.{◌≡◌, Some, None, Ordering, Less, Equal, Greater, refl, ap}
-use Rattle.std.specs.Prelude.{◌≢◌}
+use Rattle.std.proofs.Common.{◌≡◌, Some, None, Ordering, Less, Equal, Greater, refl, ap, ◌≢◌}
 use Rattle.std.specs.Ordering.{ordering_reverse}
 use Rattle.border_match.specs.BorderFaults.{border_cmp}
 use Rattle.border_match.specs.Laws.{LeastBorderFaultIsUnique}

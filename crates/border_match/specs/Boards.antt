@@ -78,8 +78,8 @@ abbrev pub AreReadyBorders : Borders → Type 0
 AreReadyBorders b = IsBoard b.whole b.owners.now (jobs_of b) × IsQuiet b.job.now
 
 -- a border fault of the job that is searched
-abbrev pub IsSearchedFault : Borders → BorderFault → Type 0
-IsSearchedFault b f = IsJobFault b.whole b.owners.now (jobs_of b) b.job.now f
+abbrev pub IsFaultOfSearchedJob : Borders → BorderFault → Type 0
+IsFaultOfSearchedJob b f = IsJobFault b.whole b.owners.now (jobs_of b) b.job.now f
 
 -- f is at an odd time below the steps, and at a cell of the halo and of the rectangle
 pub record MayBeFault (b : Borders) (f : BorderFault) : Type 0 where
@@ -89,8 +89,8 @@ pub record MayBeFault (b : Borders) (f : BorderFault) : Type 0 where
   pub halo : IsTrue (in_halo b.job.now.area f.cell.x f.cell.y)
 
 -- the job that is searched and the module that has the cell say different things of it at the time
-abbrev pub Differ : Borders → ℕ → ℤ → ℤ → Type 0
-Differ b t x y = AreDifferent b.owners.now (jobs_of b) b.job.now t x y
+abbrev pub SignalsDifferAt : Borders → ℕ → ℤ → ℤ → Type 0
+SignalsDifferAt b t x y = AreDifferent b.owners.now (jobs_of b) b.job.now t x y
 
 -- the cell (x, y) is in the columns and rows of the box or next to them, as the cells of its halo are
 pub record IsAround (a : Box2) (x y : ℤ) : Type 0 where
@@ -133,16 +133,16 @@ abbrev pub IsAtEdgeEventOf : ℕ → Borders → BorderFault → Type 0
 IsAtEdgeEventOf k b f = IsAtEdgeEvent b f × (owner_of b.owners.now f.cell.x f.cell.y ≡ k)
 
 -- at time 0, which has no event, the signals of f's cell differ, and so at all times without one
-abbrev pub DiffersWithoutEvent : Borders → BorderFault → Type 0
-DiffersWithoutEvent b f = Differ b 0 f.cell.x f.cell.y
+abbrev pub CellDiffersWithoutEvent : Borders → BorderFault → Type 0
+CellDiffersWithoutEvent b f = SignalsDifferAt b 0 f.cell.x f.cell.y
 
 -- the same, and c is f's cell
 abbrev pub DiffersWithoutEventAt : Borders → Cell → BorderFault → Type 0
-DiffersWithoutEventAt b c f = DiffersWithoutEvent b f × (f.cell ≡ c)
+DiffersWithoutEventAt b c f = CellDiffersWithoutEvent b f × (f.cell ≡ c)
 
 -- the same, and a line of the list says something of f's cell at all times
 pub record IsStarred (b : Borders) (stars : List AllTimes) (f : BorderFault) : Type 0 where
-  pub differs : DiffersWithoutEvent b f
+  pub differs : CellDiffersWithoutEvent b f
   pub place : ℕ
   pub star : AllTimes
   pub got : slice_get stars place ≡ Some star
@@ -160,8 +160,8 @@ pub record IsEdgeStarred (b : Borders) (f : BorderFault) : Type 0 where
   pub starred : IsStarred b owner.edges.all_times f
 
 -- a halo line of the module does, or an edge line of the module that has f's cell and one of these numbers
-abbrev pub HasStarLineAmong : List ℕ → Borders → BorderFault → Type 0
-HasStarLineAmong ks b f = IsStarred b b.job.now.halos.all_times f
+abbrev pub HasStarLineInModules : List ℕ → Borders → BorderFault → Type 0
+HasStarLineInModules ks b f = IsStarred b b.job.now.halos.all_times f
     ⊎ (IsEdgeStarred b f × IsTrue (is_among ks (owner_of b.owners.now f.cell.x f.cell.y)))
 
 -- ---- marks of the halo events that edges name
@@ -201,8 +201,8 @@ abbrev pub AreModuleNumbers : Borders → List ℕ → Type 0
 AreModuleNumbers b ks = All (λ k. k < length b.jobs.now) ks
 
 -- none is lost
-abbrev pub KeepsNumbers : List ℕ → List ℕ → Type 0
-KeepsNumbers old new = (k : ℕ) → IsTrue (is_among old k) → IsTrue (is_among new k)
+abbrev pub KeepsAllNumbers : List ℕ → List ℕ → Type 0
+KeepsAllNumbers old new = (k : ℕ) → IsTrue (is_among old k) → IsTrue (is_among new k)
 
 -- if the cell (x, y) is in the rectangle and in the halo, the number of the module that has it is one of these
 abbrev pub IsHaloOwnerListed : Borders → List ℕ → ℤ → ℤ → Type 0
@@ -223,14 +223,14 @@ abbrev pub AreAreaOwnersListed : Borders → List ℕ → Box2 → Type 0
 AreAreaOwnersListed b ks a = (x y : ℤ) → IsTrue (in_box a x y) → IsOtherOwnerListed b ks x y
 
 -- the same of the cells in the rows from y on and before z, and in the columns of the halo before x
-abbrev pub AreColumnOwnersListed : Borders → List ℕ → ℕ → ℕ → ℕ → Type 0
-AreColumnOwnersListed b ks y z x =
+abbrev pub AreOwnersListedToColumn : Borders → List ℕ → ℕ → ℕ → ℕ → Type 0
+AreOwnersListedToColumn b ks y z x =
     (c r : ℕ) → b.job.now.area.x - 1 ≤ c → c < x → y ≤ r → r < z → IsOtherOwnerListed b ks (pos c) (pos r)
 
 -- the same of the cells in those rows and in all columns of the halo
-abbrev pub AreRowOwnersListed : Borders → List ℕ → ℕ → ℕ → Type 0
-AreRowOwnersListed b ks y z = AreColumnOwnersListed b ks y z (b.job.now.area.x + b.job.now.area.w + 1)
+abbrev pub AreOwnersListedInRows : Borders → List ℕ → ℕ → ℕ → Type 0
+AreOwnersListedInRows b ks y z = AreOwnersListedToColumn b ks y z (b.job.now.area.x + b.job.now.area.w + 1)
 
 -- the numbers with one more behind them, unless it is among them
-abbrev pub with_number : List ℕ → ℕ → List ℕ
-with_number ks k = if is_among ks k then ks else ks ++ k ∷ []
+abbrev pub with_number_once : List ℕ → ℕ → List ℕ
+with_number_once ks k = if is_among ks k then ks else ks ++ k ∷ []

@@ -5,25 +5,25 @@ use Rattle.border_match.specs.BorderFaults.{border_cmp}
 use Rattle.border_match.specs.declared.fault.BorderFault.{BorderFault}
 
 -- the candidate, if there is one, is one of F
-abbrev pub IsCandidateOf : (BorderFault → Type 0) → Option BorderFault → Type 0
-IsCandidateOf F None = Unit {0}
-IsCandidateOf F (Some f) = F f
+abbrev pub CandidateSatisfies : (BorderFault → Type 0) → Option BorderFault → Type 0
+CandidateSatisfies F None = Unit {0}
+CandidateSatisfies F (Some f) = F f
 
 -- there is a candidate, and it is at most h
-abbrev pub IsCandidateAtMost : Option BorderFault → BorderFault → Type 0
-IsCandidateAtMost None h = ⊥
-IsCandidateAtMost (Some f) h = border_cmp f h ≢ Greater
+abbrev pub HasCandidateAtMost : Option BorderFault → BorderFault → Type 0
+HasCandidateAtMost None h = ⊥
+HasCandidateAtMost (Some f) h = border_cmp f h ≢ Greater
 
 -- the least of F, or `None` if F is empty
 pub record IsLeast (F : BorderFault → Type 0) (o : Option BorderFault) : Type 0 where
-  pub sound : IsCandidateOf F o
-  pub least : (h : BorderFault) → F h → IsCandidateAtMost o h
+  pub sound : CandidateSatisfies F o
+  pub least : (h : BorderFault) → F h → HasCandidateAtMost o h
 
 -- A candidate for the least of F becomes another
 pub record IsBetter (F P : BorderFault → Type 0) (old new : Option BorderFault) : Type 0 where
   -- which is one of F if the old one was
-  pub sound : IsCandidateOf F old → IsCandidateOf F new
+  pub sound : CandidateSatisfies F old → CandidateSatisfies F new
   -- and at most whatever the old one was at most
-  pub kept : (h : BorderFault) → IsCandidateAtMost old h → IsCandidateAtMost new h
+  pub kept : (h : BorderFault) → HasCandidateAtMost old h → HasCandidateAtMost new h
   -- and at most each of F with P
-  pub covers : (h : BorderFault) → F h → P h → IsCandidateAtMost new h
+  pub covers : (h : BorderFault) → F h → P h → HasCandidateAtMost new h

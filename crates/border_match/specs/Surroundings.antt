@@ -11,8 +11,8 @@ use Rattle.border_match.specs.Boards.{IsAround}
 use Rattle.border_match.specs.declared.surroundings.Window.{Window}
 
 -- the cell, which is counted from the corner of the second box, is around the first box
-abbrev pub IsInOrAroundFrom : Box2 → Box2 → Cell → Type 0
-IsInOrAroundFrom area corner c = IsAround area (c.x +ℤ pos corner.x) (c.y +ℤ pos corner.y)
+abbrev pub IsInOrAroundFromCorner : Box2 → Box2 → Cell → Type 0
+IsInOrAroundFromCorner area corner c = IsAround area (c.x +ℤ pos corner.x) (c.y +ℤ pos corner.y)
 
 -- the window's columns and rows are those around the first box, counted from the corner of the second
 pub record IsWindow (area corner : Box2) (w : Window) : Type 0 where
@@ -29,8 +29,8 @@ pub record IsSeen (w : Window) (c : Cell) : Type 0 where
   pub bottom : c.y ≤ℤ w.last.y
 
 -- no moment after the first and before the second is at an odd time and at a cell of the window
-abbrev pub AreFarBetween : Window → Moment → Moment → Type 0
-AreFarBetween w at next =
+abbrev pub AreMomentsFarBetween : Window → Moment → Moment → Type 0
+AreMomentsFarBetween w at next =
     (m : Moment) → moment_cmp at m ≡ Less → moment_cmp m next ≡ Less → m.time % 2 ≡ 1 → ¬ IsSeen w m.cell
 
 -- the event at the place is at no cell of the window

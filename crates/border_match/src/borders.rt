@@ -4,14 +4,14 @@ ghost use Rattle.std.specs.Prelude.{◌+◌, ◌≡◌, ◌<◌, ◌↔◌, ◌&
 ghost use Rattle.module_box.specs.Boxes.{in_box, in_halo};
 ghost use Rattle.module_box.specs.Moves.{IsInShiftRange};
 ghost use Rattle.module_box.specs.Tiling.{owner_of};
-ghost use Rattle.border_match.specs.Boards.{AddsMark, AreMarked, AreModuleNumbers, AreHaloOwnersListed, Differ, IsSearchedFault, IsAtEdgeEvent, IsAtEdgeEventOf, IsAtEvent, IsListed, IsNamed, IsPlaceOf, IsUnmarked, AreReadyBorders, MayBeFault, job_signal, jobs_of};
+ghost use Rattle.border_match.specs.Boards.{AddsMark, AreMarked, AreModuleNumbers, AreHaloOwnersListed, SignalsDifferAt, IsFaultOfSearchedJob, IsAtEdgeEvent, IsAtEdgeEventOf, IsAtEvent, IsListed, IsNamed, IsPlaceOf, IsUnmarked, AreReadyBorders, MayBeFault, job_signal, jobs_of};
 ghost use Rattle.border_match.specs.Candidates.{IsBetter, IsLeast};
 ghost use Rattle.border_match.specs.declared.fault.BorderFault.{BorderFault};
 ghost use Rattle.border_match.specs.declared.signals.RingOrHalo.TheVariants.{Halo};
 
 use crate::fault::{BorderFault, is_less, lesser};
-use crate::signals::{RingOrHalo, event_signal, signal_at};
-use crate::surroundings::{LeapPlan, Walk, Window, next_near, place_of};
+use crate::signals::{RingOrHalo, signal_at, signal_at_event};
+use crate::surroundings::{EventWalk, LeapPlan, Window, find_event_place, next_place_near};
 use bbm_rule::Cell;
 use certificate::Job;
 use module_box::{Box2, Moment, Owners, Signal, TimedSignal, moved_cell};
@@ -71,7 +71,7 @@ impl<'a> Borders<'a> {
     pub(crate) fn differs(&self, time: u32, cell: Cell) -> bool
         requires ready { AreReadyBorders self.now }
         requires inside { IsTrue (in_box self.now.whole cell.x cell.y) }
-        ensures { IsTrue result ↔ Differ self.now time cell.x cell.y }
+        ensures { IsTrue result ↔ SignalsDifferAt self.now time cell.x cell.y }
     {
         let owner = self.owner(cell);
         // The cell lies in the owner's box, and so not far away.
@@ -86,11 +86,12 @@ impl<'a> Borders<'a> {
         requires ready { AreReadyBorders self.now }
         requires inside { IsTrue (in_box self.now.whole event.at.cell.x event.at.cell.y) }
         requires listed { IsListed self.now.job.now.halos.events event }
-        ensures { IsTrue result ↔ Differ self.now event.at.time event.at.cell.x event.at.cell.y }
+        ensures { IsTrue result
+            ↔ SignalsDifferAt self.now event.at.time event.at.cell.x event.at.cell.y }
     {
         let owner = self.owner(event.at.cell);
         let _area = owner.area();
-        event_signal(self.job, RingOrHalo::Halo, event)
+        signal_at_event(self.job, RingOrHalo::Halo, event)
             != signal_at(owner, RingOrHalo::Ring, event.at.time, event.at.cell)
     }
 
@@ -104,14 +105,15 @@ impl<'a> Borders<'a> {
         requires listed { IsListed owner.now.edges.events event }
         requires own { own
             ≡ job_signal Halo self.now.job.now event.at.time event.at.cell.x event.at.cell.y }
-        ensures { IsTrue result ↔ Differ self.now event.at.time event.at.cell.x event.at.cell.y }
+        ensures { IsTrue result
+            ↔ SignalsDifferAt self.now event.at.time event.at.cell.x event.at.cell.y }
     {
         let _area = owner.area();
-        own != event_signal(owner, RingOrHalo::Ring, event)
+        own != signal_at_event(owner, RingOrHalo::Ring, event)
     }
 
     // Returns whether a border fault can be at this time and cell.
-    fn may_be_fault(&self, fault: BorderFault) -> bool
+    fn is_at_compared_moment(&self, fault: BorderFault) -> bool
         ensures { IsTrue result ↔ MayBeFault self.now fault }
     {
         if fault.time % 2 != 1 {
@@ -126,19 +128,22 @@ impl<'a> Borders<'a> {
     /// Returns whether this is a border fault of the module.
     pub(crate) fn is_fault(&self, fault: BorderFault) -> bool
         requires { AreReadyBorders self.now }
-        ensures { IsTrue result ↔ IsSearchedFault self.now fault }
+        ensures { IsTrue result ↔ IsFaultOfSearchedJob self.now fault }
     {
-        self.may_be_fault(fault) && self.differs(fault.time, fault.cell)
+        self.is_at_compared_moment(fault) && self.differs(fault.time, fault.cell)
     }
 
     // The lesser of the candidate and the fault that an event of the module's halo names.
     fn with_halo_event(&self, best: Option<BorderFault>, event: TimedSignal) -> Option<BorderFault>
         requires ready { AreReadyBorders self.now }
         requires listed { IsListed self.now.job.now.halos.events event }
-        ensures { IsBetter (IsSearchedFault self.now) (IsAtEvent event) best result }
+        ensures { IsBetter (IsFaultOfSearchedJob self.now) (IsAtEvent event) best result }
     {
         let fault = fault_at(event);
-        if is_less(fault, best) && self.may_be_fault(fault) && self.halo_event_differs(event) {
+        if is_less(fault, best)
+            && self.is_at_compared_moment(fault)
+            && self.halo_event_differs(event)
+        {
             return lesser(best, fault);
         }
         best
@@ -147,7 +152,7 @@ impl<'a> Borders<'a> {
     // Returns the place of the event of the module's halo at this time and cell, or `None` if the search along the walk
     // meets none.
     #[inline(always)]
-    fn halo_event_place(&self, at: Moment, walk: &mut Walk) -> Option<usize>
+    fn halo_event_place(&self, at: Moment, walk: &mut EventWalk) -> Option<usize>
         requires { IsInShiftRange at.cell }
         ensures { IfSome result (IsPlaceOf self.now.job.now.halos.events at) }
     {
@@ -157,13 +162,13 @@ impl<'a> Borders<'a> {
             time: at.time,
             cell: moved_cell(at.cell, shift_to_origin(area.x), shift_to_origin(area.y)),
         };
-        place_of(shape.halos().events(), walk, local)
+        find_event_place(shape.halos().events(), walk, local)
     }
 
     // Returns what the module says of this time and cell of its halo. If an event says it, that event gets its mark,
     // and the walk goes on behind it.
     #[inline(always)]
-    fn read_and_mark_halo(&self, at: Moment, seen: &mut [bool], walk: &mut Walk) -> Signal
+    fn read_and_mark_halo(&self, at: Moment, seen: &mut [bool], walk: &mut EventWalk) -> Signal
         requires near { IsInShiftRange at.cell }
         requires sized { length seen.old ≡ length self.now.job.now.halos.events }
         ensures signal { result ≡ job_signal Halo self.now.job.now at.time at.cell.x at.cell.y }
@@ -173,7 +178,7 @@ impl<'a> Borders<'a> {
             Some(place) => {
                 walk.pass(place);
                 mark(seen, place);
-                event_signal(self.job, RingOrHalo::Halo, self.job.halo_event(place))
+                signal_at_event(self.job, RingOrHalo::Halo, self.job.halo_event(place))
             }
             None => signal_at(self.job, RingOrHalo::Halo, at.time, at.cell),
         }
@@ -189,7 +194,7 @@ impl<'a> Borders<'a> {
         owner: &Job,
         event: TimedSignal,
         seen: &mut [bool],
-        walk: &mut Walk,
+        walk: &mut EventWalk,
     ) -> Option<BorderFault>
         requires ready { AreReadyBorders self.now }
         requires inside { IsTrue (in_box self.now.whole event.at.cell.x event.at.cell.y) }
@@ -197,7 +202,7 @@ impl<'a> Borders<'a> {
             (owner_of self.now.owners.now event.at.cell.x event.at.cell.y) ≡ Some owner.now }
         requires listed { IsListed owner.now.edges.events event }
         requires marked { AreMarked self.now seen.old }
-        ensures better { IsBetter (IsSearchedFault self.now) (IsAtEvent event) best result }
+        ensures better { IsBetter (IsFaultOfSearchedJob self.now) (IsAtEvent event) best result }
         ensures marked { AreMarked self.now seen.new }
     {
         let _area = owner.area();
@@ -206,7 +211,7 @@ impl<'a> Borders<'a> {
             return best;
         }
         let fault = fault_at(event);
-        if !self.may_be_fault(fault) {
+        if !self.is_at_compared_moment(fault) {
             return best;
         }
         lesser(best, fault)
@@ -216,7 +221,7 @@ impl<'a> Borders<'a> {
     fn with_halo_events(&self, best: Option<BorderFault>, seen: &[bool]) -> Option<BorderFault>
         requires ready { AreReadyBorders self.now }
         requires sized { length seen.now ≡ length self.now.job.now.halos.events }
-        ensures { IsBetter (IsSearchedFault self.now)
+        ensures { IsBetter (IsFaultOfSearchedJob self.now)
             (IsUnmarked seen.now self.now.job.now.halos.events) best result }
     {
         let mut least = best;
@@ -240,18 +245,18 @@ impl<'a> Borders<'a> {
         requires ready { AreReadyBorders self.now }
         requires numbered { slice_get (jobs_of self.now) number ≡ Some other.now }
         requires marked { AreMarked self.now seen.old }
-        ensures better { IsBetter (IsSearchedFault self.now) (IsNamed other.now.edges.events) best
-            result }
+        ensures better { IsBetter (IsFaultOfSearchedJob self.now) (IsNamed other.now.edges.events)
+            best result }
         ensures marked { AreMarked self.now seen.new }
     {
         let window = Window::around(self.job.area(), other.area());
         let shape: &Shape = other.shape();
         let events = shape.edges().events();
-        let mut walk = Walk::new();
+        let mut walk = EventWalk::new();
         let mut leaps = LeapPlan::new();
         let mut least = best;
         // Most events of a long side are far from this module, so this test comes before all others.
-        let mut place = next_near(&window, events, 0, &mut leaps);
+        let mut place = next_place_near(&window, events, 0, &mut leaps);
         'events: while place < events.len() {
             let event = other.edge_event(place);
             // The events rise, so no fault of the rest is less either.
@@ -259,7 +264,7 @@ impl<'a> Borders<'a> {
                 return least;
             }
             least = self.with_edge_event(least, other, event, seen, &mut walk);
-            place = next_near(&window, events, place + 1, &mut leaps);
+            place = next_place_near(&window, events, place + 1, &mut leaps);
         }
         least
     }
@@ -274,8 +279,8 @@ impl<'a> Borders<'a> {
         requires ready { AreReadyBorders self.now }
         requires number { number < length self.now.jobs.now }
         requires marked { AreMarked self.now seen.old }
-        ensures better { IsBetter (IsSearchedFault self.now) (IsAtEdgeEventOf number self.now) best
-            result }
+        ensures better { IsBetter (IsFaultOfSearchedJob self.now) (IsAtEdgeEventOf number self.now)
+            best result }
         ensures marked { AreMarked self.now seen.new }
     {
         self.with_edge_events(best, number, &self.jobs[number], seen)
@@ -294,7 +299,8 @@ impl<'a> Borders<'a> {
         requires noted { AreHaloOwnersListed self.now near.now }
         requires below { AreModuleNumbers self.now near.now }
         requires marked { AreMarked self.now seen.old }
-        ensures better { IsBetter (IsSearchedFault self.now) (IsAtEdgeEvent self.now) best result }
+        ensures better { IsBetter (IsFaultOfSearchedJob self.now) (IsAtEdgeEvent self.now) best
+            result }
         ensures marked { AreMarked self.now seen.new }
     {
         let mut least = best;
@@ -307,7 +313,7 @@ impl<'a> Borders<'a> {
     // The module's least border fault.
     pub(crate) fn least_fault(&self, alloc: Global) -> Result<Option<BorderFault>, AllocError>
         requires { AreReadyBorders self.now }
-        ensures { IfOk result (IsLeast (IsSearchedFault self.now)) }
+        ensures { IfOk result (IsLeast (IsFaultOfSearchedJob self.now)) }
     {
         let near = self.near_modules(alloc)?;
         let mut seen = vec![in alloc; false; self.job.halo_events()]?;

@@ -1,7 +1,7 @@
 //! Border faults, and their order.
 ghost use Rattle.std.specs.Prelude.{◌≡◌, ◌⊎◌, false, Some};
 ghost use Rattle.border_match.specs.BorderFaults.{border_cmp};
-ghost use Rattle.border_match.specs.Candidates.{IsCandidateAtMost};
+ghost use Rattle.border_match.specs.Candidates.{HasCandidateAtMost};
 ghost use Rattle.border_match.specs.declared.fault.BorderFault.{BorderFault};
 
 use bbm_rule::Cell;
@@ -34,7 +34,7 @@ impl BorderFault {
 
 // Returns whether the fault is less than the candidate, or there is no candidate.
 pub(crate) fn is_less(fault: BorderFault, best: Option<BorderFault>) -> bool
-    ensures { result ≡ false → IsCandidateAtMost best fault }
+    ensures { result ≡ false → HasCandidateAtMost best fault }
 {
     match best {
         Some(other) => other.compare(fault) == Ordering::Greater,
@@ -44,9 +44,9 @@ pub(crate) fn is_less(fault: BorderFault, best: Option<BorderFault>) -> bool
 
 // The lesser of a candidate, if there is one, and a fault.
 pub(crate) fn lesser(best: Option<BorderFault>, fault: BorderFault) -> Option<BorderFault>
-    ensures covers_as_before { (h : BorderFault) → IsCandidateAtMost best h →
-        IsCandidateAtMost result h }
-    ensures covered { IsCandidateAtMost result fault }
+    ensures covers_as_before { (h : BorderFault) → HasCandidateAtMost best h →
+        HasCandidateAtMost result h }
+    ensures covered { HasCandidateAtMost result fault }
     ensures one { (result ≡ best) ⊎ (result ≡ Some fault) }
 {
     match best {

@@ -47,7 +47,7 @@ fn owners_of(alloc: Global, cert: &Cert, boxes: &[Box2]) -> Result<Owners, Alloc
 }
 
 // No fault for each of `count` modules.
-fn no_faults(alloc: Global, count: usize) -> Result<Vec<Option<BorderFault>>, AllocError>
+fn no_fault_for_each(alloc: Global, count: usize) -> Result<Vec<Option<BorderFault>>, AllocError>
     ensures { IfOk result (λ faults. faults.items ≡ replicate count None) }
 {
     vec![in alloc; None; count]
@@ -72,7 +72,7 @@ pub fn match_borders(
 {
     let count = cert.modules();
     if cert.version() == 2 {
-        return no_faults(alloc, count);
+        return no_fault_for_each(alloc, count);
     }
     let size = cert.size();
     let whole = Box2 {

@@ -1,7 +1,7 @@
 //! The modules that have cells of a module's halo.
 ghost use Rattle.std.specs.Prelude.{◌+◌, ◌≤◌, ◌≡◌, ◌<◌, IsTrue, IfOk, OnOk};
 ghost use Rattle.module_box.specs.Boxes.{in_box};
-ghost use Rattle.border_match.specs.Boards.{AreModuleNumbers, AreHaloOwnersListed, AreReadyBorders, AreRowOwnersListed, AreAreaOwnersListed, KeepsNumbers, with_number};
+ghost use Rattle.border_match.specs.Boards.{AreModuleNumbers, AreHaloOwnersListed, AreReadyBorders, AreOwnersListedInRows, AreAreaOwnersListed, KeepsAllNumbers, with_number_once};
 
 use crate::borders::Borders;
 use bbm_rule::Cell;
@@ -9,8 +9,8 @@ use module_box::Box2;
 use std::alloc::{AllocError, Global};
 
 // Adds a number, unless it is there already.
-fn add_number(near: &mut Vec<usize>, number: usize) -> Result<(), AllocError>
-    ensures { OnOk result (near.new.items ≡ with_number near.old.items number) }
+fn add_number_once(near: &mut Vec<usize>, number: usize) -> Result<(), AllocError>
+    ensures { OnOk result (near.new.items ≡ with_number_once near.old.items number) }
 {
     if near.contains(&number) {
         return Ok(());
@@ -29,7 +29,7 @@ impl<'a> Borders<'a> {
         ensures noted { IfOk result (AreAreaOwnersListed self.now near.new.items) }
         ensures holds { IfOk result (λ area. IsTrue (in_box area cell.x cell.y)) }
         ensures within { IfOk result (λ area. (area.x + area.w ≤ 512) × (area.y + area.h ≤ 512)) }
-        ensures kept { OnOk result (KeepsNumbers near.old.items near.new.items) }
+        ensures kept { OnOk result (KeepsAllNumbers near.old.items near.new.items) }
         ensures below { OnOk result (AreModuleNumbers self.now near.new.items) }
     {
         let area = self.job.area();
@@ -37,7 +37,7 @@ impl<'a> Borders<'a> {
             return Ok(area);
         }
         let number = self.owners.owner(cell);
-        add_number(near, number)?;
+        add_number_once(near, number)?;
         Ok(self.jobs[number].area())
     }
 
@@ -48,9 +48,9 @@ impl<'a> Borders<'a> {
         requires below { AreModuleNumbers self.now near.old.items }
         requires inside { y < self.now.whole.h }
         requires row { y < self.now.job.now.area.y + self.now.job.now.area.h + 1 }
-        ensures noted { IfOk result (AreRowOwnersListed self.now near.new.items y) }
+        ensures noted { IfOk result (AreOwnersListedInRows self.now near.new.items y) }
         ensures after { IfOk result (λ next. y < next) }
-        ensures kept { OnOk result (KeepsNumbers near.old.items near.new.items) }
+        ensures kept { OnOk result (KeepsAllNumbers near.old.items near.new.items) }
         ensures below { OnOk result (AreModuleNumbers self.now near.new.items) }
     {
         let area = self.job.area();

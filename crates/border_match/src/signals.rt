@@ -4,7 +4,7 @@ ghost use Rattle.circuit.specs.Meaning.{wires};
 ghost use Rattle.module_box.specs.Locals.{circuit_wire};
 ghost use Rattle.module_box.specs.Moves.{IsInShiftRange, moved_signals};
 ghost use Rattle.module_job.specs.Shapes.{shift_to_origin};
-ghost use Rattle.module_job.specs.Signals.{IsBelow, renumber_signal};
+ghost use Rattle.module_job.specs.Signals.{IsSignalWireBelow, renumber_signal};
 ghost use Rattle.border_match.specs.Boards.{IsListed, job_signal, job_signals};
 
 use bbm_rule::Cell;
@@ -23,7 +23,7 @@ pub(crate) enum RingOrHalo {
 
 // What a module says, by the wires of the circuit in place of its own.
 fn circuit_signal(job: &Job, signal: Signal) -> Signal
-    requires { IsBelow (wires job.now.locals.netlist) signal }
+    requires { IsSignalWireBelow (wires job.now.locals.netlist) signal }
     ensures { result ≡ renumber_signal (circuit_wire job.now.locals) signal }
 {
     match signal {
@@ -62,7 +62,7 @@ pub(crate) fn signal_at(job: &Job, border: RingOrHalo, time: u32, cell: Cell) ->
 
 // Returns whether a line with a star, which speaks of all times, is for one of these cells.
 #[inline(always)]
-fn has_star(job: &Job, border: RingOrHalo) -> bool
+fn has_line_at_all_times(job: &Job, border: RingOrHalo) -> bool
     ensures { result ≡ false → (job_signals border job.now).all_times ≡ [] }
 {
     !schedule(job, border).all_times().is_empty()
@@ -71,12 +71,12 @@ fn has_star(job: &Job, border: RingOrHalo) -> bool
 /// Returns what a module says of the cell and the time of an event of these cells. If no line has a star, the event
 /// itself says it: no two events are of one cell and time, since they rise.
 #[inline(always)]
-pub(crate) fn event_signal(job: &Job, border: RingOrHalo, event: TimedSignal) -> Signal
+pub(crate) fn signal_at_event(job: &Job, border: RingOrHalo, event: TimedSignal) -> Signal
     requires near { IsInShiftRange event.at.cell }
     requires listed { IsListed (job_signals border job.now).events event }
     ensures { result ≡ job_signal border job.now event.at.time event.at.cell.x event.at.cell.y }
 {
-    if has_star(job, border) {
+    if has_line_at_all_times(job, border) {
         return signal_at(job, border, event.at.time, event.at.cell);
     }
     let _area = job.area();

@@ -2,7 +2,7 @@
 
 ghost use Rattle.std.specs.Prelude.{pos, ◌≤◌, ◌≡◌, ◌<◌, map, Some};
 ghost use Rattle.module_box.specs.Moves.{moved_all_times};
-ghost use Rattle.border_match.specs.Boards.{AreModuleNumbers, AreHaloOwnersListed, IsSearchedFault, DiffersWithoutEvent, DiffersWithoutEventAt, AreReadyBorders, IsStarred, job_signals};
+ghost use Rattle.border_match.specs.Boards.{AreModuleNumbers, AreHaloOwnersListed, IsFaultOfSearchedJob, CellDiffersWithoutEvent, DiffersWithoutEventAt, AreReadyBorders, IsStarred, job_signals};
 ghost use Rattle.border_match.specs.Candidates.{IsBetter};
 ghost use Rattle.border_match.specs.declared.fault.BorderFault.{BorderFault};
 ghost use Rattle.border_match.specs.declared.signals.RingOrHalo.TheVariants.{Halo};
@@ -19,7 +19,7 @@ impl<'a> Borders<'a> {
     // The lesser of the candidate and the first fault of a cell.
     fn with_first_fault_of(&self, best: Option<BorderFault>, cell: Cell) -> Option<BorderFault>
         requires { AreReadyBorders self.now }
-        ensures { IsBetter (IsSearchedFault self.now) (λ h. h.cell ≡ cell) best result }
+        ensures { IsBetter (IsFaultOfSearchedJob self.now) (λ h. h.cell ≡ cell) best result }
     {
         'times: for time in 0..self.job.steps() {
             let fault = BorderFault { time, cell };
@@ -35,8 +35,8 @@ impl<'a> Borders<'a> {
     // time, or an odd one that a line names for the cell, is without one.
     fn with_star_fault_at(&self, best: Option<BorderFault>, cell: Cell) -> Option<BorderFault>
         requires { AreReadyBorders self.now }
-        ensures { IsBetter (IsSearchedFault self.now) (DiffersWithoutEventAt self.now cell) best
-            result }
+        ensures { IsBetter (IsFaultOfSearchedJob self.now) (DiffersWithoutEventAt self.now cell)
+            best result }
     {
         if !self.is_halo_cell_of_rectangle(cell) || !self.differs(0, cell) {
             return best;
@@ -46,7 +46,7 @@ impl<'a> Borders<'a> {
 
     // The least of the candidate and the faults of those cells of these lines for which such signals differ. The lines
     // have a star, and count cells from a corner.
-    fn with_stars(
+    fn with_faults_at_stars(
         &self,
         best: Option<BorderFault>,
         corner: Box2,
@@ -54,7 +54,7 @@ impl<'a> Borders<'a> {
     ) -> Option<BorderFault>
         requires ready { AreReadyBorders self.now }
         requires corner { (corner.x ≤ 512) × (corner.y ≤ 512) }
-        ensures { IsBetter (IsSearchedFault self.now)
+        ensures { IsBetter (IsFaultOfSearchedJob self.now)
             (IsStarred self.now (map (moved_all_times (pos corner.x) (pos corner.y)) stars.now))
             best result }
     {
@@ -78,11 +78,11 @@ impl<'a> Borders<'a> {
         border: RingOrHalo,
     ) -> Option<BorderFault>
         requires ready { AreReadyBorders self.now }
-        ensures { IsBetter (IsSearchedFault self.now)
+        ensures { IsBetter (IsFaultOfSearchedJob self.now)
             (IsStarred self.now (job_signals border job.now).all_times) best result }
     {
         let corner = job.area();
-        self.with_stars(best, corner, schedule(job, border).all_times())
+        self.with_faults_at_stars(best, corner, schedule(job, border).all_times())
     }
 
     /// Returns the least of the candidate and the faults of those cells of the halo for which such signals differ.
@@ -97,7 +97,8 @@ impl<'a> Borders<'a> {
         requires ready { AreReadyBorders self.now }
         requires noted { AreHaloOwnersListed self.now near.now }
         requires below { AreModuleNumbers self.now near.now }
-        ensures { IsBetter (IsSearchedFault self.now) (DiffersWithoutEvent self.now) best result }
+        ensures { IsBetter (IsFaultOfSearchedJob self.now) (CellDiffersWithoutEvent self.now) best
+            result }
     {
         let mut least = self.with_stars_of(best, self.job, RingOrHalo::Halo);
         'modules: for number in near {

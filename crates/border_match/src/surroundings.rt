@@ -6,7 +6,7 @@ ghost use Rattle.module_box.specs.Moments.{moment_cmp};
 ghost use Rattle.module_box.specs.Moves.{moved_cell};
 ghost use Rattle.module_box.specs.Schedules.{IsRising, moment_of};
 ghost use Rattle.border_match.specs.Boards.{IsPlaceOf};
-ghost use Rattle.border_match.specs.Surroundings.{AreEventsFar, AreFarBetween, IsInOrAroundFrom, IsEventFarAt, IsFirstFrom, IsSeen, IsWindow};
+ghost use Rattle.border_match.specs.Surroundings.{AreEventsFar, AreMomentsFarBetween, IsInOrAroundFromCorner, IsEventFarAt, IsFirstFrom, IsSeen, IsWindow};
 
 use bbm_rule::Cell;
 use module_box::{Box2, Moment, TimedSignal};
@@ -47,7 +47,7 @@ impl LeapPlan {
     }
 
     // Returns the last place that a leap from a place passes if it is as long as the one before the last.
-    fn last_passed(self, place: usize) -> usize
+    fn last_place_of_leap(self, place: usize) -> usize
         ensures { place + self.length_before < usize.MAX →
             result ≡ place + self.length_before - 1 }
     {
@@ -55,7 +55,7 @@ impl LeapPlan {
     }
 
     // Returns how long to wait after a leap of this length.
-    fn wait_after(self, length: usize) -> usize
+    fn wait_after_leap(self, length: usize) -> usize
         ensures most { result ≤ LONG_WAIT }
         ensures long { LONG_LEAP ≤ length → result ≡ SHORT_WAIT }
     {
@@ -75,7 +75,7 @@ impl LeapPlan {
     {
         let length = next - place;
         LeapPlan {
-            wait: self.wait_after(length),
+            wait: self.wait_after_leap(length),
             length,
             length_before: self.length,
         }
@@ -129,10 +129,10 @@ impl Window {
 
     // Returns a moment at the first column after one at a far cell. Between the two, no moment at an odd time is at a
     // cell of the window. Border faults are at odd times.
-    fn next_after(self, at: Moment) -> Moment
+    fn next_moment_near(self, at: Moment) -> Moment
         requires far { ¬ IsSeen self at.cell }
         ensures column { result.cell.x ≡ self.first.x }
-        ensures passed { AreFarBetween self at result }
+        ensures passed { AreMomentsFarBetween self at result }
     {
         let Moment { time, cell } = at;
         let later = Moment {
@@ -190,8 +190,8 @@ fn is_in_or_next_to(from: u32, n: u32, corner: u32, z: i32) -> bool
 // Returns whether a cell, counted from the corner of another box, is in the columns and rows of the area or next to
 // them.
 fn is_in_or_around(area: Box2, corner: Box2, cell: Cell) -> bool
-    ensures around { IsInOrAroundFrom area corner cell → IsTrue result }
-    ensures bounds { IsTrue result → IsInOrAroundFrom area corner cell }
+    ensures around { IsInOrAroundFromCorner area corner cell → IsTrue result }
+    ensures bounds { IsTrue result → IsInOrAroundFromCorner area corner cell }
 {
     if !is_in_or_next_to(area.x, area.w, corner.x, cell.x) {
         return false;
@@ -206,7 +206,7 @@ pub(crate) fn plane_cell_if_near(area: Box2, corner: Box2, cell: Cell) -> Option
     requires corner { (corner.x ≤ 512) × (corner.y ≤ 512) }
     ensures around { IfSome result (λ c. c
         ≡ moved_cell (pos corner.x) (pos corner.y) cell) }
-    ensures far { IfNone result (¬ IsInOrAroundFrom area corner cell) }
+    ensures far { IfNone result (¬ IsInOrAroundFromCorner area corner cell) }
 {
     if !is_in_or_around(area, corner, cell) {
         return None;
@@ -262,8 +262,8 @@ fn leap(window: &Window, events: &[TimedSignal], place: usize, leaps: &mut LeapP
     ensures after { place < result }
     ensures far { AreEventsFar window.now events.now place result }
 {
-    let target = window.next_after(events[place].at);
-    let next = find_first_not_before(events, place + 1, leaps.last_passed(place), target);
+    let target = window.next_moment_near(events[place].at);
+    let next = find_first_not_before(events, place + 1, leaps.last_place_of_leap(place), target);
     *leaps = leaps.after_leap(place, next);
     next
 }
@@ -271,7 +271,7 @@ fn leap(window: &Window, events: &[TimedSignal], place: usize, leaps: &mut LeapP
 /// Returns the first place from `from` on of an event at a cell of the window, or the end of the list. It may pass over
 /// such events at even times.
 #[inline(always)]
-pub(crate) fn next_near(
+pub(crate) fn next_place_near(
     window: &Window,
     events: &[TimedSignal],
     from: usize,
@@ -309,7 +309,7 @@ fn is_event_at(events: &[TimedSignal], place: usize, at: Moment) -> bool
 
 /// A walk along the events of a list, in their order.
 #[derive(Clone, Copy)]
-pub(crate) struct Walk {
+pub(crate) struct EventWalk {
     // The place behind the last event that was found.
     next: usize,
     // How many events the last long step passed over. Most times have the same lines, so the next one probably passes
@@ -317,13 +317,13 @@ pub(crate) struct Walk {
     passed: usize,
 }
 
-impl Walk {
+impl EventWalk {
     /// Returns the walk before its first step.
-    pub(crate) fn new() -> Walk
+    pub(crate) fn new() -> EventWalk
         ensures next { result.next ≡ 0 }
         ensures passed { result.passed ≡ 0 }
     {
-        Walk { next: 0, passed: 0 }
+        EventWalk { next: 0, passed: 0 }
     }
 
     /// Goes behind the event at a place.
@@ -338,7 +338,7 @@ impl Walk {
 
 // Returns the place of the event at a moment, or `None` if the search along the walk meets none.
 #[inline(never)]
-fn find_event(events: &[TimedSignal], walk: &mut Walk, at: Moment) -> Option<usize>
+fn search_event_place(events: &[TimedSignal], walk: &mut EventWalk, at: Moment) -> Option<usize>
     requires { IsRising moment_cmp moment_of events.now }
     ensures found { IfSome result (IsPlaceOf events.now at) }
     ensures passed { IfSome result (λ place. walk.new.passed ≡ place - walk.old.next) }
@@ -356,7 +356,11 @@ fn find_event(events: &[TimedSignal], walk: &mut Walk, at: Moment) -> Option<usi
 /// Returns the place of the event at a moment, or `None` if the search along the walk meets none.
 // Most often it is the next event or the one behind it, since modules on two sides of a third take turns.
 #[inline(always)]
-pub(crate) fn place_of(events: &[TimedSignal], walk: &mut Walk, at: Moment) -> Option<usize>
+pub(crate) fn find_event_place(
+    events: &[TimedSignal],
+    walk: &mut EventWalk,
+    at: Moment,
+) -> Option<usize>
     requires { IsRising moment_cmp moment_of events.now }
     ensures { IfSome result (IsPlaceOf events.now at) }
 {
@@ -367,5 +371,5 @@ pub(crate) fn place_of(events: &[TimedSignal], walk: &mut Walk, at: Moment) -> O
     if is_event_at(events, second, at) {
         return Some(second);
     }
-    find_event(events, walk, at)
+    search_event_place(events, walk, at)
 }

@@ -177,15 +177,15 @@ fn add_line<'a>(
         Line::Start(Part::Errors) => case.errors = Some(Vec::new(alloc)),
         Line::Text(piece) => match part {
             Part::Input => add_piece(alloc, &mut case.input, &piece)?,
-            Part::Output => add_wanted(alloc, &mut case.output, &piece)?,
-            Part::Errors => add_wanted(alloc, &mut case.errors, &piece)?,
+            Part::Output => add_to_wanted_text(alloc, &mut case.output, &piece)?,
+            Part::Errors => add_to_wanted_text(alloc, &mut case.errors, &piece)?,
         },
         Line::Status(status) => case.status = status,
     }
     Ok(())
 }
 
-fn add_wanted(
+fn add_to_wanted_text(
     alloc: Global,
     wanted: &mut Option<Vec<u8>>,
     piece: &Piece<'_>,

@@ -1,9 +1,8 @@
 -- The lines on delays and meetings are right about their gates.
 use Rattle.std.proofs.Common.{◌≡◌, ℕ, zero, suc, ◌+◌, ◌-◌, ◌<◌, ◌≤◌, Bool, true, false, if◌then◌else◌, List, [], ◌∷◌}
-use Rattle.std.proofs.Common.{length, Option, Some, None, refl, sym, ap, subst, ◌∙◌, arith}
-use Rattle.std.specs.Prelude.{slice_get, Contains, nat_lt, nat_le, ◌==◌, min, max}
-use Rattle.std.specs.List.{All, fold, list_all}
-use Rattle.std.specs.Option.{option_to_list}
+use Rattle.std.proofs.Common.{length, Option, Some, None, refl, sym, ap, subst, ◌∙◌, arith, slice_get, Contains, nat_lt}
+use Rattle.std.proofs.Common.{nat_le, ◌==◌, min, max, All, fold, option_to_list}
+use Rattle.std.specs.List.{list_all}
 use Rattle.std.proofs.lemmas.Bool.{and_parts, eqb-true}
 use Rattle.std.proofs.lemmas.Bool.Decides.{nat_tests}
 use Rattle.std.proofs.lemmas.List.Elements.{All-nil, All-cons, All-head, All-tail, All-append, All-contains}
@@ -14,15 +13,12 @@ use Rattle.circuit.specs.declared.circuit_line.GateKind.{GateKind}
 use Rattle.circuit.specs.declared.circuit_line.GateKind.TheVariants.{Source, Fredkin, Cswap, Interact, Switch, Delay}
 use Rattle.circuit.specs.declared.circuit_line.GateKind.TheVariants.{Unswitch, Uninteract}
 use Rattle.circuit.specs.Meaning.{Circuit, Gate}
-use Rattle.certificate.specs.Arrivals.{IsFirstTime, IsLastTime, MeetAt, TakesSteps, IsTimeLineTrue, IsDelayGapTrue}
-use Rattle.certificate.specs.Arrivals.{IsMeetingTimeTrue}
+use Rattle.certificate.specs.Arrivals.{IsFirstTime, IsLastTime, LastStopsMeetAt, TakesSteps, IsTimeLineTrue}
+use Rattle.certificate.specs.Arrivals.{IsDelayGapTrue, IsMeetingTimeTrue}
 use Rattle.certificate.specs.Laws.{ObeyedLinesAreOnTime, TimeLinesAreTrue}
 use Rattle.certificate.specs.Times.{common_time, all_stops, delay_line_of_kind, delay_line, earlier, first_seen}
-use Rattle.certificate.specs.Times.{gap_between}
-use Rattle.certificate.specs.Times.{is_obeyed}
-use Rattle.certificate.specs.Times.{last_seen, last_times, later, meet_line_of_times, meet_line, numbered}
-use Rattle.certificate.specs.Times.{first_wire_time}
-use Rattle.certificate.specs.Times.{times_of}
+use Rattle.certificate.specs.Times.{gap_between, is_obeyed, last_seen, last_times, later, meet_line_of_times, meet_line}
+use Rattle.certificate.specs.Times.{numbered, first_wire_time, stop_times_of_wire}
 use Rattle.certificate_lines.specs.declared.certificate_line.StopLine.{StopLine}
 use Rattle.certificate.specs.declared.times.StopGap.{StopGap}
 use Rattle.certificate.specs.declared.times.StopGap.TheVariants.{Steps, NoStop, Before}
@@ -60,18 +56,18 @@ has_last (a ∷ ts) t h = some_later a ts
 
 first_is : (c : Circuit) (ss : List StopLine) (w t : ℕ) → IsFirstTime c ss w t → first_seen c ss w ≡ Some t
 first_is c ss w t h =
-    let f = has_first (times_of c ss w) t h.seen in
+    let f = has_first (stop_times_of_wire c ss w) t h.seen in
     let g = is_first c ss w f.0 f.1 in
-    let up = All-contains (λ u. t ≤ u) (times_of c ss w) f.0 h.least g.seen in
-    let down = All-contains (λ u. f.0 ≤ u) (times_of c ss w) t g.least h.seen in
+    let up = All-contains (λ u. t ≤ u) (stop_times_of_wire c ss w) f.0 h.least g.seen in
+    let down = All-contains (λ u. f.0 ≤ u) (stop_times_of_wire c ss w) t g.least h.seen in
     f.1 ∙ ap Some (omega (arith, up, down))
 
 last_is : (c : Circuit) (ss : List StopLine) (w t : ℕ) → IsLastTime c ss w t → last_seen c ss w ≡ Some t
 last_is c ss w t h =
-    let f = has_last (times_of c ss w) t h.seen in
+    let f = has_last (stop_times_of_wire c ss w) t h.seen in
     let g = is_last c ss w f.0 f.1 in
-    let up = All-contains (λ u. u ≤ t) (times_of c ss w) f.0 h.greatest g.seen in
-    let down = All-contains (λ u. u ≤ f.0) (times_of c ss w) t g.greatest h.seen in
+    let up = All-contains (λ u. u ≤ t) (stop_times_of_wire c ss w) f.0 h.greatest g.seen in
+    let down = All-contains (λ u. u ≤ f.0) (stop_times_of_wire c ss w) t g.greatest h.seen in
     f.1 ∙ ap Some (omega (arith, up, down))
 
 -- ---- delays
@@ -206,12 +202,12 @@ all_times P last (v ∷ ws) h =
     later_there w there = (suc there.0, (let lt = there.1 in omega (arith, lt)), there.2)
 
 meet_at : (c : Circuit) (ss : List StopLine) (ws : List ℕ) (t : ℕ) → All (λ u. u ≡ t) (last_times (last_seen c ss) ws) →
-    MeetAt c ss ws t
+    LastStopsMeetAt c ss ws t
 meet_at c ss ws t h w s there last =
     All-contains (λ u. u ≡ t) (last_times (last_seen c ss) ws) s h
     (listed (last_seen c ss) ws w s there (last_is c ss w s last))
 
-all_meet : (c : Circuit) (ss : List StopLine) (ws : List ℕ) (t : ℕ) → MeetAt c ss ws t →
+all_meet : (c : Circuit) (ss : List StopLine) (ws : List ℕ) (t : ℕ) → LastStopsMeetAt c ss ws t →
     All (λ u. u ≡ t) (last_times (last_seen c ss) ws)
 all_meet c ss ws t h = all_times (λ u. u ≡ t) (last_seen c ss) ws (λ w s there e. h w s there (is_last c ss w s e))
 

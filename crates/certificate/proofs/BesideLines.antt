@@ -1,8 +1,7 @@
 -- The lines beside a module, one after the other
 use Rattle.std.proofs.Common.{◌≡◌, ℕ, ◌+◌, ◌<◌, ◌≤◌, Bool, true, false, if◌then◌else◌, List, [], ◌∷◌, ◌++◌, drop}
 use Rattle.std.proofs.Common.{length, map, get_or, Some, inl, inr, refl, sym, ap, subst, ◌∙◌, arith, append_assoc}
-use Rattle.std.specs.Prelude.{slice_get}
-use Rattle.std.specs.List.{filter, flat_map}
+use Rattle.std.proofs.Common.{slice_get, filter, flat_map}
 use Rattle.std.proofs.lemmas.List.{append-nil, drop-drop, drop_all, length-map, length_push, map-append}
 use Rattle.std.proofs.lemmas.Option.{slice_get_read, slice_get_within}
 use Rattle.circuit.specs.Meaning.{Circuit}
@@ -13,10 +12,10 @@ use Rattle.certificate_lines.specs.Entries.{ModuleLines, Setting, counts_of, edg
 use Rattle.certificate.specs.Jobs.{AreJobsOf, IsJobOf}
 use Rattle.module_job.specs.Jobs.{JobView}
 use Rattle.certificate_lines.specs.ModuleParts.{inner, is_module}
-use Rattle.certificate.specs.HaloPlaces.{AreHaloPlaces, edge_lines_at, list_at}
+use Rattle.certificate.specs.HaloPlaces.{AreHaloPlaces, edge_lines_at, list_at_or_empty}
 use Rattle.certificate.specs.SliceLines.{slice_lines}
 use Rattle.certificate_lines.specs.Modules.{AreModules, HasPorts, IsModule}
-use Rattle.certificate_lines.specs.Versions.{edge_lines_beside, lacks_wire, with_halos}
+use Rattle.certificate_lines.specs.Versions.{edge_lines_beside, lacks_edge_wire_beside, with_halos}
 use Rattle.certificate.specs.declared.beside.ModuleSlice.{ModuleSlice}
 use Rattle.certificate_lines.specs.declared.certificate_line.CertificateLine.{CertificateLine}
 use Rattle.certificate_lines.specs.declared.certificate_line.CertificateLine.TheVariants.{Module, Cut, Use, Keep, Edge}
@@ -140,14 +139,14 @@ part_at parts i part lt is = mapped_at slice_lines parts i part (slice_get_read 
 pub record HaveListsFrom (g : Setting) (es : List CertificateLine) (done : ℕ) (lists : List (List ℕ)) : Type 0 where
   pub count : length lists ≡ length (modules_of es)
   pub each : (i : ℕ) (m : ModuleLines) → done ≤ i → slice_get (modules_of es) i ≡ Some m →
-      edge_lines_at es (list_at lists i) ≡ edge_lines_beside g (modules_of es) m.area
+      edge_lines_at es (list_at_or_empty lists i) ≡ edge_lines_beside g (modules_of es) m.area
 
 module _ (g : Setting) (es : List CertificateLine) where
   pub all_lists : (lists : List (List ℕ)) → AreHaloPlaces g es lists → HaveListsFrom g es 0 lists
   all_lists lists h = record { count = h.count; each = λ i m le at. h.each i m at }
 
   pub one_list_less : {X : Type 0} (f : X → List ℕ) (done : ℕ) (old new : List X) → length new ≡ length old →
-      ((i : ℕ) → (i ≡ done → ⊥) → list_at (map f new) i ≡ list_at (map f old) i) →
+      ((i : ℕ) → (i ≡ done → ⊥) → list_at_or_empty (map f new) i ≡ list_at_or_empty (map f old) i) →
       HaveListsFrom g es done (map f old) → HaveListsFrom g es (done + 1) (map f new)
   one_list_less f done old new count others h = record {
     count = length-map new f ∙ count ∙ sym (length-map old f) ∙ h.count;
@@ -177,8 +176,8 @@ pub record IsFullPart (g : Setting) (ms : List ModuleLines) (number : ℕ) (part
 pub full_part : {g : Setting} {es : List CertificateLine} {lists : List (List ℕ)} {number : ℕ} {part : ModuleSlice}
     {places : List ℕ} {made lines : List CertificateLine} (parts : List ModuleSlice) →
     map slice_lines parts ≡ modules_of es → AreModules g (map slice_lines parts) →
-    lacks_wire g (map slice_lines parts) ≡ false → HaveListsFrom g es number lists → number < length parts →
-    part ≡ get_or parts number part → list_at lists number ≡ places →
+    lacks_edge_wire_beside g (map slice_lines parts) ≡ false → HaveListsFrom g es number lists → number < length parts →
+    part ≡ get_or parts number part → list_at_or_empty lists number ≡ places →
     ((h : Setting) → AreModules h (modules_of es) →
     edge_lines_at es places ≡ edge_lines_beside h (modules_of es) part.area →
     ◌≡◌ {A = ModuleLines} (record { area = part.area; lines = made })

@@ -1,7 +1,7 @@
 -- Lists of what cells carry and must be, that grow row by row.
-use Rattle.std.proofs.Common.{◌≡◌, ℕ, zero, suc, ◌+◌, ◌-◌, ◌<◌, ◌≤◌, List, [], ◌∷◌, ◌++◌, map, replicate}
-use Rattle.std.proofs.Common.{append-nil, append_assoc, pos, true, refl, sym, ap, ap₂, subst, to_z, w32, ◌∙◌, arith}
-use Rattle.std.specs.List.{All, flat_map, range_with_len}
+use Rattle.std.proofs.Common.{◌≡◌, ℕ, zero, suc, ◌+◌, ◌-◌, ◌<◌, ◌≤◌, List, [], ◌∷◌, ◌++◌, map, replicate, append-nil}
+use Rattle.std.proofs.Common.{append_assoc, pos, true, refl, sym, ap, ap₂, subst, to_z, w32, ◌∙◌, arith, All, flat_map}
+use Rattle.std.specs.List.{range_with_len}
 use Rattle.std.proofs.lemmas.List.{map-append}
 use Rattle.std.proofs.lemmas.Bool.{and_from}
 use Rattle.std.proofs.lemmas.List.Elements.{All-append, All-push}
@@ -9,19 +9,18 @@ use Rattle.std.proofs.lemmas.Simd.{get_or-replicate, length-replicate}
 use Rattle.bbm_rule.specs.declared.block.Cell.{Cell}
 use Rattle.bbm_rule.proofs.Spans.{span_from}
 use Rattle.circuit.specs.Meaning.{Circuit, wires}
-use Rattle.pattern.specs.Layout.{Pattern}
+use Rattle.pattern.specs.Layout.{Pattern, cell, row_cells}
 use Rattle.module_box.specs.Boxes.{in_box}
 use Rattle.module_box.specs.Locals.{LocalNet, circuit_wire}
 use Rattle.module_box.specs.declared.boxes.Box2.{Box2}
 use Rattle.module_box.specs.declared.schedules.Signal.{Signal}
 use Rattle.module_box.specs.declared.schedules.Signal.TheVariants.{Zero}
-use Rattle.module_job.specs.Signals.{IsBelow, IsDemandBelow, renumber_demand, renumber_signal}
+use Rattle.module_job.specs.Signals.{IsSignalWireBelow, IsDemandWireBelow, renumber_demand, renumber_signal}
 use Rattle.module_job.specs.declared.job.Demand.{Demand}
 use Rattle.module_job.specs.declared.job.Demand.TheVariants as Demanded
 use Rattle.certificate.specs.Jobs.{end_demand, start_signal}
 use Rattle.certificate.specs.LayoutTablesView.{AddsCells}
 use Rattle.certificate.specs.declared.layout_tables.CellLists.{CellLists}
-use Rattle.pattern.specs.Layout.{cell, row_cells}
 use Rattle.pattern.proofs.CellLists.{cast_cell, flat_map_range_more, row_more}
 
 -- a row in two parts
@@ -123,29 +122,29 @@ module _ (c : Circuit) (p : Pattern) (l : LocalNet) (first old new : CellLists) 
   add_dead n le starts demands no_start no_demand = record {
     starts = grow_same (renumber_signal (circuit_wire l)) starts_at first.starts old.starts new.starts
         x k y from was.starts Zero n le starts no_start;
-    starts_own = λ own. all_same (IsBelow (wires l.netlist)) old.starts new.starts (n - k) Zero starts tt
+    starts_own = λ own. all_same (IsSignalWireBelow (wires l.netlist)) old.starts new.starts (n - k) Zero starts tt
         (was.starts_own own);
     demands = grow_same (renumber_demand (circuit_wire l)) demands_at first.demands old.demands
         new.demands x k y from was.demands Demanded.Dead n le demands no_demand;
-    demands_own = λ own. all_same (IsDemandBelow (wires l.netlist)) old.demands new.demands (n - k)
+    demands_own = λ own. all_same (IsDemandWireBelow (wires l.netlist)) old.demands new.demands (n - k)
         Demanded.Dead demands tt (was.demands_own own);
   }
 
   pub add_cell : (start : Signal) (demand : Demand) → k < 512 → y < 512 →
       new.starts ≡ old.starts ++ start ∷ [] → new.demands ≡ old.demands ++ demand ∷ [] →
       renumber_signal (circuit_wire l) start ≡ start_signal c p (to_z w32 k) (to_z w32 y) →
-      IsBelow (wires l.netlist) start →
+      IsSignalWireBelow (wires l.netlist) start →
       renumber_demand (circuit_wire l) demand ≡ end_demand c p (to_z w32 k) (to_z w32 y) →
-      IsDemandBelow (wires l.netlist) demand → AddsCells c p l (row_cells x (k + 1 - x) y) first new
+      IsDemandWireBelow (wires l.netlist) demand → AddsCells c p l (row_cells x (k + 1 - x) y) first new
   add_cell start demand low row starts demands own_start start_below own_demand demand_below = record {
     starts = grow_cell (renumber_signal (circuit_wire l)) starts_at first.starts old.starts new.starts
         x k y from was.starts start low row starts own_start;
-    starts_own = λ own. subst (All (IsBelow (wires l.netlist))) (sym starts)
-        (All-push (IsBelow (wires l.netlist)) old.starts start (was.starts_own own) start_below);
+    starts_own = λ own. subst (All (IsSignalWireBelow (wires l.netlist))) (sym starts)
+        (All-push (IsSignalWireBelow (wires l.netlist)) old.starts start (was.starts_own own) start_below);
     demands = grow_cell (renumber_demand (circuit_wire l)) demands_at first.demands old.demands
         new.demands x k y from was.demands demand low row demands own_demand;
-    demands_own = λ own. subst (All (IsDemandBelow (wires l.netlist))) (sym demands)
-        (All-push (IsDemandBelow (wires l.netlist)) old.demands demand (was.demands_own own) demand_below);
+    demands_own = λ own. subst (All (IsDemandWireBelow (wires l.netlist))) (sym demands)
+        (All-push (IsDemandWireBelow (wires l.netlist)) old.demands demand (was.demands_own own) demand_below);
   }
 
 -- a cell of a box, whose numbers were cast

@@ -1,11 +1,10 @@
 -- The modules of version 2 as modules of version 1
 use Rattle.std.proofs.Common.{◌≡◌, ℕ, zero, suc, ◌<◌, ◌≤◌, ℤ, Bool, true, false, not, ◌&&◌, ◌||◌, List, [], ◌∷◌, ◌++◌}
 use Rattle.std.proofs.Common.{map, length, Option, Some, None, Ordering, Less, Equal, Greater, option_map, refl, sym}
-use Rattle.std.proofs.Common.{ap, ap₂, subst, ◌∙◌, inl, inr, arith}
-use Rattle.std.specs.Prelude.{◌≢◌, slice_get, nat_lt, IfSome, IsTrue}
-use Rattle.std.specs.List.{All, filter, flat_map, list_all, list_any}
-use Rattle.std.specs.Option.{option_to_list}
-use Rattle.std.specs.Ordering.{is_lt, ordering_then, nat_cmp}
+use Rattle.std.proofs.Common.{ap, ap₂, subst, ◌∙◌, inl, inr, arith, ◌≢◌, slice_get, nat_lt, IfSome, IsTrue, All, filter}
+use Rattle.std.proofs.Common.{flat_map, option_to_list, is_lt, nat_cmp}
+use Rattle.std.specs.List.{list_all, list_any}
+use Rattle.std.specs.Ordering.{ordering_then}
 use Rattle.std.proofs.lemmas.Bool.{and_parts, cases_Bool, cond-true, cond-false, true≢false}
 use Rattle.std.proofs.lemmas.Grind.{flat_map-append}
 use Rattle.std.proofs.lemmas.List.{length-map}
@@ -20,14 +19,13 @@ use Rattle.module_box.specs.declared.boxes.Box2.{Box2}
 use Rattle.module_box.proofs.Rising.{cell_exact}
 use Rattle.certificate_lines.specs.Entries.{Setting, ModuleLines, areas, cut_in, use_in, keep_in, edge_in, halo_in}
 use Rattle.certificate_lines.specs.Entries.{stop_in, cuts, gates, keeps, edges, halos, stops, known, cut_wires}
-use Rattle.certificate_lines.specs.Modules.{AreModules, AreUnstarred, HasPorts, IsEdge, IsHalo, IsKeep, IsModule}
-use Rattle.certificate_lines.specs.Modules.{IsStop}
+use Rattle.certificate_lines.specs.Modules.{AreModules, StarsExcludeLaterTimes, HasPorts, IsEdge, IsHalo, IsKeep}
+use Rattle.certificate_lines.specs.Modules.{IsModule, IsStop}
 use Rattle.certificate_lines.specs.Orders.{AreInOrder, cell_of, line_cmp, may_precede, number_of, rank_of, time_rank}
 use Rattle.certificate_lines.specs.Rules.{is_local, whole}
-use Rattle.certificate_lines.specs.Versions.{edge_lines_beside, in_order, precedes_halos, is_halo, is_haloless}
-use Rattle.certificate_lines.specs.Versions.{is_nonlocal_signal}
-use Rattle.certificate_lines.specs.Versions.{lacks_wire}
-use Rattle.certificate_lines.specs.Versions.{line_order, modules_by_version, with_halos, without_halos}
+use Rattle.certificate_lines.specs.Versions.{edge_lines_beside, in_order, precedes_halos, is_halo, is_haloless_version}
+use Rattle.certificate_lines.specs.Versions.{is_nonlocal_signal, lacks_edge_wire_beside, border_line_cmp}
+use Rattle.certificate_lines.specs.Versions.{modules_by_version, with_halos, without_halos}
 use Rattle.certificate_lines.specs.declared.certificate_line.BorderLine.{BorderLine}
 use Rattle.certificate_lines.specs.declared.certificate_line.CertificateLine.{CertificateLine}
 use Rattle.certificate_lines.specs.declared.certificate_line.StopLine.{StopLine}
@@ -220,8 +218,8 @@ less_is Less b h = refl
 less_is Equal b h = absurd cc
 less_is Greater b h = absurd cc
 
-halos_follow : (d e : BorderLine) → line_order d e ≡ Less → may_precede (Halo d) (Halo e) ≡ true
-unfolding may_precede line_cmp rank_of number_of cell_of line_order
+halos_follow : (d e : BorderLine) → border_line_cmp d e ≡ Less → may_precede (Halo d) (Halo e) ≡ true
+unfolding may_precede line_cmp rank_of number_of cell_of border_line_cmp
 halos_follow d e h = less_is _ _ h
 
 before_halo : (i : CertificateLine) (e : BorderLine) → precedes_halos i ≡ true → may_precede i (Halo e) ≡ true
@@ -260,7 +258,7 @@ unfolding Pairs
 halo_pairs [] p = tt
 halo_pairs (d ∷ hs) p = (
   each_mapped (λ j. may_precede (Halo d) j ≡ true) Halo hs
-      (λ e i. halos_follow d e (each_in (λ x. line_order d x ≡ Less) hs p.0 e i)),
+      (λ e i. halos_follow d e (each_in (λ x. border_line_cmp d x ≡ Less) hs p.0 e i)),
   halo_pairs hs p.1,
 )
 
@@ -321,15 +319,15 @@ equal_parts Less b h = absurd cc
 equal_parts Equal b h = h
 equal_parts Greater b h = absurd cc
 
-same_place : (d e : BorderLine) → line_order d e ≡ Equal → d.cell ≡ e.cell
-unfolding line_order
+same_place : (d e : BorderLine) → border_line_cmp d e ≡ Equal → d.cell ≡ e.cell
+unfolding border_line_cmp
 same_place d e h = cell_exact d.cell e.cell
     (equal_parts (nat_cmp (time_rank d.time) (time_rank e.time)) (cell_cmp d.cell e.cell) h)
 
 -- the edge lines of a module, as its lines are in order
 pub edges_rising : (lines : List CertificateLine) → AreInOrder lines → Rises (flat_map edge_in lines)
-unfolding line_order
-edges_rising lines o = pairs_each Before (λ d e. line_order d e ≡ Less) (λ d e h. h) (flat_map edge_in lines)
+unfolding border_line_cmp
+edges_rising lines o = pairs_each Before (λ d e. border_line_cmp d e ≡ Less) (λ d e h. h) (flat_map edge_in lines)
     (edges_rise lines o)
 
 ring_inside : (b : Box2) (x y : ℤ) → in_ring b x y ≡ true → in_box b x y ≡ true
@@ -357,11 +355,11 @@ module _ (g : Setting) (ms : List ModuleLines) (good : AreModules g ms) where
   distinct_over [] p some = tt
   distinct_over (m ∷ ns) p some =
       let here = some m (inl refl) in
-      pairs_append (λ d e. line_order d e ≢ Equal) (edges m) (flat_map edges ns)
+      pairs_append (λ d e. border_line_cmp d e ≢ Equal) (edges m) (flat_map edges ns)
       (rising_distinct (edges m) (edges_rising m.lines (module_of m here).order))
       (distinct_over ns p.1 (λ n i. some n (inr i)))
-      (in_each (λ d. Each (λ e. line_order d e ≢ Equal) (flat_map edges ns)) (edges m) (λ d at.
-      in_each (λ e. line_order d e ≢ Equal) (flat_map edges ns) (λ e i same.
+      (in_each (λ d. Each (λ e. border_line_cmp d e ≢ Equal) (flat_map edges ns)) (edges m) (λ d at.
+      in_each (λ e. border_line_cmp d e ≢ Equal) (flat_map edges ns) (λ e i same.
       let n = in_flat edges e ns i in
       let c : d.cell ≡ e.cell = same_place d e same in
       each_in (Apart m) ns p.0 n.0 n.1 e.cell.x e.cell.y
@@ -391,7 +389,7 @@ module _ (g : Setting) (ms : List ModuleLines) (good : AreModules g ms) where
   unfolding edge_lines_beside Pairs
   distinct_beside area = elim (cases_Bool (nat_lt 1 g.size.steps)) [
     | inl long ↦ subst AreDistinct (sym (cond-true _ _ _ long))
-        (pairs_filter (λ d e. line_order d e ≢ Equal) (λ (e : BorderLine). in_halo area e.cell.x e.cell.y)
+        (pairs_filter (λ d e. border_line_cmp d e ≢ Equal) (λ (e : BorderLine). in_halo area e.cell.x e.cell.y)
         (flat_map edges ms) all_distinct)
     | inr short ↦ subst AreDistinct (sym (cond-false _ _ _ short)) tt
   ]
@@ -443,10 +441,10 @@ module _ (g : Setting) (ms : List ModuleLines) (good : AreModules g ms) where
     pub full_known : known g.circuit full ≡ known g.circuit m
     full_known = ap₂ (λ cs gs. local_wires g.circuit.netlist cs gs) full_wires full_gates
 
-    local_signal : (s : Option (List ℕ)) → is_nonlocal_signal g.circuit (known g.circuit m) s ≡ false →
+    one_or_local_wire : (s : Option (List ℕ)) → is_nonlocal_signal g.circuit (known g.circuit m) s ≡ false →
         IfSome s (λ name. IsTrue (is_local g.circuit (known g.circuit m) name))
-    local_signal None h = tt
-    local_signal (Some name) h = not_not (is_local g.circuit (known g.circuit m) name) h
+    one_or_local_wire None h = tt
+    one_or_local_wire (Some name) h = not_not (is_local g.circuit (known g.circuit m) name) h
       where
         not_not : (b : Bool) → not b ≡ false → b ≡ true
         not_not true h = refl
@@ -465,7 +463,7 @@ module _ (g : Setting) (ms : List ModuleLines) (good : AreModules g ms) where
           halo = b.1;
           inside = good.tile.inside e.cell.x e.cell.y p.0 n.0.area
               (mapped_at (λ (m : ModuleLines). m.area) ms p.0 n.0 p.1) (edge_cell n.0 e n.1 n.2);
-          border = record { time = is.border.time; signal = local_signal e.signal known_there };
+          border = record { time = is.border.time; signal = one_or_local_wire e.signal known_there };
         }
 
     pub full_good : In m ms → ((e : BorderLine) → In e (edge_lines_beside g ms m.area) →
@@ -484,7 +482,7 @@ module _ (g : Setting) (ms : List ModuleLines) (good : AreModules g ms) where
           order = full_order m.lines (in_order (edge_lines_beside g ms m.area)) is.order (full_rises m.area);
           keep_lines = subst (λ gs. All (IsKeep g gs) (keeps full)) (sym full_gates)
               (subst (All (IsKeep g (gates m))) (sym full_keeps) is.keep_lines);
-          unstarred = subst AreUnstarred (sym full_edges) is.unstarred;
+          unstarred = subst StarsExcludeLaterTimes (sym full_edges) is.unstarred;
           edge_lines = subst (λ ws. All (IsEdge g m.area ws) (edges full)) (sym full_known)
               (subst (All (IsEdge g m.area (known g.circuit m))) (sym full_edges) is.edge_lines);
           halo_lines = subst (λ ws. All (IsHalo g m.area ws) (halos full)) (sym full_known)
@@ -519,10 +517,10 @@ module _ (g : Setting) (ms : List ModuleLines) (good : AreModules g ms) where
     | inr fails ↦ fails
   ]
 
-  none_strange : lacks_wire g ms ≡ false → (m : ModuleLines) → In m ms → (e : BorderLine) →
+  none_strange : lacks_edge_wire_beside g ms ≡ false → (m : ModuleLines) → In m ms → (e : BorderLine) →
       In e (edge_lines_beside g ms m.area) →
       is_nonlocal_signal g.circuit (known g.circuit m) e.signal ≡ false
-  unfolding lacks_wire
+  unfolding lacks_edge_wire_beside
   none_strange none m at e i =
       none_passes (λ (e : BorderLine). is_nonlocal_signal g.circuit (known g.circuit m) e.signal)
       (edge_lines_beside g ms m.area)
@@ -531,7 +529,7 @@ module _ (g : Setting) (ms : List ModuleLines) (good : AreModules g ms) where
       m at) e
       i
 
-  pub full_modules : lacks_wire g ms ≡ false → AreModules g (map (with_halos g ms) ms)
+  pub full_modules : lacks_edge_wire_beside g ms ≡ false → AreModules g (map (with_halos g ms) ms)
   full_modules none = record {
     few = subst (λ n. n ≤ 1024) (sym (length-map ms (with_halos g ms))) good.few;
     each = λ k m e.
@@ -553,7 +551,7 @@ full_areas_of_all g ms (n ∷ ns) = ap (λ bs. n.area ∷ bs) (full_areas_of_all
 pub meant_areas : (version : ℕ) (g : Setting) (ms : List ModuleLines) →
     areas (modules_by_version version g ms) ≡ areas ms
 unfolding modules_by_version
-meant_areas version g ms = elim (cases_Bool (is_haloless version)) [
+meant_areas version g ms = elim (cases_Bool (is_haloless_version version)) [
   | inl new ↦ ap areas (cond-true _ _ _ new) ∙ full_areas_of_all g ms ms
   | inr old ↦ ap areas (cond-false _ _ _ old)
 ]
@@ -562,26 +560,27 @@ meant_areas version g ms = elim (cases_Bool (is_haloless version)) [
 pub meant_count : (version : ℕ) (g : Setting) (ms : List ModuleLines) →
     length (modules_by_version version g ms) ≡ length ms
 unfolding modules_by_version
-meant_count version g ms = elim (cases_Bool (is_haloless version)) [
+meant_count version g ms = elim (cases_Bool (is_haloless_version version)) [
   | inl new ↦ ap length (cond-true _ _ _ new) ∙ length-map ms (with_halos g ms)
   | inr old ↦ ap length (cond-false _ _ _ old)
 ]
 
-pub meant_old : (version : ℕ) (g : Setting) (ms : List ModuleLines) → is_haloless version ≡ false →
+pub meant_old : (version : ℕ) (g : Setting) (ms : List ModuleLines) → is_haloless_version version ≡ false →
     modules_by_version version g ms ≡ ms
 unfolding modules_by_version
 meant_old version g ms e = cond-false _ _ _ e
 
-pub meant_new : (version : ℕ) (g : Setting) (ms : List ModuleLines) → is_haloless version ≡ true →
+pub meant_new : (version : ℕ) (g : Setting) (ms : List ModuleLines) → is_haloless_version version ≡ true →
     modules_by_version version g ms ≡ map (with_halos g ms) ms
 unfolding modules_by_version
 meant_new version g ms e = cond-true _ _ _ e
 
 pub meant_modules : (version : ℕ) (g : Setting) (ms : List ModuleLines) → AreModules g ms →
-    (is_haloless version && lacks_wire g ms) ≡ false → AreModules g (modules_by_version version g ms)
+    (is_haloless_version version && lacks_edge_wire_beside g ms) ≡ false →
+    AreModules g (modules_by_version version g ms)
 unfolding modules_by_version
-meant_modules version g ms good none = elim (cases_Bool (is_haloless version)) [
+meant_modules version g ms good none = elim (cases_Bool (is_haloless_version version)) [
   | inl new ↦ subst (AreModules g) (sym (cond-true _ _ _ new))
-      (full_modules g ms good (ap (λ b. b && lacks_wire g ms) (sym new) ∙ none))
+      (full_modules g ms good (ap (λ b. b && lacks_edge_wire_beside g ms) (sym new) ∙ none))
   | inr old ↦ subst (AreModules g) (sym (cond-false _ _ _ old)) good
 ]

@@ -1,13 +1,9 @@
 -- Lists of the places of edge lines, as places are added
-use Rattle.std.proofs.Common.{◌≡◌, ℕ, zero, suc, ◌<◌, Bool, true, false, not, ◌&&◌, ◌||◌, if◌then◌else◌, eqb}
-use Rattle.std.proofs.Common.{List, [], ◌∷◌, ◌++◌, length, map, get_or, Option, Some, refl, sym, ap, ap₂, subst, ◌∙◌}
-use Rattle.std.proofs.Common.{inl, inr}
-use Rattle.std.proofs.Common.{arith, append_assoc}
-use Rattle.std.specs.Prelude.{ℤ, pos, ◌+ℤ◌, ◌-ℤ◌, slice_get, slice_set}
-use Rattle.std.specs.List.{filter, flat_map}
-use Rattle.std.specs.Option.{option_to_list}
-use Rattle.std.proofs.lemmas.Bool.{cases_Bool, cond-true, cond-false, eqb-true, eqb-false, and_parts}
-use Rattle.std.proofs.lemmas.Bool.{and_from}
+use Rattle.std.proofs.Common.{◌≡◌, ℕ, zero, suc, ◌<◌, Bool, true, false, not, ◌&&◌, ◌||◌, if◌then◌else◌, eqb, List, []}
+use Rattle.std.proofs.Common.{◌∷◌, ◌++◌, length, map, get_or, Option, Some, refl, sym, ap, ap₂, subst, ◌∙◌, inl, inr}
+use Rattle.std.proofs.Common.{arith, append_assoc, ℤ, pos, ◌+ℤ◌, ◌-ℤ◌, slice_get, slice_set, filter, flat_map}
+use Rattle.std.proofs.Common.{option_to_list}
+use Rattle.std.proofs.lemmas.Bool.{cases_Bool, cond-true, cond-false, eqb-true, eqb-false, and_parts, and_from}
 use Rattle.std.proofs.lemmas.List.{append-nil}
 use Rattle.std.proofs.lemmas.Option.{slice_get_within}
 use Rattle.std.proofs.lemmas.Grind.{flat_map-append}
@@ -25,33 +21,34 @@ use Rattle.certificate_lines.specs.declared.certificate_line.CertificateLine.{Ce
 use Rattle.certificate_lines.specs.declared.certificate_line.CertificateLine.TheVariants.{Edge}
 use Rattle.certificate_lines.proofs.Lists.{some_is}
 use Rattle.certificate_lines.proofs.OddBlocks.{halo_either}
-use Rattle.certificate.specs.HaloPlaces.{AreReady, HaveEdges, HavePlace, IsInnerCell, edge_lines_at, list_at}
+use Rattle.certificate.specs.HaloPlaces.{AreReady, HaveEdges, HavePlace, IsInnerCell, edge_lines_at, list_at_or_empty}
 use Rattle.certificate.proofs.BesideLines.{filter-append}
 
 -- ---- one list of several
 
 module _ {X : Type 0} (f : X → List ℕ) where
-  pub list_written : (xs : List X) (n : ℕ) (v : X) → n < length xs → list_at (map f (slice_set xs n v)) n ≡ f v
+  pub list_written : (xs : List X) (n : ℕ) (v : X) → n < length xs → list_at_or_empty (map f (slice_set xs n v)) n ≡ f v
   list_written [] n v lt = absurd (omega arith)
   list_written (x ∷ xs) zero v lt = refl
   list_written (x ∷ xs) (suc n) v lt = list_written xs n v (omega arith)
 
   pub list_left : (xs : List X) (n i : ℕ) (v : X) → (i ≡ n → ⊥) →
-      list_at (map f (slice_set xs n v)) i ≡ list_at (map f xs) i
+      list_at_or_empty (map f (slice_set xs n v)) i ≡ list_at_or_empty (map f xs) i
   list_left [] n i v ne = refl
   list_left (x ∷ xs) zero zero v ne = absurd (ne refl)
   list_left (x ∷ xs) zero (suc i) v ne = refl
   list_left (x ∷ xs) (suc n) zero v ne = refl
   list_left (x ∷ xs) (suc n) (suc i) v ne = list_left xs n i v (λ e. ne (ap suc e))
 
-  pub list_read : (xs : List X) (n : ℕ) (v : X) → n < length xs → v ≡ get_or xs n v → list_at (map f xs) n ≡ f v
+  pub list_read : (xs : List X) (n : ℕ) (v : X) → n < length xs → v ≡ get_or xs n v →
+      list_at_or_empty (map f xs) n ≡ f v
   list_read [] n v lt is = absurd (omega arith)
   list_read (x ∷ xs) zero v lt is = ap f (sym is)
   list_read (x ∷ xs) (suc n) v lt is = list_read xs n v (omega arith) is
 
   -- one more empty list
-  pub list_pushed : (xs : List X) (y : X) → ((i : ℕ) → list_at (map f xs) i ≡ []) → f y ≡ [] → (i : ℕ) →
-      list_at (map f (xs ++ y ∷ [])) i ≡ []
+  pub list_pushed : (xs : List X) (y : X) → ((i : ℕ) → list_at_or_empty (map f xs) i ≡ []) → f y ≡ [] → (i : ℕ) →
+      list_at_or_empty (map f (xs ++ y ∷ [])) i ≡ []
   list_pushed [] y h e zero = e
   list_pushed [] y h e (suc i) = refl
   list_pushed (x ∷ xs) y h e zero = h 0
@@ -92,8 +89,8 @@ module _ (boxes : List Box2) (o : Owning) (good : AreOwners o boxes) (x y : ℤ)
                 (ap q (same_box i b a at own (owner_is i b at here)) ∙ taken) ∙ and_none (in_box b x y)
             | inr out ↦ ap (λ t. t && not (q b)) out
           ] in
-          sym (append-nil (list_at lists i))
-          ∙ ap (λ l. list_at lists i ++ l) (sym (cond-false _ _ _ none));
+          sym (append-nil (list_at_or_empty lists i))
+          ∙ ap (λ l. list_at_or_empty lists i ++ l) (sym (cond-false _ _ _ none));
     }
       where
         and_none : (t : Bool) → (t && false) ≡ false
@@ -101,8 +98,8 @@ module _ (boxes : List Box2) (o : Owning) (good : AreOwners o boxes) (x y : ℤ)
         and_none false = refl
 
     pub one_place : (old new : List (List ℕ)) → q a ≡ false → length new ≡ length old →
-        list_at new (owner_of o x y) ≡ list_at old (owner_of o x y) ++ place ∷ [] →
-        ((i : ℕ) → (i ≡ owner_of o x y → ⊥) → list_at new i ≡ list_at old i) →
+        list_at_or_empty new (owner_of o x y) ≡ list_at_or_empty old (owner_of o x y) ++ place ∷ [] →
+        ((i : ℕ) → (i ≡ owner_of o x y → ⊥) → list_at_or_empty new i ≡ list_at_or_empty old i) →
         HavePlace boxes (λ b. in_box b x y && not (q b)) place old new
     one_place old new free count here others = record {
       count = count;
@@ -113,16 +110,16 @@ module _ (boxes : List Box2) (o : Owning) (good : AreOwners o boxes) (x y : ℤ)
             let yes : (in_box b x y && not (q b)) ≡ true =
             ap₂ (λ s t. s && not t)
             (ap (λ (z : Box2). in_box z x y) box ∙ owner_box a own) (ap q box ∙ free) in
-            ap (list_at new) is ∙ here ∙ ap (λ k. list_at old k ++ place ∷ []) (sym is)
-            ∙ ap (λ l. list_at old i ++ l) (sym (cond-true _ _ _ yes))
+            ap (list_at_or_empty new) is ∙ here ∙ ap (λ k. list_at_or_empty old k ++ place ∷ []) (sym is)
+            ∙ ap (λ l. list_at_or_empty old i ++ l) (sym (cond-true _ _ _ yes))
         | inr e ↦
             let other : i ≡ owner_of o x y → ⊥ = eqb-false i (owner_of o x y) e in
             let no : (in_box b x y && not (q b)) ≡ false = elim (cases_Bool (in_box b x y)) [
               | inl h ↦ absurd (other (owner_is i b at h))
               | inr out ↦ ap (λ t. t && not (q b)) out
             ] in
-            others i other ∙ sym (append-nil (list_at old i))
-            ∙ ap (λ l. list_at old i ++ l) (sym (cond-false _ _ _ no))
+            others i other ∙ sym (append-nil (list_at_or_empty old i))
+            ∙ ap (λ l. list_at_or_empty old i ++ l) (sym (cond-false _ _ _ no))
       ];
     }
 
@@ -130,7 +127,7 @@ pub same_test : (boxes : List Box2) (p q : Box2 → Bool) (place : ℕ) (old new
     ((b : Box2) → p b ≡ q b) → HavePlace boxes p place old new → HavePlace boxes q place old new
 same_test boxes p q place old new same h = record {
   count = h.count;
-  each = λ i b at. h.each i b at ∙ ap (λ t. list_at old i ++ (if t then place ∷ [] else [])) (same b);
+  each = λ i b at. h.each i b at ∙ ap (λ t. list_at_or_empty old i ++ (if t then place ∷ [] else [])) (same b);
 }
 
 -- ---- a place more for each box that has a cell in its halo
@@ -198,9 +195,9 @@ module _ (x y : ℤ) where
         let v = in_span b.y b.h y in let v' = in_span b.y b.h y' in
         c.each i b at ∙ ap (λ k. k ++ (if corner b then place ∷ [] else [])) (a.each i b at
         ∙ ap (λ k. k ++ (if above b then place ∷ [] else [])) (s.each i b at))
-        ∙ at_most_one (side b) (above b) (corner b) place (list_at old i)
+        ∙ at_most_one (side b) (above b) (corner b) place (list_at_or_empty old i)
         (first_second u u' v v') (first_third u u' v v') (second_third u u' v v')
-        ∙ ap (λ t. list_at old i ++ (if t then place ∷ [] else []))
+        ∙ ap (λ t. list_at_or_empty old i ++ (if t then place ∷ [] else []))
         (one_of_three u u' v v' ∙ halo_either b x y (even i b at));
   }
 
@@ -250,11 +247,12 @@ module _ (es : List CertificateLine) (boxes : List Box2) where
   edge_placed place e old new at h = record {
     count = h.count;
     each = λ i b box. ap (edge_lines_at es) (h.each i b box)
-        ∙ edges_more es (list_at old i) (in_halo b e.cell.x e.cell.y) place e at;
+        ∙ edges_more es (list_at_or_empty old i) (in_halo b e.cell.x e.cell.y) place e at;
   }
 
   pub no_edges : (lists : List (List ℕ)) → HaveEdges es boxes [] lists lists
-  no_edges lists = record { count = refl; each = λ i b box. sym (append-nil (edge_lines_at es (list_at lists i))) }
+  no_edges lists =
+      record { count = refl; each = λ i b box. sym (append-nil (edge_lines_at es (list_at_or_empty lists i))) }
 
   pub edges_then : (more next : List BorderLine) (old l new : List (List ℕ)) → HaveEdges es boxes more old l →
       HaveEdges es boxes next l new → HaveEdges es boxes (more ++ next) old new
@@ -263,8 +261,8 @@ module _ (es : List CertificateLine) (boxes : List Box2) where
     each = λ i b box.
         let keep = λ (e : BorderLine). in_halo b e.cell.x e.cell.y in
         k.each i b box ∙ ap (λ m. m ++ filter keep next) (h.each i b box)
-        ∙ append_assoc (edge_lines_at es (list_at old i)) (filter keep more) (filter keep next)
-        ∙ ap (λ m. edge_lines_at es (list_at old i) ++ m) (sym (filter-append keep more next));
+        ∙ append_assoc (edge_lines_at es (list_at_or_empty old i)) (filter keep more) (filter keep next)
+        ∙ ap (λ m. edge_lines_at es (list_at_or_empty old i) ++ m) (sym (filter-append keep more next));
   }
 
 -- ---- tables and lists

@@ -1,9 +1,7 @@
 -- The signals of a halo's cells by the edge lines beside a module
-use Rattle.std.proofs.Common.{◌≡◌, ℕ, ◌<◌, ◌%◌, ◌==◌, ℤ, Bool, true, false, ◌&&◌, if◌then◌else◌}
-use Rattle.std.proofs.Common.{List, [], ◌∷◌, ◌++◌, Option, Some, None, Less, refl, sym, ap, ap₂, subst, ◌∙◌, inl}
-use Rattle.std.proofs.Common.{inr, arith}
-use Rattle.std.specs.Prelude.{slice_get, nat_lt, unwrap_or}
-use Rattle.std.specs.List.{filter, flat_map}
+use Rattle.std.proofs.Common.{◌≡◌, ℕ, ◌<◌, ◌%◌, ◌==◌, ℤ, Bool, true, false, ◌&&◌, if◌then◌else◌, List, [], ◌∷◌, ◌++◌}
+use Rattle.std.proofs.Common.{Option, Some, None, Less, refl, sym, ap, ap₂, subst, ◌∙◌, inl, inr, arith, slice_get}
+use Rattle.std.proofs.Common.{nat_lt, unwrap_or, filter, flat_map}
 use Rattle.std.proofs.lemmas.Bool.{cases_Bool, cond-true, cond-false}
 use Rattle.std.proofs.lemmas.Bool.Decides.{nat_tests}
 use Rattle.bbm_rule.specs.Plane.{is_at}
@@ -17,16 +15,16 @@ use Rattle.module_box.specs.declared.schedules.AllTimes.{AllTimes}
 use Rattle.module_box.specs.declared.schedules.Signal.{Signal}
 use Rattle.module_box.specs.declared.schedules.Signal.TheVariants.{Zero}
 use Rattle.certificate_lines.specs.Entries.{Setting, ModuleLines, edges}
-use Rattle.certificate.specs.Jobs.{events_of_line, all_times_of_line, line_signal, line_signals}
+use Rattle.certificate.specs.Jobs.{events_of_line, all_times_of_line, one_or_named_wire, line_signals}
 use Rattle.certificate.specs.Laws.{HaloIsEdgeBeside}
 use Rattle.certificate_lines.specs.Modules.{AreModules}
-use Rattle.certificate_lines.specs.Versions.{edge_lines_beside, in_order, line_order}
+use Rattle.certificate_lines.specs.Versions.{edge_lines_beside, in_order, border_line_cmp}
 use Rattle.certificate_lines.specs.declared.certificate_line.BorderLine.{BorderLine}
 use Rattle.certificate.proofs.FullModules.{beside_in, edge_cell, edges_rising, full_halos, full_rises, in_beside}
 use Rattle.certificate.proofs.FullModules.{mapped_at, stands}
 use Rattle.certificate_lines.proofs.InList.{placed}
-use Rattle.certificate_lines.proofs.LineOrder.{In, filter_in, flat_in, in_filter, in_flat, in_ordered}
-use Rattle.certificate_lines.proofs.LineOrder.{ordered_in, pairs_filter, rising_same}
+use Rattle.certificate_lines.proofs.LineOrder.{In, filter_in, flat_in, in_filter, in_flat, in_ordered, ordered_in}
+use Rattle.certificate_lines.proofs.LineOrder.{pairs_filter, rising_same}
 use Rattle.certificate_lines.proofs.Lists.{some_is}
 use Rattle.bbm_rule.proofs.SameCells.{cell_same}
 
@@ -69,10 +67,10 @@ event_on e (Some u) s rest other t x y h =
 
 module _ (c : Circuit) (x y : ℤ) where
   abbrev all_times_of : List BorderLine → List AllTimes
-  all_times_of es = flat_map (λ e. all_times_of_line e e.time (line_signal c e.signal)) es
+  all_times_of es = flat_map (λ e. all_times_of_line e e.time (one_or_named_wire c e.signal)) es
 
   abbrev events_of : List BorderLine → List TimedSignal
-  events_of es = flat_map (λ e. events_of_line e e.time (line_signal c e.signal)) es
+  events_of es = flat_map (λ e. events_of_line e e.time (one_or_named_wire c e.signal)) es
 
   all_times_there : (es : List BorderLine) →
       all_times_at (all_times_of es) x y ≡ all_times_at (all_times_of (at_cell x y es)) x y
@@ -80,11 +78,11 @@ module _ (c : Circuit) (x y : ℤ) where
   all_times_there [] = refl
   all_times_there (e ∷ es) = elim (cases_Bool (is_at e.cell x y)) [
     | inl here ↦
-        all_times_on e e.time (line_signal c e.signal) (all_times_of es) (all_times_of (at_cell x y es)) x y
+        all_times_on e e.time (one_or_named_wire c e.signal) (all_times_of es) (all_times_of (at_cell x y es)) x y
         (all_times_there es)
         ∙ ap (λ ds. all_times_at (all_times_of ds) x y) (sym (cond-true _ (e ∷ at_cell x y es) (at_cell x y es) here))
     | inr other ↦
-        all_times_past e e.time (line_signal c e.signal) (all_times_of es) x y other ∙ all_times_there es
+        all_times_past e e.time (one_or_named_wire c e.signal) (all_times_of es) x y other ∙ all_times_there es
         ∙ ap (λ ds. all_times_at (all_times_of ds) x y) (sym (cond-false _ (e ∷ at_cell x y es) (at_cell x y es) other))
   ]
 
@@ -94,10 +92,11 @@ module _ (c : Circuit) (x y : ℤ) where
   events_there t [] = refl
   events_there t (e ∷ es) = elim (cases_Bool (is_at e.cell x y)) [
     | inl here ↦
-        event_on e e.time (line_signal c e.signal) (events_of es) (events_of (at_cell x y es)) t x y (events_there t es)
+        event_on e e.time (one_or_named_wire c e.signal) (events_of es) (events_of (at_cell x y es)) t x y
+        (events_there t es)
         ∙ ap (λ ds. event_at (events_of ds) t x y) (sym (cond-true _ (e ∷ at_cell x y es) (at_cell x y es) here))
     | inr other ↦
-        event_past e e.time (line_signal c e.signal) (events_of es) t x y other ∙ events_there t es
+        event_past e e.time (one_or_named_wire c e.signal) (events_of es) t x y other ∙ events_there t es
         ∙ ap (λ ds. event_at (events_of ds) t x y) (sym (cond-false _ (e ∷ at_cell x y es) (at_cell x y es) other))
   ]
 
@@ -160,10 +159,10 @@ module _ (g : Setting) (ms : List ModuleLines) (good : AreModules g ms) (k : ℕ
   unfolding at_cell
   lines_there =
       rising_same _ _
-      (pairs_filter (λ d e. line_order d e ≡ Less) (λ (e : BorderLine). is_at e.cell x y)
+      (pairs_filter (λ d e. border_line_cmp d e ≡ Less) (λ (e : BorderLine). is_at e.cell x y)
       (in_order (edge_lines_beside g ms area))
       (full_rises g ms good area))
-      (pairs_filter (λ d e. line_order d e ≡ Less) (λ (e : BorderLine). is_at e.cell x y) (edges owner)
+      (pairs_filter (λ d e. border_line_cmp d e ≡ Less) (λ (e : BorderLine). is_at e.cell x y) (edges owner)
       (edges_rising owner.lines (good.each k owner numbered).order))
       of_owner of_halo
 

@@ -1,9 +1,7 @@
 -- The lists of the edge lines beside each module, from the modules of a certificate
-use Rattle.std.proofs.Common.{◌≡◌, ℕ, zero, suc, ◌+◌, ◌<◌, ◌≤◌, ℤ, inl, inr, true, false, List, [], ◌∷◌, ◌++◌}
-use Rattle.std.proofs.Common.{length}
-use Rattle.std.proofs.Common.{drop, get_or, Some, refl, sym, ap, subst, ◌∙◌, arith}
-use Rattle.std.specs.Prelude.{slice_get, nat_lt}
-use Rattle.std.specs.List.{All, filter, flat_map}
+use Rattle.std.proofs.Common.{◌≡◌, ℕ, zero, suc, ◌+◌, ◌<◌, ◌≤◌, ℤ, inl, inr, true, false, List, [], ◌∷◌, ◌++◌, length}
+use Rattle.std.proofs.Common.{drop, get_or, Some, refl, sym, ap, subst, ◌∙◌, arith, slice_get, nat_lt, All, filter}
+use Rattle.std.proofs.Common.{flat_map}
 use Rattle.std.proofs.lemmas.Bool.{and_parts, cases_Bool, cond-true, cond-false}
 use Rattle.std.proofs.lemmas.List.{append-nil, drop_all, length-drop}
 use Rattle.std.proofs.lemmas.Option.{slice_get-get_or}
@@ -25,7 +23,7 @@ use Rattle.certificate_lines.proofs.LinesLeft.{line_here, nothing_left}
 use Rattle.certificate_lines.proofs.ModuleSplit.{split_module, split_other}
 use Rattle.certificate_lines.proofs.OddBlocks.{area_of, mapped_at}
 use Rattle.certificate.specs.HaloPlaces.{AreHaloPlaces, AreLinesFrom, HaveEdges, IsInnerCell, edge_lines_at}
-use Rattle.certificate.specs.HaloPlaces.{list_at}
+use Rattle.certificate.specs.HaloPlaces.{list_at_or_empty}
 use Rattle.certificate.proofs.NearLines.{flat_all}
 use Rattle.certificate.proofs.TimeLemmas.{inner_within}
 
@@ -140,7 +138,7 @@ short steps le = grind (arith, nat_tests)
 module _ (g : Setting) (es : List CertificateLine) where
   -- without odd times the lists are empty
   pub none_placed : (lists : List (List ℕ)) → g.size.steps ≤ 1 → length lists ≡ length (modules_of es) →
-      ((i : ℕ) → list_at lists i ≡ []) → AreHaloPlaces g es lists
+      ((i : ℕ) → list_at_or_empty lists i ≡ []) → AreHaloPlaces g es lists
   unfolding edge_lines_beside
   none_placed lists few count empty = record {
     count = count;
@@ -148,7 +146,7 @@ module _ (g : Setting) (es : List CertificateLine) where
   }
 
   pub all_placed : (boxes : List Box2) (old new : List (List ℕ)) → 1 < g.size.steps → boxes ≡ areas (modules_of es) →
-      length old ≡ length (modules_of es) → ((i : ℕ) → list_at old i ≡ []) →
+      length old ≡ length (modules_of es) → ((i : ℕ) → list_at_or_empty old i ≡ []) →
       HaveEdges es boxes (flat_map edges (modules_of es)) old new → AreHaloPlaces g es new
   unfolding edge_lines_beside
   all_placed boxes old new many are count empty h = record {

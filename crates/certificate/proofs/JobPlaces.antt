@@ -1,6 +1,5 @@
 -- A job whose lists have an element for each cell of its box
-use Rattle.std.proofs.Common.{◌≡◌, true, if◌then◌else◌, Bool, false, refl, ap, ◌∙◌}
-use Rattle.std.specs.Prelude.{ℤ, slice_get, unwrap_or, IsTrue}
+use Rattle.std.proofs.Common.{◌≡◌, true, if◌then◌else◌, Bool, false, refl, ap, ◌∙◌, ℤ, slice_get, unwrap_or, IsTrue}
 use Rattle.circuit.specs.Meaning.{Circuit}
 use Rattle.pattern.specs.Layout.{Pattern}
 use Rattle.module_box.specs.Boxes.{in_box}

@@ -1,9 +1,7 @@
 -- The indexes of a layout's cells, and the ports in a module's box.
 use Rattle.std.proofs.Common.{◌≡◌, ℕ, ◌+◌, ℤ, Bool, true, false, ◌||◌, if◌then◌else◌, List, [], ◌∷◌, ◌++◌, map, ◌<◌}
-use Rattle.std.proofs.Common.{◌≤◌, get_or, length, Option, Some, None, refl, sym, ap, subst, ◌∙◌}
-use Rattle.std.specs.Prelude.{slice_get, IsTrue, IfSome}
-use Rattle.std.specs.List.{flat_map}
-use Rattle.std.specs.Prelude.{option_map}
+use Rattle.std.proofs.Common.{◌≤◌, get_or, length, Option, Some, None, refl, sym, ap, subst, ◌∙◌, slice_get, IsTrue}
+use Rattle.std.proofs.Common.{IfSome, option_map, flat_map}
 use Rattle.std.proofs.lemmas.List.Folds.{list_any-append}
 use Rattle.std.proofs.lemmas.List.Elements.{All-append}
 use Rattle.std.proofs.lemmas.Option.{slice_get-get_or, slice_get-map}
@@ -25,12 +23,14 @@ use Rattle.module_box.specs.declared.schedules.Signal.TheVariants.{One, Zero}
 use Rattle.certificate_lines.specs.Entries.{ModuleLines, known}
 use Rattle.certificate_lines.specs.Settings.{setting_of}
 use Rattle.certificate_lines.specs.PortTables.{AreOnBoard, port_at}
-use Rattle.certificate.specs.Jobs.{named_wire, signal_of, start_signal, demand_outside_mirrors, end_demand}
+use Rattle.certificate.specs.Jobs.{wire_of_optional_name, wire_or_zero, start_signal, demand_outside_mirrors}
+use Rattle.certificate.specs.Jobs.{end_demand}
 use Rattle.module_job.specs.declared.job.Demand.TheVariants as Demanded
 use Rattle.certificate_lines.specs.Modules.{HasPorts}
 use Rattle.bbm_rule.specs.Board.{live}
 use Rattle.certificate.specs.declared.layout_tables.LayoutTables.TheInside.{Inside}
-use Rattle.certificate.specs.LayoutTablesView.{AreLayoutTables, HasMirrorOrNothing, KnowsPorts, non_mirror_cells}
+use Rattle.certificate.specs.LayoutTablesView.{AreLayoutTables, HasMirrorOrNothing, ArePortWiresLocalIn}
+use Rattle.certificate.specs.LayoutTablesView.{non_mirror_cells}
 use Rattle.certificate_lines.specs.Rules.{is_local}
 use Rattle.certificate_lines.proofs.BoxPlaces.{skipped}
 use Rattle.certificate_lines.proofs.Lists.{kept}
@@ -64,8 +64,8 @@ module _ (lines : List CircuitLine) (p : Pattern) (m : ModuleLines) (has : HasPo
       ap (λ (c : Cell). in_box m.area c.x c.y) (cell_same s.port.cell (record { x = x; y = y }) s.stands) ∙ inside in
       subst (λ (n : List ℕ). is_known n) s.named (each s.number s.port s.numbered there)
 
-  pub cells_have_ports : KnowsPorts (circuit_of lines) (known (circuit_of lines) m) p.ins m.area
-      × KnowsPorts (circuit_of lines) (known (circuit_of lines) m) p.outs m.area
+  pub cells_have_ports : ArePortWiresLocalIn (circuit_of lines) (known (circuit_of lines) m) p.ins m.area
+      × ArePortWiresLocalIn (circuit_of lines) (known (circuit_of lines) m) p.outs m.area
   cells_have_ports = (
     λ x y inside. knows_port p.ins (λ i q e. has.local i q (kept p.ins p.outs i q e)) x y inside _ refl,
     λ x y inside. knows_port p.outs
@@ -81,7 +81,7 @@ start_one c p x y a b mirror ball h = rw (sym mirror, sym ball, h) refl
 
 pub start_port : (c : Circuit) (p : Pattern) (x y : ℤ) (a b : Bool) → a ≡ in_rectangles p.mirrors x y →
     b ≡ in_cells p.balls x y → (a || b) ≡ false → (o : Option (List ℕ)) → o ≡ port_at p.ins x y →
-    signal_of (named_wire c o) ≡ start_signal c p x y
+    wire_or_zero (wire_of_optional_name c o) ≡ start_signal c p x y
 unfolding start_signal
 start_port c p x y a b mirror ball h o port = rw (sym mirror, sym ball, h, sym port) refl
 
@@ -221,8 +221,9 @@ mirrors_on_board p s is good cells are k d lt =
 -- the ports in the box, where the module's wires have these numbers in the circuit
 pub locals_have_ports : (lines : List CircuitLine) (p : Pattern) (m : ModuleLines) → HasPorts (setting_of lines p) m →
     (local : List ℕ) → local ≡ known (circuit_of lines) m
-    → KnowsPorts (circuit_of lines) local p.ins m.area × KnowsPorts (circuit_of lines) local p.outs m.area
+    → ArePortWiresLocalIn (circuit_of lines) local p.ins m.area
+    × ArePortWiresLocalIn (circuit_of lines) local p.outs m.area
 locals_have_ports lines p m has local are =
     let both : List ℕ → Type 0 = λ ws.
-    KnowsPorts (circuit_of lines) ws p.ins m.area × KnowsPorts (circuit_of lines) ws p.outs m.area in
+    ArePortWiresLocalIn (circuit_of lines) ws p.ins m.area × ArePortWiresLocalIn (circuit_of lines) ws p.outs m.area in
     subst both (sym are) (cells_have_ports lines p m has)

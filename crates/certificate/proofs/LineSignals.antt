@@ -1,10 +1,9 @@
 -- The signal of one line for its cell at its time
-use Rattle.std.proofs.Common.{◌≡◌, ℕ, ◌+◌, ◌==◌, Bool, true, false, not, ◌&&◌, ◌||◌}
-use Rattle.std.proofs.Common.{List, [], ◌∷◌, ◌++◌, Option, Some, None, Ordering, Less, Greater}
-use Rattle.std.proofs.Common.{refl, sym, ap, ap₂, subst, ◌∙◌, inl, inr, arith}
-use Rattle.std.specs.Prelude.{unwrap_or}
-use Rattle.std.specs.List.{flat_map, list_all}
-use Rattle.std.specs.Ordering.{nat_cmp, ordering_then}
+use Rattle.std.proofs.Common.{◌≡◌, ℕ, ◌+◌, ◌==◌, Bool, true, false, not, ◌&&◌, ◌||◌, List, [], ◌∷◌, ◌++◌, Option, Some}
+use Rattle.std.proofs.Common.{None, Ordering, Less, Greater, refl, sym, ap, ap₂, subst, ◌∙◌, inl, inr, arith, unwrap_or}
+use Rattle.std.proofs.Common.{flat_map, nat_cmp}
+use Rattle.std.specs.List.{list_all}
+use Rattle.std.specs.Ordering.{ordering_then}
 use Rattle.std.proofs.lemmas.Bool.{and_parts, cases_Bool, cond-true, cond-false, eqb-true, true≢false}
 use Rattle.bbm_rule.specs.Plane.{is_at}
 use Rattle.bbm_rule.specs.declared.block.Cell.{Cell}
@@ -15,11 +14,11 @@ use Rattle.module_box.specs.declared.schedules.TimedSignal.{TimedSignal}
 use Rattle.module_box.specs.declared.schedules.AllTimes.{AllTimes}
 use Rattle.module_box.specs.declared.schedules.Signal.{Signal}
 use Rattle.module_box.specs.declared.schedules.Signal.TheVariants.{Zero}
-use Rattle.certificate.specs.Jobs.{events_of_line, all_times_of_line, line_signal, line_signals}
-use Rattle.certificate_lines.specs.Modules.{AreUnstarred}
+use Rattle.certificate.specs.Jobs.{events_of_line, all_times_of_line, one_or_named_wire, line_signals}
+use Rattle.certificate_lines.specs.Modules.{StarsExcludeLaterTimes}
 use Rattle.certificate_lines.specs.Orders.{time_rank}
-use Rattle.certificate_lines.specs.Rules.{is_star, is_starred, same_cell}
-use Rattle.certificate_lines.specs.Versions.{line_order}
+use Rattle.certificate_lines.specs.Rules.{is_star, is_starred_line_at, same_cell}
+use Rattle.certificate_lines.specs.Versions.{border_line_cmp}
 use Rattle.certificate_lines.specs.declared.certificate_line.BorderLine.{BorderLine}
 use Rattle.certificate.proofs.HaloSignals.{event_past, all_times_past}
 use Rattle.certificate_lines.proofs.LineOrder.{In, Rises, each_in, not_itself}
@@ -32,13 +31,13 @@ SaysAt t None = Unit {0}
 SaysAt t (Some u) = u ≡ t
 
 -- lines of the same time, or both with a `*`, for the same cell are nowhere apart in the order
-same_key : (d e : BorderLine) → d.time ≡ e.time → d.cell ≡ e.cell → line_order d e ≡ Less → ⊥
-unfolding line_order
+same_key : (d e : BorderLine) → d.time ≡ e.time → d.cell ≡ e.cell → border_line_cmp d e ≡ Less → ⊥
+unfolding border_line_cmp
 same_key d e time cell less =
     not_itself e (ap₂ (λ t c. ordering_then (nat_cmp (time_rank t) (time_rank e.time)) (cell_cmp c e.cell)) (sym time)
     (sym cell) ∙ less)
 
-other_cell : (d e : BorderLine) → d.time ≡ e.time → line_order d e ≡ Less → is_at d.cell e.cell.x e.cell.y ≡ false
+other_cell : (d e : BorderLine) → d.time ≡ e.time → border_line_cmp d e ≡ Less → is_at d.cell e.cell.x e.cell.y ≡ false
 other_cell d e time less = elim (cases_Bool (is_at d.cell e.cell.x e.cell.y)) [
   | inl here ↦ absurd (same_key d e time (cell_same d.cell e.cell here) less)
   | inr other ↦ other
@@ -49,18 +48,18 @@ ranked : (a : ℕ) (o : Ordering) → ordering_then (nat_cmp (a + 1) 0) o ≡ Le
 ranked a o h = let z : nat_cmp (a + 1) 0 ≡ Greater = grind arith in
     absurd (let k : ordering_then Greater o ≡ Less = ap (λ c. ordering_then c o) (sym z) ∙ h in cc)
 
-timed_first : (d e : BorderLine) (t : ℕ) → d.time ≡ Some t → e.time ≡ None → line_order d e ≡ Less → ⊥
-unfolding line_order
+timed_first : (d e : BorderLine) (t : ℕ) → d.time ≡ Some t → e.time ≡ None → border_line_cmp d e ≡ Less → ⊥
+unfolding border_line_cmp
 timed_first d e t dt et less =
     ranked t (cell_cmp d.cell e.cell)
     (ap₂ (λ a b. ordering_then (nat_cmp (time_rank a) (time_rank b)) (cell_cmp d.cell e.cell)) (sym dt) (sym et) ∙ less)
 
 module _ (c : Circuit) where
   abbrev all_times_of : List BorderLine → List AllTimes
-  all_times_of es = flat_map (λ e. all_times_of_line e e.time (line_signal c e.signal)) es
+  all_times_of es = flat_map (λ e. all_times_of_line e e.time (one_or_named_wire c e.signal)) es
 
   abbrev events_of : List BorderLine → List TimedSignal
-  events_of es = flat_map (λ e. events_of_line e e.time (line_signal c e.signal)) es
+  events_of es = flat_map (λ e. events_of_line e e.time (one_or_named_wire c e.signal)) es
 
   -- ---- a line with a `*`
 
@@ -70,7 +69,7 @@ module _ (c : Circuit) where
   all_times_first e None s rest none = cond-true _ _ _ (cell_itself e.cell)
   all_times_first e (Some t) s rest none = absurd cc
 
-  all_times_skips : (d e : BorderLine) (time : Option ℕ) → d.time ≡ time → e.time ≡ None → line_order d e ≡ Less →
+  all_times_skips : (d e : BorderLine) (time : Option ℕ) → d.time ≡ time → e.time ≡ None → border_line_cmp d e ≡ Less →
       (s : Signal) (rest : List AllTimes) →
       all_times_at (all_times_of_line d time s ++ rest) e.cell.x e.cell.y ≡ all_times_at rest e.cell.x e.cell.y
   all_times_skips d e None dt et less s rest =
@@ -78,22 +77,22 @@ module _ (c : Circuit) where
   all_times_skips d e (Some t) dt et less s rest = refl
 
   all_times_there : (e : BorderLine) (es : List BorderLine) → Rises es → In e es → e.time ≡ None →
-      all_times_at (all_times_of es) e.cell.x e.cell.y ≡ Some (line_signal c e.signal)
+      all_times_at (all_times_of es) e.cell.x e.cell.y ≡ Some (one_or_named_wire c e.signal)
   unfolding Pairs In
   all_times_there e [] r i none = absurd i
   all_times_there e (d ∷ es) r (inl same) none =
-      subst (λ x. all_times_at (all_times_of_line x x.time (line_signal c x.signal) ++ all_times_of es) e.cell.x
+      subst (λ x. all_times_at (all_times_of_line x x.time (one_or_named_wire c x.signal) ++ all_times_of es) e.cell.x
       e.cell.y
-      ≡ Some (line_signal c e.signal)) (sym same)
-      (all_times_first e e.time (line_signal c e.signal) (all_times_of es) none)
+      ≡ Some (one_or_named_wire c e.signal)) (sym same)
+      (all_times_first e e.time (one_or_named_wire c e.signal) (all_times_of es) none)
   all_times_there e (d ∷ es) r (inr later) none =
-      all_times_skips d e d.time refl none (each_in (λ x. line_order d x ≡ Less) es r.0 e later)
-      (line_signal c d.signal)
+      all_times_skips d e d.time refl none (each_in (λ x. border_line_cmp d x ≡ Less) es r.0 e later)
+      (one_or_named_wire c d.signal)
       (all_times_of es) ∙ all_times_there e es r.1 later none
 
   -- ---- a line with a time
 
-  not_starred : (e d : BorderLine) (time : Option ℕ) → d.time ≡ time → is_starred e.cell d ≡ false →
+  not_starred : (e d : BorderLine) (time : Option ℕ) → d.time ≡ time → is_starred_line_at e.cell d ≡ false →
       (s : Signal) (rest : List AllTimes) →
       all_times_at (all_times_of_line d time s ++ rest) e.cell.x e.cell.y ≡ all_times_at rest e.cell.x e.cell.y
   not_starred e d None dt other s rest =
@@ -125,37 +124,40 @@ module _ (c : Circuit) where
   all_test test (d ∷ es) h e (inl same) = subst (λ x. test x ≡ true) same (and_parts (test d) (list_all test es) h).0
   all_test test (d ∷ es) h e (inr later) = all_test test es (and_parts (test d) (list_all test es) h).1 e later
 
-  after_timed : (e d : BorderLine) (t : ℕ) → e.time ≡ Some t → line_order e d ≡ Less → is_starred e.cell d ≡ false
+  after_timed : (e d : BorderLine) (t : ℕ) → e.time ≡ Some t → border_line_cmp e d ≡ Less →
+      is_starred_line_at e.cell d ≡ false
   after_timed e d t et less = by d.time refl
     where
-      by : (time : Option ℕ) → d.time ≡ time → is_starred e.cell d ≡ false
+      by : (time : Option ℕ) → d.time ≡ time → is_starred_line_at e.cell d ≡ false
       by None dt = absurd (timed_first e d t et dt less)
       by (Some u) dt = ap (λ x. is_star x && same_cell e.cell d.cell) dt
 
-  timed_itself : (e : BorderLine) (t : ℕ) → e.time ≡ Some t → is_starred e.cell e ≡ false
+  timed_itself : (e : BorderLine) (t : ℕ) → e.time ≡ Some t → is_starred_line_at e.cell e ≡ false
   timed_itself e t et = ap (λ x. is_star x && same_cell e.cell e.cell) et
 
   none_after : (e : BorderLine) (t : ℕ) (es : List BorderLine) → e.time ≡ Some t →
-      Each (λ d. line_order e d ≡ Less) es →
+      Each (λ d. border_line_cmp e d ≡ Less) es →
       all_times_at (all_times_of es) e.cell.x e.cell.y ≡ None
   unfolding Each all_times_at
   none_after e t [] et a = refl
   none_after e t (d ∷ es) et a =
-      not_starred e d d.time refl (after_timed e d t et a.0) (line_signal c d.signal) (all_times_of es)
+      not_starred e d d.time refl (after_timed e d t et a.0) (one_or_named_wire c d.signal) (all_times_of es)
       ∙ none_after e t es et a.1
 
-  none_all_times : (e : BorderLine) (t : ℕ) (es : List BorderLine) → e.time ≡ Some t → Rises es → AreUnstarred es →
+  none_all_times : (e : BorderLine) (t : ℕ) (es : List BorderLine) → e.time ≡ Some t → Rises es →
+      StarsExcludeLaterTimes es →
       In e es →
       all_times_at (all_times_of es) e.cell.x e.cell.y ≡ None
-  unfolding Pairs In AreUnstarred
+  unfolding Pairs In StarsExcludeLaterTimes
   none_all_times e t [] et r u i = absurd i
   none_all_times e t (d ∷ es) et r u (inl same) =
-      not_starred e d d.time refl (subst (λ x. is_starred e.cell x ≡ false) (sym same) (timed_itself e t et))
-      (line_signal c d.signal) (all_times_of es)
-      ∙ none_after e t es et (subst (λ x. Each (λ f. line_order x f ≡ Less) es) same r.0)
+      not_starred e d d.time refl (subst (λ x. is_starred_line_at e.cell x ≡ false) (sym same) (timed_itself e t et))
+      (one_or_named_wire c d.signal) (all_times_of es)
+      ∙ none_after e t es et (subst (λ x. Each (λ f. border_line_cmp x f ≡ Less) es) same r.0)
   none_all_times e t (d ∷ es) et r u (inr later) =
-      not_starred e d d.time refl (free_head (is_star e.time) (is_starred e.cell d) (star_of e.time t et)
-      (all_test (λ e. is_star e.time || not (is_starred e.cell d)) es u.0 e later)) (line_signal c d.signal)
+      not_starred e d d.time refl (free_head (is_star e.time) (is_starred_line_at e.cell d) (star_of e.time t et)
+      (all_test (λ e. is_star e.time || not (is_starred_line_at e.cell d)) es u.0 e later))
+      (one_or_named_wire c d.signal)
       (all_times_of es)
       ∙ none_all_times e t es et r.1 u.1 later
 
@@ -172,7 +174,8 @@ module _ (c : Circuit) where
       same_time : (a b : ℕ) → a ≡ b → (a == b) ≡ true
       same_time a b e = grind arith
 
-  event_skips : (d e : BorderLine) (time : Option ℕ) (t : ℕ) → d.time ≡ time → e.time ≡ Some t → line_order d e ≡ Less →
+  event_skips : (d e : BorderLine) (time : Option ℕ) (t : ℕ) → d.time ≡ time → e.time ≡ Some t →
+      border_line_cmp d e ≡ Less →
       (s : Signal) (rest : List TimedSignal) →
       event_at (events_of_line d time s ++ rest) t e.cell.x e.cell.y ≡ event_at rest t e.cell.x e.cell.y
   unfolding event_at
@@ -184,23 +187,24 @@ module _ (c : Circuit) where
   ]
 
   event_there : (e : BorderLine) (t : ℕ) (es : List BorderLine) → Rises es → In e es → e.time ≡ Some t →
-      event_at (events_of es) t e.cell.x e.cell.y ≡ Some (line_signal c e.signal)
+      event_at (events_of es) t e.cell.x e.cell.y ≡ Some (one_or_named_wire c e.signal)
   unfolding Pairs In
   event_there e t [] r i et = absurd i
   event_there e t (d ∷ es) r (inl same) et =
-      subst (λ x. event_at (events_of_line x x.time (line_signal c x.signal) ++ events_of es) t e.cell.x e.cell.y
-      ≡ Some (line_signal c e.signal)) (sym same)
-      (event_first e e.time t (line_signal c e.signal) (events_of es) et)
+      subst (λ x. event_at (events_of_line x x.time (one_or_named_wire c x.signal) ++ events_of es) t e.cell.x e.cell.y
+      ≡ Some (one_or_named_wire c e.signal)) (sym same)
+      (event_first e e.time t (one_or_named_wire c e.signal) (events_of es) et)
   event_there e t (d ∷ es) r (inr later) et =
-      event_skips d e d.time t refl et (each_in (λ x. line_order d x ≡ Less) es r.0 e later) (line_signal c d.signal)
+      event_skips d e d.time t refl et (each_in (λ x. border_line_cmp d x ≡ Less) es r.0 e later)
+      (one_or_named_wire c d.signal)
       (events_of es) ∙ event_there e t es r.1 later et
 
   -- ---- either
 
   said_by : (e : BorderLine) (time : Option ℕ) (t : ℕ) (es : List BorderLine) → e.time ≡ time → SaysAt t time →
       Rises es →
-      AreUnstarred es → In e es →
-      signal_at (line_signals c es) t e.cell.x e.cell.y ≡ line_signal c e.signal
+      StarsExcludeLaterTimes es → In e es →
+      signal_at (line_signals c es) t e.cell.x e.cell.y ≡ one_or_named_wire c e.signal
   unfolding signal_at
   said_by e None t es et says r u i =
       ap (λ o. unwrap_or o (unwrap_or (event_at (events_of es) t e.cell.x e.cell.y) Zero)) (all_times_there e es r i et)
@@ -211,7 +215,8 @@ module _ (c : Circuit) where
       ∙ ap (λ (o : Option Signal). unwrap_or o Zero) (event_there e t es r i time)
 
   -- a line of lines in order says the signal of its cell
-  pub line_said : (e : BorderLine) (t : ℕ) (es : List BorderLine) → SaysAt t e.time → Rises es → AreUnstarred es →
+  pub line_said : (e : BorderLine) (t : ℕ) (es : List BorderLine) → SaysAt t e.time → Rises es →
+      StarsExcludeLaterTimes es →
       In e es →
-      signal_at (line_signals c es) t e.cell.x e.cell.y ≡ line_signal c e.signal
+      signal_at (line_signals c es) t e.cell.x e.cell.y ≡ one_or_named_wire c e.signal
   line_said e t es says r u i = said_by e e.time t es refl says r u i

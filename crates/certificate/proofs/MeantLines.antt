@@ -7,8 +7,9 @@ use Rattle.circuit.specs.Meaning.{Circuit, Gate}
 use Rattle.module_box.specs.Locals.{is_among}
 use Rattle.certificate_lines.specs.Entries.{Setting, ModuleLines, keep_in, keeps, stops}
 use Rattle.certificate.specs.Keeps.{is_kept, unkept, unkept_from}
-use Rattle.certificate.specs.Times.{all_stops, first_seen, last_seen, time_lines_of_gates, time_lines}
-use Rattle.certificate_lines.specs.Versions.{edge_lines_beside, in_order, is_haloless, modules_by_version, with_halos}
+use Rattle.certificate.specs.Times.{all_stops, first_seen, last_seen, time_lines_of_gates, delay_and_meet_lines}
+use Rattle.certificate_lines.specs.Versions.{edge_lines_beside, in_order, is_haloless_version, modules_by_version}
+use Rattle.certificate_lines.specs.Versions.{with_halos}
 use Rattle.certificate.proofs.FullModules.{meant_new, meant_old, other_lines, stop_lines}
 
 module _ (g : Setting) (ms : List ModuleLines) where
@@ -31,19 +32,19 @@ module _ (g : Setting) (ms : List ModuleLines) where
 
 pub stops_meant : (version : ℕ) (g : Setting) (ms : List ModuleLines) →
     all_stops (modules_by_version version g ms) ≡ all_stops ms
-stops_meant version g ms = elim (cases_Bool (is_haloless version)) [
+stops_meant version g ms = elim (cases_Bool (is_haloless_version version)) [
   | inl new ↦ ap all_stops (meant_new version g ms new) ∙ stops_of_all g ms ms
   | inr old ↦ ap all_stops (meant_old version g ms old)
 ]
 
 pub times_meant : (version : ℕ) (g : Setting) (c : Circuit) (ms : List ModuleLines) →
-    time_lines c (modules_by_version version g ms) ≡ time_lines c ms
+    delay_and_meet_lines c (modules_by_version version g ms) ≡ delay_and_meet_lines c ms
 times_meant version g c ms = ap (λ ss. time_lines_of_gates (first_seen c ss) (last_seen c ss) c.netlist.gates)
     (stops_meant version g ms)
 
 pub kept_meant : (version : ℕ) (g : Setting) (ms : List ModuleLines) (k : ℕ) →
     is_kept (modules_by_version version g ms) k ≡ is_kept ms k
-kept_meant version g ms k = elim (cases_Bool (is_haloless version)) [
+kept_meant version g ms k = elim (cases_Bool (is_haloless_version version)) [
   | inl new ↦ ap (λ ns. is_kept ns k) (meant_new version g ms new) ∙ kept_of_all g ms ms k
   | inr old ↦ ap (λ ns. is_kept ns k) (meant_old version g ms old)
 ]

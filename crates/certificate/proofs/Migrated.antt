@@ -1,35 +1,32 @@
 -- Lines that are good are good without the halo lines
-use Rattle.std.proofs.Common.{◌≡◌, ℕ, ◌≤◌, Bool, true, false, not, ◌&&◌, ◌||◌, if◌then◌else◌, List, [], ◌∷◌}
-use Rattle.std.proofs.Common.{◌++◌, map, length, Option, Some, None, option_map, refl, sym, ap, ap₂, subst, ◌∙◌, arith}
-use Rattle.std.specs.Prelude.{nat_le, nat_lt}
-use Rattle.std.specs.List.{filter, flat_map, fold, list_all, list_any}
-use Rattle.std.specs.Option.{option_to_list}
+use Rattle.std.proofs.Common.{◌≡◌, ℕ, ◌≤◌, Bool, true, false, not, ◌&&◌, ◌||◌, if◌then◌else◌, List, [], ◌∷◌, ◌++◌, map}
+use Rattle.std.proofs.Common.{length, Option, Some, None, option_map, refl, sym, ap, ap₂, subst, ◌∙◌, arith, nat_le}
+use Rattle.std.proofs.Common.{nat_lt, filter, flat_map, fold, option_to_list}
+use Rattle.std.specs.List.{list_all, list_any}
 use Rattle.std.proofs.lemmas.Bool.{and_parts}
 use Rattle.std.proofs.lemmas.Bool.Decides.{nat_tests}
 use Rattle.std.proofs.lemmas.List.{append-nil, length-map, map-append}
-use Rattle.section_text.specs.Codes.{or_else, code_where}
+use Rattle.section_text.specs.Codes.{or_else, code_if}
 use Rattle.circuit.specs.Meaning.{Circuit, wire_of}
 use Rattle.module_box.specs.Boxes.{in_box, in_halo}
 use Rattle.module_box.specs.Locals.{local_wires}
 use Rattle.module_box.specs.declared.boxes.Box2.{Box2}
-use Rattle.certificate_lines.specs.Entries.{Setting, ModuleLines, add_line, areas, change_last, cut_in, cuts}
-use Rattle.certificate_lines.specs.Entries.{edge_in, edges, gates, halos, known, last_of, modules_of}
-use Rattle.certificate_lines.specs.Entries.{last_module}
-use Rattle.certificate_lines.specs.Entries.{stop_in, stops, use_in, with_line}
+use Rattle.certificate_lines.specs.Entries.{Setting, ModuleLines, add_line, areas, change_last, cut_in, cuts, edge_in}
+use Rattle.certificate_lines.specs.Entries.{edges, gates, halos, known, last_of, modules_of, last_module, stop_in}
+use Rattle.certificate_lines.specs.Entries.{stops, use_in, module_with_line}
 use Rattle.certificate.specs.Laws.{AreFaultlessLines, GoodWithoutHalos, IsSectionOf, SectionWithoutHalos}
 use Rattle.certificate.specs.Grammars.{certificate_grammar}
 use Rattle.certificate_lines.specs.Modules.{AreModules}
 use Rattle.certificate_lines.specs.Orders.{may_follow, may_precede}
-use Rattle.certificate_lines.specs.Rules.{cut_fault, is_edge_place, is_starred, use_fault, keep_line_code}
-use Rattle.certificate_lines.specs.Rules.{is_stop_place}
-use Rattle.certificate_lines.specs.Rules.{border_count, border_line_code, border_limit, end_fault, entry_fault}
-use Rattle.certificate_lines.specs.Rules.{body_line_code}
-use Rattle.certificate_lines.specs.Rules.{is_incomplete, is_local, lacks_port, leaves_gap, line_fault, module_fault}
-use Rattle.certificate_lines.specs.Rules.{box_fault, is_misplaced, is_wrong_side, overlaps, content_code}
+use Rattle.certificate_lines.specs.Rules.{cut_fault, is_edge_place_and_time, is_starred_line_at, use_fault}
+use Rattle.certificate_lines.specs.Rules.{keep_line_code, is_stop_place_and_time, border_count, border_line_code}
+use Rattle.certificate_lines.specs.Rules.{border_limit, end_fault, entry_fault, body_line_code}
+use Rattle.certificate_lines.specs.Rules.{is_last_module_incomplete, is_local, has_nonlocal_port, leaves_gap}
+use Rattle.certificate_lines.specs.Rules.{line_fault, module_fault, box_fault, is_misplaced, is_wrong_side, overlaps}
+use Rattle.certificate_lines.specs.Rules.{content_code}
 use Rattle.certificate_lines.specs.Versions.{AreGoodLines, edge_lines_beside, in_order, precedes_halos, is_halo}
-use Rattle.certificate_lines.specs.Versions.{is_haloless}
-use Rattle.certificate_lines.specs.Versions.{is_nonlocal_signal}
-use Rattle.certificate_lines.specs.Versions.{lacks_wire, modules_by_version, haloless_module, with_halos, without_halos}
+use Rattle.certificate_lines.specs.Versions.{is_haloless_version, is_nonlocal_signal, lacks_edge_wire_beside}
+use Rattle.certificate_lines.specs.Versions.{modules_by_version, haloless_module, with_halos, without_halos}
 use Rattle.certificate_lines.specs.declared.certificate_line.BorderLine.{BorderLine}
 use Rattle.certificate_lines.specs.declared.certificate_line.CertificateLine.{CertificateLine}
 use Rattle.certificate_lines.specs.declared.certificate_line.CertificateLine.TheVariants.{Module, Cut, Use, Keep, Edge}
@@ -67,23 +64,24 @@ alone (Halo e) o = absurd cc
 alone (Stop s) o = refl
 
 stored_line : (i : CertificateLine) → is_halo i ≡ false → (m : ModuleLines) →
-    haloless_module (with_line i m) ≡ with_line i (haloless_module m)
+    haloless_module (module_with_line i m) ≡ module_with_line i (haloless_module m)
 unfolding haloless_module without_halos is_halo
 stored_line i other m = ap (λ l. record m { lines = l })
     (without_append m.lines (i ∷ []) ∙ ap (λ l. without_halos m.lines ++ l) (alone i other))
 
-dropped_line : (e : BorderLine) (m : ModuleLines) → haloless_module (with_line (Halo e) m) ≡ haloless_module m
+dropped_line : (e : BorderLine) (m : ModuleLines) → haloless_module (module_with_line (Halo e) m) ≡ haloless_module m
 unfolding haloless_module without_halos is_halo
 dropped_line e m = ap (λ l. record m { lines = l })
     (without_append m.lines (Halo e ∷ []) ∙ append-nil (without_halos m.lines))
 
 inner_step : (i : CertificateLine) → is_halo i ≡ false → (ms : List ModuleLines) →
-    map haloless_module (change_last (with_line i) ms) ≡ change_last (with_line i) (map haloless_module ms)
-inner_step i other ms = map_changed haloless_module (with_line i) (with_line i) (stored_line i other) ms
+    map haloless_module (change_last (module_with_line i) ms)
+    ≡ change_last (module_with_line i) (map haloless_module ms)
+inner_step i other ms = map_changed haloless_module (module_with_line i) (module_with_line i) (stored_line i other) ms
 
 halo_step : (e : BorderLine) (ms : List ModuleLines) →
-    map haloless_module (change_last (with_line (Halo e)) ms) ≡ map haloless_module ms
-halo_step e ms = map_changed haloless_module (with_line (Halo e)) (λ m. m) (dropped_line e) ms
+    map haloless_module (change_last (module_with_line (Halo e)) ms) ≡ map haloless_module ms
+halo_step e ms = map_changed haloless_module (module_with_line (Halo e)) (λ m. m) (dropped_line e) ms
     ∙ unchanged (map haloless_module ms)
 
 module_step : (b : Box2) (ms : List ModuleLines) →
@@ -100,21 +98,21 @@ modules_on (Module b ∷ es) ms =
     ap (λ l. fold add_line l (without_halos es)) (sym (module_step b ms))
     ∙ modules_on es (ms ++ record { area = b; lines = [] } ∷ [])
 modules_on (Cut n ∷ es) ms = ap (λ l. fold add_line l (without_halos es)) (sym (inner_step (Cut n) refl ms))
-    ∙ modules_on es (change_last (with_line (Cut n)) ms)
+    ∙ modules_on es (change_last (module_with_line (Cut n)) ms)
 modules_on (Use k ∷ es) ms = ap (λ l. fold add_line l (without_halos es)) (sym (inner_step (Use k) refl ms))
-    ∙ modules_on es (change_last (with_line (Use k)) ms)
+    ∙ modules_on es (change_last (module_with_line (Use k)) ms)
 modules_on (Keep k ∷ es) ms =
     ap (λ l. fold add_line l (without_halos es)) (sym (inner_step (Keep k) refl ms))
-    ∙ modules_on es (change_last (with_line (Keep k)) ms)
+    ∙ modules_on es (change_last (module_with_line (Keep k)) ms)
 modules_on (Edge e ∷ es) ms =
     ap (λ l. fold add_line l (without_halos es)) (sym (inner_step (Edge e) refl ms))
-    ∙ modules_on es (change_last (with_line (Edge e)) ms)
+    ∙ modules_on es (change_last (module_with_line (Edge e)) ms)
 modules_on (Halo e ∷ es) ms =
     ap (λ l. fold add_line l (without_halos es)) (sym (halo_step e ms))
-    ∙ modules_on es (change_last (with_line (Halo e)) ms)
+    ∙ modules_on es (change_last (module_with_line (Halo e)) ms)
 modules_on (Stop s ∷ es) ms =
     ap (λ l. fold add_line l (without_halos es)) (sym (inner_step (Stop s) refl ms))
-    ∙ modules_on es (change_last (with_line (Stop s)) ms)
+    ∙ modules_on es (change_last (module_with_line (Stop s)) ms)
 
 pub modules_without : (es : List CertificateLine) → modules_of (without_halos es) ≡ map haloless_module (modules_of es)
 unfolding modules_of
@@ -154,8 +152,8 @@ module _ (g : Setting) (m : ModuleLines) where
   known_kept = ap₂ (λ cs gs. local_wires g.circuit.netlist (flat_map (λ n. option_to_list (wire_of g.circuit n)) cs) gs)
       cuts_kept gates_kept
 
-  lacks_kept : lacks_port g (haloless_module m) ≡ lacks_port g m
-  unfolding lacks_port haloless_module
+  lacks_kept : has_nonlocal_port g (haloless_module m) ≡ has_nonlocal_port g m
+  unfolding has_nonlocal_port haloless_module
   lacks_kept = ap (λ ws. list_any (λ p. in_box m.area p.cell.x p.cell.y && not (is_local g.circuit ws p.name)) g.ports)
       known_kept
 
@@ -171,7 +169,7 @@ module _ (g : Setting) (m : ModuleLines) where
   area_kept = refl
 
 incomplete_kept : (g : Setting) (o : Option ModuleLines) →
-    is_incomplete g (option_map haloless_module o) ≡ is_incomplete g o
+    is_last_module_incomplete g (option_map haloless_module o) ≡ is_last_module_incomplete g o
 incomplete_kept g None = refl
 incomplete_kept g (Some m) = lacks_kept g m
 
@@ -210,7 +208,7 @@ none_both : (a b : Option RefusalCode) → a ≡ None → b ≡ None → or_else
 none_both None b h k = k
 none_both (Some x) b h k = absurd cc
 
-coded : (b : Bool) (code : RefusalCode) → b ≡ false → code_where b code ≡ None
+coded : (b : Bool) (code : RefusalCode) → b ≡ false → code_if b code ≡ None
 coded true code h = absurd cc
 coded false code h = refl
 
@@ -236,13 +234,14 @@ words_kept g m (Edge e) o h =
     (known g.circuit (haloless_module m)) _ e.signal
     (fewer g m)
     (ap₂ (λ es ws. border_line_code g.circuit (border_count m) ws
-    (is_edge_place g.size m.area (list_any (is_starred e.cell) es) e) e.signal) (edges_kept g m) (known_kept g m) ∙ h)
+    (is_edge_place_and_time g.size m.area (list_any (is_starred_line_at e.cell) es) e) e.signal) (edges_kept g m)
+    (known_kept g m) ∙ h)
 words_kept g m (Halo e) o h = absurd cc
 words_kept g m (Stop s) o h =
     border_less g.circuit (border_count (haloless_module m)) (border_count m) (known g.circuit (haloless_module m)) _
     (Some s.wire)
     (fewer g m)
-    (ap (λ ws. border_line_code g.circuit (border_count m) ws (is_stop_place g.size m.area s) (Some s.wire))
+    (ap (λ ws. border_line_code g.circuit (border_count m) ws (is_stop_place_and_time g.size m.area s) (Some s.wire))
     (known_kept g m) ∙ h)
 
 line_kept : (g : Setting) (m : ModuleLines) (i : CertificateLine) → is_halo i ≡ false → line_fault g m i ≡ None →
@@ -251,7 +250,7 @@ unfolding haloless_module
 line_kept g m i o h =
     let parts = both_none _ (content_code g m i) h in
     none_both _ (content_code g (haloless_module m) i)
-    (ap (λ b. code_where (not b) OutOfOrder) (follow_less m.lines i (true_of _ (no_code _ OutOfOrder parts.0))))
+    (ap (λ b. code_if (not b) OutOfOrder) (follow_less m.lines i (true_of _ (no_code _ OutOfOrder parts.0))))
     (words_kept g m i o parts.1)
 
 inner_kept : (g : Setting) (p : Option ModuleLines) (i : CertificateLine) → is_halo i ≡ false →
@@ -268,15 +267,15 @@ module _ (g : Setting) (before : List CertificateLine) where
       module_fault g (modules_of (without_halos before)) (last_module (without_halos before)) b ≡ None
   unfolding module_fault box_fault
   module_kept b h =
-      ap (λ a. or_else (or_else (code_where a SomethingMissing)
-      (or_else (code_where (is_wrong_side b.w || is_wrong_side b.h
+      ap (λ a. or_else (or_else (code_if a SomethingMissing)
+      (or_else (code_if (is_wrong_side b.w || is_wrong_side b.h
       || nat_le 1024 (length (modules_of (without_halos before)))) PastLimit)
-      (code_where (is_misplaced g.size b) MisplacedBox)))
-      (code_where (overlaps (areas (modules_of (without_halos before))) b) MisplacedBox))
-      (ap (is_incomplete g) present_without ∙ incomplete_kept g (last_module before))
-      ∙ ap₂ (λ n bs. or_else (or_else (code_where (is_incomplete g (last_module before)) SomethingMissing)
-      (or_else (code_where (is_wrong_side b.w || is_wrong_side b.h || nat_le 1024 n) PastLimit)
-      (code_where (is_misplaced g.size b) MisplacedBox))) (code_where (overlaps bs b) MisplacedBox))
+      (code_if (is_misplaced g.size b) MisplacedBox)))
+      (code_if (overlaps (areas (modules_of (without_halos before))) b) MisplacedBox))
+      (ap (is_last_module_incomplete g) present_without ∙ incomplete_kept g (last_module before))
+      ∙ ap₂ (λ n bs. or_else (or_else (code_if (is_last_module_incomplete g (last_module before)) SomethingMissing)
+      (or_else (code_if (is_wrong_side b.w || is_wrong_side b.h || nat_le 1024 n) PastLimit)
+      (code_if (is_misplaced g.size b) MisplacedBox))) (code_if (overlaps bs b) MisplacedBox))
       (ap length (modules_without before) ∙ length-map (modules_of before) haloless_module)
       (ap areas (modules_without before) ∙ areas_stripped (modules_of before))
       ∙ h
@@ -299,8 +298,8 @@ module _ (g : Setting) (before : List CertificateLine) where
   pub end_kept : end_fault g before ≡ None → end_fault g (without_halos before) ≡ None
   unfolding end_fault
   end_kept h =
-      ap₂ (λ a bs. code_where (a || leaves_gap g.size bs) SomethingMissing)
-      (ap (is_incomplete g) present_without ∙ incomplete_kept g (last_module before))
+      ap₂ (λ a bs. code_if (a || leaves_gap g.size bs) SomethingMissing)
+      (ap (is_last_module_incomplete g) present_without ∙ incomplete_kept g (last_module before))
       (ap areas (modules_without before) ∙ areas_stripped (modules_of before)) ∙ h
 
 -- ---- all lines
@@ -422,16 +421,16 @@ lacks_all g ms [] = refl
 lacks_all g ms (n ∷ ns) = ap₂ (λ a b. a || b) (lacks_one g ms n) (lacks_all g ms ns)
 
 pub migrated_lacks : (g : Setting) (es : List CertificateLine) →
-    lacks_wire g (modules_of (without_halos es)) ≡ lacks_wire g (modules_of es)
-unfolding lacks_wire
-migrated_lacks g es = ap (lacks_wire g) (modules_without es) ∙ lacks_all g (modules_of es) (modules_of es)
+    lacks_edge_wire_beside g (modules_of (without_halos es)) ≡ lacks_edge_wire_beside g (modules_of es)
+unfolding lacks_edge_wire_beside
+migrated_lacks g es = ap (lacks_edge_wire_beside g) (modules_without es) ∙ lacks_all g (modules_of es) (modules_of es)
 
 -- ---- sections of either version
 
 good_of : (g : Setting) (es before : List CertificateLine) → AreFaultlessLines g 1 before es → AreGoodLines g before es
 good_of g [] before h = tt
 good_of g (i ∷ es) before h = (
-  (both_none (code_where (is_haloless 1 && is_halo i) NoForm) (entry_fault g before i) h.0).1,
+  (both_none (code_if (is_haloless_version 1 && is_halo i) NoForm) (entry_fault g before i) h.0).1,
   good_of g es (before ++ i ∷ []) h.1,
 )
 
@@ -452,13 +451,14 @@ section_without_halos g es is knows =
     let good = good_without_halos g es (record {
       lines = good_of g es [] is.lines;
       end = (both_none (end_fault g es)
-          (code_where (is_haloless 1 && lacks_wire g (modules_of es)) SomethingMissing) is.end).0;
+          (code_if (is_haloless_version 1 && lacks_edge_wire_beside g (modules_of es)) SomethingMissing) is.end).0;
     }) in
     record {
       header = refl;
       lines = faultless_two g es [] good.lines;
       end = none_both (end_fault g (without_halos es))
-          (code_where (is_haloless 2 && lacks_wire g (modules_of (without_halos es))) SomethingMissing) good.end
+          (code_if (is_haloless_version 2 && lacks_edge_wire_beside g (modules_of (without_halos es))) SomethingMissing)
+          good.end
           (coded _ SomethingMissing (migrated_lacks g es ∙ knows));
     }
 

@@ -1,8 +1,6 @@
 -- The cells of a module's edge and halo lines lie within 512 columns and rows.
 use Rattle.std.proofs.Common.{◌≡◌, ℕ, ◌+◌, ◌<◌, ◌≤◌, List, [], ◌∷◌, map, true, Option, Some, None, sym, ap, subst, ◌∙◌}
-use Rattle.std.proofs.Common.{arith, get_or}
-use Rattle.std.specs.Prelude.{ℤ, pos, ◌+ℤ◌, ◌≤ℤ◌}
-use Rattle.std.specs.List.{All, flat_map}
+use Rattle.std.proofs.Common.{arith, get_or, ℤ, pos, ◌+ℤ◌, ◌≤ℤ◌, All, flat_map}
 use Rattle.std.proofs.lemmas.Bool.{and_parts}
 use Rattle.std.proofs.lemmas.Int.{ints}
 use Rattle.std.proofs.lemmas.List.Elements.{All-nil, All-cons, All-head, All-tail, All-append, All-map, All-weaker}
@@ -20,7 +18,7 @@ use Rattle.module_box.specs.declared.schedules.AllTimes.{AllTimes}
 use Rattle.module_box.specs.declared.schedules.Signal.{Signal}
 use Rattle.module_box.proofs.BoxCells.{in_box_nats}
 use Rattle.certificate_lines.specs.Entries.{Setting, ModuleLines, edges, halos, stops}
-use Rattle.certificate.specs.Jobs.{all_times_of_line, events_of_line, line_signal, line_signals}
+use Rattle.certificate.specs.Jobs.{all_times_of_line, events_of_line, one_or_named_wire, line_signals}
 use Rattle.certificate_lines.specs.Modules.{IsModule}
 use Rattle.certificate_lines.specs.Rules.{whole}
 use Rattle.module_job.specs.Shapes.{shift_to_origin, moved_stop}
@@ -101,9 +99,9 @@ low_all_times f c es s same all =
     unmapped (λ (h : AllTimes). IsLow h.cell) (renumber_all_times f) s.all_times
     (subst (λ (hs : List AllTimes). All (λ (h : AllTimes). IsLow h.cell) hs)
     (sym (ap (λ (r : Signals). r.all_times) same))
-    (flat_all (λ (h : AllTimes). IsLow h.cell) (λ e. all_times_of_line e e.time (line_signal c e.signal))
+    (flat_all (λ (h : AllTimes). IsLow h.cell) (λ e. all_times_of_line e e.time (one_or_named_wire c e.signal))
     (λ e. IsLow e.cell)
-    (λ e low. all_times_low e e.time (line_signal c e.signal) low) es all))
+    (λ e low. all_times_low e e.time (one_or_named_wire c e.signal) low) es all))
 
 pub low_events : (f : ℕ → ℕ) (c : Circuit) (es : List BorderLine) (s : Signals) →
     renumber_signals f s ≡ line_signals c es →
@@ -112,9 +110,9 @@ low_events f c es s same all =
     unmapped (λ (h : TimedSignal). IsLow h.at.cell) (renumber_event f) s.events
     (subst (λ (hs : List TimedSignal). All (λ (h : TimedSignal). IsLow h.at.cell) hs)
     (sym (ap (λ (r : Signals). r.events) same))
-    (flat_all (λ (h : TimedSignal). IsLow h.at.cell) (λ e. events_of_line e e.time (line_signal c e.signal))
+    (flat_all (λ (h : TimedSignal). IsLow h.at.cell) (λ e. events_of_line e e.time (one_or_named_wire c e.signal))
     (λ e. IsLow e.cell)
-    (λ e low. event_low e e.time (line_signal c e.signal) low) es all))
+    (λ e low. event_low e e.time (one_or_named_wire c e.signal) low) es all))
 
 -- ---- low cells are near, also where a box moves to the corner
 small_low : (z : ℤ) → (pos 0 ≤ℤ z) → (z ≤ℤ pos 511) → IsSmallShift z

@@ -1,6 +1,5 @@
 -- The certificate section has one text.
-use Rattle.std.proofs.Common.{ℕ, ◌+◌, List, length, drop, ◌∙◌, sym, ap, append_assoc}
-use Rattle.std.specs.List.{flat_map}
+use Rattle.std.proofs.Common.{ℕ, ◌+◌, List, length, drop, ◌∙◌, sym, ap, append_assoc, flat_map}
 use Rattle.section_text.specs.Words.{lines_of}
 use Rattle.section_text.specs.Section.{section_of}
 use Rattle.section_text.specs.declared.section.Form.TheVariants.{Header, Item, End}

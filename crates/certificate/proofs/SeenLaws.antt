@@ -1,11 +1,10 @@
 -- The first time is the least, and the last one the greatest.
 use Rattle.std.proofs.Common.{◌≡◌, ◌⊎◌, ℕ, zero, suc, ◌≤◌, List, [], ◌∷◌, Some, None, sym, ◌∙◌, inl, inr, arith}
-use Rattle.std.specs.Prelude.{Contains, min, max}
-use Rattle.std.specs.List.{All, fold}
+use Rattle.std.proofs.Common.{Contains, min, max, All, fold}
 use Rattle.std.proofs.lemmas.List.Elements.{All-nil, All-cons}
 use Rattle.std.proofs.lemmas.Option.{same_Some}
 use Rattle.certificate.specs.Laws.{FirstSeenIsLeast, LastSeenIsGreatest}
-use Rattle.certificate.specs.Times.{earlier, later, times_of}
+use Rattle.certificate.specs.Times.{earlier, later, stop_times_of_wire}
 
 there : (u : ℕ) (us : List ℕ) (t : ℕ) → Contains us t → Contains (u ∷ us) t
 there u us t h = (suc h.0, (let lt = h.1 in omega (arith, lt)), h.2)
@@ -46,7 +45,7 @@ least_of (a ∷ ts) t e =
     )
 
 pub first_is_least : FirstSeenIsLeast
-first_is_least c ss w t e = least_of (times_of c ss w) t e
+first_is_least c ss w t e = least_of (stop_times_of_wire c ss w) t e
 
 record IsGreatestWith (a : ℕ) (ts : List ℕ) (t : ℕ) : Type 0 where
   among : (t ≡ a) ⊎ Contains ts t
@@ -81,4 +80,4 @@ greatest_of (a ∷ ts) t e =
     )
 
 pub last_is_greatest : LastSeenIsGreatest
-last_is_greatest c ss w t e = greatest_of (times_of c ss w) t e
+last_is_greatest c ss w t e = greatest_of (stop_times_of_wire c ss w) t e

@@ -1,15 +1,13 @@
 -- Lines that are sorted are in order
-use Rattle.std.proofs.Common.{◌≡◌, ℕ, ◌+◌, ◌≤◌, true, false, if◌then◌else◌, List, [], ◌∷◌}
-use Rattle.std.proofs.Common.{get_or, Ordering, Less, Equal, Greater, refl, sym, ap, ◌∙◌, arith}
-use Rattle.std.specs.Prelude.{◌≢◌}
-use Rattle.std.specs.List.{sum_by}
+use Rattle.std.proofs.Common.{◌≡◌, ℕ, ◌+◌, ◌≤◌, true, false, if◌then◌else◌, List, [], ◌∷◌, get_or, Ordering, Less}
+use Rattle.std.proofs.Common.{Equal, Greater, refl, sym, ap, ◌∙◌, arith, ◌≢◌, sum_by, is_eq, is_lt}
 use Rattle.std.specs.List.Sorted.{IsPermutation, IsSortedBy}
-use Rattle.std.specs.Ordering.{is_eq, is_lt, ordering_reverse}
+use Rattle.std.specs.Ordering.{ordering_reverse}
 use Rattle.std.proofs.lemmas.List.Sorted.{IsPermutation-sym, All-permutation, ranks_by, sorted_far}
 use Rattle.std.proofs.lemmas.List.Sorted.{sum_by-IsPermutation}
 use Rattle.std.proofs.lemmas.List.Sums.{sum_by-cons}
 use Rattle.std.proofs.lemmas.Option.{get_or_from_slice_get, slice_get_within}
-use Rattle.certificate_lines.specs.Versions.{in_order, line_order}
+use Rattle.certificate_lines.specs.Versions.{in_order, border_line_cmp}
 use Rattle.certificate_lines.specs.declared.certificate_line.BorderLine.{BorderLine}
 use Rattle.certificate_lines.proofs.InList.{all_in}
 use Rattle.certificate.proofs.FullModules.{in_all, pairs_by_place}
@@ -19,7 +17,7 @@ use Rattle.certificate_lines.proofs.Pairs.{Each, Pairs, pairs_at}
 
 -- how many lines stand nowhere apart from the line
 beat : BorderLine → BorderLine → ℕ
-beat e y = if is_eq (line_order e y) then 1 else 0
+beat e y = if is_eq (border_line_cmp e y) then 1 else 0
 
 abbrev count_at : BorderLine → List BorderLine → ℕ
 count_at e ys = sum_by (beat e) ys
@@ -37,25 +35,26 @@ not_eq Greater h = refl
 cons_at : (e y : BorderLine) (ys : List BorderLine) → count_at e (y ∷ ys) ≡ beat e y + count_at e ys
 cons_at e y ys = sum_by-cons (beat e) y ys
 
-beat_of : (e y : BorderLine) (o : Ordering) → line_order e y ≡ o → beat e y ≡ (if is_eq o then 1 else 0)
+beat_of : (e y : BorderLine) (o : Ordering) → border_line_cmp e y ≡ o → beat e y ≡ (if is_eq o then 1 else 0)
 unfolding beat
 beat_of e y o h = ap (λ o. if is_eq o then 1 else 0) h
 
-beat_none : (e y : BorderLine) → line_order e y ≢ Equal → beat e y ≡ 0
+beat_none : (e y : BorderLine) → border_line_cmp e y ≢ Equal → beat e y ≡ 0
 unfolding beat
-beat_none e y h = ap (λ b. if b then 1 else 0) (not_eq (line_order e y) h)
+beat_none e y h = ap (λ b. if b then 1 else 0) (not_eq (border_line_cmp e y) h)
 
-beat_one : (e y : BorderLine) → line_order e y ≡ Equal → beat e y ≡ 1
+beat_one : (e y : BorderLine) → border_line_cmp e y ≡ Equal → beat e y ≡ 1
 beat_one e y h = beat_of e y Equal h
 
-none_at : (e : BorderLine) (ys : List BorderLine) → Each (λ y. line_order e y ≢ Equal) ys → count_at e ys ≡ 0
+none_at : (e : BorderLine) (ys : List BorderLine) → Each (λ y. border_line_cmp e y ≢ Equal) ys → count_at e ys ≡ 0
 unfolding Each
 none_at e [] h = refl
 none_at e (y ∷ ys) h = let c = cons_at e y ys in let n = beat_none e y h.0 in let m = none_at e ys h.1 in
     omega (arith, c, n, m)
 
-first_or_later : (e y : BorderLine) (ys : List BorderLine) → Each (λ z. line_order y z ≢ Equal) ys → count_at e ys ≤ 1 →
-    (o : Ordering) → line_order e y ≡ o → count_at e (y ∷ ys) ≤ 1
+first_or_later : (e y : BorderLine) (ys : List BorderLine) → Each (λ z. border_line_cmp y z ≢ Equal) ys →
+    count_at e ys ≤ 1 →
+    (o : Ordering) → border_line_cmp e y ≡ o → count_at e (y ∷ ys) ≤ 1
 first_or_later e y ys d later Less h = let c = cons_at e y ys in let n = beat_of e y Less h in
     omega (arith, c, n, later)
 first_or_later e y ys d later Greater h = let c = cons_at e y ys in let n = beat_of e y Greater h in
@@ -63,24 +62,24 @@ first_or_later e y ys d later Greater h = let c = cons_at e y ys in let n = beat
 first_or_later e y ys d later Equal h =
     let c = cons_at e y ys in
     let n = beat_one e y h in
-    let m = none_at e ys (in_each (λ z. line_order e z ≢ Equal) ys
-    (λ z i eq. each_in (λ z. line_order y z ≢ Equal) ys d z i (sym (line_total.congr e y z h) ∙ eq))) in
+    let m = none_at e ys (in_each (λ z. border_line_cmp e z ≢ Equal) ys
+    (λ z i eq. each_in (λ z. border_line_cmp y z ≢ Equal) ys d z i (sym (line_total.congr e y z h) ∙ eq))) in
     omega (arith, c, n, m)
 
 one_at : (e : BorderLine) (ys : List BorderLine) → AreDistinct ys → count_at e ys ≤ 1
 unfolding Pairs
 one_at e [] p = omega arith
-one_at e (y ∷ ys) p = first_or_later e y ys p.0 (one_at e ys p.1) (line_order e y) refl
+one_at e (y ∷ ys) p = first_or_later e y ys p.0 (one_at e ys p.1) (border_line_cmp e y) refl
 
-itself : (y : BorderLine) → line_order y y ≡ Equal
-itself y = by (line_order y y) refl
+itself : (y : BorderLine) → border_line_cmp y y ≡ Equal
+itself y = by (border_line_cmp y y) refl
   where
-    by : (o : Ordering) → line_order y y ≡ o → line_order y y ≡ Equal
+    by : (o : Ordering) → border_line_cmp y y ≡ o → border_line_cmp y y ≡ Equal
     by Less e = absurd (let t = sym e ∙ line_total.antisymm y y ∙ ap ordering_reverse e in cc)
     by Equal e = e
     by Greater e = absurd (let t = sym e ∙ line_total.antisymm y y ∙ ap ordering_reverse e in cc)
 
-all_other : (e : BorderLine) (ys : List BorderLine) → count_at e ys ≡ 0 → Each (λ y. line_order e y ≢ Equal) ys
+all_other : (e : BorderLine) (ys : List BorderLine) → count_at e ys ≡ 0 → Each (λ y. border_line_cmp e y ≢ Equal) ys
 unfolding Each
 all_other e [] n = tt
 all_other e (y ∷ ys) n =
@@ -106,27 +105,30 @@ kept_in : (xs ys : List BorderLine) → IsPermutation xs ys → (x : BorderLine)
 kept_in xs ys p x i = all_in (λ y. In y xs) ys
     (All-permutation (λ y. In y xs) xs ys p (in_all (λ y. In y xs) xs (λ y j. j))) x i
 
-less_of : (a b : BorderLine) → is_lt (line_order b a) ≡ false → line_order a b ≢ Equal → line_order a b ≡ Less
-less_of a b h n = by (line_order a b) refl
+less_of : (a b : BorderLine) → is_lt (border_line_cmp b a) ≡ false → border_line_cmp a b ≢ Equal →
+    border_line_cmp a b ≡ Less
+less_of a b h n = by (border_line_cmp a b) refl
   where
-    by : (o : Ordering) → line_order a b ≡ o → line_order a b ≡ Less
+    by : (o : Ordering) → border_line_cmp a b ≡ o → border_line_cmp a b ≡ Less
     by Less e = e
     by Equal e = absurd (n e)
-    by Greater e = absurd (let t : line_order b a ≡ Less = line_total.antisymm b a ∙ ap ordering_reverse e in let k =
+    by Greater e = absurd (let t : border_line_cmp b a ≡ Less = line_total.antisymm b a ∙ ap ordering_reverse e in
+        let k =
         sym h ∙ ap is_lt t in cc)
 
-sorted_rises : (ys : List BorderLine) → IsSortedBy (λ a b. is_lt (line_order a b)) ys → AreDistinct ys → Rises ys
-sorted_rises ys up d = pairs_by_place (λ a b. line_order a b ≡ Less) ys (λ i j a b lt ea eb.
+sorted_rises : (ys : List BorderLine) → IsSortedBy (λ a b. is_lt (border_line_cmp a b)) ys → AreDistinct ys → Rises ys
+sorted_rises ys up d = pairs_by_place (λ a b. border_line_cmp a b ≡ Less) ys (λ i j a b lt ea eb.
     let la = slice_get_within ys i a ea in let lb = slice_get_within ys j b eb in
-    let far = sorted_far (λ a b. is_lt (line_order a b)) (ranks_by line_total (λ e. e)) ys up i j a
+    let far = sorted_far (λ a b. is_lt (border_line_cmp a b)) (ranks_by line_total (λ e. e)) ys up i j a
     (omega (arith, lt)) lb in
     let ga : get_or ys i a ≡ a = get_or_from_slice_get ys i a a ea in
     let gb : get_or ys j a ≡ b = get_or_from_slice_get ys j b a eb in
-    less_of a b (ap (λ x. is_lt (line_order x a)) (sym gb) ∙ ap (λ x. is_lt (line_order (get_or ys j a) x)) (sym ga)
-    ∙ far) (pairs_at (λ a b. line_order a b ≢ Equal) ys d i j a b lt ea eb))
+    less_of a b (ap (λ x. is_lt (border_line_cmp x a)) (sym gb)
+    ∙ ap (λ x. is_lt (border_line_cmp (get_or ys j a) x)) (sym ga)
+    ∙ far) (pairs_at (λ a b. border_line_cmp a b ≢ Equal) ys d i j a b lt ea eb))
 
 pub sorted_lines : (xs ys : List BorderLine) → AreDistinct xs → IsPermutation xs ys →
-    IsSortedBy (λ a b. is_lt (line_order a b)) ys → ys ≡ in_order xs
+    IsSortedBy (λ a b. is_lt (border_line_cmp a b)) ys → ys ≡ in_order xs
 sorted_lines xs ys d p up =
     rising_same ys (in_order xs) (sorted_rises ys up (kept_distinct xs ys p d)) (ordered_rises xs d)
     (λ x i. ordered_in x xs (kept_in xs ys p x i))

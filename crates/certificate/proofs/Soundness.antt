@@ -1,9 +1,8 @@
 -- Lines that are good one after the other make good modules.
 use Rattle.std.proofs.Common.{◌≡◌, ◌⊎◌, ℕ, zero, suc, ◌+◌, ◌<◌, ◌≤◌, ℤ, Bool, true, false, not, ◌&&◌, ◌||◌, ◌==◌, List}
 use Rattle.std.proofs.Common.{[], ◌∷◌, ◌++◌, length, Some, None, refl, sym, ap, subst, ◌∙◌, inl, inr, arith, pos}
-use Rattle.std.proofs.Common.{negsuc, append-nil, append_assoc}
-use Rattle.std.specs.Prelude.{slice_get}
-use Rattle.std.specs.List.{All, list_all}
+use Rattle.std.proofs.Common.{negsuc, append-nil, append_assoc, slice_get, All}
+use Rattle.std.specs.List.{list_all}
 use Rattle.std.proofs.lemmas.Bool.{and_parts, eqb-true, true≢false}
 use Rattle.std.proofs.lemmas.Bool.Decides.{nat_tests}
 use Rattle.bbm_rule.specs.Spans.{in_span}
@@ -17,12 +16,12 @@ use Rattle.section_text.proofs.Good.{AreFaultless, IsFaultless}
 use Rattle.module_box.specs.Boxes.{in_box, Tile}
 use Rattle.module_box.specs.Tiling.{IsInside}
 use Rattle.module_box.specs.declared.boxes.Box2.{Box2}
-use Rattle.certificate_lines.specs.Entries.{Setting, ModuleLines, with_line, change_last, last_of, add_line, modules_of}
-use Rattle.certificate_lines.specs.Entries.{last_module, areas, known}
-use Rattle.certificate_lines.specs.Rules.{whole, box_cells, in_boxes, is_local, is_incomplete, lacks_port, leaves_gap}
-use Rattle.certificate_lines.specs.Rules.{entry_fault, end_fault}
+use Rattle.certificate_lines.specs.Entries.{Setting, ModuleLines, module_with_line, change_last, last_of, add_line}
+use Rattle.certificate_lines.specs.Entries.{modules_of, last_module, areas, known}
+use Rattle.certificate_lines.specs.Rules.{whole, box_cells, in_boxes, is_local, is_last_module_incomplete}
+use Rattle.certificate_lines.specs.Rules.{has_nonlocal_port, leaves_gap, entry_fault, end_fault}
 use Rattle.certificate.specs.Grammars.{certificate_grammar}
-use Rattle.certificate_lines.specs.Versions.{is_haloless, lacks_wire}
+use Rattle.certificate_lines.specs.Versions.{is_haloless_version, lacks_edge_wire_beside}
 use Rattle.certificate_lines.specs.Modules.{IsWithinLineLimit, HasPorts, AreModules}
 use Rattle.certificate_lines.specs.BuilderView.{AreSound, IsWritten}
 use Rattle.certificate_lines.specs.declared.certificate_line.CertificateLine.{CertificateLine}
@@ -40,13 +39,14 @@ use Rattle.section_text.specs.declared.code.RefusalCode.TheVariants.{PastLimit, 
 
 module _ (g : Setting) (es : List CertificateLine) (sound : AreSound g (modules_of es)) where
   -- one more line of the last module
-  inner_sound : (i : CertificateLine) → add_line (modules_of es) i ≡ change_last (with_line i) (modules_of es) →
-      (good : IsGoodLine g es i) → (IsWritten g good.module_lines → IsWritten g (with_line i good.module_lines)) →
+  inner_sound : (i : CertificateLine) → add_line (modules_of es) i ≡ change_last (module_with_line i) (modules_of es) →
+      (good : IsGoodLine g es i) → (IsWritten g good.module_lines → IsWritten g (module_with_line i good.module_lines))
+      →
       AreSound g (modules_of (es ++ i ∷ []))
   inner_sound i step good grows =
       subst (AreSound g) (sym (modules_push es i ∙ step))
       (line_sound g (modules_of es) i sound
-      (λ m some. subst (λ k. IsWritten g k → IsWritten g (with_line i k))
+      (λ m some. subst (λ k. IsWritten g k → IsWritten g (module_with_line i k))
       (some_is good.module_lines m (sym good.last ∙ some)) grows))
 
   sound_push : (i : CertificateLine) → entry_fault g es i ≡ None → AreSound g (modules_of (es ++ i ∷ []))
@@ -142,8 +142,8 @@ module _ (g : Setting) (ms : List ModuleLines) (sound : AreSound g ms) where
         box_inside g.size b x y (subst (IsInside g.size.w g.size.h) m.2 (sound.each i m.0 m.1).good.inside) h;
   }
 
-  has_ports : (m : ModuleLines) → lacks_port g m ≡ false → HasPorts g m
-  unfolding lacks_port
+  has_ports : (m : ModuleLines) → has_nonlocal_port g m ≡ false → HasPorts g m
+  unfolding has_nonlocal_port
   has_ports m none = record {
     local = λ i p at inside. known_by (is_local g.circuit (known g.circuit m) p.name)
         (λ unknown. true≢false (sym (any_at
@@ -158,14 +158,15 @@ module _ (g : Setting) (ms : List ModuleLines) (sound : AreSound g ms) where
   here_or_before : (i n : ℕ) → i < n → (i + 1 < n) ⊎ (i + 1 ≡ n)
   here_or_before i n h = grind arith
 
-  all_ported : is_incomplete g (last_of ms) ≡ false → (k : ℕ) (m : ModuleLines) → slice_get ms k ≡ Some m →
-      lacks_port g m ≡ false
+  all_ported : is_last_module_incomplete g (last_of ms) ≡ false → (k : ℕ) (m : ModuleLines) → slice_get ms k ≡ Some m →
+      has_nonlocal_port g m ≡ false
   all_ported whole k m e = elim (here_or_before k (length ms) (slice_get_within ms k m e)) [
     | inl lt ↦ sound.ported k m lt e
-    | inr at ↦ ap (is_incomplete g) (sym (last_is ms k m at e)) ∙ whole
+    | inr at ↦ ap (is_last_module_incomplete g) (sym (last_is ms k m at e)) ∙ whole
   ]
 
-  pub good_modules : is_incomplete g (last_of ms) ≡ false → leaves_gap g.size (areas ms) ≡ false → AreModules g ms
+  pub good_modules : is_last_module_incomplete g (last_of ms) ≡ false → leaves_gap g.size (areas ms) ≡ false →
+      AreModules g ms
   good_modules complete full = record {
     few = sound.few;
     each = λ k m e. (sound.each k m e).good;
@@ -186,7 +187,7 @@ read_version g v es good = one_or_two v (not_false _ (no_code _ PastLimit good.h
 
 -- and in version 2 each module knows the wires of the edge lines beside it
 pub read_complete : (g : Setting) (v : ℕ) (es : List CertificateLine) → IsFaultless (certificate_grammar g) v es →
-    (is_haloless v && lacks_wire g (modules_of es)) ≡ false
+    (is_haloless_version v && lacks_edge_wire_beside g (modules_of es)) ≡ false
 read_complete g v es good = no_code _ SomethingMissing (both_none (end_fault g es) _ good.end).1
 
 pub faultless_modules : (g : Setting) (v : ℕ) (es : List CertificateLine) → IsFaultless (certificate_grammar g) v es →
@@ -194,7 +195,7 @@ pub faultless_modules : (g : Setting) (v : ℕ) (es : List CertificateLine) → 
 unfolding end_fault
 faultless_modules g v es good =
     let sound = sound_all g v es [] (none_sound g) good.each in
-    let parts = or_false (is_incomplete g (last_module es)) (leaves_gap g.size (areas (modules_of es)))
+    let parts = or_false (is_last_module_incomplete g (last_module es)) (leaves_gap g.size (areas (modules_of es)))
     (no_code _ SomethingMissing (both_none (end_fault g es) _ good.end).0) in
     good_modules g (modules_of es) sound parts.0 parts.1
 

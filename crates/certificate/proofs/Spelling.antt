@@ -1,62 +1,63 @@
 -- Each line of the certificate section is the spelling of its form.
 use Rattle.std.proofs.Common.{◌≡◌, ℕ, ◌+◌, true, eqb, List, [], ◌∷◌, length, Option, Some, None, ap, subst, inl, inr}
-use Rattle.std.specs.Prelude.{slice_get, codes}
+use Rattle.std.proofs.Common.{slice_get, codes}
 use Rattle.std.specs.Fmt.{decimal}
 use Rattle.std.proofs.lemmas.Bool.{eqb-true}
 use Rattle.std.proofs.lemmas.Option.{option_and_then_some, same_Some}
 use Rattle.section_text.specs.Words.{◌>>=◌, words_of, is_word_at, lone, lone_number, lone_name, name_at, number_at}
-use Rattle.section_text.specs.Section.{ended_line}
+use Rattle.section_text.specs.Section.{with_line_feed}
 use Rattle.section_text.specs.declared.section.Form.TheVariants.{Header, Item, End}
 use Rattle.section_text.proofs.Spellings.{chosen, passed, number_at_spelled, one_word, two_words, five_words}
 use Rattle.section_text.proofs.WordPlaces.{is_at_is, name_at_is, line_from_words}
 use Rattle.bbm_rule.specs.declared.block.Cell.{Cell}
 use Rattle.module_box.specs.declared.boxes.Box2.{Box2}
 use Rattle.pattern.specs.Layout.{cell}
-use Rattle.pattern.specs.Forms.{cell_from}
+use Rattle.pattern.specs.Forms.{cell_of_words_from}
 use Rattle.pattern.specs.Text.{coordinate}
 use Rattle.certificate_lines.specs.declared.certificate_line.BorderLine.{BorderLine}
 use Rattle.certificate_lines.specs.declared.certificate_line.StopLine.{StopLine}
 use Rattle.certificate_lines.specs.declared.certificate_line.CertificateLine.TheVariants.{Module, Cut, Use, Keep, Edge}
 use Rattle.certificate_lines.specs.declared.certificate_line.CertificateLine.TheVariants.{Halo, Stop}
-use Rattle.certificate_lines.specs.Forms.{Line, corner_and_sides, area_of, time_at, signal_at, timed_cell, border_of}
-use Rattle.certificate_lines.specs.Forms.{timed_wire, stop_of, form_of}
-use Rattle.certificate.specs.Text.{area_words, time_word, signal_word, border_words, stop_words, form_text}
+use Rattle.certificate_lines.specs.Forms.{Line, corner_and_sides, area_of, star_or_time_at_word, signal_at}
+use Rattle.certificate_lines.specs.Forms.{border_of_five_words, border_of, stop_of_five_words, stop_of, form_of}
+use Rattle.certificate.specs.Text.{area_words, star_or_time_word, one_or_name_word, border_words, stop_words, form_text}
 
 -- two words are a cell
 record CellAt (ws : List (List ℕ)) (i j : ℕ) (c : Cell) : Type 0 where
   column : slice_get ws i ≡ Some (decimal (coordinate c.x))
   row : slice_get ws j ≡ Some (decimal (coordinate c.y))
 
-cell_spelled : (ws : List (List ℕ)) (i : ℕ) (c : Cell) → cell_from ws i ≡ Some c → CellAt ws i (i + 1) c
-unfolding cell_from
+cell_spelled : (ws : List (List ℕ)) (i : ℕ) (c : Cell) → cell_of_words_from ws i ≡ Some c → CellAt ws i (i + 1) c
+unfolding cell_of_words_from
 cell_spelled ws i c e =
     option_and_then_some (λ x. number_at ws (i + 1) >>= λ y. Some (cell x y)) (number_at ws i) c e (λ x first rest.
     option_and_then_some (λ y. Some (cell x y)) (number_at ws (i + 1)) c rest (λ y second made.
     subst (CellAt ws i (i + 1)) (same_Some (cell x y) c made)
     (record { column = number_at_spelled ws i x first; row = number_at_spelled ws (i + 1) y second })))
 
-time_spelled : (ws : List (List ℕ)) (i : ℕ) (t : Option ℕ) → time_at ws i ≡ Some t → slice_get ws i ≡ Some (time_word t)
-unfolding time_at
+time_spelled : (ws : List (List ℕ)) (i : ℕ) (t : Option ℕ) → star_or_time_at_word ws i ≡ Some t →
+    slice_get ws i ≡ Some (star_or_time_word t)
+unfolding star_or_time_at_word
 time_spelled ws i t e =
     elim (chosen (is_word_at ws i (codes "*")) _ _ (Some t) e) [
-      | inl p ↦ subst (λ (s : Option ℕ). slice_get ws i ≡ Some (time_word s)) (same_Some None t p.1)
+      | inl p ↦ subst (λ (s : Option ℕ). slice_get ws i ≡ Some (star_or_time_word s)) (same_Some None t p.1)
           (is_at_is ws i (codes "*") p.0)
       | inr p ↦
           option_and_then_some (λ n. Some (Some n)) (number_at ws i) t p.1 (λ n found made.
-          subst (λ (s : Option ℕ). slice_get ws i ≡ Some (time_word s)) (same_Some (Some n) t made)
+          subst (λ (s : Option ℕ). slice_get ws i ≡ Some (star_or_time_word s)) (same_Some (Some n) t made)
           (number_at_spelled ws i n found))
     ]
 
 signal_spelled : (ws : List (List ℕ)) (i : ℕ) (s : Option (List ℕ)) → signal_at ws i ≡ Some s →
-    slice_get ws i ≡ Some (signal_word s)
+    slice_get ws i ≡ Some (one_or_name_word s)
 unfolding signal_at
 signal_spelled ws i s e =
     elim (chosen (is_word_at ws i (codes "1")) _ _ (Some s) e) [
-      | inl p ↦ subst (λ (r : Option (List ℕ)). slice_get ws i ≡ Some (signal_word r)) (same_Some None s p.1)
+      | inl p ↦ subst (λ (r : Option (List ℕ)). slice_get ws i ≡ Some (one_or_name_word r)) (same_Some None s p.1)
           (is_at_is ws i (codes "1") p.0)
       | inr p ↦
           option_and_then_some (λ n. Some (Some n)) (name_at ws i) s p.1 (λ n found made.
-          subst (λ (r : Option (List ℕ)). slice_get ws i ≡ Some (signal_word r)) (same_Some (Some n) s made)
+          subst (λ (r : Option (List ℕ)). slice_get ws i ≡ Some (one_or_name_word r)) (same_Some (Some n) s made)
           (name_at_is ws i n found))
     ]
 
@@ -79,31 +80,31 @@ area_spelled ws v b at e =
 
 border_spelled : (ws : List (List ℕ)) (v : List ℕ) (b : BorderLine) → is_word_at ws 0 v ≡ true → border_of ws ≡ Some b →
     ws ≡ v ∷ border_words b
-unfolding border_of timed_cell
+unfolding border_of border_of_five_words
 border_spelled ws v b at e =
-    let found = passed (eqb (length ws) 5) (timed_cell ws) b e in
-    option_and_then_some (λ t. cell_from ws 2 >>= λ c. signal_at ws 4 >>= λ s.
-    Some (record { time = t; cell = c; signal = s })) (time_at ws 1) b found.1 (λ t timed rest.
+    let found = passed (eqb (length ws) 5) (border_of_five_words ws) b e in
+    option_and_then_some (λ t. cell_of_words_from ws 2 >>= λ c. signal_at ws 4 >>= λ s.
+    Some (record { time = t; cell = c; signal = s })) (star_or_time_at_word ws 1) b found.1 (λ t timed rest.
     option_and_then_some (λ c. signal_at ws 4 >>= λ s. Some (record { time = t; cell = c; signal = s }))
-    (cell_from ws 2) b rest (λ c at_cell last.
+    (cell_of_words_from ws 2) b rest (λ c at_cell last.
     option_and_then_some (λ s. Some (record { time = t; cell = c; signal = s })) (signal_at ws 4) b last
     (λ s signalled made.
     let place = cell_spelled ws 2 c at_cell in
     subst (λ (q : BorderLine). ws ≡ v ∷ border_words q) (same_Some (record { time = t; cell = c; signal = s }) b made)
-    (five_words ws v (time_word t) (decimal (coordinate c.x)) (decimal (coordinate c.y)) (signal_word s)
+    (five_words ws v (star_or_time_word t) (decimal (coordinate c.x)) (decimal (coordinate c.y)) (one_or_name_word s)
     (eqb-true _ _ found.0) (is_at_is ws 0 v at) (time_spelled ws 1 t timed) place.column place.row
     (signal_spelled ws 4 s signalled)))))
 
 stop_spelled : (ws : List (List ℕ)) (v : List ℕ) (s : StopLine) → is_word_at ws 0 v ≡ true → stop_of ws ≡ Some s →
     ws ≡ v ∷ stop_words s
-unfolding stop_of timed_wire
+unfolding stop_of stop_of_five_words
 stop_spelled ws v s at e =
-    let found = passed (eqb (length ws) 5) (timed_wire ws) s e in
-    option_and_then_some (λ t. name_at ws 2 >>= λ n. cell_from ws 3 >>= λ c.
+    let found = passed (eqb (length ws) 5) (stop_of_five_words ws) s e in
+    option_and_then_some (λ t. name_at ws 2 >>= λ n. cell_of_words_from ws 3 >>= λ c.
     Some (record { time = t; wire = n; cell = c })) (number_at ws 1) s found.1 (λ t timed rest.
-    option_and_then_some (λ n. cell_from ws 3 >>= λ c. Some (record { time = t; wire = n; cell = c }))
+    option_and_then_some (λ n. cell_of_words_from ws 3 >>= λ c. Some (record { time = t; wire = n; cell = c }))
     (name_at ws 2) s rest (λ n named last.
-    option_and_then_some (λ c. Some (record { time = t; wire = n; cell = c })) (cell_from ws 3) s last
+    option_and_then_some (λ c. Some (record { time = t; wire = n; cell = c })) (cell_of_words_from ws 3) s last
     (λ c at_cell made.
     let place = cell_spelled ws 3 c at_cell in
     subst (λ (q : StopLine). ws ≡ v ∷ stop_words q) (same_Some (record { time = t; wire = n; cell = c }) s made)
@@ -135,22 +136,22 @@ first_of (Item (Halo b)) = codes "halo"
 first_of (Item (Stop s)) = codes "stop"
 first_of End = codes "end"
 
-others_of : Line → List (List ℕ)
-others_of (Header version) = decimal version ∷ []
-others_of (Item (Module b)) = area_words b
-others_of (Item (Cut n)) = n ∷ []
-others_of (Item (Use k)) = decimal k ∷ []
-others_of (Item (Keep k)) = decimal k ∷ []
-others_of (Item (Edge b)) = border_words b
-others_of (Item (Halo b)) = border_words b
-others_of (Item (Stop s)) = stop_words s
-others_of End = []
+non_mirror_grid : Line → List (List ℕ)
+non_mirror_grid (Header version) = decimal version ∷ []
+non_mirror_grid (Item (Module b)) = area_words b
+non_mirror_grid (Item (Cut n)) = n ∷ []
+non_mirror_grid (Item (Use k)) = decimal k ∷ []
+non_mirror_grid (Item (Keep k)) = decimal k ∷ []
+non_mirror_grid (Item (Edge b)) = border_words b
+non_mirror_grid (Item (Halo b)) = border_words b
+non_mirror_grid (Item (Stop s)) = stop_words s
+non_mirror_grid End = []
 
 abbrev SpelledAs : List (List ℕ) → Line → Type 0
-SpelledAs ws f = ws ≡ first_of f ∷ others_of f
+SpelledAs ws f = ws ≡ first_of f ∷ non_mirror_grid f
 
 form_words : (ws : List (List ℕ)) (f : Line) → form_of ws ≡ Some f → SpelledAs ws f
-unfolding form_of lone first_of others_of
+unfolding form_of lone first_of non_mirror_grid
 form_words ws f e =
     elim (chosen (is_word_at ws 0 (codes "edge")) _ _ (Some f) e) [
       | inl p ↦ option_and_then_some (λ b. Some (Item (Edge b))) (border_of ws) f p.1
@@ -198,22 +199,22 @@ form_words ws f e =
       ]
     ]
 
-pub form_line : (l : List ℕ) (f : Line) → form_of (words_of l) ≡ Some f → ended_line l ≡ form_text f
-unfolding first_of others_of
-form_line l (Header v) e = ap ended_line
+pub form_line : (l : List ℕ) (f : Line) → form_of (words_of l) ≡ Some f → with_line_feed l ≡ form_text f
+unfolding first_of non_mirror_grid
+form_line l (Header v) e = ap with_line_feed
     (line_from_words l (codes "certificate") (decimal v ∷ []) (form_words (words_of l) (Header v) e))
 form_line l (Item (Module b)) e =
-    ap ended_line (line_from_words l (codes "module") (area_words b) (form_words (words_of l) (Item (Module b)) e))
+    ap with_line_feed (line_from_words l (codes "module") (area_words b) (form_words (words_of l) (Item (Module b)) e))
 form_line l (Item (Cut n)) e =
-    ap ended_line (line_from_words l (codes "cut") (n ∷ []) (form_words (words_of l) (Item (Cut n)) e))
+    ap with_line_feed (line_from_words l (codes "cut") (n ∷ []) (form_words (words_of l) (Item (Cut n)) e))
 form_line l (Item (Use k)) e =
-    ap ended_line (line_from_words l (codes "use") (decimal k ∷ []) (form_words (words_of l) (Item (Use k)) e))
+    ap with_line_feed (line_from_words l (codes "use") (decimal k ∷ []) (form_words (words_of l) (Item (Use k)) e))
 form_line l (Item (Keep k)) e =
-    ap ended_line (line_from_words l (codes "keep") (decimal k ∷ []) (form_words (words_of l) (Item (Keep k)) e))
+    ap with_line_feed (line_from_words l (codes "keep") (decimal k ∷ []) (form_words (words_of l) (Item (Keep k)) e))
 form_line l (Item (Edge b)) e =
-    ap ended_line (line_from_words l (codes "edge") (border_words b) (form_words (words_of l) (Item (Edge b)) e))
+    ap with_line_feed (line_from_words l (codes "edge") (border_words b) (form_words (words_of l) (Item (Edge b)) e))
 form_line l (Item (Halo b)) e =
-    ap ended_line (line_from_words l (codes "halo") (border_words b) (form_words (words_of l) (Item (Halo b)) e))
+    ap with_line_feed (line_from_words l (codes "halo") (border_words b) (form_words (words_of l) (Item (Halo b)) e))
 form_line l (Item (Stop s)) e =
-    ap ended_line (line_from_words l (codes "stop") (stop_words s) (form_words (words_of l) (Item (Stop s)) e))
-form_line l End e = ap ended_line (line_from_words l (codes "end") [] (form_words (words_of l) End e))
+    ap with_line_feed (line_from_words l (codes "stop") (stop_words s) (form_words (words_of l) (Item (Stop s)) e))
+form_line l End e = ap with_line_feed (line_from_words l (codes "end") [] (form_words (words_of l) End e))

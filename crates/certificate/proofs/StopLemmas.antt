@@ -1,8 +1,7 @@
 -- The stops of a module: what its lines give, and their order.
 use Rattle.std.proofs.Common.{◌≡◌, ℕ, ◌+◌, ◌<◌, ◌≤◌, List, [], ◌∷◌, ◌++◌, length, Option, Some, None, Less, take}
-use Rattle.std.proofs.Common.{get_or, map, false, true, refl, sym, ap, subst, ◌∙◌}
-use Rattle.std.specs.List.{All, flat_map}
-use Rattle.std.specs.Ordering.{nat_cmp, ordering_then}
+use Rattle.std.proofs.Common.{get_or, map, false, true, refl, sym, ap, subst, ◌∙◌, All, flat_map, nat_cmp}
+use Rattle.std.specs.Ordering.{ordering_then}
 use Rattle.std.proofs.lemmas.Grind.{flat_map-append}
 use Rattle.std.proofs.lemmas.List.{append-nil, map-append, take_all}
 use Rattle.std.proofs.lemmas.List.Elements.{All-nil, All-cons, All-append, All-head, All-tail}
@@ -12,7 +11,7 @@ use Rattle.module_box.specs.Moments.{cell_cmp, moment_cmp}
 use Rattle.module_box.specs.Schedules.{IsRising}
 use Rattle.module_box.specs.declared.schedules.Moment.{Moment}
 use Rattle.certificate_lines.specs.Entries.{Setting, ModuleLines, stop_in, stops, known}
-use Rattle.certificate.specs.Jobs.{line_stops, numbered_stop}
+use Rattle.certificate.specs.Jobs.{stops_of_lines, stop_with_wire_number}
 use Rattle.module_job.specs.Jobs.{stop_moment}
 use Rattle.certificate_lines.specs.Modules.{IsModule}
 use Rattle.certificate_lines.specs.Orders.{AreInOrder, rank_of, number_of, cell_of, line_cmp, is_cut, may_precede}
@@ -37,14 +36,14 @@ none_said c l ss e = record {
 }
 
 pub with_stop : (c : Circuit) (l : LocalNet) (lines : List StopLine) (line : StopLine) (old new : List listed.Stop)
-    (s : listed.Stop) → renumber_stop (circuit_wire l) s ∷ [] ≡ line_stops c (line ∷ []) →
+    (s : listed.Stop) → renumber_stop (circuit_wire l) s ∷ [] ≡ stops_of_lines c (line ∷ []) →
     s.wire < wires l.netlist → new ≡ old ++ s ∷ [] → AreStops c l lines old → AreStops c l (lines ++ line ∷ []) new
 with_stop c l lines line old new s same own grown are =
-    let by : StopLine → List listed.Stop = λ r. numbered_stop r (wire_of c r.wire) in
+    let by : StopLine → List listed.Stop = λ r. stop_with_wire_number r (wire_of c r.wire) in
     record {
       same = ap (map (renumber_stop (circuit_wire l))) grown ∙ map-append (renumber_stop (circuit_wire l)) old (s ∷ [])
           ∙ ap (λ xs. xs ++ renumber_stop (circuit_wire l) s ∷ []) are.same
-          ∙ ap (λ xs. line_stops c lines ++ xs) same ∙ sym (flat_map-append by lines (line ∷ []));
+          ∙ ap (λ xs. stops_of_lines c lines ++ xs) same ∙ sym (flat_map-append by lines (line ∷ []));
       own = subst (All (λ r. r.wire < wires l.netlist)) (sym grown)
           (All-append (λ r. r.wire < wires l.netlist) old (s ∷ []) are.own
           (All-cons (λ r. r.wire < wires l.netlist) s [] own (All-nil (λ r. r.wire < wires l.netlist))));
@@ -114,19 +113,19 @@ abbrev MomentBefore : listed.Stop → listed.Stop → Type 0
 MomentBefore a b = moment_cmp (stop_moment a) (stop_moment b) ≡ Less
 
 numbered_first : (s : StopLine) (w : ℕ) (t : StopLine) (o : Option ℕ) → StopBefore s t →
-    Each (λ b. moment_cmp (record { time = s.time; cell = s.cell }) b.at ≡ Less) (numbered_stop t o)
+    Each (λ b. moment_cmp (record { time = s.time; cell = s.cell }) b.at ≡ Less) (stop_with_wire_number t o)
 unfolding Each moment_cmp
 numbered_first s w t None h = tt
 numbered_first s w t (Some v) h = (h, tt)
 
 numbered_between : (c : Circuit) (s : StopLine) (o : Option ℕ) →
-    Each (λ a. (t : StopLine) → StopBefore s t → Each (MomentBefore a) (numbered_stop t (wire_of c t.wire)))
-    (numbered_stop s o)
+    Each (λ a. (t : StopLine) → StopBefore s t → Each (MomentBefore a) (stop_with_wire_number t (wire_of c t.wire)))
+    (stop_with_wire_number s o)
 unfolding Each
 numbered_between c s None = tt
 numbered_between c s (Some w) = ((λ t h. numbered_first s w t (wire_of c t.wire) h), tt)
 
-numbered_alone : (s : StopLine) (o : Option ℕ) → Pairs MomentBefore (numbered_stop s o)
+numbered_alone : (s : StopLine) (o : Option ℕ) → Pairs MomentBefore (stop_with_wire_number s o)
 unfolding Each Pairs
 numbered_alone s None = tt
 numbered_alone s (Some w) = (tt, tt)
@@ -136,22 +135,22 @@ pub stops_rise : (c : Circuit) (l : LocalNet) (lines : List CertificateLine) (ss
     AreStops c l (flat_map stop_in lines) ss → IsRising moment_cmp stop_moment ss
 stops_rise c l lines ss o are =
     rising_of moment_cmp stop_moment (renumber_stop (circuit_wire l)) (λ a. refl) ss _ are.same
-    (pairs_flat StopBefore MomentBefore (λ s. numbered_stop s (wire_of c s.wire))
+    (pairs_flat StopBefore MomentBefore (λ s. stop_with_wire_number s (wire_of c s.wire))
     (λ s. numbered_between c s (wire_of c s.wire)) (λ s. numbered_alone s (wire_of c s.wire)) (flat_map stop_in lines)
     (stop_lines_rise lines o))
 
 -- ---- where they stand
 
 all_numbered : (P : Moment → Type 0) (s : StopLine) (o : Option ℕ) → P (record { time = s.time; cell = s.cell }) →
-    All (λ r. P r.at) (numbered_stop s o)
+    All (λ r. P r.at) (stop_with_wire_number s o)
 all_numbered P s None h = All-nil (λ r. P r.at)
 all_numbered P s (Some w) h = All-cons (λ r. P r.at) _ [] h (All-nil (λ r. P r.at))
 
 all_said : (P : Moment → Type 0) (c : Circuit) (lines : List StopLine) →
-    All (λ s. P (record { time = s.time; cell = s.cell })) lines → All (λ r. P r.at) (line_stops c lines)
+    All (λ s. P (record { time = s.time; cell = s.cell })) lines → All (λ r. P r.at) (stops_of_lines c lines)
 all_said P c [] h = All-nil (λ r. P r.at)
 all_said P c (s ∷ lines) h =
-    All-append (λ r. P r.at) (numbered_stop s (wire_of c s.wire)) (line_stops c lines)
+    All-append (λ r. P r.at) (stop_with_wire_number s (wire_of c s.wire)) (stops_of_lines c lines)
     (all_numbered P s (wire_of c s.wire)
     (All-head (λ (q : StopLine). P (record { time = q.time; cell = q.cell })) s lines h))
     (all_said P c lines (All-tail (λ (q : StopLine). P (record { time = q.time; cell = q.cell })) s lines h))

@@ -1,8 +1,7 @@
 -- Tables of times, line by line, and the lines of gates one after the other.
 use Rattle.std.proofs.Common.{◌≡◌, ℕ, suc, ◌+◌, ◌<◌, ◌≤◌, false, List, [], ◌∷◌, ◌++◌, length, drop, get_or, Option}
 use Rattle.std.proofs.Common.{Some, refl, sym, ap, ap₂, ◌∙◌, arith, drop-cons, add-one, append_assoc, append-nil}
-use Rattle.std.specs.Prelude.{slice_get}
-use Rattle.std.specs.List.{flat_map}
+use Rattle.std.proofs.Common.{slice_get, flat_map}
 use Rattle.std.proofs.lemmas.List.{drop_all}
 use Rattle.std.proofs.lemmas.Option.{same_Some, slice_get-get_or, slice_get_within}
 use Rattle.circuit.specs.Meaning.{Circuit, Gate}
@@ -11,7 +10,7 @@ use Rattle.certificate_lines.specs.Entries.{ModuleLines, Setting, last_of, modul
 use Rattle.certificate.specs.Grammars.{certificate_grammar}
 use Rattle.certificate_lines.specs.Rules.{entry_fault}
 use Rattle.certificate_lines.specs.ModuleParts.{inner, is_module}
-use Rattle.certificate.specs.Times.{all_stops, time_lines_of_gates, numbered, time_lines}
+use Rattle.certificate.specs.Times.{all_stops, time_lines_of_gates, numbered, delay_and_meet_lines}
 use Rattle.certificate.specs.SeenTimes.{IsStopTimeTable, seen, time_in_table}
 use Rattle.certificate.specs.declared.times.FirstOrLast.{FirstOrLast}
 use Rattle.certificate.specs.declared.times.FirstOrLast.TheVariants.{First, Last}
@@ -137,7 +136,7 @@ told choice c ss all table items e s h i = λ w. (ap (λ t. time_in_table t w) e
 
 pub lines_told : (c : Circuit) (ms : List ModuleLines) (ss : List StopLine) (firsts lasts f l : List (Option ℕ)) →
     f ≡ firsts → l ≡ lasts → ss ≡ all_stops ms → IsStopTimeTable First c ss firsts → IsStopTimeTable Last c ss lasts →
-    time_lines_of_gates (time_in_table f) (time_in_table l) c.netlist.gates ≡ time_lines c ms
+    time_lines_of_gates (time_in_table f) (time_in_table l) c.netlist.gates ≡ delay_and_meet_lines c ms
 lines_told c ms ss firsts lasts f l ef el es hf hl i =
     time_lines_of_gates (told First c ss (all_stops ms) f firsts ef es hf i)
     (told Last c ss (all_stops ms) l lasts el es hl i) c.netlist.gates

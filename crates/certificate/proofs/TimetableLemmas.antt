@@ -1,8 +1,6 @@
 -- The signals of a module after one more line.
 use Rattle.std.proofs.Common.{◌≡◌, ℕ, ◌<◌, List, [], ◌∷◌, ◌++◌, ◌+◌, ◌≤◌, length, Option, Some, None, take, get_or}
-use Rattle.std.proofs.Common.{refl, sym, ap, subst, ◌∙◌, map}
-use Rattle.std.specs.Prelude.{IfSome, replicate}
-use Rattle.std.specs.List.{All, flat_map}
+use Rattle.std.proofs.Common.{refl, sym, ap, subst, ◌∙◌, map, IfSome, replicate, All, flat_map}
 use Rattle.std.specs.Result.{OnOk}
 use Rattle.std.specs.declared.result.Result.{Result}
 use Rattle.std.specs.declared.result.Result.TheVariants.{Ok, Err}
@@ -16,9 +14,9 @@ use Rattle.module_box.specs.Schedules.{IsRising, moment_of, cell_of}
 use Rattle.module_box.specs.declared.schedules.TimedSignal.{TimedSignal}
 use Rattle.module_box.specs.declared.schedules.AllTimes.{AllTimes}
 use Rattle.module_box.specs.declared.schedules.Signal.{Signal}
-use Rattle.certificate.specs.Jobs.{all_times_of_line, events_of_line, line_signal}
+use Rattle.certificate.specs.Jobs.{all_times_of_line, events_of_line, one_or_named_wire}
 use Rattle.certificate_lines.specs.Orders.{AreInOrder}
-use Rattle.module_job.specs.Signals.{IsBelow, renumber_signal, renumber_all_times, renumber_event}
+use Rattle.module_job.specs.Signals.{IsSignalWireBelow, renumber_signal, renumber_all_times, renumber_event}
 use Rattle.certificate.specs.NamedWires.{AreNamedWires, IsWireOf}
 use Rattle.certificate.specs.Timetables.{AreSignalLists, borders_in}
 use Rattle.certificate_lines.specs.declared.certificate_line.BorderLine.{BorderLine}
@@ -49,15 +47,17 @@ renumbered_event : (f : ℕ → ℕ) (e : BorderLine) (t : Option ℕ) (s : Sign
 renumbered_event f e None s = refl
 renumbered_event f e (Some t) s = refl
 
-own_all_times : (n : ℕ) (e : BorderLine) (t : Option ℕ) (s : Signal) → IsBelow n s →
-    All (λ h. IsBelow n h.signal) (all_times_of_line e t s)
-own_all_times n e None s b = All-cons (λ h. IsBelow n h.signal) _ [] b (All-nil (λ h. IsBelow n h.signal))
-own_all_times n e (Some t) s b = All-nil (λ h. IsBelow n h.signal)
+own_all_times : (n : ℕ) (e : BorderLine) (t : Option ℕ) (s : Signal) → IsSignalWireBelow n s →
+    All (λ h. IsSignalWireBelow n h.signal) (all_times_of_line e t s)
+own_all_times n e None s b = All-cons (λ h. IsSignalWireBelow n h.signal) _ [] b
+    (All-nil (λ h. IsSignalWireBelow n h.signal))
+own_all_times n e (Some t) s b = All-nil (λ h. IsSignalWireBelow n h.signal)
 
-own_event : (n : ℕ) (e : BorderLine) (t : Option ℕ) (s : Signal) → IsBelow n s →
-    All (λ h. IsBelow n h.signal) (events_of_line e t s)
-own_event n e None s b = All-nil (λ h. IsBelow n h.signal)
-own_event n e (Some t) s b = All-cons (λ h. IsBelow n h.signal) _ [] b (All-nil (λ h. IsBelow n h.signal))
+own_event : (n : ℕ) (e : BorderLine) (t : Option ℕ) (s : Signal) → IsSignalWireBelow n s →
+    All (λ h. IsSignalWireBelow n h.signal) (events_of_line e t s)
+own_event n e None s b = All-nil (λ h. IsSignalWireBelow n h.signal)
+own_event n e (Some t) s b = All-cons (λ h. IsSignalWireBelow n h.signal) _ [] b
+    (All-nil (λ h. IsSignalWireBelow n h.signal))
 
 pub next_line : {A X : Type 0} (f : X → List A) (xs : List X) (i : ℕ) (x : X) → i < length xs → x ≡ get_or xs i x →
     flat_map f (take i xs) ++ f x ≡ flat_map f (take (i + 1) xs)
@@ -66,13 +66,13 @@ next_line f xs i x lt e = flat_map_more f [] (take i xs) x
 
 module _ (c : Circuit) (l : LocalNet) where
   more_all_times : (es : List BorderLine) (e : BorderLine) (s : Signal) (hs ns : List AllTimes) →
-      renumber_signal (circuit_wire l) s ≡ line_signal c e.signal → ns ≡ hs ++ all_times_of_line e e.time s →
+      renumber_signal (circuit_wire l) s ≡ one_or_named_wire c e.signal → ns ≡ hs ++ all_times_of_line e e.time s →
       map (renumber_all_times (circuit_wire l)) hs
-      ≡ flat_map (λ d. all_times_of_line d d.time (line_signal c d.signal)) es →
+      ≡ flat_map (λ d. all_times_of_line d d.time (one_or_named_wire c d.signal)) es →
       map (renumber_all_times (circuit_wire l)) ns
-      ≡ flat_map (λ d. all_times_of_line d d.time (line_signal c d.signal)) (es ++ e ∷ [])
+      ≡ flat_map (λ d. all_times_of_line d d.time (one_or_named_wire c d.signal)) (es ++ e ∷ [])
   more_all_times es e s hs ns same grown h =
-      let by : BorderLine → List AllTimes = λ d. all_times_of_line d d.time (line_signal c d.signal) in
+      let by : BorderLine → List AllTimes = λ d. all_times_of_line d d.time (one_or_named_wire c d.signal) in
       ap (map (renumber_all_times (circuit_wire l))) grown
       ∙ map-append (renumber_all_times (circuit_wire l)) hs (all_times_of_line e e.time s) ∙
       ap (λ xs. xs ++ map (renumber_all_times (circuit_wire l)) (all_times_of_line e e.time s)) h ∙
@@ -81,12 +81,13 @@ module _ (c : Circuit) (l : LocalNet) where
       sym (flat_map-append by es (e ∷ []))
 
   more_events : (es : List BorderLine) (e : BorderLine) (s : Signal) (hs ns : List TimedSignal) →
-      renumber_signal (circuit_wire l) s ≡ line_signal c e.signal → ns ≡ hs ++ events_of_line e e.time s →
-      map (renumber_event (circuit_wire l)) hs ≡ flat_map (λ d. events_of_line d d.time (line_signal c d.signal)) es →
+      renumber_signal (circuit_wire l) s ≡ one_or_named_wire c e.signal → ns ≡ hs ++ events_of_line e e.time s →
+      map (renumber_event (circuit_wire l)) hs
+      ≡ flat_map (λ d. events_of_line d d.time (one_or_named_wire c d.signal)) es →
       map (renumber_event (circuit_wire l)) ns
-      ≡ flat_map (λ d. events_of_line d d.time (line_signal c d.signal)) (es ++ e ∷ [])
+      ≡ flat_map (λ d. events_of_line d d.time (one_or_named_wire c d.signal)) (es ++ e ∷ [])
   more_events es e s hs ns same grown h =
-      let by : BorderLine → List TimedSignal = λ d. events_of_line d d.time (line_signal c d.signal) in
+      let by : BorderLine → List TimedSignal = λ d. events_of_line d d.time (one_or_named_wire c d.signal) in
       ap (map (renumber_event (circuit_wire l))) grown
       ∙ map-append (renumber_event (circuit_wire l)) hs (events_of_line e e.time s) ∙
       ap (λ xs. xs ++ map (renumber_event (circuit_wire l)) (events_of_line e e.time s)) h ∙
@@ -95,18 +96,18 @@ module _ (c : Circuit) (l : LocalNet) where
       sym (flat_map-append by es (e ∷ []))
 
   pub with_border : (es : List BorderLine) (e : BorderLine) (s : Signal) (old new : SignalLists) →
-      renumber_signal (circuit_wire l) s ≡ line_signal c e.signal → IsBelow (wires l.netlist) s →
+      renumber_signal (circuit_wire l) s ≡ one_or_named_wire c e.signal → IsSignalWireBelow (wires l.netlist) s →
       new.all_times.items ≡ old.all_times.items ++ all_times_of_line e e.time s →
       new.events.items ≡ old.events.items ++ events_of_line e e.time s → AreNamedWires c l new.slots →
       AreSignalLists c l es old → AreSignalLists c l (es ++ e ∷ []) new
   with_border es e s old new same own all_times events slots t = record {
     all_times = more_all_times es e s old.all_times.items new.all_times.items same all_times t.all_times;
     events = more_events es e s old.events.items new.events.items same events t.events;
-    own_all_times = subst (All (λ h. IsBelow (wires l.netlist) h.signal)) (sym all_times)
-        (All-append (λ h. IsBelow (wires l.netlist) h.signal) old.all_times.items _ t.own_all_times
+    own_all_times = subst (All (λ h. IsSignalWireBelow (wires l.netlist) h.signal)) (sym all_times)
+        (All-append (λ h. IsSignalWireBelow (wires l.netlist) h.signal) old.all_times.items _ t.own_all_times
         (own_all_times (wires l.netlist) e e.time s own));
-    own_events = subst (All (λ h. IsBelow (wires l.netlist) h.signal)) (sym events)
-        (All-append (λ h. IsBelow (wires l.netlist) h.signal) old.events.items _ t.own_events
+    own_events = subst (All (λ h. IsSignalWireBelow (wires l.netlist) h.signal)) (sym events)
+        (All-append (λ h. IsSignalWireBelow (wires l.netlist) h.signal) old.events.items _ t.own_events
         (own_event (wires l.netlist) e e.time s own));
     slots = slots;
   }
@@ -121,10 +122,10 @@ module _ (c : Circuit) (l : LocalNet) where
   no_lines t h e slots = record {
     all_times = ap (map (renumber_all_times (circuit_wire l))) h;
     events = ap (map (renumber_event (circuit_wire l))) e;
-    own_all_times = subst (All (λ h. IsBelow (wires l.netlist) h.signal)) (sym h)
-        (All-nil (λ h. IsBelow (wires l.netlist) h.signal));
-    own_events = subst (All (λ h. IsBelow (wires l.netlist) h.signal)) (sym e)
-        (All-nil (λ h. IsBelow (wires l.netlist) h.signal));
+    own_all_times = subst (All (λ h. IsSignalWireBelow (wires l.netlist) h.signal)) (sym h)
+        (All-nil (λ h. IsSignalWireBelow (wires l.netlist) h.signal));
+    own_events = subst (All (λ h. IsSignalWireBelow (wires l.netlist) h.signal)) (sym e)
+        (All-nil (λ h. IsSignalWireBelow (wires l.netlist) h.signal));
     slots = slots;
   }
 
@@ -155,7 +156,7 @@ pub table_all_times_rises : (c : Circuit) (l : LocalNet) (side : RingOrHalo) (li
     AreInOrder lines → AreSignalLists c l (flat_map (borders_in side) lines) t →
     IsRising cell_cmp cell_of t.all_times.items
 table_all_times_rises c l side lines t o h =
-    all_times_rises (λ e. line_signal c e.signal) (circuit_wire l) (flat_map (borders_in side) lines)
+    all_times_rises (λ e. one_or_named_wire c e.signal) (circuit_wire l) (flat_map (borders_in side) lines)
     (borders_rise side lines o) t.all_times.items h.all_times
 
 pub table_events_rise : (c : Circuit) (l : LocalNet) (side : RingOrHalo) (lines : List CertificateLine)
@@ -163,5 +164,5 @@ pub table_events_rise : (c : Circuit) (l : LocalNet) (side : RingOrHalo) (lines 
     AreInOrder lines → AreSignalLists c l (flat_map (borders_in side) lines) t →
     IsRising moment_cmp moment_of t.events.items
 table_events_rise c l side lines t o h =
-    events_rise (λ e. line_signal c e.signal) (circuit_wire l) (flat_map (borders_in side) lines)
+    events_rise (λ e. one_or_named_wire c e.signal) (circuit_wire l) (flat_map (borders_in side) lines)
     (borders_rise side lines o) t.events.items h.events

@@ -5,7 +5,7 @@ use Rattle.certificate_lines.specs.Entries.{modules_of, counts_of}
 use Rattle.certificate.specs.Grammars.{CertView}
 use Rattle.certificate_lines.specs.Settings.{setting_of}
 use Rattle.certificate_lines.specs.Modules.{AreModules, IsWithinLineLimit}
-use Rattle.certificate_lines.specs.Versions.{is_haloless, lacks_wire}
+use Rattle.certificate_lines.specs.Versions.{is_haloless_version, lacks_edge_wire_beside}
 use Rattle.certificate.specs.declared.cert.Cert.TheInside.{Inside}
 
 -- the view of a certificate, from its fields
@@ -18,5 +18,5 @@ pub record IsCert (a : Inside) : Type 0 where
   pub good : AreModules (setting_of a.circuit.now a.layout.now) (modules_of a.entries.items)
   pub few_lines : All IsWithinLineLimit (modules_of a.entries.items)
   pub known : (1 ≤ a.version) × (a.version ≤ 2)
-  pub complete : (is_haloless a.version
-      && lacks_wire (setting_of a.circuit.now a.layout.now) (modules_of a.entries.items)) ≡ false
+  pub complete : (is_haloless_version a.version
+      && lacks_edge_wire_beside (setting_of a.circuit.now a.layout.now) (modules_of a.entries.items)) ≡ false

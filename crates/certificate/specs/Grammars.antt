@@ -1,12 +1,13 @@
 -- The certificate section
 use Rattle.std.specs.Prelude.{ℕ, not, ◌==◌, ◌&&◌, ◌||◌, List}
-use Rattle.section_text.specs.Codes.{code_where, or_else}
+use Rattle.section_text.specs.Codes.{code_if, or_else}
 use Rattle.section_text.specs.Section.{Grammar}
 use Rattle.pattern.specs.Layout.{Pattern}
 use Rattle.certificate_lines.specs.Entries.{Setting, ModuleLines, modules_of}
 use Rattle.certificate_lines.specs.Forms.{form_of}
 use Rattle.certificate_lines.specs.Rules.{entry_fault, end_fault}
-use Rattle.certificate_lines.specs.Versions.{is_halo, is_haloless, lacks_wire, modules_by_version, without_halos}
+use Rattle.certificate_lines.specs.Versions.{is_halo, is_haloless_version, lacks_edge_wire_beside, modules_by_version}
+use Rattle.certificate_lines.specs.Versions.{without_halos}
 use Rattle.certificate_lines.specs.declared.certificate_line.CertificateLine.{CertificateLine}
 use Rattle.circuit.specs.declared.circuit_line.CircuitLine.{CircuitLine}
 use Rattle.certificate_lines.specs.Settings.{setting_of}
@@ -17,12 +18,12 @@ use Rattle.section_text.specs.declared.code.RefusalCode.TheVariants.{NoForm, Pas
 abbrev pub certificate_grammar : Setting → Grammar ℕ CertificateLine
 certificate_grammar g = record {
   form = form_of;
-  header_fault = λ version. code_where (not (version == 1 || version == 2)) PastLimit;
+  header_fault = λ version. code_if (not (version == 1 || version == 2)) PastLimit;
   item_fault = λ version before i.
-      or_else (code_where (is_haloless version && is_halo i) NoForm) (entry_fault g before i);
+      or_else (code_if (is_haloless_version version && is_halo i) NoForm) (entry_fault g before i);
   end_fault = λ version entries.
       or_else (end_fault g entries)
-      (code_where (is_haloless version && lacks_wire g (modules_of entries)) SomethingMissing);
+      (code_if (is_haloless_version version && lacks_edge_wire_beside g (modules_of entries)) SomethingMissing);
 }
 
 -- a certificate as contracts see it: the lines of its circuit, its layout, its version, and its lines between the

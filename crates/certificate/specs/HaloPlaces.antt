@@ -18,8 +18,8 @@ abbrev pub edge_lines_at : List CertificateLine → List ℕ → List BorderLine
 edge_lines_at es places = flat_map (λ k. flat_map edge_in (option_to_list (slice_get es k))) places
 
 -- the list of this number, or an empty one
-abbrev pub list_at : List (List ℕ) → ℕ → List ℕ
-list_at lists i = unwrap_or (slice_get lists i) []
+abbrev pub list_at_or_empty : List (List ℕ) → ℕ → List ℕ
+list_at_or_empty lists i = unwrap_or (slice_get lists i) []
 
 -- the cell is in the box and not in its ring
 abbrev pub IsInnerCell : Box2 → Cell → Type 0
@@ -41,18 +41,18 @@ AreLinesFrom es from lines = (k : ℕ) (e : CertificateLine) → slice_get lines
 pub record HavePlace (boxes : List Box2) (test : Box2 → Bool) (place : ℕ) (old new : List (List ℕ)) : Type 0 where
   pub count : length new ≡ length old
   pub each : (i : ℕ) (b : Box2) → slice_get boxes i ≡ Some b →
-      list_at new i ≡ list_at old i ++ (if test b then place ∷ [] else [])
+      list_at_or_empty new i ≡ list_at_or_empty old i ++ (if test b then place ∷ [] else [])
 
 -- each list has more places, at its end: those of these edge lines that are for cells in the halo of its box
 pub record HaveEdges (es : List CertificateLine) (boxes : List Box2) (more : List BorderLine)
     (old new : List (List ℕ)) : Type 0 where
   pub count : length new ≡ length old
   pub each : (i : ℕ) (b : Box2) → slice_get boxes i ≡ Some b →
-      edge_lines_at es (list_at new i)
-      ≡ edge_lines_at es (list_at old i) ++ filter (λ e. in_halo b e.cell.x e.cell.y) more
+      edge_lines_at es (list_at_or_empty new i)
+      ≡ edge_lines_at es (list_at_or_empty old i) ++ filter (λ e. in_halo b e.cell.x e.cell.y) more
 
 -- each module has a list, with the places of the edge lines beside it
 pub record AreHaloPlaces (g : Setting) (es : List CertificateLine) (lists : List (List ℕ)) : Type 0 where
   pub count : length lists ≡ length (modules_of es)
   pub each : (i : ℕ) (m : ModuleLines) → slice_get (modules_of es) i ≡ Some m →
-      edge_lines_at es (list_at lists i) ≡ edge_lines_beside g (modules_of es) m.area
+      edge_lines_at es (list_at_or_empty lists i) ≡ edge_lines_beside g (modules_of es) m.area

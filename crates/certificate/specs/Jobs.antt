@@ -24,28 +24,29 @@ use Rattle.certificate_lines.specs.PortTables.{port_at}
 -- ---- what a layout and the lines of a module ask for, by the wires of the circuit
 
 -- the wire of a name, if there is a name
-abbrev pub named_wire : Circuit → Option (List ℕ) → Option ℕ
-named_wire c None = None
-named_wire c (Some n) = wire_of c n
+abbrev pub wire_of_optional_name : Circuit → Option (List ℕ) → Option ℕ
+wire_of_optional_name c None = None
+wire_of_optional_name c (Some n) = wire_of c n
 
 -- the signal of a wire: without a wire the cell is dead
-abbrev pub signal_of : Option ℕ → Signal
-signal_of None = Zero
-signal_of (Some w) = Wire w
+abbrev pub wire_or_zero : Option ℕ → Signal
+wire_or_zero None = Zero
+wire_or_zero (Some w) = Wire w
 
 -- mirrors and balls carry `One`, input cells their wire, all other cells `Zero`
 unfoldable pub start_signal : Circuit → Pattern → ℤ → ℤ → Signal
 start_signal c p x y =
-    if in_rectangles p.mirrors x y || in_cells p.balls x y then One else signal_of (named_wire c (port_at p.ins x y))
+    if in_rectangles p.mirrors x y
+    || in_cells p.balls x y then One else wire_or_zero (wire_of_optional_name c (port_at p.ins x y))
 
 -- the demand of a wire: without a wire the cell must be dead
-abbrev pub demand_of : Option ℕ → Demand
-demand_of None = Demanded.Dead
-demand_of (Some w) = Demanded.Wire w
+abbrev pub wire_or_dead : Option ℕ → Demand
+wire_or_dead None = Demanded.Dead
+wire_or_dead (Some w) = Demanded.Wire w
 
 -- the demand on a cell that is in no mirror, by the output at it and by whether it is a waste cell
 abbrev pub demand_outside_mirrors : Circuit → Option (List ℕ) → Bool → Demand
-demand_outside_mirrors c (Some n) waste = demand_of (wire_of c n)
+demand_outside_mirrors c (Some n) waste = wire_or_dead (wire_of c n)
 demand_outside_mirrors c None true = Demanded.Any
 demand_outside_mirrors c None false = Demanded.Dead
 
@@ -56,9 +57,9 @@ end_demand c p x y =
     (in_cells p.wastes x y)
 
 -- the signal of an edge or halo line: a wire's, or the constant `1`
-abbrev pub line_signal : Circuit → Option (List ℕ) → Signal
-line_signal c None = One
-line_signal c (Some n) = signal_of (wire_of c n)
+abbrev pub one_or_named_wire : Circuit → Option (List ℕ) → Signal
+one_or_named_wire c None = One
+one_or_named_wire c (Some n) = wire_or_zero (wire_of c n)
 
 -- a line with a `*` holds for all odd times
 abbrev pub all_times_of_line : BorderLine → Option ℕ → Signal → List AllTimes
@@ -73,18 +74,18 @@ events_of_line e (Some t) signal = record { at = record { time = t; cell = e.cel
 -- what edge or halo lines say, one after the other
 abbrev pub line_signals : Circuit → List BorderLine → Signals
 line_signals c es = record {
-  all_times = flat_map (λ e. all_times_of_line e e.time (line_signal c e.signal)) es;
-  events = flat_map (λ e. events_of_line e e.time (line_signal c e.signal)) es;
+  all_times = flat_map (λ e. all_times_of_line e e.time (one_or_named_wire c e.signal)) es;
+  events = flat_map (λ e. events_of_line e e.time (one_or_named_wire c e.signal)) es;
 }
 
 -- a stop line, if its wire has this number
-abbrev pub numbered_stop : StopLine → Option ℕ → List Stop
-numbered_stop s None = []
-numbered_stop s (Some w) = record { at = record { time = s.time; cell = s.cell }; wire = w } ∷ []
+abbrev pub stop_with_wire_number : StopLine → Option ℕ → List Stop
+stop_with_wire_number s None = []
+stop_with_wire_number s (Some w) = record { at = record { time = s.time; cell = s.cell }; wire = w } ∷ []
 
 -- what stop lines say, one after the other
-abbrev pub line_stops : Circuit → List StopLine → List Stop
-line_stops c ss = flat_map (λ s. numbered_stop s (wire_of c s.wire)) ss
+abbrev pub stops_of_lines : Circuit → List StopLine → List Stop
+stops_of_lines c ss = flat_map (λ s. stop_with_wire_number s (wire_of c s.wire)) ss
 
 -- ---- the job of a module of a circuit and a layout, by the lines of the module
 -- the job of a module: its box, the layout's steps, and the wires and gates that the module knows, with what its lines,
@@ -105,7 +106,7 @@ pub record IsJobOf (c : Circuit) (p : Pattern) (m : ModuleLines) (j : JobView) :
       renumber_demand (circuit_wire j.locals) (job_demand j x y) ≡ end_demand c p x y
   pub edges : renumber_signals (circuit_wire j.locals) j.edges ≡ line_signals c (edges m)
   pub halos : renumber_signals (circuit_wire j.locals) j.halos ≡ line_signals c (halos m)
-  pub stops : map (renumber_stop (circuit_wire j.locals)) j.stops ≡ line_stops c (stops m)
+  pub stops : map (renumber_stop (circuit_wire j.locals)) j.stops ≡ stops_of_lines c (stops m)
   -- it names no wires but its own
   pub own : NamesOwnWires j
   pub kept : map (circuit_gate j.locals) j.kept ≡ keeps m

@@ -3,7 +3,7 @@ use Rattle.std.specs.Prelude.{◌≡◌, ℕ, ℤ, ◌+◌, ◌<◌, ◌≤◌, 
 use Rattle.std.specs.Prelude.{Some, length, slice_get, take, drop, Ok}
 use Rattle.std.specs.List.{All, flat_map}
 use Rattle.section_text.specs.Words.{lines_of}
-use Rattle.section_text.specs.Section.{section_of, ended_line}
+use Rattle.section_text.specs.Section.{section_of, with_line_feed}
 use Rattle.module_box.specs.Boxes.{in_box, in_halo}
 use Rattle.module_box.specs.Schedules.{signal_at}
 use Rattle.certificate_lines.specs.Entries.{ModuleLines, Setting, edges, halos, modules_of}
@@ -11,12 +11,14 @@ use Rattle.certificate.specs.Grammars.{CertView, certificate_grammar, certificat
 use Rattle.certificate.specs.Jobs.{line_signals}
 use Rattle.certificate_lines.specs.Modules.{AreModules}
 use Rattle.certificate_lines.specs.Rules.{end_fault}
-use Rattle.certificate_lines.specs.Versions.{AreGoodLines, is_haloless, lacks_wire, modules_by_version, with_halos}
+use Rattle.certificate_lines.specs.Versions.{AreGoodLines, is_haloless_version, lacks_edge_wire_beside}
+use Rattle.certificate_lines.specs.Versions.{modules_by_version, with_halos}
 use Rattle.certificate_lines.specs.Versions.{without_halos}
 use Rattle.certificate_lines.specs.declared.certificate_line.CertificateLine.{CertificateLine}
 use Rattle.certificate.specs.Text.{certificate_text}
 use Rattle.certificate.specs.Arrivals.{AreOnTime, IsTimeLineTrue}
-use Rattle.certificate.specs.Times.{all_stops, are_all_obeyed, first_seen, last_seen, time_lines, times_of}
+use Rattle.certificate.specs.Times.{all_stops, are_all_obeyed, first_seen, last_seen, delay_and_meet_lines}
+use Rattle.certificate.specs.Times.{stop_times_of_wire}
 use Rattle.certificate_lines.specs.declared.certificate_line.StopLine.{StopLine}
 use Rattle.circuit.specs.Meaning.{Circuit}
 
@@ -24,7 +26,7 @@ use Rattle.circuit.specs.Meaning.{Circuit}
 abbrev pub PrintsWhatIsRead : Type 0
 PrintsWhatIsRead = (g : Setting) (n : ℕ) (ls : List (List ℕ)) (c : CertView) →
     section_of (certificate_grammar g) n ls ≡ Ok (certificate_section c) →
-    flat_map ended_line (take (length c.entries + 2) ls) ≡ certificate_text c
+    flat_map with_line_feed (take (length c.entries + 2) ls) ≡ certificate_text c
 
 -- and it is read as the same certificate again, wherever it is
 abbrev pub ReadsWhatIsPrinted : Type 0
@@ -35,27 +37,29 @@ ReadsWhatIsPrinted = (g : Setting) (text : List ℕ) (from n m : ℕ) (c : CertV
 -- the first time of a wire is the least of the times of its stops
 abbrev pub FirstSeenIsLeast : Type 0
 FirstSeenIsLeast = (c : Circuit) (ss : List StopLine) (w t : ℕ) → first_seen c ss w ≡ Some t →
-    Contains (times_of c ss w) t × All (λ u. t ≤ u) (times_of c ss w)
+    Contains (stop_times_of_wire c ss w) t × All (λ u. t ≤ u) (stop_times_of_wire c ss w)
 
 -- the last one is the greatest
 abbrev pub LastSeenIsGreatest : Type 0
 LastSeenIsGreatest = (c : Circuit) (ss : List StopLine) (w t : ℕ) → last_seen c ss w ≡ Some t →
-    Contains (times_of c ss w) t × All (λ u. u ≤ t) (times_of c ss w)
+    Contains (stop_times_of_wire c ss w) t × All (λ u. u ≤ t) (stop_times_of_wire c ss w)
 
 -- what each line says of its gate is right
 abbrev pub TimeLinesAreTrue : Type 0
-TimeLinesAreTrue = (c : Circuit) (ms : List ModuleLines) → All (IsTimeLineTrue c (all_stops ms)) (time_lines c ms)
+TimeLinesAreTrue = (c : Circuit) (ms : List ModuleLines) →
+    All (IsTimeLineTrue c (all_stops ms)) (delay_and_meet_lines c ms)
 
 -- if all rules are kept, each delay takes as many steps as it says, and for each gate there is a time at which its
 -- inputs meet
 abbrev pub ObeyedLinesAreOnTime : Type 0
-ObeyedLinesAreOnTime = (c : Circuit) (ms : List ModuleLines) → IsTrue (are_all_obeyed (time_lines c ms)) →
+ObeyedLinesAreOnTime = (c : Circuit) (ms : List ModuleLines) → IsTrue (are_all_obeyed (delay_and_meet_lines c ms)) →
     AreOnTime c (all_stops ms)
 
 -- if no edge line names a wire that a module beside it lacks, the modules of either version are modules of version 1
 abbrev pub BothVersionsGiveModules : Type 0
 BothVersionsGiveModules = (version : ℕ) (g : Setting) (ms : List ModuleLines) → AreModules g ms →
-    (is_haloless version && lacks_wire g ms) ≡ false → AreModules g (modules_by_version version g ms)
+    (is_haloless_version version && lacks_edge_wire_beside g ms) ≡ false →
+    AreModules g (modules_by_version version g ms)
 
 -- There, at an odd time below the steps, a cell of the halo of a module carries what the edge lines of the module that
 -- has it say.
@@ -92,5 +96,5 @@ pub record IsSectionOf (g : Setting) (version : ℕ) (es : List CertificateLine)
 -- lines beside it.
 abbrev pub SectionWithoutHalos : Type 0
 SectionWithoutHalos = (g : Setting) (es : List CertificateLine) → IsSectionOf g 1 es →
-    lacks_wire g (modules_of es) ≡ false →
+    lacks_edge_wire_beside g (modules_of es) ≡ false →
     IsSectionOf g 2 (without_halos es)

@@ -10,7 +10,7 @@ use Rattle.pattern.specs.declared.layout_line.Port.{Port}
 use Rattle.module_box.specs.Boxes.{in_box}
 use Rattle.module_box.specs.Locals.{LocalNet, circuit_wire}
 use Rattle.module_box.specs.declared.boxes.Box2.{Box2}
-use Rattle.module_job.specs.Signals.{IsBelow, IsDemandBelow, renumber_demand, renumber_signal}
+use Rattle.module_job.specs.Signals.{IsSignalWireBelow, IsDemandWireBelow, renumber_demand, renumber_signal}
 use Rattle.certificate_lines.specs.PortTables.{port_at}
 use Rattle.certificate_lines.specs.Rules.{is_local}
 use Rattle.certificate.specs.Jobs.{end_demand, start_signal}
@@ -54,20 +54,21 @@ pub record AreLayoutTables (a : Inside) : Type 0 where
   pub outs : a.outs ≡ a.layout.now.outs
 
 -- if these wires are local, so is the wire of the port at the cell (x, y), if there is one
-abbrev pub KnowsPort : Circuit → List ℕ → List Port → ℤ → ℤ → Type 0
-KnowsPort c local ports x y = IfSome (port_at ports x y) (λ name. IsTrue (is_local c local name))
+abbrev pub IsPortWireLocalAt : Circuit → List ℕ → List Port → ℤ → ℤ → Type 0
+IsPortWireLocalAt c local ports x y = IfSome (port_at ports x y) (λ name. IsTrue (is_local c local name))
 
 -- and that of the port at each cell of the box
-abbrev pub KnowsPorts : Circuit → List ℕ → List Port → Box2 → Type 0
-KnowsPorts c local ports b = (x y : ℤ) → IsTrue (in_box b x y) → KnowsPort c local ports x y
+abbrev pub ArePortWiresLocalIn : Circuit → List ℕ → List Port → Box2 → Type 0
+ArePortWiresLocalIn c local ports b = (x y : ℤ) → IsTrue (in_box b x y) → IsPortWireLocalAt c local ports x y
 
 -- The lists get what the cells carry at time 0, and what they must be at the last time. The signals and demands
 -- name wires by the module's own numbers.
 pub record AddsCells (c : Circuit) (p : Pattern) (l : LocalNet) (cells : List Cell) (old new : CellLists) : Type 0 where
   pub starts : map (renumber_signal (circuit_wire l)) new.starts
       ≡ map (renumber_signal (circuit_wire l)) old.starts ++ map (λ d. start_signal c p d.x d.y) cells
-  pub starts_own : All (IsBelow (wires l.netlist)) old.starts → All (IsBelow (wires l.netlist)) new.starts
+  pub starts_own : All (IsSignalWireBelow (wires l.netlist)) old.starts →
+      All (IsSignalWireBelow (wires l.netlist)) new.starts
   pub demands : map (renumber_demand (circuit_wire l)) new.demands
       ≡ map (renumber_demand (circuit_wire l)) old.demands ++ map (λ d. end_demand c p d.x d.y) cells
-  pub demands_own : All (IsDemandBelow (wires l.netlist)) old.demands →
-      All (IsDemandBelow (wires l.netlist)) new.demands
+  pub demands_own : All (IsDemandWireBelow (wires l.netlist)) old.demands →
+      All (IsDemandWireBelow (wires l.netlist)) new.demands

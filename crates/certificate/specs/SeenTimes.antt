@@ -2,7 +2,7 @@
 use Rattle.std.specs.Prelude.{◌≡◌, ℕ, List, Option, None, slice_index_or}
 use Rattle.std.specs.List.{fold}
 use Rattle.circuit.specs.Meaning.{Circuit}
-use Rattle.certificate.specs.Times.{earlier, later, times_of}
+use Rattle.certificate.specs.Times.{earlier, later, stop_times_of_wire}
 use Rattle.certificate_lines.specs.declared.certificate_line.StopLine.{StopLine}
 use Rattle.certificate.specs.declared.times.FirstOrLast.{FirstOrLast}
 use Rattle.certificate.specs.declared.times.FirstOrLast.TheVariants.{First, Last}
@@ -14,7 +14,7 @@ chosen Last before t = later before t
 
 -- the first or the last time of a wire
 abbrev pub seen : FirstOrLast → Circuit → List StopLine → ℕ → Option ℕ
-seen choice c ss w = fold (chosen choice) None (times_of c ss w)
+seen choice c ss w = fold (chosen choice) None (stop_times_of_wire c ss w)
 
 -- what a table says of a wire
 abbrev pub time_in_table : List (Option ℕ) → ℕ → Option ℕ

@@ -19,18 +19,18 @@ abbrev pub area_words : Box2 → List (List ℕ)
 area_words b = decimal b.x ∷ decimal b.y ∷ decimal b.w ∷ decimal b.h ∷ []
 
 -- a time, or `*` for every odd time
-abbrev pub time_word : Option ℕ → List ℕ
-time_word None = codes "*"
-time_word (Some t) = decimal t
+abbrev pub star_or_time_word : Option ℕ → List ℕ
+star_or_time_word None = codes "*"
+star_or_time_word (Some t) = decimal t
 
 -- the name of a wire, or the constant `1`
-abbrev pub signal_word : Option (List ℕ) → List ℕ
-signal_word None = codes "1"
-signal_word (Some name) = name
+abbrev pub one_or_name_word : Option (List ℕ) → List ℕ
+one_or_name_word None = codes "1"
+one_or_name_word (Some name) = name
 
 -- the words of an edge or halo line behind the keyword
 abbrev pub border_words : BorderLine → List (List ℕ)
-border_words e = time_word e.time ∷ (cell_words e.cell ++ signal_word e.signal ∷ [])
+border_words e = star_or_time_word e.time ∷ (cell_words e.cell ++ one_or_name_word e.signal ∷ [])
 
 -- the words of a stop behind the keyword
 abbrev pub stop_words : StopLine → List (List ℕ)

@@ -24,8 +24,8 @@ abbrev pub is_stop_of_wire : Circuit → ℕ → StopLine → Bool
 is_stop_of_wire c w s = option_eq nat_eq (wire_of c s.wire) (Some w)
 
 -- the times of the stops of wire w
-abbrev pub times_of : Circuit → List StopLine → ℕ → List ℕ
-times_of c ss w = flat_map (λ s. if is_stop_of_wire c w s then s.time ∷ [] else []) ss
+abbrev pub stop_times_of_wire : Circuit → List StopLine → ℕ → List ℕ
+stop_times_of_wire c ss w = flat_map (λ s. if is_stop_of_wire c w s then s.time ∷ [] else []) ss
 
 -- the lesser of a time and the least before it, and the greater
 abbrev pub earlier : Option ℕ → ℕ → Option ℕ
@@ -39,11 +39,11 @@ later (Some s) t = Some (max s t)
 
 -- the least and the greatest time among the stops of a wire, if it has any
 abbrev pub first_seen : Circuit → List StopLine → ℕ → Option ℕ
-first_seen c ss w = fold earlier None (times_of c ss w)
+first_seen c ss w = fold earlier None (stop_times_of_wire c ss w)
 
 -- the last time at which stops see a wire, if one does
 abbrev pub last_seen : Circuit → List StopLine → ℕ → Option ℕ
-last_seen c ss w = fold later None (times_of c ss w)
+last_seen c ss w = fold later None (stop_times_of_wire c ss w)
 
 -- ---- delays
 
@@ -101,8 +101,9 @@ abbrev pub time_lines_of_gates : (first last : ℕ → Option ℕ) → List Gate
 time_lines_of_gates first last gates = numbered (delay_line first last) 0 gates ++ numbered (meet_line last) 0 gates
 
 -- by the stops of all modules
-abbrev pub time_lines : Circuit → List ModuleLines → List TimeLine
-time_lines c ms = time_lines_of_gates (first_seen c (all_stops ms)) (last_seen c (all_stops ms)) c.netlist.gates
+abbrev pub delay_and_meet_lines : Circuit → List ModuleLines → List TimeLine
+delay_and_meet_lines c ms = time_lines_of_gates (first_seen c (all_stops ms))
+    (last_seen c (all_stops ms)) c.netlist.gates
 
 -- ---- the rules
 

@@ -8,7 +8,7 @@ use Rattle.certificate_lines.specs.Entries.{edge_in, halo_in}
 use Rattle.certificate.specs.Jobs.{line_signals}
 use Rattle.certificate.specs.NamedWires.{AreNamedWires}
 use Rattle.certificate_lines.specs.Rules.{is_local}
-use Rattle.module_job.specs.Signals.{IsBelow, renumber_all_times, renumber_event}
+use Rattle.module_job.specs.Signals.{IsSignalWireBelow, renumber_all_times, renumber_event}
 use Rattle.certificate_lines.specs.declared.certificate_line.BorderLine.{BorderLine}
 use Rattle.certificate_lines.specs.declared.certificate_line.CertificateLine.{CertificateLine}
 use Rattle.certificate.specs.declared.timetable.RingOrHalo.{RingOrHalo}
@@ -33,6 +33,6 @@ pub record IsLow (c : Cell) : Type 0 where
 pub record AreSignalLists (c : Circuit) (l : LocalNet) (es : List BorderLine) (t : SignalLists) : Type 0 where
   pub all_times : map (renumber_all_times (circuit_wire l)) t.all_times.items ≡ (line_signals c es).all_times
   pub events : map (renumber_event (circuit_wire l)) t.events.items ≡ (line_signals c es).events
-  pub own_all_times : All (λ h. IsBelow (wires l.netlist) h.signal) t.all_times.items
-  pub own_events : All (λ e. IsBelow (wires l.netlist) e.signal) t.events.items
+  pub own_all_times : All (λ h. IsSignalWireBelow (wires l.netlist) h.signal) t.all_times.items
+  pub own_events : All (λ e. IsSignalWireBelow (wires l.netlist) e.signal) t.events.items
   pub slots : AreNamedWires c l t.slots

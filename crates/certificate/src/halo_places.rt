@@ -10,7 +10,7 @@ ghost use Rattle.certificate_lines.specs.Modules.{AreModules};
 ghost use Rattle.certificate_lines.specs.Rules.{whole};
 ghost use Rattle.certificate_lines.specs.Settings.{setting_of};
 ghost use Rattle.certificate_lines.specs.declared.certificate_line.CertificateLine.{CertificateLine};
-ghost use Rattle.certificate.specs.HaloPlaces.{AreHaloPlaces, AreLinesFrom, AreReady, HaveEdges, HavePlace, IsInnerCell, list_at};
+ghost use Rattle.certificate.specs.HaloPlaces.{AreHaloPlaces, AreLinesFrom, AreReady, HaveEdges, HavePlace, IsInnerCell, list_at_or_empty};
 ghost use Rattle.certificate.specs.SliceLines.{slice_lines};
 
 use crate::beside::ModuleSlice;
@@ -27,11 +27,11 @@ const MAX_LINES: usize = 4294967295;
 fn push_place(lists: &mut Vec<Vec<u32>>, number: usize, place: u32) -> Result<(), AllocError>
     requires { number < length lists.old.items }
     ensures count { OnOk result (length lists.new.items ≡ length lists.old.items) }
-    ensures here { OnOk result (list_at (map (λ l. l.items) lists.new.items) number
-        ≡ list_at (map (λ l. l.items) lists.old.items) number ++ place ∷ []) }
+    ensures here { OnOk result (list_at_or_empty (map (λ l. l.items) lists.new.items) number
+        ≡ list_at_or_empty (map (λ l. l.items) lists.old.items) number ++ place ∷ []) }
     ensures others { OnOk result ((i : ℕ) → i ≢ number →
-        list_at (map (λ l. l.items) lists.new.items) i
-        ≡ list_at (map (λ l. l.items) lists.old.items) i) }
+        list_at_or_empty (map (λ l. l.items) lists.new.items) i
+        ≡ list_at_or_empty (map (λ l. l.items) lists.old.items) i) }
 {
     lists[number].push(place)?;
     Ok(())
@@ -41,11 +41,11 @@ fn push_place(lists: &mut Vec<Vec<u32>>, number: usize, place: u32) -> Result<()
 pub(crate) fn take_list(alloc: Global, lists: &mut Vec<Vec<u32>>, number: usize) -> Vec<u32>
     requires { number < length lists.old.items }
     ensures count { length lists.new.items ≡ length lists.old.items }
-    ensures taken { list_at (map (λ l. l.items) lists.old.items) number ≡ result.items }
-    ensures empty { list_at (map (λ l. l.items) lists.new.items) number ≡ [] }
+    ensures taken { list_at_or_empty (map (λ l. l.items) lists.old.items) number ≡ result.items }
+    ensures empty { list_at_or_empty (map (λ l. l.items) lists.new.items) number ≡ [] }
     ensures others { (i : ℕ) → i ≢ number →
-        list_at (map (λ l. l.items) lists.new.items) i
-        ≡ list_at (map (λ l. l.items) lists.old.items) i }
+        list_at_or_empty (map (λ l. l.items) lists.new.items) i
+        ≡ list_at_or_empty (map (λ l. l.items) lists.old.items) i }
 {
     replace(&mut lists[number], Vec::new(alloc))
 }
@@ -175,7 +175,7 @@ fn push_edge_places(
 fn empty_place_lists(alloc: Global, count: usize) -> Result<Vec<Vec<u32>>, AllocError>
     ensures count { IfOk result (λ lists. length lists.items ≡ count) }
     ensures empty { IfOk result (λ lists. (i : ℕ) →
-        list_at (map (λ l. l.items) lists.items) i ≡ []) }
+        list_at_or_empty (map (λ l. l.items) lists.items) i ≡ []) }
 {
     let mut lists = Vec::new(alloc);
     'boxes: for _number in 0..count {

@@ -15,18 +15,18 @@ ghost use Rattle.certificate.specs.SliceLines.{slice_lines};
 ghost use Rattle.certificate_lines.specs.Modules.{AreModules, HasPorts, IsModule};
 ghost use Rattle.certificate_lines.specs.Orders.{AreInOrder};
 ghost use Rattle.certificate_lines.specs.Rules.{is_local};
-ghost use Rattle.module_job.specs.Shapes.{signals_from_corner, stops_from_corner};
-ghost use Rattle.module_job.specs.Signals.{IsBelow, renumber_signals};
+ghost use Rattle.module_job.specs.Shapes.{signals_in_plane, stops_in_plane};
+ghost use Rattle.module_job.specs.Signals.{IsSignalWireBelow, renumber_signals};
 ghost use Rattle.certificate.specs.StopLists.{AreStops};
 ghost use Rattle.certificate.specs.Timetables.{IsLow, HasLocalWire, borders_in};
-ghost use Rattle.certificate_lines.specs.Versions.{is_haloless, lacks_wire, modules_by_version, with_halos};
+ghost use Rattle.certificate_lines.specs.Versions.{is_haloless_version, lacks_edge_wire_beside, modules_by_version, with_halos};
 
 use crate::beside::{ModuleSlice, lines_with_halos};
 use crate::cert::Cert;
 use crate::halo_places::{halo_places, take_list};
 use crate::layout_tables::LayoutTables;
 use crate::line_kinds::{side_lines, stop_lines, wiring_lines};
-use crate::reading::is_haloless;
+use crate::reading::is_haloless_version;
 use crate::stops::stops_of;
 use crate::timetable::{RingOrHalo, signals_of};
 use certificate_lines::{StoredLine, cut_list, kept_places, used_gates};
@@ -37,7 +37,7 @@ use std::alloc::{AllocError, Global};
 use std::sync::Arc;
 
 // The wires and gates that a module's lines name, and the gates that they keep, by their places among the used ones.
-fn module_locals(
+fn locals_and_kept_places(
     alloc: Global,
     circuit: &Circuit,
     lines: &[StoredLine],
@@ -89,12 +89,14 @@ fn schedule_from_corner(
     requires low { All (λ e. IsLow e.cell) (flat_map (borders_in side) lines.now) }
     requires corner { (area.x ≤ 512) × (area.y ≤ 512) }
     ensures same_signals { IfOk result (λ s. renumber_signals (circuit_wire locals.now)
-        (signals_from_corner area s)
+        (signals_in_plane area s)
         ≡ line_signals (circuit_of circuit.now) (flat_map (borders_in side) lines.now)) }
-    ensures all_times { IfOk result (λ s. All (λ h. IsBelow (wires locals.now.netlist) h.signal)
-        (signals_from_corner area s).all_times) }
-    ensures events { IfOk result (λ s. All (λ e. IsBelow (wires locals.now.netlist) e.signal)
-        (signals_from_corner area s).events) }
+    ensures all_times { IfOk result (λ s. All
+        (λ h. IsSignalWireBelow (wires locals.now.netlist) h.signal)
+        (signals_in_plane area s).all_times) }
+    ensures events { IfOk result (λ s. All
+        (λ e. IsSignalWireBelow (wires locals.now.netlist) e.signal)
+        (signals_in_plane area s).events) }
     ensures near { IfOk result (λ s. All (λ e. IsInShiftRange e.at.cell) s.events) }
 {
     let signals = signals_of(alloc, circuit, locals, side, side_lines(side, lines))?;
@@ -118,24 +120,24 @@ fn schedules(
     requires low_halos { All (λ e. IsLow e.cell) (flat_map (borders_in RingOrHalo.Halo) lines.now) }
     requires corner { (area.x ≤ 512) × (area.y ≤ 512) }
     ensures edges { IfOk result (λ sides. renumber_signals (circuit_wire locals.now)
-        (signals_from_corner area sides.0)
+        (signals_in_plane area sides.0)
         ≡ line_signals (circuit_of circuit.now) (flat_map (borders_in RingOrHalo.Ring) lines.now)) }
     ensures edges_all_times { IfOk result (λ sides. All
-        (λ h. IsBelow (wires locals.now.netlist) h.signal)
-        (signals_from_corner area sides.0).all_times) }
+        (λ h. IsSignalWireBelow (wires locals.now.netlist) h.signal)
+        (signals_in_plane area sides.0).all_times) }
     ensures edge_events { IfOk result (λ sides. All
-        (λ e. IsBelow (wires locals.now.netlist) e.signal)
-        (signals_from_corner area sides.0).events) }
+        (λ e. IsSignalWireBelow (wires locals.now.netlist) e.signal)
+        (signals_in_plane area sides.0).events) }
     ensures near_edges { IfOk result (λ sides. All (λ e. IsInShiftRange e.at.cell) sides.0.events) }
     ensures halos { IfOk result (λ sides. renumber_signals (circuit_wire locals.now)
-        (signals_from_corner area sides.1)
+        (signals_in_plane area sides.1)
         ≡ line_signals (circuit_of circuit.now) (flat_map (borders_in RingOrHalo.Halo) lines.now)) }
     ensures halos_all_times { IfOk result (λ sides. All
-        (λ h. IsBelow (wires locals.now.netlist) h.signal)
-        (signals_from_corner area sides.1).all_times) }
+        (λ h. IsSignalWireBelow (wires locals.now.netlist) h.signal)
+        (signals_in_plane area sides.1).all_times) }
     ensures halo_events { IfOk result (λ sides. All
-        (λ e. IsBelow (wires locals.now.netlist) e.signal)
-        (signals_from_corner area sides.1).events) }
+        (λ e. IsSignalWireBelow (wires locals.now.netlist) e.signal)
+        (signals_in_plane area sides.1).events) }
     ensures near_halos { IfOk result (λ sides. All (λ e. IsInShiftRange e.at.cell) sides.1.events) }
 {
     let edges = schedule_from_corner(alloc, circuit, locals, RingOrHalo::Ring, area, lines)?;
@@ -158,7 +160,7 @@ fn stops_at_corner_offset(
     requires low { All (λ s. IsLow s.cell) (flat_map stop_in lines.now) }
     requires corner { (area.x ≤ 512) × (area.y ≤ 512) }
     ensures said { IfOk result (λ stops. AreStops (circuit_of circuit.now) locals.now
-        (flat_map stop_in lines.now) (stops_from_corner area stops.items)) }
+        (flat_map stop_in lines.now) (stops_in_plane area stops.items)) }
     ensures near { IfOk result (λ stops. All (λ s. IsInShiftRange s.at.cell) stops.items) }
 {
     let stops = stops_of(alloc, circuit, locals, stop_lines(lines))?;
@@ -186,7 +188,7 @@ fn make_job(
 {
     let circuit = tables.circuit();
     let size = tables.layout().size();
-    let (locals, kept) = module_locals(alloc, circuit, lines)?;
+    let (locals, kept) = locals_and_kept_places(alloc, circuit, lines)?;
     let (starts, demands) = tables.cell_lists(alloc, area, &locals)?;
     let (edges, halos) = schedules(alloc, circuit, &locals, area, lines)?;
     let stops = stops_at_corner_offset(alloc, circuit, &locals, area, lines)?;
@@ -241,7 +243,7 @@ fn jobs_with_implied_halos<'a>(
     requires parts { map slice_lines parts.now ≡ modules_of entries.now }
     requires modules { AreModules (setting_of tables.now.circuit tables.now.layout)
         (map slice_lines parts.now) }
-    requires complete { lacks_wire (setting_of tables.now.circuit tables.now.layout)
+    requires complete { lacks_edge_wire_beside (setting_of tables.now.circuit tables.now.layout)
         (map slice_lines parts.now) ≡ false }
     ensures { IfOk result (λ js. AreJobsOf (circuit_of tables.now.circuit) tables.now.layout
         (map (with_halos (setting_of tables.now.circuit tables.now.layout)
@@ -273,14 +275,14 @@ fn jobs_of_version<'a>(
     requires parts { map slice_lines parts.now ≡ modules_of entries.now }
     requires modules { AreModules (setting_of tables.now.circuit tables.now.layout)
         (modules_of entries.now) }
-    requires complete { (is_haloless version
-        && lacks_wire (setting_of tables.now.circuit tables.now.layout) (modules_of entries.now))
-        ≡ false }
+    requires complete { (is_haloless_version version
+        && lacks_edge_wire_beside (setting_of tables.now.circuit tables.now.layout)
+        (modules_of entries.now)) ≡ false }
     ensures { IfOk result (λ js. AreJobsOf (circuit_of tables.now.circuit) tables.now.layout
         (modules_by_version version (setting_of tables.now.circuit tables.now.layout)
         (modules_of entries.now)) (map arc_value js.items)) }
 {
-    if is_haloless(version) {
+    if is_haloless_version(version) {
         return jobs_with_implied_halos(alloc, tables, entries, parts);
     }
     jobs_as_written(alloc, tables, parts)

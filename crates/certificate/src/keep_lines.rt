@@ -63,7 +63,7 @@ fn is_kept(kept: &IndexSet<u32>, gate: usize) -> bool
 }
 
 // Adds the number of an inverse gate that is not kept.
-fn push_unkept(
+fn push_if_unkept_inverse(
     gates: &mut Vec<usize>,
     inverse: bool,
     kept: bool,
@@ -91,7 +91,7 @@ impl<'a> Cert<'a> {
         'gates: for number in 0..count {
             let gate = self.circuit.gate(GateNo::of(number as u16));
             let keeps = is_kept(&kept, number);
-            push_unkept(&mut gates, gate.kind().is_inverse(), keeps, number)?;
+            push_if_unkept_inverse(&mut gates, gate.kind().is_inverse(), keeps, number)?;
         }
         Ok(gates)
     }

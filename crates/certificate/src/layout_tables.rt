@@ -10,9 +10,9 @@ ghost use Rattle.module_box.specs.Boxes.{in_box};
 ghost use Rattle.module_box.specs.Locals.{circuit_wire, is_among};
 ghost use Rattle.certificate.specs.Jobs.{end_demand, start_signal};
 ghost use Rattle.module_box.specs.Places.{place_in};
-ghost use Rattle.certificate.specs.LayoutTablesView.{AddsCells, HasLayoutSize, HasMirrorOrNothing, KnowsPort, KnowsPorts, non_mirror_cells};
+ghost use Rattle.certificate.specs.LayoutTablesView.{AddsCells, HasLayoutSize, HasMirrorOrNothing, IsPortWireLocalAt, ArePortWiresLocalIn, non_mirror_cells};
 ghost use Rattle.certificate_lines.specs.Rules.{is_local};
-ghost use Rattle.module_job.specs.Signals.{IsBelow, IsDemandBelow, renumber_demand, renumber_signal};
+ghost use Rattle.module_job.specs.Signals.{IsSignalWireBelow, IsDemandWireBelow, renumber_demand, renumber_signal};
 
 use bbm_rule::{Cell, Grid};
 use certificate_lines::{PortTable, is_live, port_tables};
@@ -140,7 +140,7 @@ fn non_mirror_cells(alloc: Global, layout: &Layout) -> Result<Vec<Cell>, AllocEr
 }
 
 // A grid on which the cells of balls, waste cells and ports are live.
-fn others_of(alloc: Global, layout: &Layout) -> Result<Grid, AllocError>
+fn non_mirror_grid(alloc: Global, layout: &Layout) -> Result<Grid, AllocError>
     ensures cells { IfOk result (λ grid. (x y : ℤ) →
         live grid x y ≡ false → HasMirrorOrNothing layout.now x y) }
     ensures size { IfOk result (HasLayoutSize layout.now) }
@@ -210,7 +210,7 @@ impl<'a> LayoutTables<'a> {
     {
         let (ins, outs) = port_tables(alloc, layout)?;
         let (mirrors, balls, wastes) = mirror_ball_waste_grids(alloc, layout)?;
-        let others = others_of(alloc, layout)?;
+        let others = non_mirror_grid(alloc, layout)?;
         Ok(LayoutTables {
             circuit,
             layout,
@@ -239,11 +239,11 @@ impl<'a> LayoutTables<'a> {
 
     // What a cell carries at time 0, where the module knows the wire of an input there.
     fn start_at(&self, locals: &Locals, cell: Cell) -> Signal
-        requires { KnowsPort (circuit_of self.now.circuit) locals.now.circuit_wires
+        requires { IsPortWireLocalAt (circuit_of self.now.circuit) locals.now.circuit_wires
             self.now.layout.ins cell.x cell.y }
         ensures same_signal { renumber_signal (circuit_wire locals.now) result
             ≡ start_signal (circuit_of self.now.circuit) self.now.layout cell.x cell.y }
-        ensures below { IsBelow (wires locals.now.netlist) result }
+        ensures below { IsSignalWireBelow (wires locals.now.netlist) result }
     {
         let mirror = is_live(&self.mirrors, cell);
         let ball = is_live(&self.balls, cell);
@@ -258,11 +258,11 @@ impl<'a> LayoutTables<'a> {
 
     // What a cell is to be at the last time, where the module knows the wire of an output there.
     fn demand_at(&self, locals: &Locals, cell: Cell) -> Demand
-        requires { KnowsPort (circuit_of self.now.circuit) locals.now.circuit_wires
+        requires { IsPortWireLocalAt (circuit_of self.now.circuit) locals.now.circuit_wires
             self.now.layout.outs cell.x cell.y }
         ensures same_demand { renumber_demand (circuit_wire locals.now) result
             ≡ end_demand (circuit_of self.now.circuit) self.now.layout cell.x cell.y }
-        ensures below { IsDemandBelow (wires locals.now.netlist) result }
+        ensures below { IsDemandWireBelow (wires locals.now.netlist) result }
     {
         if is_live(&self.mirrors, cell) {
             return Demand::Live;
@@ -282,16 +282,16 @@ impl<'a> LayoutTables<'a> {
     // What a cell carries at time 0, and what it is to be at the last time, where the module knows the wires of ports
     // there.
     fn start_and_demand_at(&self, locals: &Locals, cell: Cell) -> (Signal, Demand)
-        requires ins { KnowsPort (circuit_of self.now.circuit) locals.now.circuit_wires
+        requires ins { IsPortWireLocalAt (circuit_of self.now.circuit) locals.now.circuit_wires
             self.now.layout.ins cell.x cell.y }
-        requires outs { KnowsPort (circuit_of self.now.circuit) locals.now.circuit_wires
+        requires outs { IsPortWireLocalAt (circuit_of self.now.circuit) locals.now.circuit_wires
             self.now.layout.outs cell.x cell.y }
         ensures start { renumber_signal (circuit_wire locals.now) result.0
             ≡ start_signal (circuit_of self.now.circuit) self.now.layout cell.x cell.y }
-        ensures start_below { IsBelow (wires locals.now.netlist) result.0 }
+        ensures start_below { IsSignalWireBelow (wires locals.now.netlist) result.0 }
         ensures demand { renumber_demand (circuit_wire locals.now) result.1
             ≡ end_demand (circuit_of self.now.circuit) self.now.layout cell.x cell.y }
-        ensures demand_below { IsDemandBelow (wires locals.now.netlist) result.1 }
+        ensures demand_below { IsDemandWireBelow (wires locals.now.netlist) result.1 }
     {
         if is_live(&self.mirrors, cell) {
             return (Signal::One, Demand::Live);
@@ -329,9 +329,9 @@ impl<'a> LayoutTables<'a> {
         requires columns { (area.x + area.w ≤ self.now.layout.size.w) × (area.x + area.w ≤ 512) }
         requires row { (area.y ≤ y) × (y < area.y + area.h) × (y < 512) }
         requires rows { area.y + area.h ≤ self.now.layout.size.h }
-        requires ins { KnowsPorts (circuit_of self.now.circuit) locals.now.circuit_wires
+        requires ins { ArePortWiresLocalIn (circuit_of self.now.circuit) locals.now.circuit_wires
             self.now.layout.ins area }
-        requires outs { KnowsPorts (circuit_of self.now.circuit) locals.now.circuit_wires
+        requires outs { ArePortWiresLocalIn (circuit_of self.now.circuit) locals.now.circuit_wires
             self.now.layout.outs area }
         ensures { OnOk result (AddsCells (circuit_of self.now.circuit) self.now.layout locals.now
             (row_cells area.x area.w y) lists.old lists.new) }
@@ -366,20 +366,20 @@ impl<'a> LayoutTables<'a> {
     ) -> Result<(StartSignals, EndDemands), AllocError>
         requires columns { (area.x + area.w ≤ self.now.layout.size.w) × (area.x + area.w ≤ 512) }
         requires rows { (area.y + area.h ≤ self.now.layout.size.h) × (area.y + area.h ≤ 512) }
-        requires ins { KnowsPorts (circuit_of self.now.circuit) locals.now.circuit_wires
+        requires ins { ArePortWiresLocalIn (circuit_of self.now.circuit) locals.now.circuit_wires
             self.now.layout.ins area }
-        requires outs { KnowsPorts (circuit_of self.now.circuit) locals.now.circuit_wires
+        requires outs { ArePortWiresLocalIn (circuit_of self.now.circuit) locals.now.circuit_wires
             self.now.layout.outs area }
         ensures starts_count { IfOk result (λ lists. length lists.0 ≡ area.w * area.h) }
-        ensures starts_own { IfOk result (λ lists. All (IsBelow (wires locals.now.netlist))
-            lists.0) }
+        ensures starts_own { IfOk result (λ lists. All
+            (IsSignalWireBelow (wires locals.now.netlist)) lists.0) }
         ensures starts { IfOk result (λ lists. (x y : ℤ) → IsTrue (in_box area x y) →
             renumber_signal (circuit_wire locals.now)
             (unwrap_or (slice_get lists.0 (place_in area x y)) Signal.Zero)
             ≡ start_signal (circuit_of self.now.circuit) self.now.layout x y) }
         ensures demands_count { IfOk result (λ lists. length lists.1 ≡ area.w * area.h) }
-        ensures demands_own { IfOk result (λ lists. All (IsDemandBelow (wires locals.now.netlist))
-            lists.1) }
+        ensures demands_own { IfOk result (λ lists. All
+            (IsDemandWireBelow (wires locals.now.netlist)) lists.1) }
         ensures demands { IfOk result (λ lists. (x y : ℤ) → IsTrue (in_box area x y) →
             renumber_demand (circuit_wire locals.now)
             (unwrap_or (slice_get lists.1 (place_in area x y)) Demand.Dead)

@@ -43,7 +43,7 @@ fn slot_of(name: &Name) -> usize
 /// The name gets its slot. It is looked up only if another name has the slot.
 // Inlined, since it runs for each line of each job.
 #[inline(always)]
-pub(crate) fn slot_wire<'a>(
+pub(crate) fn local_wire_through_slot<'a>(
     circuit: &Circuit,
     locals: &Locals,
     slots: &mut [Option<NamedWire<'a>>; SLOT_COUNT],

@@ -2,9 +2,9 @@
 ghost use Rattle.std.specs.Prelude.{◌≡◌, ◌++◌, [], ◌∷◌, OnOk, IfOk, codes};
 ghost use Rattle.std.specs.List.{flat_map};
 ghost use Rattle.std.specs.Fmt.{decimal};
-ghost use Rattle.section_text.specs.Spelling.{spaced, line_text};
+ghost use Rattle.section_text.specs.Spelling.{space_and_word, line_text};
 ghost use Rattle.certificate.specs.Grammars.{migrated};
-ghost use Rattle.certificate.specs.Text.{area_words, time_word, signal_word, border_words, entry_text, stop_words, certificate_text};
+ghost use Rattle.certificate.specs.Text.{area_words, star_or_time_word, one_or_name_word, border_words, entry_text, stop_words, certificate_text};
 ghost use Rattle.certificate_lines.specs.Versions.{without_halos};
 
 use crate::cert::Cert;
@@ -68,8 +68,9 @@ fn print_keep(out: &mut Vec<u8>, number: u32) -> Result<(), AllocError>
 }
 
 // A time, or `*` for every odd time.
-fn print_time(out: &mut Vec<u8>, time: Option<u32>) -> Result<(), AllocError>
-    ensures { OnOk result (out.new.items ≡ out.old.items ++ spaced (time_word time)) }
+fn print_star_or_time(out: &mut Vec<u8>, time: Option<u32>) -> Result<(), AllocError>
+    ensures { OnOk result (out.new.items
+        ≡ out.old.items ++ space_and_word (star_or_time_word time)) }
 {
     match time {
         None => print_word(out, b"*"),
@@ -78,8 +79,9 @@ fn print_time(out: &mut Vec<u8>, time: Option<u32>) -> Result<(), AllocError>
 }
 
 // The name of a wire, or the constant `1`.
-fn print_signal(out: &mut Vec<u8>, signal: Option<Name>) -> Result<(), AllocError>
-    ensures { OnOk result (out.new.items ≡ out.old.items ++ spaced (signal_word signal)) }
+fn print_one_or_name(out: &mut Vec<u8>, signal: Option<Name>) -> Result<(), AllocError>
+    ensures { OnOk result (out.new.items
+        ≡ out.old.items ++ space_and_word (one_or_name_word signal)) }
 {
     match signal {
         None => print_word(out, b"1"),
@@ -92,9 +94,9 @@ fn print_border(out: &mut Vec<u8>, word: &[u8], border: &BorderLine) -> Result<(
         ≡ out.old.items ++ line_text word.now (border_words border.now)) }
 {
     out.extend_from_slice(word)?;
-    print_time(out, border.time)?;
+    print_star_or_time(out, border.time)?;
     print_cell(out, border.cell)?;
-    print_signal(out, border.signal)?;
+    print_one_or_name(out, border.signal)?;
     out.push(b'\n')?;
     Ok(())
 }

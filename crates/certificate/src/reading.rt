@@ -3,7 +3,7 @@ ghost use Rattle.std.specs.Prelude.{◌≡◌, ◌≤◌, [], true, drop, length
 ghost use Rattle.section_text.specs.Section.{Reads};
 ghost use Rattle.certificate.specs.Grammars.{certificate_grammar, certificate_section};
 ghost use Rattle.certificate_lines.specs.Settings.{setting_of};
-ghost use Rattle.certificate_lines.specs.Versions.{is_haloless};
+ghost use Rattle.certificate_lines.specs.Versions.{is_haloless_version};
 
 use crate::beside::is_halo;
 use crate::cert::Cert;
@@ -19,8 +19,8 @@ const VERSION_WITH_HALOS: u32 = 1;
 const VERSION_WITHOUT_HALOS: u32 = 2;
 
 /// Returns whether certificates of this version have no halo lines of their own.
-pub(crate) fn is_haloless(version: u32) -> bool
-    ensures { result ≡ is_haloless version }
+pub(crate) fn is_haloless_version(version: u32) -> bool
+    ensures { result ≡ is_haloless_version version }
 {
     version == VERSION_WITHOUT_HALOS
 }
@@ -49,7 +49,7 @@ impl<'a> Section for Reading<'a> {
     }
 
     fn begin(&mut self, version: u32) -> Result<(), LineFault> {
-        if (version != VERSION_WITH_HALOS) & !is_haloless(version) {
+        if (version != VERSION_WITH_HALOS) & !is_haloless_version(version) {
             return Err(LineFault::Code(RefusalCode::PastLimit));
         }
         self.version = version;
@@ -57,7 +57,7 @@ impl<'a> Section for Reading<'a> {
     }
 
     fn add(&mut self, entry: CertificateLine) -> Result<(), LineFault> {
-        if is_haloless(self.version) & is_halo(&entry) {
+        if is_haloless_version(self.version) & is_halo(&entry) {
             return Err(LineFault::Code(RefusalCode::NoForm));
         }
         self.builder.add(self.alloc, entry)
@@ -67,7 +67,7 @@ impl<'a> Section for Reading<'a> {
         if let Some(code) = self.builder.missing() {
             return Some(code);
         }
-        if is_haloless(self.version) && self.builder.lacks_wire(self.alloc) {
+        if is_haloless_version(self.version) && self.builder.lacks_edge_wire_beside(self.alloc) {
             return Some(RefusalCode::SomethingMissing);
         }
         None

@@ -5,14 +5,14 @@ ghost use Rattle.circuit.specs.Bridge.{circuit_of};
 ghost use Rattle.circuit.specs.Meaning.{wires};
 ghost use Rattle.module_box.specs.Locals.{circuit_wire};
 ghost use Rattle.certificate_lines.specs.Entries.{stop_in};
-ghost use Rattle.certificate.specs.Jobs.{line_stops};
+ghost use Rattle.certificate.specs.Jobs.{stops_of_lines};
 ghost use Rattle.certificate_lines.specs.Rules.{is_local};
 ghost use Rattle.module_job.specs.Signals.{renumber_stop};
 ghost use Rattle.certificate.specs.NamedWires.{AreNamedWires};
 ghost use Rattle.certificate.specs.StopLists.{AreStops};
 ghost use Rattle.certificate_lines.specs.declared.certificate_line.StopLine.{StopLine as Line};
 
-use crate::named_wires::{NamedWire, SLOT_COUNT, empty_slots, slot_wire};
+use crate::named_wires::{NamedWire, SLOT_COUNT, empty_slots, local_wire_through_slot};
 use certificate_lines::{StoredLine, StoredStop};
 use circuit::Circuit;
 use module_box::{Locals, Moment};
@@ -30,7 +30,7 @@ fn local_stop<'a>(
         (is_local (circuit_of circuit.now) locals.now.circuit_wires line.now.wire) }
     requires slots { AreNamedWires (circuit_of circuit.now) locals.now slots.old }
     ensures same_stop { renumber_stop (circuit_wire locals.now) result ∷ []
-        ≡ line_stops (circuit_of circuit.now) (line.now ∷ []) }
+        ≡ stops_of_lines (circuit_of circuit.now) (line.now ∷ []) }
     ensures own_wire { result.wire < wires locals.now.netlist }
     ensures slots { AreNamedWires (circuit_of circuit.now) locals.now slots.new }
 {
@@ -38,7 +38,7 @@ fn local_stop<'a>(
         time: line.time(),
         cell: line.cell(),
     };
-    let wire = slot_wire(circuit, locals, slots, line.wire());
+    let wire = local_wire_through_slot(circuit, locals, slots, line.wire());
     Stop { at, wire }
 }
 

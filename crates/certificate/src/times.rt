@@ -8,7 +8,7 @@ ghost use Rattle.certificate_lines.specs.Entries.{stop_in};
 ghost use Rattle.certificate_lines.specs.Orders.{AreInOrder};
 ghost use Rattle.certificate.specs.SliceLines.{slice_lines};
 ghost use Rattle.certificate.specs.Grammars.{modules_in};
-ghost use Rattle.certificate.specs.Times.{common_time, all_stops, delay_line, gap_between, is_obeyed, last_times, time_lines_of_gates, meet_line, first_wire_time, time_lines};
+ghost use Rattle.certificate.specs.Times.{common_time, all_stops, delay_line, gap_between, is_obeyed, last_times, time_lines_of_gates, meet_line, first_wire_time, delay_and_meet_lines};
 ghost use Rattle.certificate.specs.SeenTimes.{IsStopTimeTable, chosen, time_in_table};
 ghost use Rattle.certificate_lines.specs.declared.certificate_line.StopLine.{StopLine as Line};
 
@@ -282,7 +282,7 @@ fn lines_of(
 ) -> Result<Vec<TimeLine>, AllocError>
     requires { All (λ p. AreInOrder p.lines.now) parts.now }
     ensures { IfOk result (λ lines. lines.items
-        ≡ time_lines (circuit_of circuit.now) (map slice_lines parts.now)) }
+        ≡ delay_and_meet_lines (circuit_of circuit.now) (map slice_lines parts.now)) }
 {
     let firsts = stop_time_table(alloc, circuit, FirstOrLast::First, parts)?;
     let lasts = stop_time_table(alloc, circuit, FirstOrLast::Last, parts)?;
@@ -296,7 +296,7 @@ impl<'a> Cert<'a> {
     /// have stops.
     pub fn times(&self, alloc: Global) -> Result<Vec<TimeLine>, AllocError>
         ensures { IfOk result (λ lines. lines.items
-            ≡ time_lines (circuit_of self.now.circuit) (modules_in self.now)) }
+            ≡ delay_and_meet_lines (circuit_of self.now.circuit) (modules_in self.now)) }
     {
         let parts = self.slices(alloc)?;
         lines_of(alloc, self.circuit, &parts)

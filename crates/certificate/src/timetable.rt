@@ -5,15 +5,15 @@ ghost use Rattle.std.specs.Option.{option_map};
 ghost use Rattle.circuit.specs.Bridge.{circuit_of};
 ghost use Rattle.circuit.specs.Meaning.{wires};
 ghost use Rattle.module_box.specs.Locals.{circuit_wire};
-ghost use Rattle.certificate.specs.Jobs.{events_of_line, all_times_of_line, line_signal, line_signals};
+ghost use Rattle.certificate.specs.Jobs.{events_of_line, all_times_of_line, one_or_named_wire, line_signals};
 ghost use Rattle.certificate_lines.specs.Orders.{AreInOrder};
 ghost use Rattle.certificate_lines.specs.Rules.{is_local};
-ghost use Rattle.module_job.specs.Signals.{IsBelow, renumber_signal, renumber_signals};
+ghost use Rattle.module_job.specs.Signals.{IsSignalWireBelow, renumber_signal, renumber_signals};
 ghost use Rattle.certificate.specs.Timetables.{AreSignalLists, borders_in, HasLocalWire};
 ghost use Rattle.certificate.specs.NamedWires.{AreNamedWires};
 ghost use Rattle.certificate_lines.specs.declared.certificate_line.BorderLine.{BorderLine};
 
-use crate::named_wires::{NamedWire, SLOT_COUNT, empty_slots, slot_wire};
+use crate::named_wires::{NamedWire, SLOT_COUNT, empty_slots, local_wire_through_slot};
 use certificate_lines::{StoredBorder, StoredLine};
 use circuit::Circuit;
 use module_box::{AllTimes, Locals, Moment, Schedule, Signal, TimedSignal};
@@ -36,7 +36,7 @@ struct SignalLists<'a> {
 }
 
 // The signal of a line. If it names a wire, this gets its slot.
-fn local_signal<'a>(
+fn one_or_local_wire<'a>(
     circuit: &Circuit,
     locals: &Locals,
     slots: &mut [Option<NamedWire<'a>>; SLOT_COUNT],
@@ -46,15 +46,15 @@ fn local_signal<'a>(
         (λ name. IsTrue (is_local (circuit_of circuit.now) locals.now.circuit_wires name.now)) }
     ensures same_signal { AreNamedWires (circuit_of circuit.now) locals.now slots.old →
         renumber_signal (circuit_wire locals.now) result
-        ≡ line_signal (circuit_of circuit.now) (option_map (λ name. name.now) signal.entry) }
+        ≡ one_or_named_wire (circuit_of circuit.now) (option_map (λ name. name.now) signal.entry) }
     ensures own_wire { AreNamedWires (circuit_of circuit.now) locals.now slots.old →
-        IsBelow (wires locals.now.netlist) result }
+        IsSignalWireBelow (wires locals.now.netlist) result }
     ensures slots { AreNamedWires (circuit_of circuit.now) locals.now slots.old →
         AreNamedWires (circuit_of circuit.now) locals.now slots.new }
 {
     match signal {
         None => Signal::One,
-        Some(name) => Signal::Wire(slot_wire(circuit, locals, slots, name)),
+        Some(name) => Signal::Wire(local_wire_through_slot(circuit, locals, slots, name)),
     }
 }
 
@@ -90,7 +90,7 @@ impl<'a> SignalLists<'a> {
             AreSignalLists (circuit_of circuit.now) locals.now es self.old →
             AreSignalLists (circuit_of circuit.now) locals.now (es ++ border.now ∷ []) self.new) }
     {
-        let signal = local_signal(circuit, locals, &mut self.slots, border.signal());
+        let signal = one_or_local_wire(circuit, locals, &mut self.slots, border.signal());
         self.push(border, signal)
     }
 
@@ -133,10 +133,10 @@ pub(crate) fn signals_of(
         (flat_map (borders_in side) lines.now) }
     ensures same_signals { IfOk result (λ s. renumber_signals (circuit_wire locals.now) s
         ≡ line_signals (circuit_of circuit.now) (flat_map (borders_in side) lines.now)) }
-    ensures all_times { IfOk result (λ s. All (λ h. IsBelow (wires locals.now.netlist) h.signal)
-        s.all_times) }
-    ensures events { IfOk result (λ s. All (λ e. IsBelow (wires locals.now.netlist) e.signal)
-        s.events) }
+    ensures all_times { IfOk result (λ s. All
+        (λ h. IsSignalWireBelow (wires locals.now.netlist) h.signal) s.all_times) }
+    ensures events { IfOk result (λ s. All
+        (λ e. IsSignalWireBelow (wires locals.now.netlist) e.signal) s.events) }
 {
     // Few lines have a star. For the others, room for each line costs less than a count of those of this side: it is
     // freed soon, and most is never touched.

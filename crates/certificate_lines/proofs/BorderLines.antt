@@ -1,16 +1,15 @@
 -- The form of a line by whether it has five words
-use Rattle.std.proofs.Common.{◌≡◌, ◌==◌, if◌then◌else◌, ℕ, Bool, true, false, List, length, Option, Some, None}
-use Rattle.std.proofs.Common.{refl, sym, ap, ◌∙◌, inl, inr}
-use Rattle.std.specs.Prelude.{codes, slice_get}
+use Rattle.std.proofs.Common.{◌≡◌, ◌==◌, if◌then◌else◌, ℕ, Bool, true, false, List, length, Option, Some, None, refl}
+use Rattle.std.proofs.Common.{sym, ap, ◌∙◌, inl, inr, codes, slice_get}
 use Rattle.std.specs.Str.{bytes_eq}
 use Rattle.std.proofs.lemmas.Bool.{cases_Bool, cond-false, cond-true}
 use Rattle.std.proofs.lemmas.Option.{same_Some}
 use Rattle.std.proofs.lemmas.Slice.Eq.{bytes_eq-Decides}
-use Rattle.section_text.specs.Listed.{five_listed}
+use Rattle.section_text.specs.Listed.{list_of_five_words}
 use Rattle.section_text.specs.Words.{five, is_word, is_word_at, lone, lone_name, lone_number, ◌>>=◌}
 use Rattle.section_text.specs.declared.words.FiveWords.{FiveWords}
 use Rattle.section_text.specs.declared.section.Form.TheVariants.{Header, Item, End}
-use Rattle.certificate_lines.specs.Forms.{Line, area_of, border_of, form_of, short_form_of, stop_of}
+use Rattle.certificate_lines.specs.Forms.{Line, area_of, border_of, form_of, form_of_not_five_words, stop_of}
 use Rattle.certificate_lines.specs.declared.certificate_line.CertificateLine.TheVariants.{Module, Cut, Use, Keep, Edge}
 use Rattle.certificate_lines.specs.declared.certificate_line.CertificateLine.TheVariants.{Halo, Stop}
 use Rattle.certificate_lines.specs.declared.certificate_line.BorderLine.{BorderLine}
@@ -38,12 +37,12 @@ halo_form ws o edge halo is =
 -- a line of five words that begins with no keyword of such lines has no form
 pub no_long_form : (w : FiveWords) → bytes_eq w.first.now (codes "edge") ≡ false →
     bytes_eq w.first.now (codes "halo") ≡ false → bytes_eq w.first.now (codes "stop") ≡ false →
-    bytes_eq w.first.now (codes "module") ≡ false → None ≡ form_of (five_listed w)
+    bytes_eq w.first.now (codes "module") ≡ false → None ≡ form_of (list_of_five_words w)
 unfolding form_of is_word_at lone lone_name lone_number
 no_long_form w e h s m = sym (
     cond-false _ _ _ e ∙ cond-false _ _ _ h ∙ cond-false _ _ _ s
     ∙ same_none (is (codes "cut")) _ (same_none (is (codes "use")) _ (same_none (is (codes "keep")) _
-    (cond-false _ (area_of (five_listed w) >>= λ b. Some (Item (Module b))) _ m
+    (cond-false _ (area_of (list_of_five_words w) >>= λ b. Some (Item (Module b))) _ m
     ∙ same_none (is (codes "certificate")) _ (same_none (is (codes "end")) _ refl)))))
   where
     is : List ℕ → Bool
@@ -62,12 +61,13 @@ five_is true x y e = same_Some x y e
 five_is false x y e = absurd cc
 
 -- the words of a line of five
-pub five_words_are : (ws : List (List ℕ)) (w : FiveWords) → Some (five_listed w) ≡ five ws → ws ≡ five_listed w
+pub five_words_are : (ws : List (List ℕ)) (w : FiveWords) → Some (list_of_five_words w) ≡ five ws →
+    ws ≡ list_of_five_words w
 unfolding five
-five_words_are ws w e = five_is (length ws == 5) ws (five_listed w) (sym e)
+five_words_are ws w e = five_is (length ws == 5) ws (list_of_five_words w) (sym e)
 
-pub long_form_is : (ws : List (List ℕ)) (w : FiveWords) → Some (five_listed w) ≡ five ws →
-    form_of (five_listed w) ≡ form_of ws
+pub long_form_is : (ws : List (List ℕ)) (w : FiveWords) → Some (list_of_five_words w) ≡ five ws →
+    form_of (list_of_five_words w) ≡ form_of ws
 long_form_is ws w e = ap form_of (sym (five_words_are ws w e))
 
 -- ---- lines of another number of words
@@ -88,8 +88,8 @@ other_word (Some w) k m d e = ap (λ z. bytes_eq z m) ((bytes_eq-Decides w k).0 
 -- a line that begins with the keyword of a line of five words
 no_short_form : (ws : List (List ℕ)) (k : List ℕ) → is_word_at ws 0 k ≡ true → bytes_eq k (codes "cut") ≡ false →
     bytes_eq k (codes "use") ≡ false → bytes_eq k (codes "keep") ≡ false → bytes_eq k (codes "certificate") ≡ false →
-    bytes_eq k (codes "end") ≡ false → short_form_of ws ≡ None
-unfolding short_form_of is_word_at
+    bytes_eq k (codes "end") ≡ false → form_of_not_five_words ws ≡ None
+unfolding form_of_not_five_words is_word_at
 no_short_form ws k is a b c d e =
     let o = slice_get ws 0 in
     cond-false _ _ _ (other_word o k _ a is) ∙ cond-false _ _ _ (other_word o k _ b is)
@@ -116,8 +116,8 @@ from_module ws none = elim (cases_Bool (is_word (slice_get ws 0) (codes "module"
 ]
 
 short_is : (ws : List (List ℕ)) → border_of ws ≡ None → stop_of ws ≡ None → area_of ws ≡ None →
-    short_form_of ws ≡ form_of ws
-unfolding short_form_of form_of
+    form_of_not_five_words ws ≡ form_of ws
+unfolding form_of_not_five_words form_of
 short_is ws border stop area = elim (cases_Bool (is_word_at ws 0 (codes "edge"))) [
   | inl is ↦ no_short_form ws _ is refl refl refl refl refl
       ∙ sym (cond-true _ _ _ is ∙ ap (λ z. z >>= λ e. Some (Item (Edge e))) border)
@@ -137,7 +137,7 @@ short_is ws border stop area = elim (cases_Bool (is_word_at ws 0 (codes "edge"))
   ]
 ]
 
-pub short_form_is : (ws : List (List ℕ)) → None ≡ five ws → short_form_of ws ≡ form_of ws
+pub short_form_is : (ws : List (List ℕ)) → None ≡ five ws → form_of_not_five_words ws ≡ form_of ws
 unfolding five border_of stop_of area_of
 short_form_is ws e =
     let many = no_five (length ws == 5) ws (sym e) in

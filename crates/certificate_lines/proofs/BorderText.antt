@@ -1,7 +1,6 @@
 -- The content of an edge or halo line, by the bytes behind its keyword.
 use Rattle.std.proofs.Common.{◌≡◌, ◌==◌, ℕ, suc, ◌-◌, ◌<◌, Bool, true, false, List, [], ◌∷◌, ◌++◌, length, take, drop}
-use Rattle.std.proofs.Common.{Option, Some, None, ◌&&◌, refl, sym, ap, subst, ◌∙◌, inl, inr, arith}
-use Rattle.std.specs.Prelude.{codes}
+use Rattle.std.proofs.Common.{Option, Some, None, ◌&&◌, refl, sym, ap, subst, ◌∙◌, inl, inr, arith, codes}
 use Rattle.std.specs.List.{join_with_byte, list_all, onto_first}
 use Rattle.std.specs.Str.{bytes_eq}
 use Rattle.std.proofs.lemmas.Bool.{cases_Bool, cond-false, false≢true}
@@ -10,16 +9,17 @@ use Rattle.std.proofs.lemmas.List.{take-append-drop, take_rest}
 use Rattle.std.proofs.lemmas.List.Splits.{join_with_byte-slice_split, slice_split-cons_no}
 use Rattle.std.proofs.lemmas.Slice.Eq.{bytes_eq-Decides}
 use Rattle.section_text.specs.Leading.{leading_number}
-use Rattle.section_text.specs.Words.{is_lower, is_name, is_name_byte, is_space, is_word_at, name_at}
-use Rattle.section_text.specs.Words.{name_of}
-use Rattle.section_text.specs.Words.{number_at, number_of, words_of, ◌>>=◌}
+use Rattle.section_text.specs.Words.{is_lower, is_name, is_name_byte, is_space, is_word_at, name_at, name_of, number_at}
+use Rattle.section_text.specs.Words.{number_of, words_of, ◌>>=◌}
 use Rattle.section_text.proofs.Splitting.{some_words}
-use Rattle.pattern.specs.Forms.{cell_from}
+use Rattle.pattern.specs.Forms.{cell_of_words_from}
 use Rattle.pattern.specs.Layout.{cell}
-use Rattle.certificate_lines.specs.BorderWords.{leading_time, lone_signal, signal_from_word, time_from_word}
+use Rattle.certificate_lines.specs.BorderWords.{leading_star_or_time, one_or_name_of_one_word, one_or_name_from_word}
+use Rattle.certificate_lines.specs.BorderWords.{star_or_time_from_word}
 use Rattle.section_text.specs.declared.section.Form.TheVariants.{Item}
 use Rattle.certificate_lines.proofs.BorderLines.{edge_form, halo_form, stop_form}
-use Rattle.certificate_lines.specs.Forms.{border_of, form_of, signal_at, stop_of, time_at, timed_cell}
+use Rattle.certificate_lines.specs.Forms.{border_of, form_of, signal_at, stop_of, star_or_time_at_word}
+use Rattle.certificate_lines.specs.Forms.{border_of_five_words}
 use Rattle.certificate_lines.specs.declared.certificate_line.BorderLine.{BorderLine}
 use Rattle.certificate_lines.specs.declared.certificate_line.CertificateLine.TheVariants.{Edge, Halo, Stop}
 use Rattle.certificate_lines.specs.declared.certificate_line.StopLine.{StopLine}
@@ -72,23 +72,23 @@ no_step (Some a) f none = none a
 
 -- ---- the time
 
-star_leads : (ws : List (List ℕ)) → 0 < length ws → Some (None, ws) ≡ leading_time (codes "*" ∷ ws)
-unfolding leading_time time_from_word
+star_leads : (ws : List (List ℕ)) → 0 < length ws → Some (None, ws) ≡ leading_star_or_time (codes "*" ∷ ws)
+unfolding leading_star_or_time star_or_time_from_word
 star_leads [] some = absurd (omega arith)
 star_leads (v ∷ vs) some = refl
 
 pub star_time : (l : List ℕ) → bytes_eq (take 2 l) (codes "* ") ≡ true →
-    Some (None, words_of (drop 2 l)) ≡ leading_time (words_of l)
+    Some (None, words_of (drop 2 l)) ≡ leading_star_or_time (words_of l)
 star_time l e = star_leads (words_of (drop 2 l)) (some_words (drop 2 l))
-    ∙ sym (ap (λ t. leading_time (words_of t)) (begins_with (codes "* ") l 2 e))
+    ∙ sym (ap (λ t. leading_star_or_time (words_of t)) (begins_with (codes "* ") l 2 e))
 
 abbrev timed : ℕ × List (List ℕ) → Option (Option ℕ × List (List ℕ))
 timed r = Some (Some r.0, r.1)
 
 time_leads : (ws : List (List ℕ)) →
     ((w v : List ℕ) (vs : List (List ℕ)) → ws ≡ w ∷ v ∷ vs → bytes_eq w (codes "*") ≡ false) →
-    (leading_number ws >>= timed) ≡ leading_time ws
-unfolding leading_number leading_time time_from_word
+    (leading_number ws >>= timed) ≡ leading_star_or_time ws
+unfolding leading_number leading_star_or_time star_or_time_from_word
 time_leads [] other = refl
 time_leads (w ∷ []) other = refl
 time_leads (w ∷ v ∷ vs) other =
@@ -97,7 +97,7 @@ time_leads (w ∷ v ∷ vs) other =
     ∙ ap (λ o. o >>= λ t. Some (t, v ∷ vs)) (sym (cond-false _ _ _ (other w v vs refl)))
 
 pub number_time : (l : List ℕ) (o : Option (ℕ × List (List ℕ))) → bytes_eq (take 2 l) (codes "* ") ≡ false →
-    o ≡ leading_number (words_of l) → (o >>= timed) ≡ leading_time (words_of l)
+    o ≡ leading_number (words_of l) → (o >>= timed) ≡ leading_star_or_time (words_of l)
 number_time l o other is = ap (λ r. r >>= timed) is
     ∙ time_leads (words_of l) (other_first (codes "*") (codes "* ") l 2 (λ rest. refl) other)
 
@@ -126,23 +126,24 @@ name_word (b ∷ bs) e =
     slice_split-cons_no is_space b bs (small_letter b (both (is_lower b) _ all.0).0)
     ∙ ap (onto_first b) (letters bs all.1)
 
-no_signal : (l : List ℕ) → signal_from_word l ≡ None → (ws : List (List ℕ)) → words_of l ≡ ws →
-    lone_signal ws ≡ signal_from_word l
-unfolding lone_signal
+no_signal : (l : List ℕ) → one_or_name_from_word l ≡ None → (ws : List (List ℕ)) → words_of l ≡ ws →
+    one_or_name_of_one_word ws ≡ one_or_name_from_word l
+unfolding one_or_name_of_one_word
 no_signal l none [] e = sym none
-no_signal l none (w ∷ []) e = ap signal_from_word (sym (ap (join_with_byte 32) e) ∙ join_with_byte-slice_split 32 l)
+no_signal l none (w ∷ []) e =
+    ap one_or_name_from_word (sym (ap (join_with_byte 32) e) ∙ join_with_byte-slice_split 32 l)
 no_signal l none (w ∷ v ∷ vs) e = sym none
 
-neither : (l : List ℕ) → bytes_eq l (codes "1") ≡ false → is_name l ≡ false → signal_from_word l ≡ None
-unfolding signal_from_word name_of
+neither : (l : List ℕ) → bytes_eq l (codes "1") ≡ false → is_name l ≡ false → one_or_name_from_word l ≡ None
+unfolding one_or_name_from_word name_of
 neither l one name = cond-false _ _ _ one ∙ ap (λ o. o >>= λ n. Some (Some n)) (cond-false _ _ _ name)
 
-alone : (l : List ℕ) → words_of l ≡ l ∷ [] → lone_signal (words_of l) ≡ signal_from_word l
-unfolding lone_signal
-alone l e = ap lone_signal e
+alone : (l : List ℕ) → words_of l ≡ l ∷ [] → one_or_name_of_one_word (words_of l) ≡ one_or_name_from_word l
+unfolding one_or_name_of_one_word
+alone l e = ap one_or_name_of_one_word e
 
 -- a signal has no space, so what is left of a line is its last word
-pub signal_is : (l : List ℕ) → lone_signal (words_of l) ≡ signal_from_word l
+pub signal_is : (l : List ℕ) → one_or_name_of_one_word (words_of l) ≡ one_or_name_from_word l
 signal_is l = elim (cases_Bool (bytes_eq l (codes "1"))) [
   | inl one ↦ alone l (subst (λ w. words_of w ≡ w ∷ []) (sym ((bytes_eq-Decides l (codes "1")).0 one)) refl)
   | inr other ↦ elim (cases_Bool (is_name l)) [
@@ -157,7 +158,7 @@ after_signal : Option ℕ → ℕ → ℕ → Option (List ℕ) → Option Borde
 after_signal t x y s = Some (record { time = t; cell = cell x y; signal = s })
 
 after_row : Option ℕ → ℕ → ℕ × List (List ℕ) → Option BorderLine
-after_row t x y = lone_signal y.1 >>= after_signal t x y.0
+after_row t x y = one_or_name_of_one_word y.1 >>= after_signal t x y.0
 
 after_column : Option ℕ → ℕ × List (List ℕ) → Option BorderLine
 after_column t x = leading_number x.1 >>= after_row t x.0
@@ -168,40 +169,43 @@ after_time t = leading_number t.1 >>= after_column t.0
 not_five : (n : ℕ) → (suc (suc (suc (suc (suc (suc n))))) == 5) ≡ false
 not_five n = grind arith
 
-steps : (k : List ℕ) (ws : List (List ℕ)) → border_of (k ∷ ws) ≡ (leading_time ws >>= after_time)
-unfolding border_of timed_cell time_at signal_at cell_from number_at name_at is_word_at leading_time leading_number
-    lone_signal time_from_word signal_from_word after_time after_column after_row after_signal
+steps : (k : List ℕ) (ws : List (List ℕ)) → border_of (k ∷ ws) ≡ (leading_star_or_time ws >>= after_time)
+unfolding border_of border_of_five_words star_or_time_at_word signal_at cell_of_words_from number_at name_at is_word_at
+    leading_star_or_time leading_number
+    one_or_name_of_one_word star_or_time_from_word one_or_name_from_word after_time after_column after_row after_signal
 steps k [] = refl
 steps k (a ∷ []) = refl
-steps k (a ∷ b ∷ []) = sym (step_in_step (time_from_word a) (λ t. Some (t, b ∷ [])) after_time
-    ∙ no_step (time_from_word a) _ (λ t. refl))
-steps k (a ∷ b ∷ c ∷ []) = sym (step_in_step (time_from_word a) (λ t. Some (t, b ∷ c ∷ [])) after_time
-    ∙ no_step (time_from_word a) _ (λ t. step_in_step (number_of b) (λ n. Some (n, c ∷ [])) (after_column t)
+steps k (a ∷ b ∷ []) = sym (step_in_step (star_or_time_from_word a) (λ t. Some (t, b ∷ [])) after_time
+    ∙ no_step (star_or_time_from_word a) _ (λ t. refl))
+steps k (a ∷ b ∷ c ∷ []) = sym (step_in_step (star_or_time_from_word a) (λ t. Some (t, b ∷ c ∷ [])) after_time
+    ∙ no_step (star_or_time_from_word a) _ (λ t. step_in_step (number_of b) (λ n. Some (n, c ∷ [])) (after_column t)
     ∙ no_step (number_of b) _ (λ x. refl)))
 steps k (a ∷ b ∷ c ∷ d ∷ []) =
-    same_steps (time_from_word a) _ _ (λ t. step_in_step (number_of b) _ _
+    same_steps (star_or_time_from_word a) _ _ (λ t. step_in_step (number_of b) _ _
     ∙ same_steps (number_of b) _ _ (λ x. step_in_step (number_of c) _ _))
-    ∙ sym (step_in_step (time_from_word a) (λ t. Some (t, b ∷ c ∷ d ∷ [])) after_time
-    ∙ same_steps (time_from_word a) _ _ (λ t. step_in_step (number_of b) (λ n. Some (n, c ∷ d ∷ [])) (after_column t)
+    ∙ sym (step_in_step (star_or_time_from_word a) (λ t. Some (t, b ∷ c ∷ d ∷ [])) after_time
+    ∙ same_steps (star_or_time_from_word a) _ _
+    (λ t. step_in_step (number_of b) (λ n. Some (n, c ∷ d ∷ [])) (after_column t)
     ∙ same_steps (number_of b) _ _ (λ x. step_in_step (number_of c) (λ n. Some (n, d ∷ [])) (after_row t x))))
 steps k (a ∷ b ∷ c ∷ d ∷ e ∷ ws) =
     cond-false _ _ _ (not_five (length ws))
-    ∙ sym (step_in_step (time_from_word a) (λ t. Some (t, b ∷ c ∷ d ∷ e ∷ ws)) after_time
-    ∙ no_step (time_from_word a) _ (λ t. step_in_step (number_of b) (λ n. Some (n, c ∷ d ∷ e ∷ ws)) (after_column t)
+    ∙ sym (step_in_step (star_or_time_from_word a) (λ t. Some (t, b ∷ c ∷ d ∷ e ∷ ws)) after_time
+    ∙ no_step (star_or_time_from_word a) _
+    (λ t. step_in_step (number_of b) (λ n. Some (n, c ∷ d ∷ e ∷ ws)) (after_column t)
     ∙ no_step (number_of b) _ (λ x. step_in_step (number_of c) (λ n. Some (n, d ∷ e ∷ ws)) (after_row t x)
     ∙ no_step (number_of c) _ (λ y. refl))))
 
-pub no_time : (k : List ℕ) (ws : List (List ℕ)) → leading_time ws ≡ None → None ≡ border_of (k ∷ ws)
+pub no_time : (k : List ℕ) (ws : List (List ℕ)) → leading_star_or_time ws ≡ None → None ≡ border_of (k ∷ ws)
 no_time k ws t = sym (steps k ws ∙ ap (λ o. o >>= after_time) t)
 
 pub no_column : (k : List ℕ) (ws : List (List ℕ)) (t : Option ℕ) (after : List (List ℕ)) →
-    leading_time ws ≡ Some (t, after) → leading_number after ≡ None → None ≡ border_of (k ∷ ws)
+    leading_star_or_time ws ≡ Some (t, after) → leading_number after ≡ None → None ≡ border_of (k ∷ ws)
 unfolding after_time
 no_column k ws t after time column =
     sym (steps k ws ∙ ap (λ o. o >>= after_time) time ∙ ap (λ o. o >>= after_column t) column)
 
 pub no_row : (k : List ℕ) (ws : List (List ℕ)) (t : Option ℕ) (after : List (List ℕ)) (x : ℕ) (rest : List (List ℕ)) →
-    leading_time ws ≡ Some (t, after) → leading_number after ≡ Some (x, rest) → leading_number rest ≡ None →
+    leading_star_or_time ws ≡ Some (t, after) → leading_number after ≡ Some (x, rest) → leading_number rest ≡ None →
     None ≡ border_of (k ∷ ws)
 unfolding after_time after_column
 no_row k ws t after x rest time column row =
@@ -209,9 +213,9 @@ no_row k ws t after x rest time column row =
     ∙ ap (λ o. o >>= after_row t x) row)
 
 pub border_is : (k : List ℕ) (ws : List (List ℕ)) (t : Option ℕ) (after : List (List ℕ)) (x : ℕ) (rest : List (List ℕ))
-    (y : ℕ) (last : List (List ℕ)) → leading_time ws ≡ Some (t, after) → leading_number after ≡ Some (x, rest) →
+    (y : ℕ) (last : List (List ℕ)) → leading_star_or_time ws ≡ Some (t, after) → leading_number after ≡ Some (x, rest) →
     leading_number rest ≡ Some (y, last) →
-    (lone_signal last >>= λ s. Some (record { time = t; cell = cell x y; signal = s })) ≡ border_of (k ∷ ws)
+    (one_or_name_of_one_word last >>= λ s. Some (record { time = t; cell = cell x y; signal = s })) ≡ border_of (k ∷ ws)
 unfolding after_time after_column after_row after_signal
 border_is k ws t after x rest y last time column row =
     sym (steps k ws ∙ ap (λ o. o >>= after_time) time ∙ ap (λ o. o >>= after_column t) column

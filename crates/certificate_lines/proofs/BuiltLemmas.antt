@@ -1,7 +1,7 @@
 -- The modules so far, after one more module and after one more line.
 use Rattle.std.proofs.Common.{◌≡◌, ◌⊎◌, ℕ, ◌+◌, ◌-◌, ◌%◌, ◌<◌, ◌≤◌, ℤ, Bool, true, false, not, ◌&&◌, ◌||◌, List, []}
 use Rattle.std.proofs.Common.{◌∷◌, ◌++◌, length, Option, Some, None, refl, sym, ap, ap₂, subst, ◌∙◌, inl, inr, arith}
-use Rattle.std.specs.Prelude.{slice_get, nat_le, nat_lt}
+use Rattle.std.proofs.Common.{slice_get, nat_le, nat_lt}
 use Rattle.std.specs.List.{list_any, list_all}
 use Rattle.std.proofs.lemmas.Bool.{true≢false}
 use Rattle.std.proofs.lemmas.Bool.Decides.{nat_tests}
@@ -10,7 +10,7 @@ use Rattle.std.proofs.lemmas.List.Elements.{All-nil}
 use Rattle.std.proofs.lemmas.List.Folds.{list_any-append}
 use Rattle.std.proofs.lemmas.Option.{slice_get_within}
 use Rattle.bbm_rule.specs.Board.{Board, live, HasSameSize}
-use Rattle.section_text.specs.Codes.{code_where}
+use Rattle.section_text.specs.Codes.{code_if}
 use Rattle.pattern.specs.Lines.{size_fault}
 use Rattle.pattern.proofs.InsideLemmas.{size_sides}
 use Rattle.bbm_rule.specs.declared.block.Cell.{Cell}
@@ -20,12 +20,13 @@ use Rattle.module_box.specs.Boxes.{in_box, IsEven}
 use Rattle.module_box.specs.Tiling.{IsInside}
 use Rattle.module_box.specs.declared.boxes.Box2.{Box2}
 use Rattle.module_box.proofs.Rising.{pushed}
-use Rattle.certificate_lines.specs.Entries.{Setting, ModuleLines, with_line, change_last, last_of, modules_of, areas}
-use Rattle.certificate_lines.specs.Entries.{counts_of}
+use Rattle.certificate_lines.specs.Entries.{Setting, ModuleLines, module_with_line, change_last, last_of, modules_of}
+use Rattle.certificate_lines.specs.Entries.{areas, counts_of}
 use Rattle.certificate_lines.specs.Orders.{AreInOrder}
-use Rattle.certificate_lines.specs.Rules.{is_odd, is_wrong_side, is_misplaced, is_incomplete, lacks_port, box_fault}
-use Rattle.certificate_lines.specs.Rules.{module_fault, end_fault, leaves_gap, overlaps, in_boxes, box_cells, whole}
-use Rattle.certificate_lines.specs.Modules.{AreUnstarred, IsModule}
+use Rattle.certificate_lines.specs.Rules.{is_odd, is_wrong_side, is_misplaced, is_last_module_incomplete}
+use Rattle.certificate_lines.specs.Rules.{has_nonlocal_port, box_fault, module_fault, end_fault, leaves_gap, overlaps}
+use Rattle.certificate_lines.specs.Rules.{in_boxes, box_cells, whole}
+use Rattle.certificate_lines.specs.Modules.{StarsExcludeLaterTimes, IsModule}
 use Rattle.certificate_lines.specs.BuilderView.{AreApart, AreBuilt, AreSound, IsWritten}
 use Rattle.certificate_lines.specs.declared.certificate_line.Counts.{Counts}
 use Rattle.certificate_lines.specs.declared.certificate_line.CertificateLine.{CertificateLine}
@@ -76,14 +77,14 @@ box_good s b wide high placed =
 
 -- what the tests of a `module` line say
 pub record IsGoodModule (g : Setting) (ms : List ModuleLines) (before : Option ModuleLines) (b : Box2) : Type 0 where
-  pub complete : is_incomplete g before ≡ false
+  pub complete : is_last_module_incomplete g before ≡ false
   pub few : length ms < 1024
   pub box : IsGoodBox g.size b
   pub free : overlaps (areas ms) b ≡ false
 
 -- what the tests of a box by itself say
 record PassesAlone (g : Setting) (count : ℕ) (before : Option ModuleLines) (b : Box2) : Type 0 where
-  complete : is_incomplete g before ≡ false
+  complete : is_last_module_incomplete g before ≡ false
   few : count < 1024
   box : IsGoodBox g.size b
 
@@ -156,23 +157,25 @@ unfolding module_fault
 early_fault g ms before b code e = rw e refl
 
 pub missing_some : (g : Setting) (entries : List CertificateLine) (lacks full : Bool) →
-    lacks ≡ is_incomplete g (last_of (modules_of entries)) → not full ≡ leaves_gap g.size (areas (modules_of entries)) →
+    lacks ≡ is_last_module_incomplete g (last_of (modules_of entries)) →
+    not full ≡ leaves_gap g.size (areas (modules_of entries)) →
     (lacks || not full) ≡ true → Some SomethingMissing ≡ end_fault g entries
 unfolding end_fault
-missing_some g entries lacks full p q h = ap (λ b. code_where b SomethingMissing) (sym h ∙ ap₂ (λ a b. a || b) p q)
+missing_some g entries lacks full p q h = ap (λ b. code_if b SomethingMissing) (sym h ∙ ap₂ (λ a b. a || b) p q)
 
 pub missing_none : (g : Setting) (entries : List CertificateLine) (lacks full : Bool) →
-    lacks ≡ is_incomplete g (last_of (modules_of entries)) → not full ≡ leaves_gap g.size (areas (modules_of entries)) →
+    lacks ≡ is_last_module_incomplete g (last_of (modules_of entries)) →
+    not full ≡ leaves_gap g.size (areas (modules_of entries)) →
     (lacks || not full) ≡ false → None ≡ end_fault g entries
 unfolding end_fault
-missing_none g entries lacks full p q h = ap (λ b. code_where b SomethingMissing) (sym h ∙ ap₂ (λ a b. a || b) p q)
+missing_none g entries lacks full p q h = ap (λ b. code_if b SomethingMissing) (sym h ∙ ap₂ (λ a b. a || b) p q)
 
 none_at : {A : Type 0} (i : ℕ) (a : A) → slice_get [] i ≡ Some a → ⊥
 none_at i a e = cc
 
 -- a module without lines
 begun_module : (g : Setting) (b : Box2) → IsGoodBox g.size b → IsModule g (record { area = b; lines = [] })
-unfolding AreInOrder AreUnstarred
+unfolding AreInOrder StarsExcludeLaterTimes
 begun_module g b good = record {
   even = good.even;
   wide = good.wide;
@@ -263,9 +266,9 @@ module _ (g : Setting) (ms : List ModuleLines) where
   new_module b = record { area = b; lines = [] }
 
   ported_push : (b : Box2) → ((i : ℕ) (m : ModuleLines) → i + 1 < length ms → slice_get ms i ≡ Some m →
-      lacks_port g m ≡ false) → is_incomplete g (last_of ms) ≡ false
+      has_nonlocal_port g m ≡ false) → is_last_module_incomplete g (last_of ms) ≡ false
       → (i : ℕ) (m : ModuleLines) → i + 1 < length (ms ++ new_module b ∷ []) →
-      slice_get (ms ++ new_module b ∷ []) i ≡ Some m → lacks_port g m ≡ false
+      slice_get (ms ++ new_module b ∷ []) i ≡ Some m → has_nonlocal_port g m ≡ false
   ported_push b before complete i m lt e = elim (pushed ms (new_module b) i m e) [
     | inl old ↦ ported_by i m old (here_or_before i (slice_get_within ms i m old))
     | inr new ↦ absurd (let n = length_push ms (new_module b) in let at = new.0 in omega (arith, lt, n, at))
@@ -275,9 +278,9 @@ module _ (g : Setting) (ms : List ModuleLines) where
       here_or_before i h = grind arith
 
       ported_by : (i : ℕ) (m : ModuleLines) → slice_get ms i ≡ Some m → (i + 1 < length ms) ⊎ (i + 1 ≡ length ms) →
-          lacks_port g m ≡ false
+          has_nonlocal_port g m ≡ false
       ported_by i m e (inl lt) = before i m lt e
-      ported_by i m e (inr at) = ap (is_incomplete g) (sym (last_is ms i m at e)) ∙ complete
+      ported_by i m e (inr at) = ap (is_last_module_incomplete g) (sym (last_is ms i m at e)) ∙ complete
 
   pub module_sound : (b : Box2) → AreSound g ms → IsGoodModule g ms (last_of ms) b →
       AreSound g (ms ++ new_module b ∷ [])
@@ -308,33 +311,34 @@ module _ (g : Setting) (ms : List ModuleLines) where
 
   -- one more line of the last module
   pub line_sound : (i : CertificateLine) → AreSound g ms →
-      ((m : ModuleLines) → last_of ms ≡ Some m → IsWritten g m → IsWritten g (with_line i m)) →
-      AreSound g (change_last (with_line i) ms)
+      ((m : ModuleLines) → last_of ms ≡ Some m → IsWritten g m → IsWritten g (module_with_line i m)) →
+      AreSound g (change_last (module_with_line i) ms)
   line_sound i sound grows = record {
-    few = let n = length_changed (with_line i) ms in let f = sound.few in omega (arith, n, f);
-    each = λ k m e. elim (changed_at (with_line i) ms k m e) [
+    few = let n = length_changed (module_with_line i) ms in let f = sound.few in omega (arith, n, f);
+    each = λ k m e. elim (changed_at (module_with_line i) ms k m e) [
       | inl old ↦ sound.each k m old.1
       | inr new ↦ subst (IsWritten g) (sym new.3)
           (grows new.0 new.2 (let at = last_at ms new.0 new.2 in sound.each at.0 new.0 at.2))
     ];
     apart = subst AreApart (sym (areas_changed i ms)) sound.apart;
-    ported = λ k m lt e. elim (changed_at (with_line i) ms k m e) [
+    ported = λ k m lt e. elim (changed_at (module_with_line i) ms k m e) [
       | inl old ↦ sound.ported k m old.0 old.1
-      | inr new ↦ absurd (let n = length_changed (with_line i) ms in let at = new.1 in omega (arith, lt, n, at))
+      | inr new ↦ absurd (let n = length_changed (module_with_line i) ms in let at = new.1 in omega (arith, lt, n, at))
     ];
   }
 
   pub line_built : (i : CertificateLine) (covered : Board) (counts more : List Counts) (count : Counts → Counts) →
       AreBuilt g ms covered counts →
-      ((m : ModuleLines) → last_of ms ≡ Some m → IsWritten g m → IsWritten g (with_line i m))
-      → ((m : ModuleLines) → counts_of (with_line i m) ≡ count (counts_of m)) → more ≡ change_last count counts →
-      AreBuilt g (change_last (with_line i) ms) covered more
+      ((m : ModuleLines) → last_of ms ≡ Some m → IsWritten g m → IsWritten g (module_with_line i m))
+      → ((m : ModuleLines) → counts_of (module_with_line i m) ≡ count (counts_of m)) → more ≡ change_last count counts →
+      AreBuilt g (change_last (module_with_line i) ms) covered more
   line_built i covered counts more count built grows counted now = record {
     sound = line_sound i built.sound grows;
     width = built.width;
     height = built.height;
     cells = λ x y. built.cells x y ∙ ap (λ l. in_boxes l x y) (sym (areas_changed i ms));
-    counted = now ∙ ap (change_last count) built.counted ∙ sym (map_changed counts_of (with_line i) count counted ms);
+    counted = now ∙ ap (change_last count) built.counted
+        ∙ sym (map_changed counts_of (module_with_line i) count counted ms);
   }
 
 pub near_by : (s : LayoutHeader) (b : Box2) → size_fault s ≡ None → is_misplaced s b ≡ false → IsNear s b

@@ -1,7 +1,6 @@
 -- Edge lines of a box that a halo does not reach
-use Rattle.std.proofs.Common.{◌≡◌, Bool, true, false, if◌then◌else◌, List, [], ◌∷◌, refl, sym, ◌∙◌, inl, inr}
-use Rattle.std.proofs.Common.{get_or}
-use Rattle.std.specs.List.{filter}
+use Rattle.std.proofs.Common.{◌≡◌, Bool, true, false, if◌then◌else◌, List, [], ◌∷◌, refl, sym, ◌∙◌, inl, inr, get_or}
+use Rattle.std.proofs.Common.{filter}
 use Rattle.std.proofs.lemmas.Bool.{and_parts, cases_Bool, false≢true}
 use Rattle.module_box.specs.Boxes.{in_box, in_halo, in_ring, is_near}
 use Rattle.module_box.specs.declared.boxes.Box2.{Box2}

@@ -1,8 +1,6 @@
 -- If all elements of a joined list have a property, those of each of its parts have it.
 use Rattle.std.proofs.Common.{◌≡◌, ℕ, zero, suc, ◌+◌, ◌<◌, List, [], ◌∷◌, ◌++◌, length, Some, sym, ap, subst, ◌∙◌}
-use Rattle.std.proofs.Common.{get_or, take}
-use Rattle.std.specs.Prelude.{slice_get}
-use Rattle.std.specs.List.{All, flat_map}
+use Rattle.std.proofs.Common.{get_or, take, slice_get, All, flat_map}
 use Rattle.std.proofs.lemmas.List.{append-nil, take_more}
 use Rattle.std.proofs.lemmas.Grind.{flat_map-append}
 use Rattle.std.proofs.lemmas.List.Elements.{All-nil, All-head, All-tail, All-cons}

@@ -1,11 +1,10 @@
 -- The modules of lines after one more line.
 use Rattle.std.proofs.Common.{◌≡◌, ◌⊎◌, ℕ, zero, suc, ◌+◌, ◌<◌, List, [], ◌∷◌, ◌++◌, map, length, ◌-◌, Some, option_map}
-use Rattle.std.proofs.Common.{refl, sym, ap, ◌∙◌, inl, inr, arith, append-nil}
-use Rattle.std.specs.Prelude.{slice_get}
-use Rattle.std.specs.List.{flat_map}
+use Rattle.std.proofs.Common.{refl, sym, ap, ◌∙◌, inl, inr, arith, append-nil, slice_get, flat_map}
 use Rattle.std.proofs.lemmas.List.Sums.{fold_push}
 use Rattle.std.proofs.lemmas.Grind.{flat_map-append}
-use Rattle.certificate_lines.specs.Entries.{ModuleLines, with_line, change_last, last_of, add_line, modules_of, areas}
+use Rattle.certificate_lines.specs.Entries.{ModuleLines, module_with_line, change_last, last_of, add_line, modules_of}
+use Rattle.certificate_lines.specs.Entries.{areas}
 use Rattle.certificate_lines.specs.declared.certificate_line.CertificateLine.{CertificateLine}
 use Rattle.certificate_lines.proofs.Lists.{some_is}
 
@@ -48,8 +47,9 @@ unchanged (x ∷ []) = refl
 unchanged (x ∷ y ∷ xs) = ap (λ l. x ∷ l) (unchanged (y ∷ xs))
 
 -- a line more leaves the boxes
-pub areas_changed : (i : CertificateLine) (ms : List ModuleLines) → areas (change_last (with_line i) ms) ≡ areas ms
-areas_changed i ms = map_changed (λ (m : ModuleLines). m.area) (with_line i) (λ b. b) (λ m. refl) ms
+pub areas_changed : (i : CertificateLine) (ms : List ModuleLines) →
+    areas (change_last (module_with_line i) ms) ≡ areas ms
+areas_changed i ms = map_changed (λ (m : ModuleLines). m.area) (module_with_line i) (λ b. b) (λ m. refl) ms
     ∙ unchanged (areas ms)
 
 pub length_changed : {X : Type 0} (f : X → X) (xs : List X) → length (change_last f xs) ≡ length xs

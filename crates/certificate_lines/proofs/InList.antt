@@ -1,7 +1,5 @@
 -- Facts about an element of a list
-use Rattle.std.proofs.Common.{◌≡◌, ℕ, suc, List, [], ◌∷◌, Some, ap, inl, inr}
-use Rattle.std.specs.Prelude.{slice_get}
-use Rattle.std.specs.List.{All}
+use Rattle.std.proofs.Common.{◌≡◌, ℕ, suc, List, [], ◌∷◌, Some, ap, inl, inr, slice_get, All}
 use Rattle.certificate_lines.proofs.LineOrder.{In, each_in}
 use Rattle.certificate_lines.proofs.Pairs.{each_of_all}
 

@@ -1,14 +1,13 @@
 -- The tables of the lines after one more line.
 use Rattle.std.proofs.Common.{◌≡◌, ℕ, ◌+◌, ◌≤◌, ℤ, Bool, true, false, not, ◌&&◌, ◌||◌, List, [], ◌∷◌, ◌++◌, length}
-use Rattle.std.proofs.Common.{Option, Some, None, option_map, refl, sym, ap, subst, ◌∙◌, arith, append-nil}
-use Rattle.std.specs.Prelude.{replicate}
-use Rattle.std.specs.List.{list_any, flat_map}
-use Rattle.std.specs.Option.{option_to_list}
+use Rattle.std.proofs.Common.{Option, Some, None, option_map, refl, sym, ap, subst, ◌∙◌, arith, append-nil, replicate}
+use Rattle.std.proofs.Common.{flat_map, option_to_list}
+use Rattle.std.specs.List.{list_any}
 use Rattle.std.proofs.lemmas.List.Folds.{list_any-append}
 use Rattle.std.proofs.lemmas.List.{length_push}
 use Rattle.bbm_rule.specs.Board.{Board, live, HasSameSize}
 use Rattle.bbm_rule.specs.declared.block.Cell.{Cell}
-use Rattle.section_text.specs.Codes.{code_where, or_else}
+use Rattle.section_text.specs.Codes.{code_if, or_else}
 use Rattle.bbm_rule.specs.Spans.{in_area}
 use Rattle.circuit.specs.Meaning.{Circuit}
 use Rattle.certificate_lines.specs.declared.local_names.CutWire.{CutWire}
@@ -16,20 +15,18 @@ use Rattle.certificate_lines.specs.declared.local_names.LocalName.{LocalName}
 use Rattle.module_box.specs.Boxes.{in_box}
 use Rattle.module_box.specs.Locals.{is_among}
 use Rattle.module_box.specs.declared.boxes.Box2.{Box2}
-use Rattle.certificate_lines.specs.Entries.{Setting, ModuleLines, with_line, change_last, last_of, add_line, modules_of}
-use Rattle.certificate_lines.specs.Entries.{last_module, counts_of, cut_in, use_in, edge_in, halo_in, stop_in, cuts}
-use Rattle.certificate_lines.specs.Entries.{gates}
-use Rattle.certificate_lines.specs.Entries.{edges, halos, stops, known}
+use Rattle.certificate_lines.specs.Entries.{Setting, ModuleLines, module_with_line, change_last, last_of, add_line}
+use Rattle.certificate_lines.specs.Entries.{modules_of, last_module, counts_of, cut_in, use_in, edge_in, halo_in}
+use Rattle.certificate_lines.specs.Entries.{stop_in, cuts, gates, edges, halos, stops, known}
 use Rattle.certificate_lines.specs.Orders.{AreInOrder, may_follow}
-use Rattle.certificate_lines.specs.Rules.{same_cell, is_starred, are_new, is_incomplete, is_local}
-use Rattle.certificate_lines.specs.Rules.{lacks_port, content_code, line_fault, body_line_code, module_fault}
+use Rattle.certificate_lines.specs.Rules.{same_cell, is_starred_line_at, are_new_and_distinct}
+use Rattle.certificate_lines.specs.Rules.{is_last_module_incomplete, is_local, has_nonlocal_port, content_code}
+use Rattle.certificate_lines.specs.Rules.{line_fault, body_line_code, module_fault}
 use Rattle.certificate_lines.specs.Modules.{IsModule}
-use Rattle.certificate_lines.specs.BuilderView.{AreBuilt, AreLocalNames, AreWires, IsEdgeHaloOrStopLine, IsCutWire}
-use Rattle.certificate_lines.specs.BuilderView.{IsBodyLine}
-use Rattle.certificate_lines.specs.BuilderView.{IsLastModule, IsTracked}
-use Rattle.certificate_lines.specs.BuilderView.{IsTrackedWith}
-use Rattle.certificate_lines.specs.BuilderView.{IsWritten}
-use Rattle.certificate_lines.specs.BuilderView.{counted, AreSmallCounts, last_body_line, outs_at, wires_made_local}
+use Rattle.certificate_lines.specs.BuilderView.{AreBuilt, AreLocalNames, AreLocalWiresOfModules, IsEdgeHaloOrStopLine}
+use Rattle.certificate_lines.specs.BuilderView.{IsCutWire, IsBodyLine, IsLastModule, IsTracked, IsTrackedWith}
+use Rattle.certificate_lines.specs.BuilderView.{IsWritten, counted, AreSmallCounts, last_body_line, optional_gate_outs}
+use Rattle.certificate_lines.specs.BuilderView.{wires_made_local}
 use Rattle.certificate_lines.specs.declared.certificate_line.BorderLine.{BorderLine}
 use Rattle.certificate_lines.specs.declared.certificate_line.Counts.{Counts}
 use Rattle.certificate_lines.specs.declared.certificate_line.CertificateLine.{CertificateLine}
@@ -127,8 +124,8 @@ module _ (g : Setting) (es : List CertificateLine) (covered : Board) (counts : L
       })
 
   lacks_by : (o : Option ModuleLines) → last_module es ≡ o →
-      list_any (λ n. not (is_local g.circuit local n)) names ≡ is_incomplete g o
-  unfolding lacks_port
+      list_any (λ n. not (is_local g.circuit local n)) names ≡ is_last_module_incomplete g o
+  unfolding has_nonlocal_port
   lacks_by None none = ap (list_any (λ n. not (is_local g.circuit local n)))
       (kept.none (last_none (modules_of es) none))
   lacks_by (Some m) some =
@@ -136,7 +133,7 @@ module _ (g : Setting) (es : List CertificateLine) (covered : Board) (counts : L
       p.ports (λ n. not (is_local g.circuit local n))
       ∙ ap (λ l. list_any (λ q. in_box m.area q.cell.x q.cell.y && not (is_local g.circuit l q.name)) g.ports) p.wires
 
-  pub lacks : list_any (λ n. not (is_local g.circuit local n)) names ≡ is_incomplete g (last_module es)
+  pub lacks : list_any (λ n. not (is_local g.circuit local n)) names ≡ is_last_module_incomplete g (last_module es)
   lacks = lacks_by (last_module es) refl
 
   follows_by : (m : ModuleLines) (i : CertificateLine) (b : Bool) → last_module es ≡ Some m →
@@ -155,7 +152,7 @@ module _ (g : Setting) (es : List CertificateLine) (covered : Board) (counts : L
       let l = the_last k some in
       let m = l.module_lines in
       let not_after : may_follow m.lines i ≡ false = sym (follows_by m i b l.last f) ∙ late in
-      ap (λ a. or_else (code_where (not a) OutOfOrder) (content_code g m i)) (sym not_after) ∙ inner_is m i l.last
+      ap (λ a. or_else (code_if (not a) OutOfOrder) (content_code g m i)) (sym not_after) ∙ inner_is m i l.last
 
   pub in_place : (k : Counts) (i : CertificateLine) (b : Bool) (code : Option RefusalCode) → last_of counts ≡ Some k →
       ((lines : List CertificateLine) → AreInOrder lines → last_of lines ≡ last → b ≡ may_follow lines i) → b ≡ true
@@ -165,7 +162,7 @@ module _ (g : Setting) (es : List CertificateLine) (covered : Board) (counts : L
       let l = the_last k some in
       let m = l.module_lines in
       let after : may_follow m.lines i ≡ true = sym (follows_by m i b l.last f) ∙ good in
-      words m l.last l.counted ∙ ap (λ a. or_else (code_where (not a) OutOfOrder) (content_code g m i)) (sym after)
+      words m l.last l.counted ∙ ap (λ a. or_else (code_if (not a) OutOfOrder) (content_code g m i)) (sym after)
       ∙ inner_is m i l.last
 
 -- ---- one more line of the last module
@@ -198,39 +195,41 @@ same_counts area c c' u u' e e' h h' s s' p q r t v =
 one_longer : {X : Type 0} (xs ys : List X) (x : X) → ys ≡ xs ++ x ∷ [] → length ys ≡ length xs + 1
 one_longer xs ys x e = ap length e ∙ length_push xs x
 
-pub counted_cut : (n : List ℕ) (m : ModuleLines) → counts_of (with_line (Cut n) m) ≡ counted (Cut n) (counts_of m)
+pub counted_cut : (n : List ℕ) (m : ModuleLines) →
+    counts_of (module_with_line (Cut n) m) ≡ counted (Cut n) (counts_of m)
 unfolding counted
 counted_cut n m = same_counts m.area _ _ _ _ _ _ _ _ _ _ (one_longer (cuts m) _ n (cuts_cut m n))
     (ap length (flat_same use_in m.lines (Cut n) refl)) (ap length (flat_same edge_in m.lines (Cut n) refl))
     (ap length (flat_same halo_in m.lines (Cut n) refl)) (ap length (flat_same stop_in m.lines (Cut n) refl))
 
-pub counted_use : (k : ℕ) (m : ModuleLines) → counts_of (with_line (Use k) m) ≡ counted (Use k) (counts_of m)
+pub counted_use : (k : ℕ) (m : ModuleLines) → counts_of (module_with_line (Use k) m) ≡ counted (Use k) (counts_of m)
 unfolding counted
 counted_use k m = same_counts m.area _ _ _ _ _ _ _ _ _ _ (ap length (flat_same cut_in m.lines (Use k) refl))
     (one_longer (gates m) _ k (gates_use m k)) (ap length (flat_same edge_in m.lines (Use k) refl))
     (ap length (flat_same halo_in m.lines (Use k) refl)) (ap length (flat_same stop_in m.lines (Use k) refl))
 
-pub counted_keep : (k : ℕ) (m : ModuleLines) → counts_of (with_line (Keep k) m) ≡ counted (Keep k) (counts_of m)
+pub counted_keep : (k : ℕ) (m : ModuleLines) → counts_of (module_with_line (Keep k) m) ≡ counted (Keep k) (counts_of m)
 unfolding counted
 counted_keep k m = same_counts m.area _ _ _ _ _ _ _ _ _ _ (ap length (flat_same cut_in m.lines (Keep k) refl))
     (ap length (flat_same use_in m.lines (Keep k) refl)) (ap length (flat_same edge_in m.lines (Keep k) refl))
     (ap length (flat_same halo_in m.lines (Keep k) refl)) (ap length (flat_same stop_in m.lines (Keep k) refl))
 
 pub counted_edge : (d : BorderLine) (m : ModuleLines) →
-    counts_of (with_line (Edge d) m) ≡ counted (Edge d) (counts_of m)
+    counts_of (module_with_line (Edge d) m) ≡ counted (Edge d) (counts_of m)
 unfolding counted
 counted_edge d m = same_counts m.area _ _ _ _ _ _ _ _ _ _ (ap length (flat_same cut_in m.lines (Edge d) refl))
     (ap length (flat_same use_in m.lines (Edge d) refl)) (one_longer (edges m) _ d (edges_edge m d))
     (ap length (flat_same halo_in m.lines (Edge d) refl)) (ap length (flat_same stop_in m.lines (Edge d) refl))
 
 pub counted_halo : (d : BorderLine) (m : ModuleLines) →
-    counts_of (with_line (Halo d) m) ≡ counted (Halo d) (counts_of m)
+    counts_of (module_with_line (Halo d) m) ≡ counted (Halo d) (counts_of m)
 unfolding counted
 counted_halo d m = same_counts m.area _ _ _ _ _ _ _ _ _ _ (ap length (flat_same cut_in m.lines (Halo d) refl))
     (ap length (flat_same use_in m.lines (Halo d) refl)) (ap length (flat_same edge_in m.lines (Halo d) refl))
     (one_longer (halos m) _ d (halos_halo m d)) (ap length (flat_same stop_in m.lines (Halo d) refl))
 
-pub counted_stop : (s : StopLine) (m : ModuleLines) → counts_of (with_line (Stop s) m) ≡ counted (Stop s) (counts_of m)
+pub counted_stop : (s : StopLine) (m : ModuleLines) →
+    counts_of (module_with_line (Stop s) m) ≡ counted (Stop s) (counts_of m)
 unfolding counted
 counted_stop s m = same_counts m.area _ _ _ _ _ _ _ _ _ _ (ap length (flat_same cut_in m.lines (Stop s) refl))
     (ap length (flat_same use_in m.lines (Stop s) refl)) (ap length (flat_same edge_in m.lines (Stop s) refl))
@@ -253,30 +252,30 @@ module _ (g : Setting) (es : List CertificateLine) (covered : Board) (counts : L
     (names : List (List ℕ)) (local : List ℕ) (e h : List Cell)
     (kept : IsTracked g es covered counts last names local e h)
     (i : CertificateLine) (good : IsGoodLine g es i)
-    (step : add_line (modules_of es) i ≡ change_last (with_line i) (modules_of es))
-    (are : (m : ModuleLines) → counts_of (with_line i m) ≡ counted i (counts_of m)) (after : List Counts)
+    (step : add_line (modules_of es) i ≡ change_last (module_with_line i) (modules_of es))
+    (are : (m : ModuleLines) → counts_of (module_with_line i m) ≡ counted i (counts_of m)) (after : List Counts)
     (now : after ≡ change_last (counted i) counts) where
-  after_line : modules_of (es ++ i ∷ []) ≡ change_last (with_line i) (modules_of es)
+  after_line : modules_of (es ++ i ∷ []) ≡ change_last (module_with_line i) (modules_of es)
   after_line = modules_push es i ∙ step
 
   the_same : (m : ModuleLines) → last_module es ≡ Some m → good.module_lines ≡ m
   the_same m some = some_is good.module_lines m (sym good.last ∙ some)
 
-  pub stored_line : (IsWritten g good.module_lines → IsWritten g (with_line i good.module_lines)) →
+  pub stored_line : (IsWritten g good.module_lines → IsWritten g (module_with_line i good.module_lines)) →
       (local' : List ℕ) (e' h' : List Cell)
       → (IsLastModule g good.module_lines last names local e h →
-      IsLastModule g (with_line i good.module_lines) (Some i) names local' e' h') →
+      IsLastModule g (module_with_line i good.module_lines) (Some i) names local' e' h') →
       IsTracked g (es ++ i ∷ []) covered after (Some i) names local' e' h'
   stored_line grows local' e' h' shows = record {
     built = subst (λ ms. AreBuilt g ms covered after) (sym after_line)
         (line_built g (modules_of es) i covered counts after (counted i) kept.built
-        (λ m some. subst (λ k. IsWritten g k → IsWritten g (with_line i k)) (the_same m some) grows) are now);
-    none = λ gone. kept.none (some_gone (with_line i) (modules_of es) (sym after_line ∙ gone));
+        (λ m some. subst (λ k. IsWritten g k → IsWritten g (module_with_line i k)) (the_same m some) grows) are now);
+    none = λ gone. kept.none (some_gone (module_with_line i) (modules_of es) (sym after_line ∙ gone));
     last_module = λ m' some.
-        let r = mapped_some (with_line i) (last_module es) m'
-        (sym (ap last_of after_line ∙ last_changed (with_line i) (modules_of es)) ∙ some) in
+        let r = mapped_some (module_with_line i) (last_module es) m'
+        (sym (ap last_of after_line ∙ last_changed (module_with_line i) (modules_of es)) ∙ some) in
         subst (λ k. IsLastModule g k (Some i) names local' e' h') (sym r.2)
-        (subst (λ k. IsLastModule g (with_line i k) (Some i) names local' e' h') (the_same r.0 r.1)
+        (subst (λ k. IsLastModule g (module_with_line i k) (Some i) names local' e' h') (the_same r.0 r.1)
         (shows (kept.last_module good.module_lines good.last)));
   }
 
@@ -285,20 +284,22 @@ module _ (g : Setting) (es : List CertificateLine) (covered : Board) (counts : L
 module _ (g : Setting) (m : ModuleLines) (last : Option CertificateLine) (names : List (List ℕ)) (local : List ℕ)
     (e h : List Cell) (p : IsLastModule g m last names local e h) where
   more_stars : (c : Cell) (f : CertificateLine → List BorderLine) (i : CertificateLine) (old new : List Cell) →
-      list_any (same_cell c) old ≡ list_any (is_starred c) (flat_map f m.lines)
-      → list_any (same_cell c) new ≡ (list_any (same_cell c) old || list_any (is_starred c) (f i)) →
-      list_any (same_cell c) new ≡ list_any (is_starred c) (flat_map f (m.lines ++ i ∷ []))
+      list_any (same_cell c) old ≡ list_any (is_starred_line_at c) (flat_map f m.lines)
+      → list_any (same_cell c) new ≡ (list_any (same_cell c) old || list_any (is_starred_line_at c) (f i)) →
+      list_any (same_cell c) new ≡ list_any (is_starred_line_at c) (flat_map f (m.lines ++ i ∷ []))
   more_stars c f i old new before after =
-      after ∙ ap (λ b. b || list_any (is_starred c) (f i)) before
-      ∙ sym (list_any-append (is_starred c) (flat_map f m.lines) (f i))
-      ∙ ap (list_any (is_starred c)) (sym (flat_push f m.lines i))
+      after ∙ ap (λ b. b || list_any (is_starred_line_at c) (f i)) before
+      ∙ sym (list_any-append (is_starred_line_at c) (flat_map f m.lines) (f i))
+      ∙ ap (list_any (is_starred_line_at c)) (sym (flat_push f m.lines i))
 
   pub present_line : (i : CertificateLine) →
-      known g.circuit (with_line i m) ≡ known g.circuit m ++ wires_made_local g.circuit i →
+      known g.circuit (module_with_line i m) ≡ known g.circuit m ++ wires_made_local g.circuit i →
       (e' h' : List Cell)
-      → ((c : Cell) → list_any (same_cell c) e' ≡ (list_any (same_cell c) e || list_any (is_starred c) (edge_in i)))
-      → ((c : Cell) → list_any (same_cell c) h' ≡ (list_any (same_cell c) h || list_any (is_starred c) (halo_in i)))
-      → IsLastModule g (with_line i m) (Some i) names (local ++ wires_made_local g.circuit i) e' h'
+      → ((c : Cell) → list_any (same_cell c) e'
+      ≡ (list_any (same_cell c) e || list_any (is_starred_line_at c) (edge_in i)))
+      → ((c : Cell) → list_any (same_cell c) h'
+      ≡ (list_any (same_cell c) h || list_any (is_starred_line_at c) (halo_in i)))
+      → IsLastModule g (module_with_line i m) (Some i) names (local ++ wires_made_local g.circuit i) e' h'
   present_line i wires e' h' stars halo_stars = record {
     final = last_pushed m.lines i;
     ports = p.ports;
@@ -311,18 +312,18 @@ module _ (g : Setting) (m : ModuleLines) (last : Option CertificateLine) (names 
 
 -- what a line does to the last module
 pub record DoesLine (g : Setting) (es : List CertificateLine) (i : CertificateLine) (m : ModuleLines) : Type 0 where
-  pub line : add_line (modules_of es) i ≡ change_last (with_line i) (modules_of es)
-  pub counts : (n : ModuleLines) → counts_of (with_line i n) ≡ counted i (counts_of n)
-  pub grows : IsWritten g m → IsWritten g (with_line i m)
-  pub wires : known g.circuit (with_line i m) ≡ known g.circuit m ++ wires_made_local g.circuit i
-  pub new : are_new (known g.circuit m) (wires_made_local g.circuit i) ≡ true
+  pub line : add_line (modules_of es) i ≡ change_last (module_with_line i) (modules_of es)
+  pub counts : (n : ModuleLines) → counts_of (module_with_line i n) ≡ counted i (counts_of n)
+  pub grows : IsWritten g m → IsWritten g (module_with_line i m)
+  pub wires : known g.circuit (module_with_line i m) ≡ known g.circuit m ++ wires_made_local g.circuit i
+  pub new : are_new_and_distinct (known g.circuit m) (wires_made_local g.circuit i) ≡ true
 
 no_wires : (g : Setting) (m : ModuleLines) (i : CertificateLine) → cut_in i ≡ [] → use_in i ≡ [] →
-    known g.circuit (with_line i m) ≡ known g.circuit m ++ []
+    known g.circuit (module_with_line i m) ≡ known g.circuit m ++ []
 no_wires g m i no_cut no_use = known_same g m i no_cut no_use ∙ sym (append-nil (known g.circuit m))
 
-cut_is_new : (local : List ℕ) (w : ℕ) → is_among local w ≡ false → are_new local (w ∷ []) ≡ true
-unfolding are_new
+cut_is_new : (local : List ℕ) (w : ℕ) → is_among local w ≡ false → are_new_and_distinct local (w ∷ []) ≡ true
+unfolding are_new_and_distinct
 cut_is_new local w new = rw new refl
 
 pub does_line : (g : Setting) (es : List CertificateLine) (i : CertificateLine) → IsBodyLine i →
@@ -339,18 +340,18 @@ does_line g es (Cut n) inner good is =
       counts = counted_cut n;
       grows = λ _. cut_pushed g m is n good.follows words.1.wire words.1.named words.0 words.1.new;
       wires = known_cut g m is n good.follows words.1.wire words.1.named ∙ ap (λ l. known g.circuit m ++ l) (sym one);
-      new = ap (are_new (known g.circuit m)) one ∙ cut_is_new (known g.circuit m) words.1.wire words.1.new;
+      new = ap (are_new_and_distinct (known g.circuit m)) one ∙ cut_is_new (known g.circuit m) words.1.wire words.1.new;
     }
 does_line g es (Use k) inner good is =
     let m = good.module_lines in
     let words = good_use g.circuit (length (gates m)) (known g.circuit m) k good.words in
-    let outs : wires_made_local g.circuit (Use k) ≡ words.1.gate.outs = ap outs_at words.1.numbered in
+    let outs : wires_made_local g.circuit (Use k) ≡ words.1.gate.outs = ap optional_gate_outs words.1.numbered in
     record {
       line = refl;
       counts = counted_use k;
       grows = λ _. use_pushed g m k is good.follows words.0 words.1;
       wires = known_use g m k words.1.gate words.1.numbered ∙ ap (λ l. known g.circuit m ++ l) (sym outs);
-      new = ap (are_new (known g.circuit m)) outs ∙ words.1.outs;
+      new = ap (are_new_and_distinct (known g.circuit m)) outs ∙ words.1.outs;
     }
 does_line g es (Keep k) inner good is = record {
   line = refl;
@@ -391,8 +392,10 @@ module _ (g : Setting) (es : List CertificateLine) (covered : Board) (counts : L
       (last_good g es covered counts last names local e h kept good.module_lines good.last)
 
   pub kept_inner : (after : List Counts) → after ≡ change_last (counted i) counts → (e' h' : List Cell)
-      → ((c : Cell) → list_any (same_cell c) e' ≡ (list_any (same_cell c) e || list_any (is_starred c) (edge_in i)))
-      → ((c : Cell) → list_any (same_cell c) h' ≡ (list_any (same_cell c) h || list_any (is_starred c) (halo_in i)))
+      → ((c : Cell) → list_any (same_cell c) e'
+      ≡ (list_any (same_cell c) e || list_any (is_starred_line_at c) (edge_in i)))
+      → ((c : Cell) → list_any (same_cell c) h'
+      ≡ (list_any (same_cell c) h || list_any (is_starred_line_at c) (halo_in i)))
       → IsTracked g (es ++ i ∷ []) covered after (Some i) names (local ++ wires_made_local g.circuit i) e' h'
   kept_inner after now e' h' stars halo_stars =
       stored_line g es covered counts last names local e h kept i good the_line.line the_line.counts after now
@@ -494,8 +497,10 @@ module _ (g : Setting) (es : List CertificateLine) (covered : Board) (counts : L
     (was : IsTrackedWith g es covered counts last names earlier local e h slots) where
   pub with_inner : (i : CertificateLine) → IsBodyLine i → (good : IsGoodLine g es i) → (after : List Counts) →
       after ≡ change_last (counted i) counts → (e' h' : List Cell)
-      → ((c : Cell) → list_any (same_cell c) e' ≡ (list_any (same_cell c) e || list_any (is_starred c) (edge_in i)))
-      → ((c : Cell) → list_any (same_cell c) h' ≡ (list_any (same_cell c) h || list_any (is_starred c) (halo_in i)))
+      → ((c : Cell) → list_any (same_cell c) e'
+      ≡ (list_any (same_cell c) e || list_any (is_starred_line_at c) (edge_in i)))
+      → ((c : Cell) → list_any (same_cell c) h'
+      ≡ (list_any (same_cell c) h || list_any (is_starred_line_at c) (halo_in i)))
       → IsTrackedWith g (es ++ i ∷ []) covered after (last_body_line (es ++ i ∷ [])) names earlier
       (local ++ wires_made_local g.circuit i) e' h' slots
   with_inner i inner good after now e' h' stars halo_stars =
@@ -506,9 +511,9 @@ module _ (g : Setting) (es : List CertificateLine) (covered : Board) (counts : L
       (sym (inner_pushed es i inner)) (record {
         kept = kept_inner g es covered counts last names local e h was.kept i inner good after now e' h' stars
             halo_stars;
-        wires = subst (λ ms. AreWires g.circuit ms earlier (local ++ wires_made_local g.circuit i))
+        wires = subst (λ ms. AreLocalWiresOfModules g.circuit ms earlier (local ++ wires_made_local g.circuit i))
             (sym (modules_push es i ∙ line.line))
-            (wires_more g.circuit (with_line i) (modules_of es) good.module_lines earlier local
+            (wires_more g.circuit (module_with_line i) (modules_of es) good.module_lines earlier local
             (wires_made_local g.circuit i) good.last line.wires was.wires);
         local_names = still_local g.circuit local (wires_made_local g.circuit i) slots was.local_names;
       })
@@ -516,8 +521,10 @@ module _ (g : Setting) (es : List CertificateLine) (covered : Board) (counts : L
   pub with_border : (i : CertificateLine) → IsEdgeHaloOrStopLine i → (good : IsGoodLine g es i) →
       (after : List Counts) →
       after ≡ change_last (counted i) counts → (e' h' : List Cell)
-      → ((c : Cell) → list_any (same_cell c) e' ≡ (list_any (same_cell c) e || list_any (is_starred c) (edge_in i)))
-      → ((c : Cell) → list_any (same_cell c) h' ≡ (list_any (same_cell c) h || list_any (is_starred c) (halo_in i)))
+      → ((c : Cell) → list_any (same_cell c) e'
+      ≡ (list_any (same_cell c) e || list_any (is_starred_line_at c) (edge_in i)))
+      → ((c : Cell) → list_any (same_cell c) h'
+      ≡ (list_any (same_cell c) h || list_any (is_starred_line_at c) (halo_in i)))
       → IsTrackedWith g (es ++ i ∷ []) covered after (last_body_line (es ++ i ∷ [])) names earlier local e' h' slots
   with_border i border good after now e' h' stars halo_stars =
       subst (λ l. IsTrackedWith g (es ++ i ∷ []) covered after
@@ -541,7 +548,8 @@ module _ (g : Setting) (es : List CertificateLine) (covered : Board) (counts : L
       (earlier ++ local ∷ []) [] [] [] slots') (sym (module_pushed es b)) (record {
         kept = kept_module g es covered new_covered counts last names new_names local e h was.kept b good after
             size ports;
-        wires = subst (λ ms. AreWires g.circuit ms (earlier ++ local ∷ []) []) (sym (modules_push es (Module b)))
+        wires = subst (λ ms. AreLocalWiresOfModules g.circuit ms (earlier ++ local ∷ []) [])
+            (sym (modules_push es (Module b)))
             (wires_begun g.circuit (modules_of es) (record { area = b; lines = [] }) earlier local refl was.wires);
         local_names = no_names g.circuit [] slots' none;
       })

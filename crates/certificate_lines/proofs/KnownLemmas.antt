@@ -6,7 +6,7 @@ use Rattle.std.specs.List.{list_any}
 use Rattle.std.proofs.Math.Seq.{take-suc}
 use Rattle.std.proofs.lemmas.List.Folds.{list_any-append}
 use Rattle.module_box.specs.Locals.{is_among}
-use Rattle.certificate_lines.specs.Rules.{are_new}
+use Rattle.certificate_lines.specs.Rules.{are_new_and_distinct}
 
 eq_sym : (v w : ℕ) → (w == v) ≡ (v == w)
 eq_sym v w = grind arith
@@ -25,20 +25,25 @@ and_again false b c = refl
 among_append : (xs ys : List ℕ) (w : ℕ) → is_among (xs ++ ys) w ≡ (is_among xs w || is_among ys w)
 among_append xs ys w = list_any-append (λ v. v == w) xs ys
 
-new_append : (local xs ys : List ℕ) → are_new local (xs ++ ys) ≡ (are_new local xs && are_new (local ++ xs) ys)
-unfolding are_new
-new_append local [] ys = ap (λ (l : List ℕ). are_new l ys) (sym (append-nil local))
+new_append : (local xs ys : List ℕ) →
+    are_new_and_distinct local (xs ++ ys) ≡ (are_new_and_distinct local xs && are_new_and_distinct (local ++ xs) ys)
+unfolding are_new_and_distinct
+new_append local [] ys = ap (λ (l : List ℕ). are_new_and_distinct l ys) (sym (append-nil local))
 new_append local (x ∷ xs) ys =
     ap (λ (b : Bool). not (is_among local x) && b)
     (new_append (local ++ x ∷ []) xs ys
-    ∙ ap (λ (l : List ℕ). are_new (local ++ x ∷ []) xs && are_new l ys) (append_assoc local (x ∷ []) xs))
-    ∙ and_again (not (is_among local x)) (are_new (local ++ x ∷ []) xs) (are_new (local ++ x ∷ xs) ys)
+    ∙ ap (λ (l : List ℕ). are_new_and_distinct (local ++ x ∷ []) xs && are_new_and_distinct l ys)
+    (append_assoc local (x ∷ []) xs))
+    ∙ and_again (not (is_among local x)) (are_new_and_distinct (local ++ x ∷ []) xs)
+    (are_new_and_distinct (local ++ x ∷ xs) ys)
 
 -- the wires from one on
-first_new : (local xs ys : List ℕ) (w : ℕ) → are_new local xs ≡ true →
-    are_new local (xs ++ w ∷ ys) ≡ (not (is_among (local ++ xs) w) && are_new ((local ++ xs) ++ w ∷ []) ys)
-unfolding are_new
-first_new local xs ys w h = new_append local xs (w ∷ ys) ∙ ap (λ (b : Bool). b && are_new (local ++ xs) (w ∷ ys)) h
+first_new : (local xs ys : List ℕ) (w : ℕ) → are_new_and_distinct local xs ≡ true →
+    are_new_and_distinct local (xs ++ w ∷ ys)
+    ≡ (not (is_among (local ++ xs) w) && are_new_and_distinct ((local ++ xs) ++ w ∷ []) ys)
+unfolding are_new_and_distinct
+first_new local xs ys w h = new_append local xs (w ∷ ys)
+    ∙ ap (λ (b : Bool). b && are_new_and_distinct (local ++ xs) (w ∷ ys)) h
 
 split_at : (xs : List ℕ) (i : ℕ) (w : ℕ) → i < length xs → w ≡ get_or xs i w → xs ≡ take i xs ++ w ∷ drop (suc i) xs
 split_at [] i w h e = absurd (omega arith)
@@ -49,19 +54,22 @@ false_and : (b : Bool) → (not true && b) ≡ false
 false_and b = refl
 
 module _ (local xs : List ℕ) (i w : ℕ) (within : i < length xs) (is : w ≡ get_or xs i w)
-    (so_far : are_new local (take i xs) ≡ true) where
-  whole : are_new local xs ≡ (not (is_among (local ++ take i xs) w)
-      && are_new ((local ++ take i xs) ++ w ∷ []) (drop (suc i) xs))
-  whole = ap (are_new local) (split_at xs i w within is) ∙ first_new local (take i xs) (drop (suc i) xs) w so_far
+    (so_far : are_new_and_distinct local (take i xs) ≡ true) where
+  whole : are_new_and_distinct local xs ≡ (not (is_among (local ++ take i xs) w)
+      && are_new_and_distinct ((local ++ take i xs) ++ w ∷ []) (drop (suc i) xs))
+  whole = ap (are_new_and_distinct local) (split_at xs i w within is)
+      ∙ first_new local (take i xs) (drop (suc i) xs) w so_far
 
-  pub old_wire : (is_among local w || is_among (take i xs) w) ≡ true → false ≡ are_new local xs
-  old_wire h = sym (whole ∙ ap (λ (b : Bool). not b && are_new ((local ++ take i xs) ++ w ∷ []) (drop (suc i) xs))
+  pub old_wire : (is_among local w || is_among (take i xs) w) ≡ true → false ≡ are_new_and_distinct local xs
+  old_wire h = sym (whole ∙ ap (λ (b : Bool).
+      not b && are_new_and_distinct ((local ++ take i xs) ++ w ∷ []) (drop (suc i) xs))
       (among_append local (take i xs) w ∙ h))
 
-  pub new_wire : (is_among local w || is_among (take i xs) w) ≡ false → are_new local (take (i + 1) xs) ≡ true
-  unfolding are_new
+  pub new_wire : (is_among local w || is_among (take i xs) w) ≡ false →
+      are_new_and_distinct local (take (i + 1) xs) ≡ true
+  unfolding are_new_and_distinct
   new_wire h =
-      ap (are_new local) (ap (λ (j : ℕ). take j xs) (one_more i) ∙ take-suc xs i w within
+      ap (are_new_and_distinct local) (ap (λ (j : ℕ). take j xs) (one_more i) ∙ take-suc xs i w within
       ∙ ap (λ (v : ℕ). take i xs ++ v ∷ []) (sym is))
       ∙ first_new local (take i xs) [] w so_far
       ∙ ap (λ (b : Bool). not b && true) (among_append local (take i xs) w ∙ h)
@@ -74,6 +82,6 @@ pushed_take local xs i w within is =
     (sym (ap (λ (j : ℕ). take j xs) (one_more i) ∙ take-suc xs i w within
     ∙ ap (λ (v : ℕ). take i xs ++ v ∷ []) (sym is)))
 
-pub none_new : (local : List ℕ) → are_new local [] ≡ true
-unfolding are_new
+pub none_new : (local : List ℕ) → are_new_and_distinct local [] ≡ true
+unfolding are_new_and_distinct
 none_new local = refl

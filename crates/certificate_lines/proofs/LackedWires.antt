@@ -1,9 +1,8 @@
 -- The wires that modules lack of the edge lines beside them, and the local wires of each module
 use Rattle.std.proofs.Common.{◌≡◌, ℕ, zero, suc, ◌+◌, ◌<◌, ◌≤◌, Bool, true, false, ◌&&◌, ◌||◌, List, [], ◌∷◌, ◌++◌}
 use Rattle.std.proofs.Common.{length, map, drop, inl, inr, Some, get_or, option_map, refl, sym, ap, ap₂, subst, ◌∙◌}
-use Rattle.std.proofs.Common.{arith}
-use Rattle.std.specs.Prelude.{ℤ, pos, nat_lt, slice_get}
-use Rattle.std.specs.List.{filter, flat_map, list_any}
+use Rattle.std.proofs.Common.{arith, ℤ, pos, nat_lt, slice_get, filter, flat_map}
+use Rattle.std.specs.List.{list_any}
 use Rattle.std.proofs.lemmas.Bool.{and_from, cond-true, cond-false}
 use Rattle.std.proofs.lemmas.Option.{get_or_from_slice_get, slice_get-map}
 use Rattle.std.proofs.lemmas.List.{length-map, length_push, map-append, same_from_push}
@@ -14,13 +13,13 @@ use Rattle.module_box.specs.Tiling.{IsInside, rectangle_of}
 use Rattle.module_box.proofs.BoxCells.{in_box_nats}
 use Rattle.bbm_rule.specs.Spans.{in_span}
 use Rattle.bbm_rule.proofs.Spans.{span_from}
-use Rattle.certificate_lines.specs.BuilderView.{AreSound, AreWires, lacks_edge_wire}
+use Rattle.certificate_lines.specs.BuilderView.{AreSound, AreLocalWiresOfModules, lacks_edge_wire}
 use Rattle.certificate_lines.specs.Entries.{ModuleLines, Setting, change_last, counts_of, edge_in, edges, known}
 use Rattle.certificate_lines.specs.Entries.{last_of, modules_of}
 use Rattle.certificate_lines.specs.ModuleParts.{AreInBox, inner}
 use Rattle.certificate_lines.specs.Modules.{IsModule}
 use Rattle.certificate_lines.specs.Rules.{whole}
-use Rattle.certificate_lines.specs.Versions.{edge_lines_beside, is_nonlocal_signal, lacks_wire}
+use Rattle.certificate_lines.specs.Versions.{edge_lines_beside, is_nonlocal_signal, lacks_edge_wire_beside}
 use Rattle.certificate_lines.specs.declared.certificate_line.BorderLine.{BorderLine}
 use Rattle.certificate_lines.specs.declared.certificate_line.Counts.{Counts}
 use Rattle.certificate_lines.specs.declared.certificate_line.CertificateLine.{CertificateLine}
@@ -83,8 +82,8 @@ module _ (g : Setting) (ms : List ModuleLines) where
   short_beside area short = cond-false _ _ _ short
 
   pub lacked : nat_lt 1 g.size.steps ≡ true →
-      list_any (λ n. list_any (lacks_edge_wire g.circuit (edges n)) ms) ms ≡ lacks_wire g ms
-  unfolding lacks_wire
+      list_any (λ n. list_any (lacks_edge_wire g.circuit (edges n)) ms) ms ≡ lacks_edge_wire_beside g ms
+  unfolding lacks_edge_wire_beside
   lacked long =
       any_swap (λ n m. lacks_edge_wire g.circuit (edges n) m) ms ms
       ∙ any_same (λ m. list_any (λ n. lacks_edge_wire g.circuit (edges n) m) ms)
@@ -94,8 +93,8 @@ module _ (g : Setting) (ms : List ModuleLines) where
       (λ e. is_nonlocal_signal g.circuit (known g.circuit m) e.signal) edges ms
       ∙ ap (list_any (λ e. is_nonlocal_signal g.circuit (known g.circuit m) e.signal)) (long_beside m.area long))
 
-  pub none_lacked : nat_lt 1 g.size.steps ≡ false → false ≡ lacks_wire g ms
-  unfolding lacks_wire
+  pub none_lacked : nat_lt 1 g.size.steps ≡ false → false ≡ lacks_edge_wire_beside g ms
+  unfolding lacks_edge_wire_beside
   none_lacked short =
       sym (any_same (λ m. list_any (λ e. is_nonlocal_signal g.circuit (known g.circuit m) e.signal)
       (edge_lines_beside g ms m.area))
@@ -121,14 +120,15 @@ split_last f (y ∷ z ∷ xs) x e =
     record { start = y ∷ rest.start; was = ap (λ l. y ∷ l) rest.was; now = ap (λ l. y ∷ l) rest.now }
 
 pub wires_begun : (c : Circuit) (ms : List ModuleLines) (m : ModuleLines) (earlier : List (List ℕ)) (local : List ℕ) →
-    known c m ≡ [] → AreWires c ms earlier local → AreWires c (ms ++ m ∷ []) (earlier ++ local ∷ []) []
+    known c m ≡ [] → AreLocalWiresOfModules c ms earlier local →
+    AreLocalWiresOfModules c (ms ++ m ∷ []) (earlier ++ local ∷ []) []
 wires_begun c ms m earlier local none h =
     ap (λ l. l ++ [] ∷ []) h ∙ ap (λ w. [] ∷ (map (known c) ms ++ w ∷ [])) (sym none)
     ∙ ap (λ l. [] ∷ l) (sym (map-append (known c) ms (m ∷ [])))
 
 pub wires_more : (c : Circuit) (f : ModuleLines → ModuleLines) (ms : List ModuleLines) (m : ModuleLines)
     (earlier : List (List ℕ)) (local more : List ℕ) → last_of ms ≡ Some m → known c (f m) ≡ known c m ++ more →
-    AreWires c ms earlier local → AreWires c (change_last f ms) earlier (local ++ more)
+    AreLocalWiresOfModules c ms earlier local → AreLocalWiresOfModules c (change_last f ms) earlier (local ++ more)
 wires_more c f ms m earlier local more last is h =
     let s = split_last f ms m last in
     let parts = same_from_push earlier ([] ∷ map (known c) s.start) local (known c m)
@@ -146,7 +146,7 @@ at_end [] y = refl
 at_end (x ∷ xs) y = at_end xs y
 
 module _ (c : Circuit) (ms : List ModuleLines) (earlier : List (List ℕ)) (local : List ℕ)
-    (h : AreWires c ms earlier local) (k : ℕ) where
+    (h : AreLocalWiresOfModules c ms earlier local) (k : ℕ) where
   wires_at : slice_get (map (known c) ms) k ≡ slice_get (earlier ++ local ∷ []) (k + 1)
   wires_at = let n : suc k ≡ k + 1 = omega arith in
       ap (λ l. slice_get l (suc k)) (sym h) ∙ ap (slice_get (earlier ++ local ∷ [])) n

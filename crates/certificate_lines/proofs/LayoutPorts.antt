@@ -1,7 +1,6 @@
 -- The ports of a layout by their cells, and its parts, which lie inside it
 use Rattle.std.proofs.Common.{◌≡◌, ℕ, zero, suc, ℤ, Bool, true, false, not, ◌||◌, if◌then◌else◌, List, [], ◌∷◌, ◌++◌}
-use Rattle.std.proofs.Common.{map, ◌<◌, get_or, length, Option, Some, None, refl, sym, ap, subst, ◌∙◌, arith}
-use Rattle.std.specs.Prelude.{slice_get}
+use Rattle.std.proofs.Common.{map, ◌<◌, get_or, length, Option, Some, None, refl, sym, ap, subst, ◌∙◌, arith, slice_get}
 use Rattle.std.specs.List.{list_all}
 use Rattle.std.proofs.lemmas.List.Folds.{list_all-append, list_all-map}
 use Rattle.std.proofs.lemmas.Bool.{and_parts}
@@ -13,7 +12,7 @@ use Rattle.pattern.specs.declared.layout_line.LayoutHeader.{LayoutHeader}
 use Rattle.pattern.specs.Lines.{AreGoodAfter, cell_fault, is_inside, is_taken}
 use Rattle.pattern.specs.declared.layout_line.LayoutLine.{LayoutLine}
 use Rattle.pattern.specs.declared.layout_line.LayoutLine.TheVariants.{Mirror, Ball, In, Out, Waste}
-use Rattle.section_text.specs.Codes.{code_where}
+use Rattle.section_text.specs.Codes.{code_if}
 use Rattle.certificate_lines.specs.PortTables.{port_at, AreOnBoard}
 use Rattle.certificate_lines.proofs.Lists.{some_is}
 use Rattle.section_text.specs.declared.code.RefusalCode.TheVariants.{TakenCell}
@@ -69,7 +68,7 @@ none_stands (q ∷ ports) x y e zero p at h =
 none_stands (q ∷ ports) x y e (suc i) p at h =
     none_stands ports x y (absent_here (is_at q.cell x y) q.name (port_at ports x y) e).1 i p at h
 
-no_code : (a b : Bool) → code_where (not a || b) TakenCell ≡ None → a ≡ true
+no_code : (a b : Bool) → code_if (not a || b) TakenCell ≡ None → a ≡ true
 no_code true b e = refl
 no_code false b e = cc
 

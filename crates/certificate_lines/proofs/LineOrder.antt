@@ -1,15 +1,13 @@
 -- Lines in their order
-use Rattle.std.proofs.Common.{◌≡◌, ◌⊎◌, Bool, true, false, if◌then◌else◌, List, [], ◌∷◌, ◌++◌}
-use Rattle.std.proofs.Common.{Ordering, Less, Equal, Greater, refl, sym, ap, ap₂, subst, ◌∙◌, inl, inr}
-use Rattle.std.specs.Prelude.{◌≢◌}
-use Rattle.std.specs.List.{filter, flat_map}
-use Rattle.std.specs.Ordering.{is_lt, ordering_reverse}
+use Rattle.std.proofs.Common.{◌≡◌, ◌⊎◌, Bool, true, false, if◌then◌else◌, List, [], ◌∷◌, ◌++◌, Ordering, Less, Equal}
+use Rattle.std.proofs.Common.{Greater, refl, sym, ap, ap₂, subst, ◌∙◌, inl, inr, ◌≢◌, filter, flat_map, is_lt}
+use Rattle.std.specs.Ordering.{ordering_reverse}
 use Rattle.std.specs.Cmp.{IsTotalOrder}
 use Rattle.std.proofs.lemmas.Bool.{cases_Bool, cond-true, cond-false}
 use Rattle.std.proofs.lemmas.Cmp.{then_total, on_total, nat_cmp_total}
 use Rattle.module_box.proofs.Rising.{cell_total}
 use Rattle.certificate_lines.specs.Orders.{time_rank}
-use Rattle.certificate_lines.specs.Versions.{line_order, put_line, in_order}
+use Rattle.certificate_lines.specs.Versions.{border_line_cmp, insert_border_line, in_order}
 use Rattle.certificate_lines.specs.declared.certificate_line.BorderLine.{BorderLine}
 use Rattle.certificate_lines.proofs.Pairs.{Each, Pairs, each_map}
 
@@ -116,16 +114,16 @@ pairs_filter R test (x ∷ xs) p = elim (cases_Bool (test x)) [
 
 -- ---- the order
 
-pub line_total : IsTotalOrder line_order
-unfolding line_order
+pub line_total : IsTotalOrder border_line_cmp
+unfolding border_line_cmp
 line_total = then_total (on_total (λ (e : BorderLine). time_rank e.time) nat_cmp_total)
     (on_total (λ (e : BorderLine). e.cell) cell_total)
 
 abbrev pub Rises : List BorderLine → Type 0
-Rises = Pairs (λ d e. line_order d e ≡ Less)
+Rises = Pairs (λ d e. border_line_cmp d e ≡ Less)
 
 abbrev pub AreDistinct : List BorderLine → Type 0
-AreDistinct = Pairs (λ d e. line_order d e ≢ Equal)
+AreDistinct = Pairs (λ d e. border_line_cmp d e ≢ Equal)
 
 less_apart : (o : Ordering) → o ≡ Less → o ≢ Equal
 less_apart Less e h = cc
@@ -139,8 +137,8 @@ pairs_each R S h [] p = p
 pairs_each R S h (x ∷ xs) p = (each_map (R x) (S x) (h x) xs p.0, pairs_each R S h xs p.1)
 
 pub rising_distinct : (es : List BorderLine) → Rises es → AreDistinct es
-rising_distinct es p = pairs_each (λ d e. line_order d e ≡ Less) (λ d e. line_order d e ≢ Equal)
-    (λ d e. less_apart (line_order d e)) es p
+rising_distinct es p = pairs_each (λ d e. border_line_cmp d e ≡ Less) (λ d e. border_line_cmp d e ≢ Equal)
+    (λ d e. less_apart (border_line_cmp d e)) es p
 
 -- ---- a line more
 
@@ -154,11 +152,12 @@ is_before Less h = refl
 is_before Equal h = absurd cc
 is_before Greater h = absurd cc
 
-turned : (d e : BorderLine) → line_order d e ≡ Greater → line_order e d ≡ Less
+turned : (d e : BorderLine) → border_line_cmp d e ≡ Greater → border_line_cmp e d ≡ Less
 turned d e h = line_total.antisymm e d ∙ ap ordering_reverse h
 
-put_parts : (x d e : BorderLine) (es : List BorderLine) (b : Bool) → (In x (put_line d es) → (d ≡ x) ⊎ In x es) →
-    In x (if b then d ∷ e ∷ es else e ∷ put_line d es) → (d ≡ x) ⊎ In x (e ∷ es)
+put_parts : (x d e : BorderLine) (es : List BorderLine) (b : Bool) →
+    (In x (insert_border_line d es) → (d ≡ x) ⊎ In x es) →
+    In x (if b then d ∷ e ∷ es else e ∷ insert_border_line d es) → (d ≡ x) ⊎ In x (e ∷ es)
 unfolding In
 put_parts x d e es true h i = i
 put_parts x d e es false h (inl same) = inr (inl same)
@@ -167,45 +166,46 @@ put_parts x d e es false h (inr later) = elim (h later) [
   | inr more ↦ inr (inr more)
 ]
 
-put_back : (x d e : BorderLine) (es : List BorderLine) (b : Bool) → ((d ≡ x) ⊎ In x es → In x (put_line d es)) →
-    (d ≡ x) ⊎ In x (e ∷ es) → In x (if b then d ∷ e ∷ es else e ∷ put_line d es)
+put_back : (x d e : BorderLine) (es : List BorderLine) (b : Bool) →
+    ((d ≡ x) ⊎ In x es → In x (insert_border_line d es)) →
+    (d ≡ x) ⊎ In x (e ∷ es) → In x (if b then d ∷ e ∷ es else e ∷ insert_border_line d es)
 unfolding In
 put_back x d e es true h i = i
 put_back x d e es false h (inl same) = inr (h (inl same))
 put_back x d e es false h (inr (inl same)) = inl same
 put_back x d e es false h (inr (inr later)) = inr (h (inr later))
 
-pub in_put : (x d : BorderLine) (es : List BorderLine) → In x (put_line d es) → (d ≡ x) ⊎ In x es
-unfolding put_line In
+pub in_put : (x d : BorderLine) (es : List BorderLine) → In x (insert_border_line d es) → (d ≡ x) ⊎ In x es
+unfolding insert_border_line In
 in_put x d [] i = i
-in_put x d (e ∷ es) i = put_parts x d e es (is_lt (line_order d e)) (in_put x d es) i
+in_put x d (e ∷ es) i = put_parts x d e es (is_lt (border_line_cmp d e)) (in_put x d es) i
 
-pub put_in : (x d : BorderLine) (es : List BorderLine) → (d ≡ x) ⊎ In x es → In x (put_line d es)
-unfolding put_line In
+pub put_in : (x d : BorderLine) (es : List BorderLine) → (d ≡ x) ⊎ In x es → In x (insert_border_line d es)
+unfolding insert_border_line In
 put_in x d [] i = i
-put_in x d (e ∷ es) i = put_back x d e es (is_lt (line_order d e)) (put_in x d es) i
+put_in x d (e ∷ es) i = put_back x d e es (is_lt (border_line_cmp d e)) (put_in x d es) i
 
-pub put_rises : (d : BorderLine) (es : List BorderLine) → Rises es → Each (λ e. line_order d e ≢ Equal) es →
-    Rises (put_line d es)
-unfolding put_line Each Pairs
+pub put_rises : (d : BorderLine) (es : List BorderLine) → Rises es → Each (λ e. border_line_cmp d e ≢ Equal) es →
+    Rises (insert_border_line d es)
+unfolding insert_border_line Each Pairs
 put_rises d [] p n = (tt, tt)
-put_rises d (e ∷ es) p n = elim (cases_Bool (is_lt (line_order d e))) [
+put_rises d (e ∷ es) p n = elim (cases_Bool (is_lt (border_line_cmp d e))) [
   | inl holds ↦
-      let less = is_before (line_order d e) holds in
+      let less = is_before (border_line_cmp d e) holds in
       subst Rises (sym (cond-true _ _ _ holds)) (
         (
           less,
-          each_map (λ f. line_order e f ≡ Less) (λ f. line_order d f ≡ Less)
+          each_map (λ f. border_line_cmp e f ≡ Less) (λ f. border_line_cmp d f ≡ Less)
               (λ f h. line_total.trans d e f less h) es p.0,
         ),
         p,
       )
   | inr fails ↦
-      let less = turned d e (after_line (line_order d e) n.0 fails) in
+      let less = turned d e (after_line (border_line_cmp d e) n.0 fails) in
       subst Rises (sym (cond-false _ _ _ fails)) (
-        in_each (λ f. line_order e f ≡ Less) (put_line d es) (λ f i. elim (in_put f d es i) [
-          | inl same ↦ subst (λ x. line_order e x ≡ Less) same less
-          | inr later ↦ each_in (λ f. line_order e f ≡ Less) es p.0 f later
+        in_each (λ f. border_line_cmp e f ≡ Less) (insert_border_line d es) (λ f i. elim (in_put f d es i) [
+          | inl same ↦ subst (λ x. border_line_cmp e x ≡ Less) same less
+          | inr later ↦ each_in (λ f. border_line_cmp e f ≡ Less) es p.0 f later
         ]),
         put_rises d es p.1 n.1,
       )
@@ -232,15 +232,15 @@ unfolding in_order Pairs
 ordered_rises [] p = tt
 ordered_rises (d ∷ ds) p =
     put_rises d (in_order ds) (ordered_rises ds p.1)
-    (in_each (λ e. line_order d e ≢ Equal) (in_order ds)
-    (λ e i. each_in (λ e. line_order d e ≢ Equal) ds p.0 e (in_ordered e ds i)))
+    (in_each (λ e. border_line_cmp d e ≢ Equal) (in_order ds)
+    (λ e i. each_in (λ e. border_line_cmp d e ≢ Equal) ds p.0 e (in_ordered e ds i)))
 
 -- ---- lists that rise and have the same elements are the same
 
-never_before : (d e : BorderLine) → line_order d e ≡ Less → line_order e d ≡ Less → ⊥
+never_before : (d e : BorderLine) → border_line_cmp d e ≡ Less → border_line_cmp e d ≡ Less → ⊥
 never_before d e h k = let t = sym h ∙ line_total.antisymm d e ∙ ap ordering_reverse k in cc
 
-pub not_itself : (d : BorderLine) → line_order d d ≡ Less → ⊥
+pub not_itself : (d : BorderLine) → border_line_cmp d d ≡ Less → ⊥
 not_itself d h = never_before d d h h
 
 abbrev Among : List BorderLine → List BorderLine → Type 0
@@ -253,8 +253,8 @@ first_same d e ds es p q f g = elim (f d (inl refl)) [
   | inl same ↦ sym same
   | inr later ↦ elim (g e (inl refl)) [
     | inl same ↦ same
-    | inr last ↦ absurd (never_before d e (each_in (λ x. line_order d x ≡ Less) ds p.0 e last)
-        (each_in (λ x. line_order e x ≡ Less) es q.0 d later))
+    | inr last ↦ absurd (never_before d e (each_in (λ x. border_line_cmp d x ≡ Less) ds p.0 e last)
+        (each_in (λ x. border_line_cmp e x ≡ Less) es q.0 d later))
   ]
 ]
 
@@ -262,7 +262,7 @@ rest_among : (d : BorderLine) (ds es : List BorderLine) → Rises (d ∷ ds) →
 unfolding Pairs In
 rest_among d ds es p f x i = elim (f x (inr i)) [
   | inl same ↦ absurd (not_itself d
-      (subst (λ y. line_order d y ≡ Less) (sym same) (each_in (λ y. line_order d y ≡ Less) ds p.0 x i)))
+      (subst (λ y. border_line_cmp d y ≡ Less) (sym same) (each_in (λ y. border_line_cmp d y ≡ Less) ds p.0 x i)))
   | inr later ↦ later
 ]
 

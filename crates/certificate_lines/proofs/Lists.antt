@@ -1,7 +1,6 @@
 -- Elements of lists, by their places.
 use Rattle.std.proofs.Common.{◌≡◌, ◌⊎◌, ℕ, zero, suc, Bool, true, false, ◌||◌, List, [], ◌∷◌, ◌++◌, Option, Some, refl}
-use Rattle.std.proofs.Common.{sym, inl, inr}
-use Rattle.std.specs.Prelude.{slice_get}
+use Rattle.std.proofs.Common.{sym, inl, inr, slice_get}
 use Rattle.std.specs.List.{list_any}
 
 pub or_parts : (a b : Bool) → (a || b) ≡ true → (a ≡ true) ⊎ (b ≡ true)
@@ -32,14 +31,16 @@ pub record IsPassed {A : Type 0} (test : A → Bool) (xs : List A) : Type 0 wher
   pub stands : slice_get xs place ≡ Some element
   pub passes : test element ≡ true
 
-next_port_number : {A : Type 0} (test : A → Bool) (x : A) (xs : List A) → IsPassed test xs → IsPassed test (x ∷ xs)
-next_port_number test x xs p = record { place = suc p.place; element = p.element; stands = p.stands; passes = p.passes }
+number_with_port_in_front : {A : Type 0} (test : A → Bool) (x : A) (xs : List A) → IsPassed test xs →
+    IsPassed test (x ∷ xs)
+number_with_port_in_front test x xs p =
+    record { place = suc p.place; element = p.element; stands = p.stands; passes = p.passes }
 
 pub passed : {A : Type 0} (test : A → Bool) (xs : List A) → list_any test xs ≡ true → IsPassed test xs
 passed test [] h = absurd cc
 passed test (x ∷ xs) h = elim (or_parts (test x) (list_any test xs) h) [
   | inl here ↦ record { place = 0; element = x; stands = refl; passes = here }
-  | inr later ↦ next_port_number test x xs (passed test xs later)
+  | inr later ↦ number_with_port_in_front test x xs (passed test xs later)
 ]
 
 pub any_at : {A : Type 0} (test : A → Bool) (xs : List A) (i : ℕ) (a : A) → slice_get xs i ≡ Some a → test a ≡ true →

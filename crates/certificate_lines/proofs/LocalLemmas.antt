@@ -13,7 +13,7 @@ use Rattle.std.proofs.lemmas.Option.{slice_get_within, get_or_from_slice_get}
 use Rattle.circuit.specs.Meaning.{Gate, Netlist}
 use Rattle.module_box.specs.Locals.{AreDifferent, AreLocalLines, IsKnown, is_among, local_wires, outs_of}
 use Rattle.module_box.proofs.Rising.{pushed}
-use Rattle.certificate_lines.specs.Rules.{are_new}
+use Rattle.certificate_lines.specs.Rules.{are_new_and_distinct}
 use Rattle.certificate_lines.proofs.Growing.{flat_push}
 use Rattle.certificate_lines.proofs.Lists.{any_at}
 
@@ -44,11 +44,11 @@ not_true : (a : Bool) → not a ≡ true → a ≡ false
 not_true true h = sym h
 not_true false h = refl
 
-pub different_append : (ys xs : List ℕ) → AreDifferent xs → are_new xs ys ≡ true → AreDifferent (xs ++ ys)
-unfolding are_new
+pub different_append : (ys xs : List ℕ) → AreDifferent xs → are_new_and_distinct xs ys ≡ true → AreDifferent (xs ++ ys)
+unfolding are_new_and_distinct
 different_append [] xs different new = subst AreDifferent (sym (append-nil xs)) different
 different_append (y ∷ ys) xs different new =
-    let both = and_parts (not (is_among xs y)) (are_new (xs ++ y ∷ []) ys) new in
+    let both = and_parts (not (is_among xs y)) (are_new_and_distinct (xs ++ y ∷ []) ys) new in
     subst AreDifferent (append_assoc xs (y ∷ []) ys)
     (different_append ys (xs ++ y ∷ []) (different_push xs y different (not_true (is_among xs y) both.0)) both.1)
 
@@ -92,7 +92,7 @@ at_all P xs i x all e = subst P (get_or_from_slice_get xs i x x e) (All-get_or P
 module _ (n : Netlist) (cw gs : List ℕ) (k : ℕ) (g : Gate) (l : AreLocalLines n cw gs)
     (at : slice_get n.gates k ≡ Some g) (lower : All (λ j. j < k) gs)
     (ins : list_all (is_among (local_wires n cw gs)) g.ins ≡ true)
-    (new : are_new (local_wires n cw gs) g.outs ≡ true) where
+    (new : are_new_and_distinct (local_wires n cw gs) g.outs ≡ true) where
   rises : (i j a b : ℕ) → i < j → slice_get (gs ++ k ∷ []) i ≡ Some a → slice_get (gs ++ k ∷ []) j ≡ Some b → a < b
   rises i j a b lt e f = elim (pushed gs k j b f) [
     | inl old' ↦ elim (pushed gs k i a e) [

@@ -1,7 +1,6 @@
 -- The names of local wires in slots, after more wires are local, and before any is.
-use Rattle.std.proofs.Common.{◌≡◌, ◌∙◌, ℕ, ◌==◌, ◌||◌, true, List, ◌++◌, Option, Some, None, ap, sym, subst}
-use Rattle.std.specs.Prelude.{IfSome, replicate}
-use Rattle.std.specs.List.{All}
+use Rattle.std.proofs.Common.{◌≡◌, ◌∙◌, ℕ, ◌==◌, ◌||◌, true, List, ◌++◌, Option, Some, None, ap, sym, subst, IfSome}
+use Rattle.std.proofs.Common.{replicate, All}
 use Rattle.std.proofs.lemmas.List.Elements.{All-replicate}
 use Rattle.std.proofs.lemmas.List.Folds.{list_any-append}
 use Rattle.circuit.specs.Meaning.{Circuit, wire_of}

@@ -1,7 +1,6 @@
 -- The boxes of modules, for a table of their owners
 use Rattle.std.proofs.Common.{◌≡◌, ℕ, ◌+◌, ◌<◌, ◌≤◌, List, [], ◌∷◌, ◌++◌, length, map, take, get_or, Some, sym, ap}
-use Rattle.std.proofs.Common.{subst, ◌∙◌, arith, None}
-use Rattle.std.specs.Prelude.{slice_get}
+use Rattle.std.proofs.Common.{subst, ◌∙◌, arith, None, slice_get}
 use Rattle.std.proofs.lemmas.List.{length-map, take_all, take_more}
 use Rattle.std.proofs.lemmas.Option.{slice_get-get_or, get_or_from_slice_get}
 use Rattle.pattern.specs.Lines.{size_fault}

@@ -1,26 +1,26 @@
 -- A module that is good stays so after one more line that is good.
 use Rattle.std.proofs.Common.{◌≡◌, ℕ, ◌+◌, ◌%◌, ◌<◌, ◌≤◌, Bool, true, false, not, ◌&&◌, ◌||◌, List, [], ◌∷◌, ◌++◌}
-use Rattle.std.proofs.Common.{length, Option, Some, None, refl, sym, ap, ap₂, subst, ◌∙◌, arith, append-nil}
-use Rattle.std.specs.Prelude.{slice_get, nat_le, nat_lt, IfSome, IsTrue}
-use Rattle.std.specs.List.{All, flat_map, list_any, list_all}
-use Rattle.std.specs.Option.{option_to_list}
+use Rattle.std.proofs.Common.{length, Option, Some, None, refl, sym, ap, ap₂, subst, ◌∙◌, arith, append-nil, slice_get}
+use Rattle.std.proofs.Common.{nat_le, nat_lt, IfSome, IsTrue, All, flat_map, option_to_list}
+use Rattle.std.specs.List.{list_any, list_all}
 use Rattle.std.proofs.lemmas.Bool.{and_parts, eqb-true}
 use Rattle.std.proofs.lemmas.Bool.Decides.{nat_tests}
 use Rattle.std.proofs.lemmas.List.{length_push}
 use Rattle.std.proofs.lemmas.List.Elements.{All-nil, All-push}
-use Rattle.section_text.specs.Codes.{code_where, or_else}
+use Rattle.section_text.specs.Codes.{code_if, or_else}
 use Rattle.circuit.specs.Meaning.{Circuit, Gate, wire_of}
 use Rattle.module_box.specs.Boxes.{in_box, in_ring, in_halo}
 use Rattle.module_box.specs.Locals.{AreLocalLines, is_among, local_wires}
 use Rattle.module_box.specs.declared.boxes.Box2.{Box2}
-use Rattle.certificate_lines.specs.Entries.{Setting, ModuleLines, with_line, cut_in, use_in, keep_in, edge_in, halo_in}
-use Rattle.certificate_lines.specs.Entries.{stop_in, cuts, gates, keeps, edges, halos, stops, cut_wires, known}
+use Rattle.certificate_lines.specs.Entries.{Setting, ModuleLines, module_with_line, cut_in, use_in, keep_in, edge_in}
+use Rattle.certificate_lines.specs.Entries.{halo_in, stop_in, cuts, gates, keeps, edges, halos, stops, cut_wires, known}
 use Rattle.certificate_lines.specs.Orders.{may_follow}
-use Rattle.certificate_lines.specs.Rules.{is_odd, is_local, is_star, are_new, cut_fault, cut_wire_fault, gate_fault}
-use Rattle.certificate_lines.specs.Rules.{use_fault, keep_line_code, is_starred, is_time, is_edge_place, is_halo_place}
-use Rattle.certificate_lines.specs.Rules.{is_stop_place, signal_fault, wire_fault, border_line_code, border_count}
-use Rattle.certificate_lines.specs.Rules.{border_limit, edge_line_code, halo_line_code, stop_line_code}
-use Rattle.certificate_lines.specs.Modules.{AreUnstarred, IsEdge, IsHalo, IsKeep, IsModule, IsStop}
+use Rattle.certificate_lines.specs.Rules.{is_odd, is_local, is_star, are_new_and_distinct, cut_fault, cut_wire_fault}
+use Rattle.certificate_lines.specs.Rules.{used_gate_fault, use_fault, keep_line_code, is_starred_line_at}
+use Rattle.certificate_lines.specs.Rules.{is_line_time_allowed, is_edge_place_and_time, is_halo_place_and_time}
+use Rattle.certificate_lines.specs.Rules.{is_stop_place_and_time, signal_fault, wire_fault, border_line_code}
+use Rattle.certificate_lines.specs.Rules.{border_count, border_limit, edge_line_code, halo_line_code, stop_line_code}
+use Rattle.certificate_lines.specs.Modules.{StarsExcludeLaterTimes, IsEdge, IsHalo, IsKeep, IsModule, IsStop}
 use Rattle.certificate_lines.specs.BuilderView.{IsWritten}
 use Rattle.certificate_lines.specs.declared.certificate_line.BorderLine.{BorderLine}
 use Rattle.certificate_lines.specs.declared.certificate_line.CertificateLine.{CertificateLine}
@@ -39,7 +39,7 @@ use Rattle.section_text.specs.declared.code.RefusalCode.TheVariants.{NoPlace}
 
 -- ---- tests that a line passed
 
-pub no_code : (b : Bool) (n : RefusalCode) → code_where b n ≡ None → b ≡ false
+pub no_code : (b : Bool) (n : RefusalCode) → code_if b n ≡ None → b ≡ false
 no_code true n e = absurd cc
 no_code false n e = refl
 
@@ -82,19 +82,19 @@ new_wire c count local name e =
     let w = new_by local (wire_of c name) parts.1 in
     (less 12 count (no_code _ PastLimit parts.0), record { wire = w.0; named = w.1; new = w.2 })
 
-pub cuts_cut : (m : ModuleLines) (n : List ℕ) → cuts (with_line (Cut n) m) ≡ cuts m ++ n ∷ []
+pub cuts_cut : (m : ModuleLines) (n : List ℕ) → cuts (module_with_line (Cut n) m) ≡ cuts m ++ n ∷ []
 cuts_cut m n = flat_push cut_in m.lines (Cut n)
 
 pub cut_wires_cut : (c : Circuit) (m : ModuleLines) (n : List ℕ) (w : ℕ) → wire_of c n ≡ Some w →
-    cut_wires c (with_line (Cut n) m) ≡ cut_wires c m ++ w ∷ []
+    cut_wires c (module_with_line (Cut n) m) ≡ cut_wires c m ++ w ∷ []
 cut_wires_cut c m n w e =
     let f : List ℕ → List ℕ = λ x. option_to_list (wire_of c x) in
     ap (flat_map f) (cuts_cut m n) ∙ flat_push f (cuts m) n ∙ ap (λ o. cut_wires c m ++ option_to_list o) e
 
 -- ---- lines with a time beside those with a `*`
 
-unstarred_nil : (es : List BorderLine) → es ≡ [] → AreUnstarred es
-unfolding AreUnstarred
+unstarred_nil : (es : List BorderLine) → es ≡ [] → StarsExcludeLaterTimes es
+unfolding StarsExcludeLaterTimes
 unstarred_nil [] e = tt
 unstarred_nil (d ∷ es) e = absurd cc
 
@@ -116,28 +116,29 @@ all_pushed test (d ∷ es) e h k =
     let both = and_parts (test d) (list_all test es) h in
     rw (both.0, all_pushed test es e both.1 k) refl
 
-unstarred_push : (es : List BorderLine) (e : BorderLine) → AreUnstarred es →
-    (is_star e.time || not (list_any (is_starred e.cell) es)) ≡ true → AreUnstarred (es ++ e ∷ [])
-unfolding AreUnstarred
+unstarred_push : (es : List BorderLine) (e : BorderLine) → StarsExcludeLaterTimes es →
+    (is_star e.time || not (list_any (is_starred_line_at e.cell) es)) ≡ true → StarsExcludeLaterTimes (es ++ e ∷ [])
+unfolding StarsExcludeLaterTimes
 unstarred_push [] e u h = (refl, tt)
 unstarred_push (d ∷ es) e u h = (
-  all_pushed (λ e. is_star e.time || not (is_starred e.cell d)) es e u.0
-      (first_free (is_star e.time) (is_starred e.cell d) (list_any (is_starred e.cell) es) h),
-  unstarred_push es e u.1 (kept_free (is_star e.time) (is_starred e.cell d) (list_any (is_starred e.cell) es) h),
+  all_pushed (λ e. is_star e.time || not (is_starred_line_at e.cell d)) es e u.0
+      (first_free (is_star e.time) (is_starred_line_at e.cell d) (list_any (is_starred_line_at e.cell) es) h),
+  unstarred_push es e u.1 (kept_free (is_star e.time) (is_starred_line_at e.cell d)
+      (list_any (is_starred_line_at e.cell) es) h),
 )
 
-free_time : (steps : ℕ) (starred : Bool) (t : Option ℕ) → is_time steps starred t ≡ true →
+free_time : (steps : ℕ) (starred : Bool) (t : Option ℕ) → is_line_time_allowed steps starred t ≡ true →
     (is_star t || not starred) ≡ true
-unfolding is_time
+unfolding is_line_time_allowed
 free_time steps starred None e = refl
 free_time steps starred (Some t) e = (and_parts (is_odd t && nat_lt t steps) (not starred) e).1
 
 free_of_star : (g : Setting) (area : Box2) (starred : Bool) (e : BorderLine) →
-    is_edge_place g.size area starred e ≡ true →
+    is_edge_place_and_time g.size area starred e ≡ true →
     (is_star e.time || not starred) ≡ true
-unfolding is_edge_place
+unfolding is_edge_place_and_time
 free_of_star g area starred e place =
-    free_time g.size.steps starred e.time (and_parts _ (is_time g.size.steps starred e.time) place).1
+    free_time g.size.steps starred e.time (and_parts _ (is_line_time_allowed g.size.steps starred e.time) place).1
 
 module _ (g : Setting) (m : ModuleLines) (is : IsModule g m) (n : List ℕ)
     (follows : may_follow m.lines (Cut n) ≡ true) where
@@ -157,7 +158,7 @@ module _ (g : Setting) (m : ModuleLines) (is : IsModule g m) (n : List ℕ)
   no_keeps = none_before keep_in (Cut n) (no_keep_before_cut n) m.lines follows
 
   abbrev more : ModuleLines
-  more = with_line (Cut n) m
+  more = module_with_line (Cut n) m
 
   gates_are : gates more ≡ []
   gates_are = flat_same use_in m.lines (Cut n) refl ∙ no_gates
@@ -221,11 +222,11 @@ pub record IsGoodUse (c : Circuit) (local : List ℕ) (k : ℕ) : Type 0 where
   pub gate : Gate
   pub numbered : slice_get c.netlist.gates k ≡ Some gate
   pub ins : list_all (is_among local) gate.ins ≡ true
-  pub outs : are_new local gate.outs ≡ true
+  pub outs : are_new_and_distinct local gate.outs ≡ true
 
-gate_by : (local : List ℕ) (o : Option Gate) → gate_fault local o ≡ None →
-    (g : Gate) × (o ≡ Some g) × (list_all (is_among local) g.ins ≡ true) × (are_new local g.outs ≡ true)
-unfolding gate_fault
+gate_by : (local : List ℕ) (o : Option Gate) → used_gate_fault local o ≡ None →
+    (g : Gate) × (o ≡ Some g) × (list_all (is_among local) g.ins ≡ true) × (are_new_and_distinct local g.outs ≡ true)
+unfolding used_gate_fault
 gate_by local None e = absurd cc
 gate_by local (Some g) e =
     let parts = both_none _ _ e in
@@ -239,12 +240,12 @@ good_use c count local k e =
     let g = gate_by local (slice_get c.netlist.gates k) parts.1 in
     (less 64 count (no_code _ PastLimit parts.0), record { gate = g.0; numbered = g.1; ins = g.2; outs = g.3 })
 
-pub gates_use : (m : ModuleLines) (k : ℕ) → gates (with_line (Use k) m) ≡ gates m ++ k ∷ []
+pub gates_use : (m : ModuleLines) (k : ℕ) → gates (module_with_line (Use k) m) ≡ gates m ++ k ∷ []
 gates_use m k = flat_push use_in m.lines (Use k)
 
 module _ (g : Setting) (m : ModuleLines) (k : ℕ) where
   abbrev used : ModuleLines
-  used = with_line (Use k) m
+  used = module_with_line (Use k) m
 
   cut_wires_use : cut_wires g.circuit used ≡ cut_wires g.circuit m
   cut_wires_use = ap (flat_map (λ n. option_to_list (wire_of g.circuit n))) (flat_same cut_in m.lines (Use k) refl)
@@ -297,9 +298,9 @@ odd t e = eqb-true (t % 2) 1 e
 below : (t n : ℕ) → nat_lt t n ≡ true → t < n
 below t n e = grind (arith, nat_tests)
 
-time_good : (steps : ℕ) (starred : Bool) (t : Option ℕ) → is_time steps starred t ≡ true →
+time_good : (steps : ℕ) (starred : Bool) (t : Option ℕ) → is_line_time_allowed steps starred t ≡ true →
     IfSome t (λ t. (t % 2 ≡ 1) × (t < steps))
-unfolding is_time
+unfolding is_line_time_allowed
 time_good steps starred None e = tt
 time_good steps starred (Some t) e =
     let parts = and_parts (is_odd t && nat_lt t steps) (not starred) e in
@@ -338,10 +339,10 @@ good_border c count local placed signal e =
     }
 
 edge_good : (g : Setting) (area : Box2) (local : List ℕ) (count : ℕ) (starred : Bool) (e : BorderLine) →
-    IsGoodBorder g.circuit count local (is_edge_place g.size area starred e) e.signal → IsEdge g area local e
-unfolding is_edge_place
+    IsGoodBorder g.circuit count local (is_edge_place_and_time g.size area starred e) e.signal → IsEdge g area local e
+unfolding is_edge_place_and_time
 edge_good g area local count starred e good =
-    let parts = and_parts _ (is_time g.size.steps starred e.time) good.place in
+    let parts = and_parts _ (is_line_time_allowed g.size.steps starred e.time) good.place in
     let both = and_parts (in_ring area e.cell.x e.cell.y) _ parts.0 in
     record {
       ring = both.0;
@@ -353,10 +354,10 @@ edge_good g area local count starred e good =
     }
 
 halo_good : (g : Setting) (area : Box2) (local : List ℕ) (count : ℕ) (starred : Bool) (e : BorderLine) →
-    IsGoodBorder g.circuit count local (is_halo_place g.size area starred e) e.signal → IsHalo g area local e
-unfolding is_halo_place
+    IsGoodBorder g.circuit count local (is_halo_place_and_time g.size area starred e) e.signal → IsHalo g area local e
+unfolding is_halo_place_and_time
 halo_good g area local count starred e good =
-    let parts = and_parts _ (is_time g.size.steps starred e.time) good.place in
+    let parts = and_parts _ (is_line_time_allowed g.size.steps starred e.time) good.place in
     let both = and_parts (in_halo area e.cell.x e.cell.y) _ parts.0 in
     record {
       halo = both.0;
@@ -371,8 +372,8 @@ at_most : (t n : ℕ) → nat_le t n ≡ true → t ≤ n
 at_most t n e = grind (arith, nat_tests)
 
 stop_good : (g : Setting) (area : Box2) (local : List ℕ) (count : ℕ) (s : StopLine) →
-    IsGoodBorder g.circuit count local (is_stop_place g.size area s) (Some s.wire) → IsStop g area local s
-unfolding is_stop_place
+    IsGoodBorder g.circuit count local (is_stop_place_and_time g.size area s) (Some s.wire) → IsStop g area local s
+unfolding is_stop_place_and_time
 stop_good g area local count s good =
     let parts = and_parts (in_box area s.cell.x s.cell.y) (nat_le s.time g.size.steps) good.place in
     record {
@@ -381,38 +382,39 @@ stop_good g area local count s good =
       wire = signal_good g.circuit local (Some s.wire) good.names;
     }
 
-pub edges_edge : (m : ModuleLines) (e : BorderLine) → edges (with_line (Edge e) m) ≡ edges m ++ e ∷ []
+pub edges_edge : (m : ModuleLines) (e : BorderLine) → edges (module_with_line (Edge e) m) ≡ edges m ++ e ∷ []
 edges_edge m e = flat_push edge_in m.lines (Edge e)
 
-pub halos_halo : (m : ModuleLines) (e : BorderLine) → halos (with_line (Halo e) m) ≡ halos m ++ e ∷ []
+pub halos_halo : (m : ModuleLines) (e : BorderLine) → halos (module_with_line (Halo e) m) ≡ halos m ++ e ∷ []
 halos_halo m e = flat_push halo_in m.lines (Halo e)
 
-pub stops_stop : (m : ModuleLines) (s : StopLine) → stops (with_line (Stop s) m) ≡ stops m ++ s ∷ []
+pub stops_stop : (m : ModuleLines) (s : StopLine) → stops (module_with_line (Stop s) m) ≡ stops m ++ s ∷ []
 stops_stop m s = flat_push stop_in m.lines (Stop s)
 
 -- a line that cuts and uses nothing leaves the local wires
 module _ (g : Setting) (m : ModuleLines) (i : CertificateLine) (no_cut : cut_in i ≡ []) (no_use : use_in i ≡ []) where
-  cuts_same : cuts (with_line i m) ≡ cuts m
+  cuts_same : cuts (module_with_line i m) ≡ cuts m
   cuts_same = flat_same cut_in m.lines i no_cut
 
-  cut_wires_same : cut_wires g.circuit (with_line i m) ≡ cut_wires g.circuit m
+  cut_wires_same : cut_wires g.circuit (module_with_line i m) ≡ cut_wires g.circuit m
   cut_wires_same = ap (flat_map (λ n. option_to_list (wire_of g.circuit n))) cuts_same
 
-  gates_same : gates (with_line i m) ≡ gates m
+  gates_same : gates (module_with_line i m) ≡ gates m
   gates_same = flat_same use_in m.lines i no_use
 
-  pub known_same : known g.circuit (with_line i m) ≡ known g.circuit m
+  pub known_same : known g.circuit (module_with_line i m) ≡ known g.circuit m
   known_same = ap₂ (λ cs gs. local_wires g.circuit.netlist cs gs) cut_wires_same gates_same
 
   local_same : AreLocalLines g.circuit.netlist (cut_wires g.circuit m) (gates m) →
-      AreLocalLines g.circuit.netlist (cut_wires g.circuit (with_line i m)) (gates (with_line i m))
-  local_same l = subst (λ cs. AreLocalLines g.circuit.netlist cs (gates (with_line i m))) (sym cut_wires_same)
+      AreLocalLines g.circuit.netlist (cut_wires g.circuit (module_with_line i m)) (gates (module_with_line i m))
+  local_same l = subst (λ cs. AreLocalLines g.circuit.netlist cs (gates (module_with_line i m))) (sym cut_wires_same)
       (subst (λ gs. AreLocalLines g.circuit.netlist (cut_wires g.circuit m) gs) (sym gates_same) l)
 
   -- and the kept gates, where it keeps nothing
   keeps_same : keep_in i ≡ [] → All (IsKeep g (gates m)) (keeps m) →
-      All (IsKeep g (gates (with_line i m))) (keeps (with_line i m))
-  keeps_same no_keep all = subst (All (IsKeep g (gates (with_line i m)))) (sym (flat_same keep_in m.lines i no_keep))
+      All (IsKeep g (gates (module_with_line i m))) (keeps (module_with_line i m))
+  keeps_same no_keep all = subst (All (IsKeep g (gates (module_with_line i m))))
+      (sym (flat_same keep_in m.lines i no_keep))
       (subst (λ gs. All (IsKeep g gs) (keeps m)) (sym gates_same) all)
 
 -- ---- a kept gate
@@ -423,14 +425,14 @@ keep_good g mine k e =
     let parts = both_none _ _ e in
     record { inverse = not_false _ (no_code _ UnknownName parts.0); among = not_false _ (no_code _ NotLocal parts.1) }
 
-keeps_keep : (m : ModuleLines) (k : ℕ) → keeps (with_line (Keep k) m) ≡ keeps m ++ k ∷ []
+keeps_keep : (m : ModuleLines) (k : ℕ) → keeps (module_with_line (Keep k) m) ≡ keeps m ++ k ∷ []
 keeps_keep m k = flat_push keep_in m.lines (Keep k)
 
 pub keep_pushed : (g : Setting) (m : ModuleLines) → IsWritten g m → (k : ℕ) → may_follow m.lines (Keep k) ≡ true →
-    keep_line_code g.circuit (gates m) k ≡ None → IsWritten g (with_line (Keep k) m)
+    keep_line_code g.circuit (gates m) k ≡ None → IsWritten g (module_with_line (Keep k) m)
 keep_pushed g m written k follows good =
     let is = written.good in
-    let more = with_line (Keep k) m in
+    let more = module_with_line (Keep k) m in
     let here : IsKeep g (gates m) k = keep_good g (gates m) k good in
     let edges_are : edges more ≡ edges m = flat_same edge_in m.lines (Keep k) refl in
     let halos_are : halos more ≡ halos m = flat_same halo_in m.lines (Keep k) refl in
@@ -449,7 +451,7 @@ keep_pushed g m written k follows good =
         keep_lines = subst (λ gs. All (IsKeep g gs) (keeps more)) (sym (gates_same g m (Keep k) refl refl))
             (subst (All (IsKeep g (gates m))) (sym (keeps_keep m k))
             (All-push (IsKeep g (gates m)) (keeps m) k is.keep_lines here));
-        unstarred = subst AreUnstarred (sym edges_are) is.unstarred;
+        unstarred = subst StarsExcludeLaterTimes (sym edges_are) is.unstarred;
         edge_lines = subst (λ l. All (IsEdge g m.area (known g.circuit more)) l) (sym edges_are)
             (subst (λ l. All (IsEdge g m.area l) (edges m)) (sym same) is.edge_lines);
         halo_lines = subst (λ l. All (IsHalo g m.area (known g.circuit more)) l) (sym halos_are)
@@ -463,13 +465,13 @@ keep_pushed g m written k follows good =
 
 module _ (g : Setting) (m : ModuleLines) (is : IsModule g m) (e : BorderLine) where
   pub edge_pushed : may_follow m.lines (Edge e) ≡ true → edge_line_code g m e ≡ None →
-      IsWritten g (with_line (Edge e) m)
+      IsWritten g (module_with_line (Edge e) m)
   edge_pushed follows good =
-      let more = with_line (Edge e) m in
+      let more = module_with_line (Edge e) m in
       let b = good_border g.circuit (border_count m) (known g.circuit m)
-      (is_edge_place g.size m.area (list_any (is_starred e.cell) (edges m)) e) e.signal good in
+      (is_edge_place_and_time g.size m.area (list_any (is_starred_line_at e.cell) (edges m)) e) e.signal good in
       let here : IsEdge g m.area (known g.circuit m) e =
-      edge_good g m.area (known g.circuit m) (border_count m) (list_any (is_starred e.cell) (edges m)) e b in
+      edge_good g m.area (known g.circuit m) (border_count m) (list_any (is_starred_line_at e.cell) (edges m)) e b in
       let halos_are : halos more ≡ [] =
       flat_same halo_in m.lines (Edge e) refl ∙ none_before halo_in (Edge e) (no_halo_before_edge e) m.lines follows in
       let same = known_same g m (Edge e) refl refl in
@@ -488,9 +490,9 @@ module _ (g : Setting) (m : ModuleLines) (is : IsModule g m) (e : BorderLine) wh
           local = local_same g m (Edge e) refl refl is.local;
           order = order_push m.lines (Edge e) is.order follows;
           keep_lines = keeps_same g m (Edge e) refl refl refl is.keep_lines;
-          unstarred = subst AreUnstarred (sym (edges_edge m e))
+          unstarred = subst StarsExcludeLaterTimes (sym (edges_edge m e))
               (unstarred_push (edges m) e is.unstarred
-              (free_of_star g m.area (list_any (is_starred e.cell) (edges m)) e b.place));
+              (free_of_star g m.area (list_any (is_starred_line_at e.cell) (edges m)) e b.place));
           edge_lines = subst (λ l. All (IsEdge g m.area (known g.circuit more)) l) (sym (edges_edge m e))
               (subst (λ l. All (IsEdge g m.area l) (edges m ++ e ∷ [])) (sym same)
               (All-push (IsEdge g m.area (known g.circuit m)) (edges m) e is.edge_lines here));
@@ -502,13 +504,13 @@ module _ (g : Setting) (m : ModuleLines) (is : IsModule g m) (e : BorderLine) wh
       }
 
   pub halo_pushed : may_follow m.lines (Halo e) ≡ true → halo_line_code g m e ≡ None →
-      IsWritten g (with_line (Halo e) m)
+      IsWritten g (module_with_line (Halo e) m)
   halo_pushed follows good =
-      let more = with_line (Halo e) m in
+      let more = module_with_line (Halo e) m in
       let b = good_border g.circuit (border_count m) (known g.circuit m)
-      (is_halo_place g.size m.area (list_any (is_starred e.cell) (halos m)) e) e.signal good in
+      (is_halo_place_and_time g.size m.area (list_any (is_starred_line_at e.cell) (halos m)) e) e.signal good in
       let here : IsHalo g m.area (known g.circuit m) e =
-      halo_good g m.area (known g.circuit m) (border_count m) (list_any (is_starred e.cell) (halos m)) e b in
+      halo_good g m.area (known g.circuit m) (border_count m) (list_any (is_starred_line_at e.cell) (halos m)) e b in
       let edges_are : edges more ≡ edges m = flat_same edge_in m.lines (Halo e) refl in
       let same = known_same g m (Halo e) refl refl in
       let n = ap length (halos_halo m e) ∙ length_push (halos m) e in
@@ -526,7 +528,7 @@ module _ (g : Setting) (m : ModuleLines) (is : IsModule g m) (e : BorderLine) wh
           local = local_same g m (Halo e) refl refl is.local;
           order = order_push m.lines (Halo e) is.order follows;
           keep_lines = keeps_same g m (Halo e) refl refl refl is.keep_lines;
-          unstarred = subst AreUnstarred (sym edges_are) is.unstarred;
+          unstarred = subst StarsExcludeLaterTimes (sym edges_are) is.unstarred;
           edge_lines = subst (λ l. All (IsEdge g m.area (known g.circuit more)) l) (sym edges_are)
               (subst (λ l. All (IsEdge g m.area l) (edges m)) (sym same) is.edge_lines);
           halo_lines = subst (λ l. All (IsHalo g m.area (known g.circuit more)) l) (sym (halos_halo m e))
@@ -540,10 +542,10 @@ module _ (g : Setting) (m : ModuleLines) (is : IsModule g m) (e : BorderLine) wh
 
 module _ (g : Setting) (m : ModuleLines) (is : IsModule g m) (s : StopLine) where
   pub stop_pushed : may_follow m.lines (Stop s) ≡ true → stop_line_code g m s ≡ None →
-      IsWritten g (with_line (Stop s) m)
+      IsWritten g (module_with_line (Stop s) m)
   stop_pushed follows good =
-      let more = with_line (Stop s) m in
-      let b = good_border g.circuit (border_count m) (known g.circuit m) (is_stop_place g.size m.area s)
+      let more = module_with_line (Stop s) m in
+      let b = good_border g.circuit (border_count m) (known g.circuit m) (is_stop_place_and_time g.size m.area s)
       (Some s.wire) good in
       let here : IsStop g m.area (known g.circuit m) s = stop_good g m.area (known g.circuit m) (border_count m) s b in
       let edges_are : edges more ≡ edges m = flat_same edge_in m.lines (Stop s) refl in
@@ -563,7 +565,7 @@ module _ (g : Setting) (m : ModuleLines) (is : IsModule g m) (s : StopLine) wher
           local = local_same g m (Stop s) refl refl is.local;
           order = order_push m.lines (Stop s) is.order follows;
           keep_lines = keeps_same g m (Stop s) refl refl refl is.keep_lines;
-          unstarred = subst AreUnstarred (sym edges_are) is.unstarred;
+          unstarred = subst StarsExcludeLaterTimes (sym edges_are) is.unstarred;
           edge_lines = subst (λ l. All (IsEdge g m.area (known g.circuit more)) l) (sym edges_are)
               (subst (λ l. All (IsEdge g m.area l) (edges m)) (sym same) is.edge_lines);
           halo_lines = subst (λ l. All (IsHalo g m.area (known g.circuit more)) l) (sym halos_are)

@@ -1,9 +1,8 @@
 -- The modules of lines, one after the other.
-use Rattle.std.proofs.Common.{◌≡◌, Bool, true, false, List, [], ◌∷◌, ◌++◌, drop, length, refl, sym, ap, ◌∙◌}
-use Rattle.std.specs.List.{fold}
+use Rattle.std.proofs.Common.{◌≡◌, Bool, true, false, List, [], ◌∷◌, ◌++◌, drop, length, refl, sym, ap, ◌∙◌, fold}
 use Rattle.std.proofs.lemmas.List.{append-nil, append_assoc}
 use Rattle.module_box.specs.declared.boxes.Box2.{Box2}
-use Rattle.certificate_lines.specs.Entries.{ModuleLines, add_line, change_last, with_line, modules_of}
+use Rattle.certificate_lines.specs.Entries.{ModuleLines, add_line, change_last, module_with_line, modules_of}
 use Rattle.certificate_lines.specs.ModuleParts.{inner, is_module}
 use Rattle.certificate_lines.specs.declared.certificate_line.CertificateLine.{CertificateLine}
 use Rattle.certificate_lines.specs.declared.certificate_line.CertificateLine.TheVariants.{Module, Cut, Use, Keep, Edge}
@@ -25,12 +24,12 @@ before_last : (ms : List ModuleLines) (m : ModuleLines) (e : CertificateLine) �
     add_line (ms ++ m ∷ []) e ≡ ms ++ add_line (m ∷ []) e
 unfolding add_line change_last
 before_last ms m (Module b) = append_assoc ms (m ∷ []) (record { area = b; lines = [] } ∷ [])
-before_last ms m (Cut n) = last_changed (with_line (Cut n)) ms m
-before_last ms m (Use k) = last_changed (with_line (Use k)) ms m
-before_last ms m (Keep k) = last_changed (with_line (Keep k)) ms m
-before_last ms m (Edge b) = last_changed (with_line (Edge b)) ms m
-before_last ms m (Halo b) = last_changed (with_line (Halo b)) ms m
-before_last ms m (Stop s) = last_changed (with_line (Stop s)) ms m
+before_last ms m (Cut n) = last_changed (module_with_line (Cut n)) ms m
+before_last ms m (Use k) = last_changed (module_with_line (Use k)) ms m
+before_last ms m (Keep k) = last_changed (module_with_line (Keep k)) ms m
+before_last ms m (Edge b) = last_changed (module_with_line (Edge b)) ms m
+before_last ms m (Halo b) = last_changed (module_with_line (Halo b)) ms m
+before_last ms m (Stop s) = last_changed (module_with_line (Stop s)) ms m
 
 -- further lines leave them too
 abbrev Apart : List CertificateLine → Type 0
@@ -44,12 +43,12 @@ apart_after (Module b) es h ms m =
     h (ms ++ m ∷ []) (record { area = b; lines = [] }) ∙
     append_assoc ms (m ∷ []) (onward (record { area = b; lines = [] } ∷ []) es) ∙
     ap (λ ns. ms ++ ns) (sym (h (m ∷ []) (record { area = b; lines = [] })))
-apart_after (Cut n) es h ms m = h ms (with_line (Cut n) m)
-apart_after (Use k) es h ms m = h ms (with_line (Use k) m)
-apart_after (Keep k) es h ms m = h ms (with_line (Keep k) m)
-apart_after (Edge b) es h ms m = h ms (with_line (Edge b) m)
-apart_after (Halo b) es h ms m = h ms (with_line (Halo b) m)
-apart_after (Stop s) es h ms m = h ms (with_line (Stop s) m)
+apart_after (Cut n) es h ms m = h ms (module_with_line (Cut n) m)
+apart_after (Use k) es h ms m = h ms (module_with_line (Use k) m)
+apart_after (Keep k) es h ms m = h ms (module_with_line (Keep k) m)
+apart_after (Edge b) es h ms m = h ms (module_with_line (Edge b) m)
+apart_after (Halo b) es h ms m = h ms (module_with_line (Halo b) m)
+apart_after (Stop s) es h ms m = h ms (module_with_line (Stop s) m)
 
 pub apart : (es : List CertificateLine) (ms : List ModuleLines) (m : ModuleLines) →
     onward (ms ++ m ∷ []) es ≡ ms ++ onward (m ∷ []) es
@@ -81,9 +80,9 @@ abbrev Extends : List CertificateLine → Type 0
 Extends es = (m : ModuleLines) → onward (m ∷ []) es ≡ extended m (inner es) ∷ modules_of es
 
 extends_more : (m : ModuleLines) (e : CertificateLine) (es : List CertificateLine) → is_module e ≡ false → Extends es →
-    onward (with_line e m ∷ []) es ≡ extended m (inner (e ∷ es)) ∷ modules_of (e ∷ es)
+    onward (module_with_line e m ∷ []) es ≡ extended m (inner (e ∷ es)) ∷ modules_of (e ∷ es)
 extends_more m e es o h =
-    h (with_line e m) ∙
+    h (module_with_line e m) ∙
     ap (λ xs. record m { lines = xs } ∷ modules_of es)
     (append_assoc m.lines (e ∷ []) (inner es) ∙ ap (λ xs. m.lines ++ xs) (sym (inner_other e es o))) ∙
     ap (λ ns. extended m (inner (e ∷ es)) ∷ ns) (sym (other_first e es o))

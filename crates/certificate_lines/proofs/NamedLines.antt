@@ -1,8 +1,6 @@
 -- The name in a good line is that of a wire
-use Rattle.std.proofs.Common.{◌≡◌, None, Some, refl, subst, sym}
-use Rattle.std.specs.Prelude.{IsTrue}
-use Rattle.std.specs.Option.{is_some}
-use Rattle.certificate_lines.specs.BuilderView.{NamesWire}
+use Rattle.std.proofs.Common.{◌≡◌, None, Some, refl, subst, sym, IsTrue, is_some}
+use Rattle.certificate_lines.specs.BuilderView.{NamesLocalOrCutWire}
 use Rattle.certificate_lines.specs.Entries.{Setting, ModuleLines, known}
 use Rattle.certificate_lines.specs.Rules.{content_code}
 use Rattle.certificate_lines.specs.declared.certificate_line.CertificateLine.{CertificateLine}
@@ -12,7 +10,7 @@ use Rattle.certificate_lines.proofs.ModulePushes.{good_border, new_wire, signal_
 
 -- the name in a line whose words are good
 pub named_words : (g : Setting) (m : ModuleLines) (i : CertificateLine) → content_code g m i ≡ None →
-    NamesWire g.circuit (known g.circuit m) i
+    NamesLocalOrCutWire g.circuit (known g.circuit m) i
 named_words g m (Module b) e = tt
 named_words g m (Cut n) e = subst (λ o. IsTrue (is_some o)) (sym (new_wire _ _ _ n e).1.named) refl
 named_words g m (Use k) e = tt

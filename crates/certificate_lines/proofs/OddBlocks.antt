@@ -1,9 +1,7 @@
 -- The modules beside the cell of an edge line, by the cells of its block at odd times
-use Rattle.std.proofs.Common.{◌≡◌, ℕ, zero, suc, ◌+◌, ◌%◌, ◌<◌, ◌≤◌, Bool, true, false, not, ◌&&◌, ◌||◌, eqb}
-use Rattle.std.proofs.Common.{List, [], ◌∷◌, length, map, Option, Some, None, refl, sym, ap, ap₂, ◌∙◌, inl, inr, ◌⊎◌}
-use Rattle.std.proofs.Common.{arith}
-use Rattle.std.proofs.Common.{eq-eqb}
-use Rattle.std.specs.Prelude.{ℤ, pos, negsuc, ◌+ℤ◌, ◌-ℤ◌, ◌≤ℤ◌, slice_get}
+use Rattle.std.proofs.Common.{◌≡◌, ℕ, zero, suc, ◌+◌, ◌%◌, ◌<◌, ◌≤◌, Bool, true, false, not, ◌&&◌, ◌||◌, eqb, List, []}
+use Rattle.std.proofs.Common.{◌∷◌, length, map, Option, Some, None, refl, sym, ap, ap₂, ◌∙◌, inl, inr, ◌⊎◌, arith}
+use Rattle.std.proofs.Common.{eq-eqb, ℤ, pos, negsuc, ◌+ℤ◌, ◌-ℤ◌, ◌≤ℤ◌, slice_get}
 use Rattle.std.specs.List.{list_any}
 use Rattle.std.proofs.lemmas.Bool.{cases_Bool, cond-true, cond-false, ne_eqb, eqb-true, eqb-false, false≢true}
 use Rattle.std.proofs.lemmas.Int.{ints}
@@ -18,8 +16,8 @@ use Rattle.module_box.specs.Tiling.{AreOwners, Owning, owner_of, rectangle, rect
 use Rattle.module_box.specs.declared.boxes.Box2.{Box2}
 use Rattle.module_box.proofs.BoxCells.{in_box_nats}
 use Rattle.module_box.proofs.RingTests.{halo_read}
-use Rattle.certificate_lines.specs.BuilderView.{does_neighbour_lack_wire, is_nonlocal_outside, is_nonlocal_in_neighbour}
-use Rattle.certificate_lines.specs.BuilderView.{lacks_edge_wire}
+use Rattle.certificate_lines.specs.BuilderView.{does_neighbour_lack_wire, is_outside_and_nonlocal}
+use Rattle.certificate_lines.specs.BuilderView.{is_nonlocal_in_neighbour, lacks_edge_wire}
 use Rattle.certificate_lines.specs.Entries.{ModuleLines, areas, known}
 use Rattle.certificate_lines.specs.Rules.{is_local_wire}
 use Rattle.certificate_lines.specs.Versions.{is_nonlocal_signal}
@@ -194,14 +192,16 @@ module _ (ms : List ModuleLines) (o : Owning) (good : AreOwners o (areas ms)) (x
 module _ (c : Circuit) (ms : List ModuleLines) where
   pub lacked_beside : (cell : Cell) (wire : Option ℕ) →
       ((k : ℕ) (m : ModuleLines) → slice_get ms k ≡ Some m → IsEven m.area) →
-      (list_any (λ (m : ModuleLines). in_box m.area (partner 1 cell.x) cell.y && is_nonlocal_outside c cell wire m) ms
-      || list_any (λ (m : ModuleLines). in_box m.area cell.x (partner 1 cell.y) && is_nonlocal_outside c cell wire m) ms
+      (list_any (λ (m : ModuleLines). in_box m.area (partner 1 cell.x) cell.y && is_outside_and_nonlocal c cell wire m)
+      ms
+      || list_any (λ (m : ModuleLines).
+      in_box m.area cell.x (partner 1 cell.y) && is_outside_and_nonlocal c cell wire m) ms
       || list_any (λ (m : ModuleLines). in_box m.area (partner 1 cell.x) (partner 1 cell.y)
-      && is_nonlocal_outside c cell wire m) ms)
+      && is_outside_and_nonlocal c cell wire m) ms)
       ≡ is_nonlocal_in_neighbour c ms cell wire
   lacked_beside cell wire even =
       let x = cell.x in let y = cell.y in
-      let at : ℤ → ℤ → ModuleLines → Bool = λ u v m. in_box m.area u v && is_nonlocal_outside c cell wire m in
+      let at : ℤ → ℤ → ModuleLines → Bool = λ u v m. in_box m.area u v && is_outside_and_nonlocal c cell wire m in
       ap (λ b. b || list_any (at (partner 1 x) (partner 1 y)) ms)
       (sym (any_either (at (partner 1 x) y) (at x (partner 1 y)) ms))
       ∙ sym (any_either (λ m. at (partner 1 x) y m || at x (partner 1 y) m) (at (partner 1 x) (partner 1 y)) ms)

@@ -1,10 +1,9 @@
 -- Lines in order: what comes after the last comes after all.
 use Rattle.std.proofs.Common.{◌≡◌, ◌⊎◌, ℕ, Bool, true, false, ◌&&◌, List, [], ◌∷◌, ◌++◌, Some, None, Less, Equal}
-use Rattle.std.proofs.Common.{Greater, get_or}
-use Rattle.std.proofs.Common.{Ordering, refl, sym, ap, ◌∙◌, inl, inr}
+use Rattle.std.proofs.Common.{Greater, get_or, Ordering, refl, sym, ap, ◌∙◌, inl, inr, is_lt, nat_cmp}
 use Rattle.std.specs.List.{list_all}
 use Rattle.std.specs.Cmp.{IsTotalOrder}
-use Rattle.std.specs.Ordering.{is_lt, nat_cmp, ordering_then}
+use Rattle.std.specs.Ordering.{ordering_then}
 use Rattle.std.proofs.lemmas.Bool.{and_parts}
 use Rattle.std.proofs.lemmas.Cmp.{then_total, on_total, nat_cmp_total}
 use Rattle.std.proofs.Math.Bool.{and-true}
@@ -16,10 +15,10 @@ use Rattle.certificate_lines.specs.declared.certificate_line.CertificateLine.The
 use Rattle.certificate_lines.specs.Entries.{edge_in, halo_in, last_of, stop_in}
 use Rattle.certificate_lines.specs.Orders.{AreInOrder, rank_of, number_of, cell_of, line_cmp, is_cut, may_precede}
 use Rattle.certificate_lines.specs.Orders.{may_follow}
-use Rattle.certificate_lines.specs.Versions.{line_order}
+use Rattle.certificate_lines.specs.Versions.{border_line_cmp}
 use Rattle.certificate_lines.specs.declared.certificate_line.BorderLine.{BorderLine}
 use Rattle.certificate_lines.specs.declared.certificate_line.StopLine.{StopLine}
-use Rattle.certificate_lines.specs.BuilderView.{IsBodyLine, body_line_of, last_body_line}
+use Rattle.certificate_lines.specs.BuilderView.{IsBodyLine, body_line_or_none, last_body_line}
 use Rattle.certificate_lines.proofs.Growing.{last_pushed}
 use Rattle.certificate_lines.proofs.Lists.{or_parts, or_right}
 use Rattle.module_box.specs.declared.boxes.Box2.{Box2}
@@ -68,13 +67,13 @@ unfolding may_precede
 by_cuts i j h k = or_right _ (is_cut i && is_cut j) (rw (h, k) refl)
 
 -- two edge lines are in order by time and cell
-pub edges_precede : (d e : BorderLine) → is_lt (line_order d e) ≡ may_precede (Edge d) (Edge e)
-unfolding may_precede line_cmp line_order rank_of number_of cell_of is_cut
+pub edges_precede : (d e : BorderLine) → is_lt (border_line_cmp d e) ≡ may_precede (Edge d) (Edge e)
+unfolding may_precede line_cmp border_line_cmp rank_of number_of cell_of is_cut
 edges_precede d e = sym (or_none _)
 
 -- so are two halo lines
-pub halos_precede : (d e : BorderLine) → is_lt (line_order d e) ≡ may_precede (Halo d) (Halo e)
-unfolding may_precede line_cmp line_order rank_of number_of cell_of is_cut
+pub halos_precede : (d e : BorderLine) → is_lt (border_line_cmp d e) ≡ may_precede (Halo d) (Halo e)
+unfolding may_precede line_cmp border_line_cmp rank_of number_of cell_of is_cut
 halos_precede d e = sym (or_none _)
 
 -- two equal keys leave the order to the other
@@ -216,7 +215,7 @@ module_first b (Halo e) inner = refl
 module_first b (Stop s) inner = refl
 
 pub follows_inner : (lines : List CertificateLine) (l i : CertificateLine) → IsBodyLine i → AreInOrder lines →
-    last_of lines ≡ body_line_of (Some l) → may_precede l i ≡ may_follow lines i
+    last_of lines ≡ body_line_or_none (Some l) → may_precede l i ≡ may_follow lines i
 follows_inner lines (Module b) i inner order last = module_first b i inner ∙ follows_none lines i last
 follows_inner lines (Cut n) i inner order last = follows_last lines (Cut n) i order last
 follows_inner lines (Use k) i inner order last = follows_last lines (Use k) i order last
@@ -228,9 +227,9 @@ follows_inner lines (Stop s) i inner order last = follows_last lines (Stop s) i 
 -- the last line after one more line
 pub inner_pushed : (entries : List CertificateLine) (i : CertificateLine) → IsBodyLine i →
     last_body_line (entries ++ i ∷ []) ≡ Some i
-inner_pushed entries i inner = ap body_line_of (last_pushed entries i) ∙ inner_is i inner
+inner_pushed entries i inner = ap body_line_or_none (last_pushed entries i) ∙ inner_is i inner
   where
-    inner_is : (i : CertificateLine) → IsBodyLine i → body_line_of (Some i) ≡ Some i
+    inner_is : (i : CertificateLine) → IsBodyLine i → body_line_or_none (Some i) ≡ Some i
     inner_is (Module b) inner = absurd inner
     inner_is (Cut n) inner = refl
     inner_is (Use k) inner = refl
@@ -240,4 +239,4 @@ inner_pushed entries i inner = ap body_line_of (last_pushed entries i) ∙ inner
     inner_is (Stop s) inner = refl
 
 pub module_pushed : (entries : List CertificateLine) (b : Box2) → last_body_line (entries ++ Module b ∷ []) ≡ None
-module_pushed entries b = ap body_line_of (last_pushed entries (Module b))
+module_pushed entries b = ap body_line_or_none (last_pushed entries (Module b))

@@ -1,7 +1,6 @@
 -- Lists in which each element stands as it should to every later one.
-use Rattle.std.proofs.Common.{◌≡◌, ℕ, zero, suc, ◌<◌, List, [], ◌∷◌, ◌++◌, Some, ap, subst, ◌∙◌, arith, map}
-use Rattle.std.specs.Prelude.{slice_get, option_map}
-use Rattle.std.specs.List.{All, flat_map}
+use Rattle.std.proofs.Common.{◌≡◌, ℕ, zero, suc, ◌<◌, List, [], ◌∷◌, ◌++◌, Some, ap, subst, ◌∙◌, arith, map, slice_get}
+use Rattle.std.proofs.Common.{option_map, All, flat_map}
 use Rattle.std.proofs.lemmas.List.Elements.{All-tail}
 use Rattle.std.proofs.lemmas.Option.{slice_get-map}
 use Rattle.std.specs.declared.cmp.Ordering.{Ordering}

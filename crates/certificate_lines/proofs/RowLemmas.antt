@@ -1,9 +1,7 @@
 -- The numbers of the rows with a port, for the contracts of `entry_place` and `number_rows`.
 use Rattle.std.proofs.Common.{◌≡◌, ◌∙◌, ◌⊎◌, ℕ, zero, suc, ◌+◌, ◌-◌, ◌*◌, ◌<◌, ◌≤◌, ℤ, true, List, [], ◌∷◌, length}
-use Rattle.std.proofs.Common.{get_or}
-use Rattle.std.proofs.Common.{set, replicate, Option, Some, None, refl, sym, ap, ap₂, subst, inl, inr, arith}
-use Rattle.std.specs.Prelude.{pos, slice_get}
-use Rattle.std.specs.Option.{option_map}
+use Rattle.std.proofs.Common.{get_or, set, replicate, Option, Some, None, refl, sym, ap, ap₂, subst, inl, inr, arith}
+use Rattle.std.proofs.Common.{pos, slice_get, option_map}
 use Rattle.std.specs.Int.RustNames.{unsigned_abs}
 use Rattle.std.proofs.lemmas.Bool.{and_parts, and_from, cases_lt}
 use Rattle.bbm_rule.proofs.Spans.{span_from, span_parts}
@@ -15,7 +13,7 @@ use Rattle.module_box.specs.Boxes.{in_box}
 use Rattle.module_box.specs.declared.boxes.Box2.{Box2}
 use Rattle.module_box.proofs.BoxCells.{abs_within, in_table}
 use Rattle.module_box.proofs.FromCorner.{abs_from}
-use Rattle.certificate_lines.specs.PortTables.{AreNumberedRows, entry_place, entry_place_in_rows}
+use Rattle.certificate_lines.specs.PortTables.{AreNumberedRows, entry_place, entry_place_by_row_number}
 use Rattle.module_box.specs.Places.{place_in}
 use Rattle.certificate_lines.specs.Rules.{box_cells}
 use Rattle.certificate_lines.proofs.BoxPlaces.{box_place}
@@ -191,8 +189,8 @@ rows_done b ports k rows count all full = record {
 -- ---- the places of the entries
 
 place_few : (width row column count place : ℕ) → column < width → row ≤ count →
-    entry_place_in_rows width row column ≡ Some place → place < count * width
-unfolding entry_place_in_rows
+    entry_place_by_row_number width row column ≡ Some place → place < count * width
+unfolding entry_place_by_row_number
 place_few width zero column count place near few e = absurd cc
 place_few width (suc row) column count place near few e =
     let lt = in_table row count column width (omega (arith, few)) near in
@@ -209,9 +207,10 @@ same_table r s c d w p q e = elim (cases_lt r s) [
 ]
 
 -- two entries at one place are of one column, and their rows have one number
-place_own : (width row other c d place : ℕ) → c < width → d < width → entry_place_in_rows width row c ≡ Some place →
-    entry_place_in_rows width other d ≡ Some place → (n : ℕ) × (row ≡ suc n) × (other ≡ suc n) × (c ≡ d)
-unfolding entry_place_in_rows
+place_own : (width row other c d place : ℕ) → c < width → d < width →
+    entry_place_by_row_number width row c ≡ Some place →
+    entry_place_by_row_number width other d ≡ Some place → (n : ℕ) × (row ≡ suc n) × (other ≡ suc n) × (c ≡ d)
+unfolding entry_place_by_row_number
 place_own width zero other c d place p q e f = absurd cc
 place_own width (suc row) zero c d place p q e f = absurd cc
 place_own width (suc row) (suc other) c d place p q e f =
@@ -221,28 +220,28 @@ place_own width (suc row) (suc other) c d place p q e f =
     let starts : row * width ≡ other * width = ap (λ (r : ℕ). r * width) rows in
     (row, refl, ap suc (sym rows), omega (arith, first, second, starts))
 
-pub none_after : (width row column : ℕ) → row ≡ 0 → None ≡ entry_place_in_rows width row column
-unfolding entry_place_in_rows
+pub none_after : (width row column : ℕ) → row ≡ 0 → None ≡ entry_place_by_row_number width row column
+unfolding entry_place_by_row_number
 none_after width zero column e = refl
 none_after width (suc row) column e = absurd (omega (arith, e))
 
 pub some_after : (width row column : ℕ) → (row ≡ 0 → ⊥) →
-    Some ((row - 1) * width + column) ≡ entry_place_in_rows width row column
-unfolding entry_place_in_rows
+    Some ((row - 1) * width + column) ≡ entry_place_by_row_number width row column
+unfolding entry_place_by_row_number
 some_after width zero column e = absurd (e refl)
 some_after width (suc row) column e =
     let one : suc row - 1 ≡ row = omega arith in
     ap (λ (r : ℕ). Some (r * width + column)) one
 
-some_place : (width row column : ℕ) → 0 < row → entry_place_in_rows width row column ≡ None → ⊥
-unfolding entry_place_in_rows
+some_place : (width row column : ℕ) → 0 < row → entry_place_by_row_number width row column ≡ None → ⊥
+unfolding entry_place_by_row_number
 some_place width zero column lt e = omega (arith, lt)
 some_place width (suc row) column lt e = cc e
 
 -- the place some cells further on
-further : (width row column k : ℕ) (o : Option ℕ) → entry_place_in_rows width row column ≡ o →
-    entry_place_in_rows width row (column + k) ≡ option_map (λ (p : ℕ). p + k) o
-unfolding entry_place_in_rows
+further : (width row column k : ℕ) (o : Option ℕ) → entry_place_by_row_number width row column ≡ o →
+    entry_place_by_row_number width row (column + k) ≡ option_map (λ (p : ℕ). p + k) o
+unfolding entry_place_by_row_number
 further width zero column k o e = sym (ap (option_map (λ (p : ℕ). p + k)) (sym e))
 further width (suc row) column k o e =
     let sum : row * width + (column + k) ≡ row * width + column + k = omega arith in
@@ -290,5 +289,5 @@ pub row_entry : (b : Box2) (rows : List ℕ) (x y k : ℕ) (o : Option ℕ) → 
 row_entry b rows x y k o inside e =
     let low = (abs_from b (pos x) (pos y) inside).0 in
     let column : x + k - b.x ≡ x - b.x + k = omega (arith, low) in
-    ap (λ (c : ℕ). entry_place_in_rows b.w (get_or rows (y - b.y) 0) c) column
+    ap (λ (c : ℕ). entry_place_by_row_number b.w (get_or rows (y - b.y) 0) c) column
     ∙ further b.w (get_or rows (y - b.y) 0) (x - b.x) k o e

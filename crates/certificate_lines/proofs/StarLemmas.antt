@@ -1,11 +1,10 @@
 -- The cells of lines with a star.
 use Rattle.std.proofs.Common.{◌≡◌, Bool, true, false, ◌&&◌, ◌||◌, if◌then◌else◌, List, [], ◌∷◌, ◌++◌, Option, Some}
-use Rattle.std.proofs.Common.{None, length, refl, sym, ap, ◌∙◌, is_some}
-use Rattle.std.specs.Prelude.{ℕ}
+use Rattle.std.proofs.Common.{None, length, refl, sym, ap, ◌∙◌, is_some, ℕ}
 use Rattle.std.specs.List.{list_any}
 use Rattle.std.proofs.lemmas.List.Folds.{list_any-append}
 use Rattle.bbm_rule.specs.declared.block.Cell.{Cell}
-use Rattle.certificate_lines.specs.Rules.{same_cell, is_star, is_starred}
+use Rattle.certificate_lines.specs.Rules.{same_cell, is_star, is_starred_line_at}
 use Rattle.certificate_lines.specs.declared.certificate_line.BorderLine.{BorderLine}
 use Rattle.bbm_rule.proofs.SameCells.{cell_same}
 
@@ -41,13 +40,13 @@ inserted_by false keys c d h =
 
 pub star_noted : (keys new : List Cell) (e : BorderLine) → is_some e.time ≡ false →
     new ≡ (if list_any (same_cell e.cell) keys then keys else keys ++ e.cell ∷ []) → (c : Cell) →
-    list_any (same_cell c) new ≡ (list_any (same_cell c) keys || is_starred c e)
+    list_any (same_cell c) new ≡ (list_any (same_cell c) keys || is_starred_line_at c e)
 star_noted keys new e none is c =
     ap (list_any (same_cell c)) is ∙ inserted_by _ keys c e.cell refl
     ∙ ap (λ (b : Bool). list_any (same_cell c) keys || b) (starred e.time (same_cell c e.cell) none)
 
 pub no_star : (keys : List Cell) (e : BorderLine) → is_some e.time ≡ true → (c : Cell) →
-    list_any (same_cell c) keys ≡ (list_any (same_cell c) keys || is_starred c e)
+    list_any (same_cell c) keys ≡ (list_any (same_cell c) keys || is_starred_line_at c e)
 no_star keys e some c = sym (ap (λ (b : Bool). list_any (same_cell c) keys || b)
     (timed e.time (same_cell c e.cell) some) ∙ or_none _)
 

@@ -1,11 +1,9 @@
 -- The tables of ports, and the ports in a box.
-use Rattle.std.proofs.Common.{◌≡◌, ℕ, zero, suc, ◌+◌, ◌*◌, ◌<◌, ◌≤◌, ℤ, Bool, true, false, ◌&&◌, ◌||◌}
-use Rattle.std.proofs.Common.{if◌then◌else◌}
+use Rattle.std.proofs.Common.{◌≡◌, ℕ, zero, suc, ◌+◌, ◌*◌, ◌<◌, ◌≤◌, ℤ, Bool, true, false, ◌&&◌, ◌||◌, if◌then◌else◌}
 use Rattle.std.proofs.Common.{List, [], ◌∷◌, ◌++◌, ◌-◌, nat_eq, set, take, to_z, w32, drop, length, length-take-le}
-use Rattle.std.proofs.Common.{get_or, replicate, Option}
-use Rattle.std.proofs.Common.{Some, None, refl, sym, ap, ap₂, subst, ◌∙◌, arith}
-use Rattle.std.specs.Prelude.{slice_get}
-use Rattle.std.specs.List.{flat_map, list_all, list_any, range_with_len}
+use Rattle.std.proofs.Common.{get_or, replicate, Option, Some, None, refl, sym, ap, ap₂, subst, ◌∙◌, arith, slice_get}
+use Rattle.std.proofs.Common.{flat_map}
+use Rattle.std.specs.List.{list_all, list_any, range_with_len}
 use Rattle.std.specs.Option.{option_map_or}
 use Rattle.std.proofs.Math.Nat.{mul-le-mul_right}
 use Rattle.std.proofs.Math.Seq.{take-suc}
@@ -17,15 +15,14 @@ use Rattle.std.proofs.lemmas.Option.{slice_get-get_or, slice_get_within}
 use Rattle.std.proofs.Math.Bool.{or-false}
 use Rattle.bbm_rule.specs.Plane.{is_at}
 use Rattle.bbm_rule.specs.declared.block.Cell.{Cell}
-use Rattle.pattern.specs.Layout.{HaveOwnCells, cell, row_cells}
+use Rattle.pattern.specs.Layout.{HaveDistinctCells, cell, row_cells}
 use Rattle.pattern.proofs.CellLists.{cast_cell, none_in_row, row_more, rows_found}
 use Rattle.pattern.specs.declared.layout_line.LayoutHeader.{LayoutHeader}
 use Rattle.pattern.specs.declared.layout_line.Port.{Port}
 use Rattle.module_box.specs.Boxes.{in_box}
 use Rattle.module_box.specs.declared.boxes.Box2.{Box2}
 use Rattle.certificate_lines.specs.PortTables.{port_at, AreInBox, AreNumberedRows, AreOnBoard, entry_or_zero}
-use Rattle.certificate_lines.specs.PortTables.{entry_place}
-use Rattle.certificate_lines.specs.PortTables.{number_at, next_port_number}
+use Rattle.certificate_lines.specs.PortTables.{entry_place, number_at, number_with_port_in_front}
 use Rattle.certificate_lines.specs.Rules.{box_cells, whole}
 use Rattle.certificate_lines.proofs.RowLemmas.{all_zero, entry_few, entry_own, filled, filled_less, filled_more}
 use Rattle.certificate_lines.proofs.RowLemmas.{filled_none}
@@ -36,7 +33,7 @@ use Rattle.certificate_lines.proofs.PortLemmas.{cell_passed, has_cell, in_box_ce
 
 -- ---- the ports in a box
 
-port_from_words : (ports : List Port) → HaveOwnCells ports → (i : ℕ) (p : Port) → slice_get ports i ≡ Some p →
+port_from_words : (ports : List Port) → HaveDistinctCells ports → (i : ℕ) (p : Port) → slice_get ports i ≡ Some p →
     (o : Option (List ℕ)) → port_at ports p.cell.x p.cell.y ≡ o → o ≡ Some p.name
 port_from_words ports apart i p at None e = absurd (none_stands ports p.cell.x p.cell.y e i p at (cell_itself p.cell))
 port_from_words ports apart i p at (Some name) e =
@@ -46,7 +43,7 @@ port_from_words ports apart i p at (Some name) e =
     ap (λ (n : List ℕ). Some n) (sym s.named ∙ ap (λ (q : Port). q.name) here)
 
 -- where no two ports stand at one cell, each is the port at its cell
-pub port_there : (ports : List Port) → HaveOwnCells ports → (i : ℕ) (p : Port) → slice_get ports i ≡ Some p →
+pub port_there : (ports : List Port) → HaveDistinctCells ports → (i : ℕ) (p : Port) → slice_get ports i ≡ Some p →
     port_at ports p.cell.x p.cell.y ≡ Some p.name
 port_there ports apart i p at = port_from_words ports apart i p at _ refl
 
@@ -56,7 +53,7 @@ passed_name : (f : List ℕ → Bool) (o : Option (List ℕ)) → option_map_or 
 passed_name f None h = absurd cc
 passed_name f (Some name) h = (name, refl, h)
 
-module _ (ports : List Port) (apart : HaveOwnCells ports) (b : Box2) (f : List ℕ → Bool) where
+module _ (ports : List Port) (apart : HaveDistinctCells ports) (b : Box2) (f : List ℕ → Bool) where
   abbrev by_cell : Cell → Bool
   by_cell c = option_map_or f (port_at ports c.x c.y) false
 
@@ -118,7 +115,8 @@ rows_named test old mid new x w y k from was now =
     ∙ ap (λ b. old || b) (rows_found test x w y k _ _ from refl refl)
 
 -- the ports of both kinds
-pub ports_pushed : (p q : List Port) → HaveOwnCells p → HaveOwnCells q → (b : Box2) (old mid new : List (List ℕ))
+pub ports_pushed : (p q : List Port) → HaveDistinctCells p → HaveDistinctCells q →
+    (b : Box2) (old mid new : List (List ℕ))
     (f : List ℕ → Bool)
     → list_any f mid ≡ (list_any f old || list_any (λ c. option_map_or f (port_at p c.x c.y) false) (box_cells b))
     → list_any f new ≡ (list_any f mid || list_any (λ c. option_map_or f (port_at q c.x c.y) false) (box_cells b))
@@ -132,7 +130,7 @@ ports_pushed p q apart apart' b old mid new f first second =
 
 -- ---- the number of the port at a cell
 
-no_number : (b : Bool) (n : ℕ) → (if b then 1 else next_port_number n) ≡ 0 → (b ≡ false) × (n ≡ 0)
+no_number : (b : Bool) (n : ℕ) → (if b then 1 else number_with_port_in_front n) ≡ 0 → (b ≡ false) × (n ≡ 0)
 no_number true n e = absurd cc
 no_number false zero e = (refl, refl)
 no_number false (suc n) e = absurd cc
@@ -152,7 +150,7 @@ pub record IsNumbered (ports : List Port) (k : ℕ) (x y : ℤ) : Type 0 where
 
 numbered_by : (b : Bool) (n k : ℕ) (p : Port) (ports : List Port) (x y : ℤ) → is_at p.cell x y ≡ b →
     ((j : ℕ) → n ≡ suc j → IsNumbered ports j x y)
-    → (if b then 1 else next_port_number n) ≡ suc k → IsNumbered (p ∷ ports) k x y
+    → (if b then 1 else number_with_port_in_front n) ≡ suc k → IsNumbered (p ∷ ports) k x y
 unfolding port_at
 numbered_by true n zero p ports x y here more e = record { within = omega arith; named = λ d. rw here refl }
 numbered_by true n (suc k) p ports x y here more e = absurd (omega arith)
@@ -281,7 +279,7 @@ pub in_whole : (s : LayoutHeader) (b : Box2) → b ≡ whole s → (ports : List
 unfolding in_box
 in_whole s b is ports on_board i p at = ap (λ (a : Box2). in_box a p.cell.x p.cell.y) is ∙ on_board i p at
 
-module _ (b : Box2) (ports : List Port) (apart : HaveOwnCells ports) (inside : AreInBox b ports) (rows : List ℕ)
+module _ (b : Box2) (ports : List Port) (apart : HaveDistinctCells ports) (inside : AreInBox b ports) (rows : List ℕ)
     (count : ℕ) (are : AreNumberedRows b ports rows count) (k : ℕ) (p : Port) (at : slice_get ports k ≡ Some p)
     (place : ℕ) (there : entry_place b rows p.cell.x p.cell.y ≡ Some place) (numbers : List ℕ)
     (so_far : IsFilling b ports rows count k numbers) where

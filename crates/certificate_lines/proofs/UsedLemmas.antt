@@ -4,8 +4,8 @@ use Rattle.std.proofs.Common.{take, get_or, Some, refl, sym, ap, subst, ◌∙�
 use Rattle.std.proofs.lemmas.List.{take_all, take_more}
 use Rattle.std.proofs.lemmas.List.Folds.{list_any-append}
 use Rattle.module_box.specs.Locals.{is_among}
-use Rattle.certificate_lines.specs.Entries.{ModuleLines, with_line, add_line, last_of, modules_of, last_module, gates}
-use Rattle.certificate_lines.specs.Entries.{use_in}
+use Rattle.certificate_lines.specs.Entries.{ModuleLines, module_with_line, add_line, last_of, modules_of, last_module}
+use Rattle.certificate_lines.specs.Entries.{gates, use_in}
 use Rattle.certificate_lines.specs.ModuleParts.{is_module}
 use Rattle.certificate_lines.specs.declared.certificate_line.CertificateLine.{CertificateLine}
 use Rattle.certificate_lines.specs.declared.certificate_line.CertificateLine.TheVariants.{Module, Cut, Use, Keep, Edge}
@@ -25,27 +25,27 @@ none_told k b m e = absurd cc
 -- a line that begins no module
 other_line : (es : List CertificateLine) (i : CertificateLine) → is_module i ≡ false → (m : ModuleLines) →
     last_module (es ++ i ∷ []) ≡ Some m →
-    (l : ModuleLines) × (last_module es ≡ Some l) × (m ≡ with_line i l)
+    (l : ModuleLines) × (last_module es ≡ Some l) × (m ≡ module_with_line i l)
 unfolding add_line
 other_line es (Module b) other m e = absurd cc
 other_line es (Cut n) other m e =
-    mapped_some (with_line (Cut n)) (last_module es) m
-    (sym (ap last_of (modules_push es (Cut n)) ∙ last_changed (with_line (Cut n)) (modules_of es)) ∙ e)
+    mapped_some (module_with_line (Cut n)) (last_module es) m
+    (sym (ap last_of (modules_push es (Cut n)) ∙ last_changed (module_with_line (Cut n)) (modules_of es)) ∙ e)
 other_line es (Use n) other m e =
-    mapped_some (with_line (Use n)) (last_module es) m
-    (sym (ap last_of (modules_push es (Use n)) ∙ last_changed (with_line (Use n)) (modules_of es)) ∙ e)
+    mapped_some (module_with_line (Use n)) (last_module es) m
+    (sym (ap last_of (modules_push es (Use n)) ∙ last_changed (module_with_line (Use n)) (modules_of es)) ∙ e)
 other_line es (Keep n) other m e =
-    mapped_some (with_line (Keep n)) (last_module es) m
-    (sym (ap last_of (modules_push es (Keep n)) ∙ last_changed (with_line (Keep n)) (modules_of es)) ∙ e)
+    mapped_some (module_with_line (Keep n)) (last_module es) m
+    (sym (ap last_of (modules_push es (Keep n)) ∙ last_changed (module_with_line (Keep n)) (modules_of es)) ∙ e)
 other_line es (Edge n) other m e =
-    mapped_some (with_line (Edge n)) (last_module es) m
-    (sym (ap last_of (modules_push es (Edge n)) ∙ last_changed (with_line (Edge n)) (modules_of es)) ∙ e)
+    mapped_some (module_with_line (Edge n)) (last_module es) m
+    (sym (ap last_of (modules_push es (Edge n)) ∙ last_changed (module_with_line (Edge n)) (modules_of es)) ∙ e)
 other_line es (Halo n) other m e =
-    mapped_some (with_line (Halo n)) (last_module es) m
-    (sym (ap last_of (modules_push es (Halo n)) ∙ last_changed (with_line (Halo n)) (modules_of es)) ∙ e)
+    mapped_some (module_with_line (Halo n)) (last_module es) m
+    (sym (ap last_of (modules_push es (Halo n)) ∙ last_changed (module_with_line (Halo n)) (modules_of es)) ∙ e)
 other_line es (Stop n) other m e =
-    mapped_some (with_line (Stop n)) (last_module es) m
-    (sym (ap last_of (modules_push es (Stop n)) ∙ last_changed (with_line (Stop n)) (modules_of es)) ∙ e)
+    mapped_some (module_with_line (Stop n)) (last_module es) m
+    (sym (ap last_of (modules_push es (Stop n)) ∙ last_changed (module_with_line (Stop n)) (modules_of es)) ∙ e)
 
 or_true : (a : Bool) → true ≡ (a || true)
 or_true true = refl
@@ -57,7 +57,7 @@ or_none false = refl
 
 -- the gates with one more line
 one_line : (m : ModuleLines) (i : CertificateLine) (k : ℕ) →
-    is_among (gates (with_line i m)) k ≡ (is_among (gates m) k || is_among (use_in i) k)
+    is_among (gates (module_with_line i m)) k ≡ (is_among (gates m) k || is_among (use_in i) k)
 one_line m i k = ap (λ gs. is_among gs k) (flat_push use_in m.lines i)
     ∙ list_any-append (λ v. v == k) (gates m) (use_in i)
 

@@ -1,6 +1,5 @@
 -- The wires that a gate defines are wires of the netlist
-use Rattle.std.proofs.Common.{◌≡◌, ℕ, zero, suc, ◌+◌, ◌<◌, ◌≤◌, List, [], ◌∷◌, Some, slice_get, sym, subst}
-use Rattle.std.specs.List.{All}
+use Rattle.std.proofs.Common.{◌≡◌, ℕ, zero, suc, ◌+◌, ◌<◌, ◌≤◌, List, [], ◌∷◌, Some, slice_get, sym, subst, All}
 use Rattle.std.proofs.lemmas.Option.{same_Some}
 use Rattle.circuit.specs.Gates.{defines}
 use Rattle.circuit.specs.Meaning.{Gate, AreOrdered, wires_after}

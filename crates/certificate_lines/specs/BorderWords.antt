@@ -7,36 +7,36 @@ use Rattle.certificate_lines.specs.declared.certificate_line.BorderLine.{BorderL
 use Rattle.certificate_lines.specs.declared.certificate_line.StopLine.{StopLine}
 
 -- the time that a word is, with `*` for every odd time
-unfoldable pub time_from_word : List ℕ → Option (Option ℕ)
-time_from_word w = if bytes_eq w (codes "*") then Some None else (number_of w >>= λ t. Some (Some t))
+unfoldable pub star_or_time_from_word : List ℕ → Option (Option ℕ)
+star_or_time_from_word w = if bytes_eq w (codes "*") then Some None else (number_of w >>= λ t. Some (Some t))
 
 -- the signal that a word is: `1`, or a name
-unfoldable pub signal_from_word : List ℕ → Option (Option (List ℕ))
-signal_from_word w = if bytes_eq w (codes "1") then Some None else (name_of w >>= λ n. Some (Some n))
+unfoldable pub one_or_name_from_word : List ℕ → Option (Option (List ℕ))
+one_or_name_from_word w = if bytes_eq w (codes "1") then Some None else (name_of w >>= λ n. Some (Some n))
 
 -- the time that the first of several words is, and the words behind it
-unfoldable pub leading_time : List (List ℕ) → Option (Option ℕ × List (List ℕ))
-leading_time [] = None
-leading_time (word ∷ []) = None
-leading_time (word ∷ next ∷ others) = time_from_word word >>= λ t. Some (t, next ∷ others)
+unfoldable pub leading_star_or_time : List (List ℕ) → Option (Option ℕ × List (List ℕ))
+leading_star_or_time [] = None
+leading_star_or_time (word ∷ []) = None
+leading_star_or_time (word ∷ next ∷ others) = star_or_time_from_word word >>= λ t. Some (t, next ∷ others)
 
 -- the signal of a line of one word
-unfoldable pub lone_signal : List (List ℕ) → Option (Option (List ℕ))
-lone_signal [] = None
-lone_signal (word ∷ []) = signal_from_word word
-lone_signal (word ∷ next ∷ others) = None
+unfoldable pub one_or_name_of_one_word : List (List ℕ) → Option (Option (List ℕ))
+one_or_name_of_one_word [] = None
+one_or_name_of_one_word (word ∷ []) = one_or_name_from_word word
+one_or_name_of_one_word (word ∷ next ∷ others) = None
 
 -- the edge or halo line of four words
 unfoldable pub border_from_words : List ℕ → List ℕ → List ℕ → List ℕ → Option BorderLine
 border_from_words time column row signal = do
-  t ← time_from_word time
+  t ← star_or_time_from_word time
   c ← cell_from_words column row
-  s ← signal_from_word signal
+  s ← one_or_name_from_word signal
   Some (record { time = t; cell = c; signal = s })
 
 -- the stop of four words
-unfoldable pub stop_from_words : List ℕ → List ℕ → List ℕ → List ℕ → Option StopLine
-stop_from_words time wire column row = do
+unfoldable pub stop_from_time_wire_cell : List ℕ → List ℕ → List ℕ → List ℕ → Option StopLine
+stop_from_time_wire_cell time wire column row = do
   t ← number_of time
   n ← name_of wire
   c ← cell_from_words column row

@@ -14,7 +14,8 @@ use Rattle.module_box.specs.Tiling.{AreOwners, Owning}
 use Rattle.module_box.specs.declared.boxes.Box2.{Box2}
 use Rattle.certificate_lines.specs.Entries.{Setting, ModuleLines, modules_of, last_of, areas, counts_of, known, edges}
 use Rattle.certificate_lines.specs.Entries.{halos}
-use Rattle.certificate_lines.specs.Rules.{in_boxes, is_local, is_local_wire, is_star, is_starred, same_cell, lacks_port}
+use Rattle.certificate_lines.specs.Rules.{in_boxes, is_local, is_local_wire, is_star, is_starred_line_at, same_cell}
+use Rattle.certificate_lines.specs.Rules.{has_nonlocal_port}
 use Rattle.certificate_lines.specs.Modules.{IsWithinLineLimit, IsModule}
 use Rattle.certificate_lines.specs.Versions.{is_nonlocal_signal}
 use Rattle.certificate_lines.specs.declared.certificate_line.BorderLine.{BorderLine}
@@ -42,8 +43,8 @@ pub record IsLastModule (g : Setting) (m : ModuleLines) (last : Option Certifica
       list_any f names ≡ list_any (λ p. in_box m.area p.cell.x p.cell.y && f p.name) g.ports
   pub wires : local ≡ known g.circuit m
   -- the same cells, whatever their order
-  pub stars : (c : Cell) → list_any (same_cell c) e ≡ list_any (is_starred c) (edges m)
-  pub halo_stars : (c : Cell) → list_any (same_cell c) h ≡ list_any (is_starred c) (halos m)
+  pub stars : (c : Cell) → list_any (same_cell c) e ≡ list_any (is_starred_line_at c) (edges m)
+  pub halo_stars : (c : Cell) → list_any (same_cell c) h ≡ list_any (is_starred_line_at c) (halos m)
 
 -- no cell lies in two of the boxes
 pub record AreApart (boxes : List Box2) : Type 0 where
@@ -61,7 +62,7 @@ pub record AreSound (g : Setting) (ms : List ModuleLines) : Type 0 where
   pub each : (k : ℕ) (m : ModuleLines) → slice_get ms k ≡ Some m → IsWritten g m
   pub apart : AreApart (areas ms)
   -- the ports' wires are local in all modules but the last
-  pub ported : (i : ℕ) (m : ModuleLines) → i + 1 < length ms → slice_get ms i ≡ Some m → lacks_port g m ≡ false
+  pub ported : (i : ℕ) (m : ModuleLines) → i + 1 < length ms → slice_get ms i ≡ Some m → has_nonlocal_port g m ≡ false
 
 -- the modules so far, and what is kept of all of them
 pub record AreBuilt (g : Setting) (ms : List ModuleLines) (covered : Board) (counts : List Counts) : Type 0 where
@@ -85,8 +86,8 @@ lacks_edge_wire c es m = list_any (λ e. is_nonlocal_signal c (known c m) e.sign
     (filter (λ e. in_halo m.area e.cell.x e.cell.y) es)
 
 -- the cell is outside the module, and there is no such wire or it is not local there
-abbrev pub is_nonlocal_outside : Circuit → Cell → Option ℕ → ModuleLines → Bool
-is_nonlocal_outside c cell wire m = not (in_box m.area cell.x cell.y) && not (is_local_wire (known c m) wire)
+abbrev pub is_outside_and_nonlocal : Circuit → Cell → Option ℕ → ModuleLines → Bool
+is_outside_and_nonlocal c cell wire m = not (in_box m.area cell.x cell.y) && not (is_local_wire (known c m) wire)
 
 -- some module has the cell in its halo, and there is no such wire or it is not local there
 abbrev pub is_nonlocal_in_neighbour : Circuit → List ModuleLines → Cell → Option ℕ → Bool
@@ -107,8 +108,8 @@ pub record AreModuleOwners (b : BuilderView) (o : Owning) : Type 0 where
   pub even : (k : ℕ) (m : ModuleLines) → slice_get (modules_of b.entries) k ≡ Some m → IsEven m.area
 
 -- The local wires of each module, behind none: `earlier` has those of all modules but the last, and `local` has its.
-abbrev pub AreWires : Circuit → List ModuleLines → List (List ℕ) → List ℕ → Type 0
-AreWires c ms earlier local = earlier ++ local ∷ [] ≡ [] ∷ map (known c) ms
+abbrev pub AreLocalWiresOfModules : Circuit → List ModuleLines → List (List ℕ) → List ℕ → Type 0
+AreLocalWiresOfModules c ms earlier local = earlier ++ local ∷ [] ≡ [] ∷ map (known c) ms
 
 -- each name in a slot is that of a wire of the circuit whose number is in `local`
 abbrev pub AreLocalNames : Circuit → List ℕ → List (Option LocalName) → Type 0
@@ -120,27 +121,27 @@ pub record IsTrackedWith (g : Setting) (es : List CertificateLine) (covered : Bo
     (names : List (List ℕ)) (earlier : List (List ℕ)) (local : List ℕ) (e h : List Cell)
     (slots : List (Option LocalName)) : Type 0 where
   pub kept : IsTracked g es covered counts last names local e h
-  pub wires : AreWires g.circuit (modules_of es) earlier local
+  pub wires : AreLocalWiresOfModules g.circuit (modules_of es) earlier local
   pub local_names : AreLocalNames g.circuit local slots
 
 -- the line, if it is no `module` line
-abbrev pub body_line_of : Option CertificateLine → Option CertificateLine
-body_line_of None = None
-body_line_of (Some (Module b)) = None
-body_line_of (Some (Cut n)) = Some (Cut n)
-body_line_of (Some (Use k)) = Some (Use k)
-body_line_of (Some (Keep k)) = Some (Keep k)
-body_line_of (Some (Edge e)) = Some (Edge e)
-body_line_of (Some (Halo e)) = Some (Halo e)
-body_line_of (Some (Stop s)) = Some (Stop s)
+abbrev pub body_line_or_none : Option CertificateLine → Option CertificateLine
+body_line_or_none None = None
+body_line_or_none (Some (Module b)) = None
+body_line_or_none (Some (Cut n)) = Some (Cut n)
+body_line_or_none (Some (Use k)) = Some (Use k)
+body_line_or_none (Some (Keep k)) = Some (Keep k)
+body_line_or_none (Some (Edge e)) = Some (Edge e)
+body_line_or_none (Some (Halo e)) = Some (Halo e)
+body_line_or_none (Some (Stop s)) = Some (Stop s)
 
 -- the last line of the last module, if it has one, by all lines
 abbrev pub last_body_line : List CertificateLine → Option CertificateLine
-last_body_line entries = body_line_of (last_of entries)
+last_body_line entries = body_line_or_none (last_of entries)
 
 -- the fields of every builder: its tables are those of its lines
-abbrev pub IsBuilder : Inside → Type 0
-IsBuilder a = IsTrackedWith a.tables a.entries.items a.covered a.modules.items (last_body_line a.entries.items)
+abbrev pub AreBuilderFields : Inside → Type 0
+AreBuilderFields a = IsTrackedWith a.tables a.entries.items a.covered a.modules.items (last_body_line a.entries.items)
     a.names.items
     (map (λ s. s.wires) a.earlier.items) a.known.wires a.edges.keys a.halos.keys a.local_names.slots
 
@@ -167,12 +168,12 @@ abbrev pub starred : List BorderLine → List BorderLine
 starred lines = filter (λ e. is_star e.time) lines
 
 -- the wire that a line names is one of the circuit, and local unless the line cuts it
-abbrev pub NamesWire : Circuit → List ℕ → CertificateLine → Type 0
-NamesWire c local (Cut n) = IsTrue (is_some (wire_of c n))
-NamesWire c local (Edge e) = IfSome e.signal (λ n. IsTrue (is_local c local n))
-NamesWire c local (Halo e) = IfSome e.signal (λ n. IsTrue (is_local c local n))
-NamesWire c local (Stop s) = IsTrue (is_local c local s.wire)
-NamesWire c local _ = Unit {0}
+abbrev pub NamesLocalOrCutWire : Circuit → List ℕ → CertificateLine → Type 0
+NamesLocalOrCutWire c local (Cut n) = IsTrue (is_some (wire_of c n))
+NamesLocalOrCutWire c local (Edge e) = IfSome e.signal (λ n. IsTrue (is_local c local n))
+NamesLocalOrCutWire c local (Halo e) = IfSome e.signal (λ n. IsTrue (is_local c local n))
+NamesLocalOrCutWire c local (Stop s) = IsTrue (is_local c local s.wire)
+NamesLocalOrCutWire c local _ = Unit {0}
 
 -- what was looked up is the wire that a cut line names, if the line is one
 abbrev pub IsCutWire : Circuit → CertificateLine → Option CutWire → Type 0
@@ -195,12 +196,12 @@ IsEdgeHaloOrStopLine _ = ⊥
 -- ---- what a line of a module makes local
 
 -- the wires that a gate defines, if there is a gate
-abbrev pub outs_at : Option Gate → List ℕ
-outs_at None = []
-outs_at (Some gate) = gate.outs
+abbrev pub optional_gate_outs : Option Gate → List ℕ
+optional_gate_outs None = []
+optional_gate_outs (Some gate) = gate.outs
 
 -- the wire that is cut, or what the gate that is used defines
 abbrev pub wires_made_local : Circuit → CertificateLine → List ℕ
 wires_made_local c (Cut n) = option_to_list (wire_of c n)
-wires_made_local c (Use k) = outs_at (slice_get c.netlist.gates k)
+wires_made_local c (Use k) = optional_gate_outs (slice_get c.netlist.gates k)
 wires_made_local c _ = []

@@ -3,7 +3,7 @@ use Rattle.std.specs.Prelude.{ℕ, List, length, codes, Option, Some, None, ◌=
 use Rattle.section_text.specs.Words.{number_at, name_at, is_word_at, lone, lone_number, lone_name, ◌>>=◌}
 use Rattle.section_text.specs.declared.section.Form.{Form}
 use Rattle.section_text.specs.declared.section.Form.TheVariants.{Header, Item, End}
-use Rattle.pattern.specs.Forms.{cell_from}
+use Rattle.pattern.specs.Forms.{cell_of_words_from}
 use Rattle.module_box.specs.declared.boxes.Box2.{Box2}
 use Rattle.certificate_lines.specs.declared.certificate_line.CertificateLine.{CertificateLine}
 use Rattle.certificate_lines.specs.declared.certificate_line.CertificateLine.TheVariants.{Module, Cut, Use, Keep, Edge}
@@ -29,36 +29,36 @@ unfoldable pub area_of : List (List ℕ) → Option Box2
 area_of ws = if length ws == 5 then corner_and_sides ws else None
 
 -- `*`, or a time
-unfoldable pub time_at : List (List ℕ) → ℕ → Option (Option ℕ)
-time_at ws i = if is_word_at ws i (codes "*") then Some None else (number_at ws i >>= λ t. Some (Some t))
+unfoldable pub star_or_time_at_word : List (List ℕ) → ℕ → Option (Option ℕ)
+star_or_time_at_word ws i = if is_word_at ws i (codes "*") then Some None else (number_at ws i >>= λ t. Some (Some t))
 
 -- `1`, or a name
 unfoldable pub signal_at : List (List ℕ) → ℕ → Option (Option (List ℕ))
 signal_at ws i = if is_word_at ws i (codes "1") then Some None else (name_at ws i >>= λ n. Some (Some n))
 
 -- a keyword, a time, a cell and a signal
-unfoldable pub timed_cell : List (List ℕ) → Option BorderLine
-timed_cell ws = do
-  t ← time_at ws 1
-  c ← cell_from ws 2
+unfoldable pub border_of_five_words : List (List ℕ) → Option BorderLine
+border_of_five_words ws = do
+  t ← star_or_time_at_word ws 1
+  c ← cell_of_words_from ws 2
   s ← signal_at ws 4
   Some (record { time = t; cell = c; signal = s })
 
 -- the content of an edge or halo line
 unfoldable pub border_of : List (List ℕ) → Option BorderLine
-border_of ws = if length ws == 5 then timed_cell ws else None
+border_of ws = if length ws == 5 then border_of_five_words ws else None
 
 -- a keyword, a number, a name and a cell
-unfoldable pub timed_wire : List (List ℕ) → Option StopLine
-timed_wire ws = do
+unfoldable pub stop_of_five_words : List (List ℕ) → Option StopLine
+stop_of_five_words ws = do
   t ← number_at ws 1
   n ← name_at ws 2
-  c ← cell_from ws 3
+  c ← cell_of_words_from ws 3
   Some (record { time = t; wire = n; cell = c })
 
 -- the content of a stop line
 unfoldable pub stop_of : List (List ℕ) → Option StopLine
-stop_of ws = if length ws == 5 then timed_wire ws else None
+stop_of ws = if length ws == 5 then stop_of_five_words ws else None
 
 -- the form of a line by its words, if it has one
 unfoldable pub form_of : List (List ℕ) → Option Line
@@ -75,8 +75,8 @@ form_of ws =
     else None
 
 -- the same of a line that has not five words: it begins with no module and no line about a cell
-unfoldable pub short_form_of : List (List ℕ) → Option Line
-short_form_of ws =
+unfoldable pub form_of_not_five_words : List (List ℕ) → Option Line
+form_of_not_five_words ws =
     if is_word_at ws 0 (codes "cut") then (lone_name ws >>= λ n. Some (Item (Cut n)))
     else if is_word_at ws 0 (codes "use") then (lone_number ws >>= λ k. Some (Item (Use k)))
     else if is_word_at ws 0 (codes "keep") then (lone_number ws >>= λ k. Some (Item (Keep k)))

@@ -9,8 +9,8 @@ use Rattle.certificate_lines.specs.declared.lacks.KnownWire.{KnownWire}
 use Rattle.certificate_lines.specs.declared.lacks.LastName.{LastName}
 
 -- its number is that of the circuit's wire of that name
-abbrev pub IsLastName : Circuit → Option LastName → Type 0
-IsLastName c last = IfSome last (λ l. l.wire ≡ wire_of c l.name.now)
+abbrev pub IsLastNameCorrect : Circuit → Option LastName → Type 0
+IsLastNameCorrect c last = IfSome last (λ l. l.wire ≡ wire_of c l.name.now)
 
 -- the wire is local in the module of this number
 abbrev pub IsKnownWire : BuilderView → KnownWire → Type 0

@@ -1,6 +1,6 @@
 -- A circuit and a layout with tables of the layout's ports by their cells, and their view
 use Rattle.std.specs.Prelude.{◌≡◌}
-use Rattle.pattern.specs.Layout.{HaveOwnCells}
+use Rattle.pattern.specs.Layout.{HaveDistinctCells}
 use Rattle.certificate_lines.specs.Entries.{Setting}
 use Rattle.certificate_lines.specs.Settings.{setting_of}
 use Rattle.certificate_lines.specs.declared.line_tables.LineTables.TheInside.{Inside}
@@ -13,5 +13,5 @@ tables_setting a = setting_of a.circuit.now a.layout.now
 pub record AreLineTables (a : Inside) : Type 0 where
   pub ins : a.ins ≡ a.layout.now.ins
   pub outs : a.outs ≡ a.layout.now.outs
-  pub ins_apart : HaveOwnCells a.layout.now.ins
-  pub outs_apart : HaveOwnCells a.layout.now.outs
+  pub ins_apart : HaveDistinctCells a.layout.now.ins
+  pub outs_apart : HaveDistinctCells a.layout.now.outs

@@ -10,7 +10,7 @@ use Rattle.pattern.specs.declared.layout_line.Port.{Port}
 use Rattle.certificate_lines.specs.Entries.{Setting, ModuleLines, areas, cuts, gates, keeps, edges, halos, stops}
 use Rattle.certificate_lines.specs.Entries.{cut_wires, known}
 use Rattle.certificate_lines.specs.Orders.{AreInOrder}
-use Rattle.certificate_lines.specs.Rules.{whole, is_local, is_inverse_gate, is_star, is_starred, border_count}
+use Rattle.certificate_lines.specs.Rules.{whole, is_local, is_inverse_gate, is_star, is_starred_line_at, border_count}
 use Rattle.certificate_lines.specs.Rules.{border_limit}
 use Rattle.certificate_lines.specs.declared.certificate_line.BorderLine.{BorderLine}
 use Rattle.certificate_lines.specs.declared.certificate_line.StopLine.{StopLine}
@@ -44,9 +44,10 @@ pub record IsKeep (g : Setting) (used : List ℕ) (k : ℕ) : Type 0 where
   pub among : IsTrue (is_among used k)
 
 -- a line with a `*` and a later one with a time are for different cells
-unfoldable pub AreUnstarred : List BorderLine → Type 0
-AreUnstarred [] = Unit {0}
-AreUnstarred (d ∷ es) = (list_all (λ e. is_star e.time || not (is_starred e.cell d)) es ≡ true) × AreUnstarred es
+unfoldable pub StarsExcludeLaterTimes : List BorderLine → Type 0
+StarsExcludeLaterTimes [] = Unit {0}
+StarsExcludeLaterTimes (d ∷ es) =
+    (list_all (λ e. is_star e.time || not (is_starred_line_at e.cell d)) es ≡ true) × StarsExcludeLaterTimes es
 
 -- A module: its box is even, has sides of 2 to 64 and lies inside the rectangle. Its cuts and used gates make wires
 -- local one after the other. Its lines are in order, and it keeps inverse gates that it uses. Its edge, halo and stop
@@ -62,7 +63,7 @@ pub record IsModule (g : Setting) (m : ModuleLines) : Type 0 where
   pub local : AreLocalLines g.circuit.netlist (cut_wires g.circuit m) (gates m)
   pub order : AreInOrder m.lines
   pub keep_lines : All (IsKeep g (gates m)) (keeps m)
-  pub unstarred : AreUnstarred (edges m)
+  pub unstarred : StarsExcludeLaterTimes (edges m)
   pub edge_lines : All (IsEdge g m.area (known g.circuit m)) (edges m)
   pub halo_lines : All (IsHalo g m.area (known g.circuit m)) (halos m)
   pub stop_lines : All (IsStop g m.area (known g.circuit m)) (stops m)

@@ -35,15 +35,15 @@ number_of (Halo e) = time_rank e.time
 number_of (Stop s) = s.time
 
 -- the cell of a line that names none
-abbrev pub origin : Cell
-origin = record { x = pos 0; y = pos 0 }
+abbrev pub default_cell : Cell
+default_cell = record { x = pos 0; y = pos 0 }
 
 -- then the cell of the line
 unfoldable pub cell_of : CertificateLine → Cell
 cell_of (Edge e) = e.cell
 cell_of (Halo e) = e.cell
 cell_of (Stop s) = s.cell
-cell_of _ = origin
+cell_of _ = default_cell
 
 -- by kind, then by number or time, then by y and x
 unfoldable pub line_cmp : CertificateLine → CertificateLine → Ordering

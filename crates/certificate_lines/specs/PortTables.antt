@@ -20,14 +20,14 @@ abbrev pub AreOnBoard : LayoutHeader → List Port → Type 0
 AreOnBoard s ports = (i : ℕ) (p : Port) → slice_get ports i ≡ Some p → in_layout s p.cell.x p.cell.y ≡ true
 
 -- the number of a port in a list with one port more in front, and 0 for no port
-abbrev pub next_port_number : ℕ → ℕ
-next_port_number zero = zero
-next_port_number (suc n) = suc (suc n)
+abbrev pub number_with_port_in_front : ℕ → ℕ
+number_with_port_in_front zero = zero
+number_with_port_in_front (suc n) = suc (suc n)
 
 -- the number of the first port at the cell (x, y), counted from 1, or 0 if there is none
 unfoldable pub number_at : List Port → ℤ → ℤ → ℕ
 number_at [] x y = 0
-number_at (p ∷ ports) x y = if is_at p.cell x y then 1 else next_port_number (number_at ports x y)
+number_at (p ∷ ports) x y = if is_at p.cell x y then 1 else number_with_port_in_front (number_at ports x y)
 
 -- the ports are inside the box
 abbrev pub AreInBox : Box2 → List Port → Type 0
@@ -35,13 +35,13 @@ AreInBox b ports = (i : ℕ) (p : Port) → slice_get ports i ≡ Some p → in_
 
 -- the place of a column's entry among the entries of the numbered rows, which have `width` entries each; a row of the
 -- number 0 has no entries
-unfoldable pub entry_place_in_rows : ℕ → ℕ → ℕ → Option ℕ
-entry_place_in_rows width zero column = None
-entry_place_in_rows width (suc row) column = Some (row * width + column)
+unfoldable pub entry_place_by_row_number : ℕ → ℕ → ℕ → Option ℕ
+entry_place_by_row_number width zero column = None
+entry_place_by_row_number width (suc row) column = Some (row * width + column)
 
 -- the place of the entry of the cell (x, y), from the numbers of the box's rows
 abbrev pub entry_place : Box2 → List ℕ → ℤ → ℤ → Option ℕ
-entry_place b rows x y = entry_place_in_rows b.w (get_or rows (unsigned_abs y - b.y) 0) (unsigned_abs x - b.x)
+entry_place b rows x y = entry_place_by_row_number b.w (get_or rows (unsigned_abs y - b.y) 0) (unsigned_abs x - b.x)
 
 -- the entry at a place, and 0 for no place
 unfoldable pub entry_or_zero : List ℕ → Option ℕ → ℕ

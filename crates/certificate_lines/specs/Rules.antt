@@ -5,7 +5,7 @@ use Rattle.std.specs.List.{list_any, list_all}
 use Rattle.std.specs.Ordering.{int_eq}
 use Rattle.bbm_rule.specs.Plane.{State}
 use Rattle.bbm_rule.specs.declared.block.Cell.{Cell}
-use Rattle.section_text.specs.Codes.{code_where, or_else}
+use Rattle.section_text.specs.Codes.{code_if, or_else}
 use Rattle.circuit.specs.Gates.{is_inverse}
 use Rattle.circuit.specs.Meaning.{Circuit, Gate, wire_of}
 use Rattle.pattern.specs.Layout.{rectangle_cells}
@@ -43,14 +43,15 @@ abbrev pub is_local : Circuit → List ℕ → List ℕ → Bool
 is_local c local name = is_local_wire local (wire_of c name)
 
 -- some port in the module's box has a wire that is not local
-unfoldable pub lacks_port : Setting → ModuleLines → Bool
-lacks_port g m = list_any (λ p. in_box m.area p.cell.x p.cell.y && not (is_local g.circuit (known g.circuit m) p.name))
+unfoldable pub has_nonlocal_port : Setting → ModuleLines → Bool
+has_nonlocal_port g m = list_any
+    (λ p. in_box m.area p.cell.x p.cell.y && not (is_local g.circuit (known g.circuit m) p.name))
     g.ports
 
 -- whether the last module, if there is one, lacks the wire of a port in its box
-abbrev pub is_incomplete : Setting → Option ModuleLines → Bool
-is_incomplete g None = false
-is_incomplete g (Some m) = lacks_port g m
+abbrev pub is_last_module_incomplete : Setting → Option ModuleLines → Bool
+is_last_module_incomplete g None = false
+is_last_module_incomplete g (Some m) = has_nonlocal_port g m
 
 -- ---- a module line: 11, 2, 8
 
@@ -81,45 +82,45 @@ overlaps boxes b = list_any (λ c. in_boxes boxes c.x c.y) (box_cells b)
 -- the tests of a box by itself, after `count` modules, the last of them `before`
 unfoldable pub box_fault : Setting → ℕ → Option ModuleLines → Box2 → Option RefusalCode
 box_fault g count before b =
-    or_else (code_where (is_incomplete g before) SomethingMissing)
-    (or_else (code_where (is_wrong_side b.w || is_wrong_side b.h || nat_le 1024 count) PastLimit)
-    (code_where (is_misplaced g.size b) MisplacedBox))
+    or_else (code_if (is_last_module_incomplete g before) SomethingMissing)
+    (or_else (code_if (is_wrong_side b.w || is_wrong_side b.h || nat_le 1024 count) PastLimit)
+    (code_if (is_misplaced g.size b) MisplacedBox))
 
 -- the code of a `module` line after these modules
 unfoldable pub module_fault : Setting → List ModuleLines → Option ModuleLines → Box2 → Option RefusalCode
 module_fault g ms before b = or_else (box_fault g (length ms) before b)
-    (code_where (overlaps (areas ms) b) MisplacedBox)
+    (code_if (overlaps (areas ms) b) MisplacedBox)
 
 -- ---- a cut, after `count` cuts, if these wires are local: 2, 3, 4
 
 -- the code of a cut of a wire
 abbrev pub cut_wire_fault : List ℕ → Option ℕ → Option RefusalCode
 cut_wire_fault local None = Some UnknownName
-cut_wire_fault local (Some w) = code_where (is_among local w) DefinedTwice
+cut_wire_fault local (Some w) = code_if (is_among local w) DefinedTwice
 
 -- the code of a cut line after this many cuts
 unfoldable pub cut_fault : Circuit → ℕ → List ℕ → List ℕ → Option RefusalCode
 cut_fault c count local name =
-    or_else (code_where (nat_le cut_limit count) PastLimit) (cut_wire_fault local (wire_of c name))
+    or_else (code_if (nat_le cut_limit count) PastLimit) (cut_wire_fault local (wire_of c name))
 
 -- ---- a used gate, after `count` used gates, if these wires are local: 2, 3, 9, 4
 
 -- the wires become local one after the other, and none is local already
-unfoldable pub are_new : List ℕ → List ℕ → Bool
-are_new local [] = true
-are_new local (w ∷ ws) = not (is_among local w) && are_new (local ++ w ∷ []) ws
+unfoldable pub are_new_and_distinct : List ℕ → List ℕ → Bool
+are_new_and_distinct local [] = true
+are_new_and_distinct local (w ∷ ws) = not (is_among local w) && are_new_and_distinct (local ++ w ∷ []) ws
 
 -- the code of a used gate by its wires
-unfoldable pub gate_fault : List ℕ → Option Gate → Option RefusalCode
-gate_fault local None = Some UnknownName
-gate_fault local (Some gate) =
-    or_else (code_where (not (list_all (is_among local) gate.ins)) NotLocal)
-    (code_where (not (are_new local gate.outs)) DefinedTwice)
+unfoldable pub used_gate_fault : List ℕ → Option Gate → Option RefusalCode
+used_gate_fault local None = Some UnknownName
+used_gate_fault local (Some gate) =
+    or_else (code_if (not (list_all (is_among local) gate.ins)) NotLocal)
+    (code_if (not (are_new_and_distinct local gate.outs)) DefinedTwice)
 
 -- the code of a use line after `count` used gates
 unfoldable pub use_fault : Circuit → ℕ → List ℕ → ℕ → Option RefusalCode
-use_fault c count local k = or_else (code_where (nat_le use_limit count) PastLimit)
-    (gate_fault local (slice_get c.netlist.gates k))
+use_fault c count local k = or_else (code_if (nat_le use_limit count) PastLimit)
+    (used_gate_fault local (slice_get c.netlist.gates k))
 
 -- ---- a kept gate, if these gates are used: 3, 9
 
@@ -131,8 +132,8 @@ is_inverse_gate (Some gate) = is_inverse gate.kind
 -- it is the number of an inverse gate, and the module uses that gate
 unfoldable pub keep_line_code : Circuit → List ℕ → ℕ → Option RefusalCode
 keep_line_code c used k =
-    or_else (code_where (not (is_inverse_gate (slice_get c.netlist.gates k))) UnknownName)
-    (code_where (not (is_among used k)) NotLocal)
+    or_else (code_if (not (is_inverse_gate (slice_get c.netlist.gates k))) UnknownName)
+    (code_if (not (is_among used k)) NotLocal)
 
 -- ---- an edge, halo or stop line: 2, 10, 3, 9
 
@@ -146,32 +147,33 @@ abbrev pub same_cell : Cell → Cell → Bool
 same_cell c d = int_eq c.x d.x && int_eq c.y d.y
 
 -- whether a line has a `*` and is for the cell
-abbrev pub is_starred : Cell → BorderLine → Bool
-is_starred c e = is_star e.time && same_cell c e.cell
+abbrev pub is_starred_line_at : Cell → BorderLine → Bool
+is_starred_line_at c e = is_star e.time && same_cell c e.cell
 
 -- A time is odd and below the steps, and no line with a `*` of the same list is for the cell. A `*` is good.
-unfoldable pub is_time : ℕ → Bool → Option ℕ → Bool
-is_time steps starred None = true
-is_time steps starred (Some t) = is_odd t && nat_lt t steps && not starred
+unfoldable pub is_line_time_allowed : ℕ → Bool → Option ℕ → Bool
+is_line_time_allowed steps starred None = true
+is_line_time_allowed steps starred (Some t) = is_odd t && nat_lt t steps && not starred
 
 -- an edge is in the box's ring, and not on the rim of the rectangle, which is the rectangle's ring
-unfoldable pub is_edge_place : LayoutHeader → Box2 → Bool → BorderLine → Bool
-is_edge_place s area starred e =
-    in_ring area e.cell.x e.cell.y && not (in_ring (whole s) e.cell.x e.cell.y) && is_time s.steps starred e.time
+unfoldable pub is_edge_place_and_time : LayoutHeader → Box2 → Bool → BorderLine → Bool
+is_edge_place_and_time s area starred e =
+    in_ring area e.cell.x e.cell.y && not (in_ring (whole s) e.cell.x e.cell.y)
+    && is_line_time_allowed s.steps starred e.time
 
 -- a halo line is in the box's halo, and inside the rectangle
-unfoldable pub is_halo_place : LayoutHeader → Box2 → Bool → BorderLine → Bool
-is_halo_place s area starred e =
-    in_halo area e.cell.x e.cell.y && in_box (whole s) e.cell.x e.cell.y && is_time s.steps starred e.time
+unfoldable pub is_halo_place_and_time : LayoutHeader → Box2 → Bool → BorderLine → Bool
+is_halo_place_and_time s area starred e =
+    in_halo area e.cell.x e.cell.y && in_box (whole s) e.cell.x e.cell.y && is_line_time_allowed s.steps starred e.time
 
 -- a stop is in the box, at a time up to the last one
-unfoldable pub is_stop_place : LayoutHeader → Box2 → StopLine → Bool
-is_stop_place size area s = in_box area s.cell.x s.cell.y && nat_le s.time size.steps
+unfoldable pub is_stop_place_and_time : LayoutHeader → Box2 → StopLine → Bool
+is_stop_place_and_time size area s = in_box area s.cell.x s.cell.y && nat_le s.time size.steps
 
 -- a signal is `1`, or a wire of the circuit, 3, that is local, 9
 abbrev pub wire_fault : List ℕ → Option ℕ → Option RefusalCode
 wire_fault local None = Some UnknownName
-wire_fault local (Some w) = code_where (not (is_among local w)) NotLocal
+wire_fault local (Some w) = code_if (not (is_among local w)) NotLocal
 
 -- the code of a signal: its wire must be local
 unfoldable pub signal_fault : Circuit → List ℕ → Option (List ℕ) → Option RefusalCode
@@ -185,8 +187,8 @@ border_limit = 65536
 -- the code of such a line after `count` of these lines; `placed` says whether it may have its cell and time
 unfoldable pub border_line_code : Circuit → ℕ → List ℕ → Bool → Option (List ℕ) → Option RefusalCode
 border_line_code c count local placed signal =
-    or_else (code_where (nat_le border_limit count) PastLimit)
-    (or_else (code_where (not placed) NoPlace) (signal_fault c local signal))
+    or_else (code_if (nat_le border_limit count) PastLimit)
+    (or_else (code_if (not placed) NoPlace) (signal_fault c local signal))
 
 -- ---- a line after the lines before it
 
@@ -197,16 +199,17 @@ border_count m = length (edges m) + length (halos m) + length (stops m)
 -- the code of an edge line of a module
 abbrev pub edge_line_code : Setting → ModuleLines → BorderLine → Option RefusalCode
 edge_line_code g m e = border_line_code g.circuit (border_count m) (known g.circuit m)
-    (is_edge_place g.size m.area (list_any (is_starred e.cell) (edges m)) e) e.signal
+    (is_edge_place_and_time g.size m.area (list_any (is_starred_line_at e.cell) (edges m)) e) e.signal
 
 -- the code of a halo line of a module
 abbrev pub halo_line_code : Setting → ModuleLines → BorderLine → Option RefusalCode
 halo_line_code g m e = border_line_code g.circuit (border_count m) (known g.circuit m)
-    (is_halo_place g.size m.area (list_any (is_starred e.cell) (halos m)) e) e.signal
+    (is_halo_place_and_time g.size m.area (list_any (is_starred_line_at e.cell) (halos m)) e) e.signal
 
 -- the code of a stop line of a module
 abbrev pub stop_line_code : Setting → ModuleLines → StopLine → Option RefusalCode
-stop_line_code g m s = border_line_code g.circuit (border_count m) (known g.circuit m) (is_stop_place g.size m.area s)
+stop_line_code g m s = border_line_code g.circuit (border_count m) (known g.circuit m)
+    (is_stop_place_and_time g.size m.area s)
     (Some s.wire)
 
 -- the code of a line of a module, but for its order
@@ -221,7 +224,7 @@ content_code g m (Stop s) = stop_line_code g m s
 
 -- a line of a module after those before it: its order first, 6
 abbrev pub line_fault : Setting → ModuleLines → CertificateLine → Option RefusalCode
-line_fault g m i = or_else (code_where (not (may_follow m.lines i)) OutOfOrder) (content_code g m i)
+line_fault g m i = or_else (code_if (not (may_follow m.lines i)) OutOfOrder) (content_code g m i)
 
 -- a line that is no `module` line belongs to a module
 abbrev pub body_line_code : Setting → Option ModuleLines → CertificateLine → Option RefusalCode
@@ -246,5 +249,6 @@ leaves_gap s boxes = not (list_all (λ c. in_boxes boxes c.x c.y) (box_cells (wh
 
 -- the ports of the last module are local, and the boxes leave no gap
 unfoldable pub end_fault : Setting → List CertificateLine → Option RefusalCode
-end_fault g entries = code_where
-    (is_incomplete g (last_module entries) || leaves_gap g.size (areas (modules_of entries))) SomethingMissing
+end_fault g entries = code_if
+    (is_last_module_incomplete g (last_module entries) || leaves_gap g.size (areas (modules_of entries)))
+    SomethingMissing

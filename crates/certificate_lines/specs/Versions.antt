@@ -21,18 +21,18 @@ use Rattle.certificate_lines.specs.declared.certificate_line.CertificateLine.The
 -- ---- the order of edge and of halo lines
 
 -- lines with a `*` first, then by time; then by y and x
-unfoldable pub line_order : BorderLine → BorderLine → Ordering
-line_order d e = ordering_then (nat_cmp (time_rank d.time) (time_rank e.time)) (cell_cmp d.cell e.cell)
+unfoldable pub border_line_cmp : BorderLine → BorderLine → Ordering
+border_line_cmp d e = ordering_then (nat_cmp (time_rank d.time) (time_rank e.time)) (cell_cmp d.cell e.cell)
 
 -- before the first line that it comes before
-unfoldable pub put_line : BorderLine → List BorderLine → List BorderLine
-put_line d [] = d ∷ []
-put_line d (e ∷ es) = if is_lt (line_order d e) then d ∷ e ∷ es else e ∷ put_line d es
+unfoldable pub insert_border_line : BorderLine → List BorderLine → List BorderLine
+insert_border_line d [] = d ∷ []
+insert_border_line d (e ∷ es) = if is_lt (border_line_cmp d e) then d ∷ e ∷ es else e ∷ insert_border_line d es
 
 -- the same lines in that order
 unfoldable pub in_order : List BorderLine → List BorderLine
 in_order [] = []
-in_order (d ∷ ds) = put_line d (in_order ds)
+in_order (d ∷ ds) = insert_border_line d (in_order ds)
 
 -- ---- halos
 
@@ -63,17 +63,18 @@ precedes_halos _ = true
 -- a module of version 2 as one of version 1, if these are all modules; its stops come after the halo lines
 unfoldable pub with_halos : Setting → List ModuleLines → ModuleLines → ModuleLines
 with_halos g ms m =
-    record m
-    { lines = filter precedes_halos m.lines ++ map Halo (in_order (edge_lines_beside g ms m.area))
-    ++ map Stop (stops m) }
+    record m {
+      lines = filter precedes_halos m.lines ++ map Halo (in_order (edge_lines_beside g ms m.area))
+          ++ map Stop (stops m);
+    }
 
 -- the version whose certificates have no halo lines
-abbrev pub is_haloless : ℕ → Bool
-is_haloless version = version == 2
+abbrev pub is_haloless_version : ℕ → Bool
+is_haloless_version version = version == 2
 
 -- the modules of a certificate of this version whose lines make these
 unfoldable pub modules_by_version : ℕ → Setting → List ModuleLines → List ModuleLines
-modules_by_version version g ms = if is_haloless version then map (with_halos g ms) ms else ms
+modules_by_version version g ms = if is_haloless_version version then map (with_halos g ms) ms else ms
 
 -- ---- the wires of such lines
 
@@ -83,8 +84,8 @@ is_nonlocal_signal c local None = false
 is_nonlocal_signal c local (Some name) = not (is_local c local name)
 
 -- an edge line for a cell in the halo of another module names a wire that is not local there
-unfoldable pub lacks_wire : Setting → List ModuleLines → Bool
-lacks_wire g ms = list_any (λ m.
+unfoldable pub lacks_edge_wire_beside : Setting → List ModuleLines → Bool
+lacks_edge_wire_beside g ms = list_any (λ m.
     list_any (λ e. is_nonlocal_signal g.circuit (known g.circuit m) e.signal) (edge_lines_beside g ms m.area))
     ms
 

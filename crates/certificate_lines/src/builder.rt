@@ -3,7 +3,7 @@ ghost use Rattle.std.specs.Prelude.{◌≡◌, ◌+◌, ◌≤◌, ◌<◌, ◌+
 ghost use Rattle.section_text.specs.Adding.{HasRefusalCode};
 ghost use Rattle.std.specs.List.{list_any};
 ghost use Rattle.certificate_lines.specs.Entries.{ModuleLines, counts_of, known, modules_of, last_module};
-ghost use Rattle.certificate_lines.specs.Rules.{border_line_code, entry_fault, end_fault, box_fault, module_fault, body_line_code, content_code, is_incomplete};
+ghost use Rattle.certificate_lines.specs.Rules.{border_line_code, entry_fault, end_fault, box_fault, module_fault, body_line_code, content_code, is_last_module_incomplete};
 ghost use Rattle.module_box.specs.Boxes.{in_box};
 ghost use Rattle.certificate_lines.specs.BuilderView.{BuilderView, IsEdgeHaloOrStopLine, IsCutWire, IsBodyLine, AreSmallCounts};
 ghost use Rattle.certificate_lines.specs.declared.certificate_line.CertificateLine.TheVariants.{Module};
@@ -12,15 +12,15 @@ use crate::certificate_line::{CertificateLine, Counts};
 use crate::counts::{count_in_last, last_counts, pop_module, push_entry, push_module};
 use crate::known::{learn_line, make_room_for_wires, move_wires_to_earlier};
 use crate::line_tables::LineTables;
-use crate::local_names::{CutWire, LocalNames, circuit_name, cut_wire};
+use crate::local_names::{CutWire, LocalNames, cut_wire, name_held_by_circuit};
 use crate::order::may_follow;
 use crate::rules::{
-    border_code, cut_code, has_nonlocal_name, is_bad_place, is_bad_side, keep_code, may_be_edge,
-    may_be_halo, may_be_stop, stop_code, use_code,
+    border_code, cut_code, has_nonlocal_name, is_bad_box_side, is_misplaced_box, keep_code,
+    may_edge_be_there, may_halo_be_there, may_stop_be_there, stop_code, use_code,
 };
 use crate::stars::{has_star, make_room_for_stars, note_stars};
 use crate::stored_line::StoredLine;
-use crate::tiles::is_full;
+use crate::tiles::are_all_cells_live;
 use crate::wire_list::WireList;
 use bbm_rule::{Cell, Grid};
 use indexmap::IndexSet;
@@ -60,11 +60,11 @@ impl<'a> Model for Builder<'a> {
 
     ghost Value = { BuilderView };
 
-    ghost use Rattle.certificate_lines.specs.BuilderView.{builder_view, IsBuilder};
+    ghost use Rattle.certificate_lines.specs.BuilderView.{builder_view, AreBuilderFields};
 
     ghost view = { builder_view };
 
-    ghost invariant = { IsBuilder };
+    ghost invariant = { AreBuilderFields };
 }
 
 impl<'a> Builder<'a> {
@@ -89,8 +89,9 @@ impl<'a> Builder<'a> {
     }
 
     // Whether a port in the box of the last module has a wire that is not local.
-    fn lacks_port(&self) -> bool
-        ensures { result ≡ is_incomplete self.now.setting (last_module self.now.entries) }
+    fn has_nonlocal_port(&self) -> bool
+        ensures { result
+            ≡ is_last_module_incomplete self.now.setting (last_module self.now.entries) }
     {
         has_nonlocal_name(&self.tables, &self.known, &self.names)
     }
@@ -158,16 +159,16 @@ impl<'a> Builder<'a> {
             ),
             CertificateLine::Edge(border) => {
                 let starred = has_star(&self.edges, border.cell);
-                let placed = may_be_edge(size, counts.area, starred, border);
+                let placed = may_edge_be_there(size, counts.area, starred, border);
                 self.border_code(borders, placed, &border.signal)
             }
             CertificateLine::Halo(border) => {
                 let starred = has_star(&self.halos, border.cell);
-                let placed = may_be_halo(size, counts.area, starred, border);
+                let placed = may_halo_be_there(size, counts.area, starred, border);
                 self.border_code(borders, placed, &border.signal)
             }
             CertificateLine::Stop(stop) => {
-                let placed = may_be_stop(size, counts.area, stop);
+                let placed = may_stop_be_there(size, counts.area, stop);
                 self.stop_code(borders, placed, &stop.wire)
             }
         }
@@ -201,7 +202,7 @@ impl<'a> Builder<'a> {
     //
     // It is inlined where the kind of line is known, so that no test asks for the kind.
     #[inline(always)]
-    fn add_border(&mut self, entry: CertificateLine) -> Result<(), LineFault>
+    fn add_border_or_stop(&mut self, entry: CertificateLine) -> Result<(), LineFault>
         requires { IsEdgeHaloOrStopLine entry }
         ensures ok { OnOk result ((body_line_code self.old.setting (last_module self.old.entries)
             entry ≡ None) × (self.new
@@ -215,7 +216,7 @@ impl<'a> Builder<'a> {
         if make_room_for_stars(&mut self.edges, &mut self.halos, &entry).is_err() {
             return Err(LineFault::Memory);
         }
-        let name = circuit_name(&self.tables, &self.known, &self.local_names, &entry, None);
+        let name = name_held_by_circuit(&self.tables, &self.known, &self.local_names, &entry, None);
         push_entry(&mut self.entries, StoredLine::of(&entry, name))?;
         note_stars(&mut self.edges, &mut self.halos, &entry);
         count_in_last(&mut self.modules, &entry);
@@ -242,11 +243,11 @@ impl<'a> Builder<'a> {
         if make_room_for_stars(&mut self.edges, &mut self.halos, &entry).is_err() {
             return Err(LineFault::Memory);
         }
-        let name = circuit_name(&self.tables, &self.known, &self.local_names, &entry, cut);
+        let name = name_held_by_circuit(&self.tables, &self.known, &self.local_names, &entry, cut);
         push_entry(&mut self.entries, StoredLine::of(&entry, name))?;
         learn_line(&mut self.known, &self.tables, &entry, cut);
         self.local_names
-            .note_cut(&self.tables, &self.known, &entry, cut);
+            .cache_cut_name(&self.tables, &self.known, &entry, cut);
         note_stars(&mut self.edges, &mut self.halos, &entry);
         count_in_last(&mut self.modules, &entry);
         Ok(())
@@ -255,7 +256,7 @@ impl<'a> Builder<'a> {
 
 impl<'a> Builder<'a> {
     // The names of the ports in a box.
-    fn names_in(&self, alloc: Global, area: Box2) -> Result<Vec<Name>, AllocError>
+    fn port_names_in_box(&self, alloc: Global, area: Box2) -> Result<Vec<Name>, AllocError>
         requires { (area.x + area.w ≤ 512) × (area.y + area.h ≤ 512) }
         ensures { IfOk result (λ names. (f : List ℕ → Bool) →
             list_any f names.items
@@ -285,15 +286,15 @@ impl<'a> Builder<'a> {
             × (area.y + area.h ≤ 512) }
     {
         let size = self.tables.size();
-        if self.lacks_port() {
+        if self.has_nonlocal_port() {
             return Some(RefusalCode::SomethingMissing);
         }
-        let bad_width = is_bad_side(area.w);
-        let bad_height = is_bad_side(area.h);
+        let bad_width = is_bad_box_side(area.w);
+        let bad_height = is_bad_box_side(area.h);
         if bad_width | bad_height | (self.count() >= MAX_MODULES) {
             return Some(RefusalCode::PastLimit);
         }
-        if is_bad_place(size, area) {
+        if is_misplaced_box(size, area) {
             return Some(RefusalCode::MisplacedBox);
         }
         None
@@ -329,7 +330,7 @@ impl<'a> Builder<'a> {
         if let Some(code) = self.module_code(area) {
             return Err(LineFault::Code(code));
         }
-        let Ok(names) = self.names_in(alloc, area) else {
+        let Ok(names) = self.port_names_in_box(alloc, area) else {
             return Err(LineFault::Memory);
         };
         push_module(&mut self.entries, &mut self.modules, area)?;
@@ -363,9 +364,9 @@ impl<'a> Builder<'a> {
     {
         match entry {
             CertificateLine::Module(area) => self.add_module(alloc, area),
-            CertificateLine::Edge(_) => self.add_border(entry),
-            CertificateLine::Halo(_) => self.add_border(entry),
-            CertificateLine::Stop(_) => self.add_border(entry),
+            CertificateLine::Edge(_) => self.add_border_or_stop(entry),
+            CertificateLine::Halo(_) => self.add_border_or_stop(entry),
+            CertificateLine::Stop(_) => self.add_border_or_stop(entry),
             _ => self.add_body_line(entry),
         }
     }
@@ -375,8 +376,8 @@ impl<'a> Builder<'a> {
         ensures { result ≡ end_fault self.now.setting self.now.entries }
     {
         let size = self.tables.size();
-        let lacks = self.lacks_port();
-        let full = is_full(&self.covered, size.w, size.h);
+        let lacks = self.has_nonlocal_port();
+        let full = are_all_cells_live(&self.covered, size.w, size.h);
         if lacks | !full {
             Some(RefusalCode::SomethingMissing)
         } else {

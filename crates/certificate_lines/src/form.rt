@@ -2,11 +2,11 @@
 ghost use Rattle.std.specs.Prelude.{◌≡◌, ℕ, List, ◌∷◌, take, codes, false};
 ghost use Rattle.std.specs.Option.{option_map};
 ghost use Rattle.std.specs.Str.{bytes_eq};
-ghost use Rattle.section_text.specs.Listed.{five_listed};
+ghost use Rattle.section_text.specs.Listed.{list_of_five_words};
 ghost use Rattle.section_text.specs.Words.{words_of, lone};
 ghost use Rattle.section_text.specs.Feeds.{IsLine, line_bytes};
-ghost use Rattle.certificate_lines.specs.Forms.{Line as FormLine, area_of, border_of, form_of, short_form_of, stop_of};
-ghost use Rattle.certificate_lines.specs.BorderWords.{leading_time, signal_from_word};
+ghost use Rattle.certificate_lines.specs.Forms.{Line as FormLine, area_of, border_of, form_of, form_of_not_five_words, stop_of};
+ghost use Rattle.certificate_lines.specs.BorderWords.{leading_star_or_time, one_or_name_from_word};
 
 use crate::certificate_line::{BorderLine, CertificateLine, StopLine};
 use bbm_rule::Cell;
@@ -16,7 +16,7 @@ use section_text::{Feed, FiveWords, Form, Line, Name, is_keyword, read_number, t
 
 #[tactic(auto, unfolding(crate::specs::Forms::area_of, crate::specs::Forms::corner_and_sides, section_text::specs::Words::number_at))]
 fn area_of_words(words: &FiveWords) -> Option<Box2>
-    ensures { result ≡ area_of (five_listed words.now) }
+    ensures { result ≡ area_of (list_of_five_words words.now) }
 {
     let x = read_number(words.second)?;
     let y = read_number(words.third)?;
@@ -37,8 +37,9 @@ fn begins_with_star(line: &[u8]) -> bool
 
 // The time that is the first of several words of a line, and what stands behind its space.
 #[inline(always)]
-fn take_time(line: &[u8]) -> Option<(Option<u32>, &[u8])>
-    ensures { option_map (λ r. (r.0, words_of r.1.now)) result ≡ leading_time (words_of line.now) }
+fn take_star_or_time(line: &[u8]) -> Option<(Option<u32>, &[u8])>
+    ensures { option_map (λ r. (r.0, words_of r.1.now)) result
+        ≡ leading_star_or_time (words_of line.now) }
 {
     if begins_with_star(line) {
         return Some((None, &line[2..]));
@@ -47,9 +48,9 @@ fn take_time(line: &[u8]) -> Option<(Option<u32>, &[u8])>
     Some((Some(time), rest))
 }
 
-#[tactic(auto, unfolding(crate::specs::BorderWords::signal_from_word))]
-fn signal_of(word: &[u8]) -> Option<Option<Name>>
-    ensures { result ≡ signal_from_word word.now }
+#[tactic(auto, unfolding(crate::specs::BorderWords::one_or_name_from_word))]
+fn read_one_or_name(word: &[u8]) -> Option<Option<Name>>
+    ensures { result ≡ one_or_name_from_word word.now }
 {
     if word == b"1".as_slice() {
         return Some(None);
@@ -62,10 +63,10 @@ fn signal_of(word: &[u8]) -> Option<Option<Name>>
 fn border_after_keyword(line: &[u8]) -> Option<BorderLine>
     ensures { (keyword : List ℕ) → result ≡ border_of (keyword ∷ words_of line.now) }
 {
-    let (time, line) = take_time(line)?;
+    let (time, line) = take_star_or_time(line)?;
     let (x, line) = take_number(line)?;
     let (y, line) = take_number(line)?;
-    let signal = signal_of(line)?;
+    let signal = read_one_or_name(line)?;
     let cell = Cell {
         x: x as i32,
         y: y as i32,
@@ -73,9 +74,9 @@ fn border_after_keyword(line: &[u8]) -> Option<BorderLine>
     Some(BorderLine { time, cell, signal })
 }
 
-#[tactic(auto, unfolding(crate::specs::Forms::stop_of, crate::specs::Forms::timed_wire, pattern::specs::Forms::cell_from, section_text::specs::Words::number_at, section_text::specs::Words::name_at, pattern::specs::PortWords::cell_from_words))]
+#[tactic(auto, unfolding(crate::specs::Forms::stop_of, crate::specs::Forms::stop_of_five_words, pattern::specs::Forms::cell_of_words_from, section_text::specs::Words::number_at, section_text::specs::Words::name_at, pattern::specs::PortWords::cell_from_words))]
 fn stop_of_words(words: &FiveWords) -> Option<StopLine>
-    ensures { result ≡ stop_of (five_listed words.now) }
+    ensures { result ≡ stop_of (list_of_five_words words.now) }
 {
     let time = read_number(words.second)?;
     let wire = Name::of(words.third)?;
@@ -131,7 +132,7 @@ fn five_word_line_form(words: FiveWords) -> Option<Form<u32, CertificateLine>>
     requires no_edge { bytes_eq words.first.now (codes "edge") ≡ false }
     requires no_halo { bytes_eq words.first.now (codes "halo") ≡ false }
     requires no_stop { bytes_eq words.first.now (codes "stop") ≡ false }
-    ensures { result ≡ form_of (five_listed words.entry) }
+    ensures { result ≡ form_of (list_of_five_words words.entry) }
 {
     if is_keyword(words.first, b"module") {
         Some(Form::Item(CertificateLine::Module(area_of_words(&words)?)))
@@ -141,10 +142,10 @@ fn five_word_line_form(words: FiveWords) -> Option<Form<u32, CertificateLine>>
 }
 
 // The form of a line that has not five words.
-#[tactic(auto, unfolding(crate::specs::Forms::short_form_of, section_text::specs::Words::is_word_at))]
-fn short_form(feed: &Feed, line: &Line) -> Option<Form<u32, CertificateLine>>
+#[tactic(auto, unfolding(crate::specs::Forms::form_of_not_five_words, section_text::specs::Words::is_word_at))]
+fn not_five_words_line_form(feed: &Feed, line: &Line) -> Option<Form<u32, CertificateLine>>
     requires { IsLine feed.now line.now }
-    ensures { result ≡ short_form_of (words_of (line_bytes feed.now line.now)) }
+    ensures { result ≡ form_of_not_five_words (words_of (line_bytes feed.now line.now)) }
 {
     let keyword = feed.first_word(line);
     if is_keyword(keyword, b"cut") {
@@ -173,7 +174,7 @@ fn other_line_form(feed: &Feed, line: &Line) -> Option<Form<u32, CertificateLine
 {
     match feed.five_words(line) {
         Some(words) => five_word_line_form(words),
-        None => short_form(feed, line),
+        None => not_five_words_line_form(feed, line),
     }
 }
 
@@ -189,7 +190,7 @@ fn stop_in(feed: &Feed, line: &Line) -> Option<StopLine>
 
 // The form of a line that begins with no `edge ` and no `halo `.
 #[inline(always)]
-fn stop_or_other(feed: &Feed, line: &Line) -> Option<Form<u32, CertificateLine>>
+fn stop_or_other_line_form(feed: &Feed, line: &Line) -> Option<Form<u32, CertificateLine>>
     requires line { IsLine feed.now line.now }
     requires no_edge { bytes_eq (take 5 (line_bytes feed.now line.now)) (codes "edge ") ≡ false }
     requires no_halo { bytes_eq (take 5 (line_bytes feed.now line.now)) (codes "halo ") ≡ false }
@@ -213,7 +214,7 @@ pub fn line_form(feed: &Feed, line: &Line) -> Option<Form<u32, CertificateLine>>
     let bytes = feed.line(line);
     let is_edge = is_edge_line(bytes);
     if !is_edge && !is_halo_line(bytes) {
-        return stop_or_other(feed, line);
+        return stop_or_other_line_form(feed, line);
     }
     let border = border_after_keyword(&bytes[5..])?;
     if is_edge {

@@ -3,7 +3,7 @@ ghost use Rattle.std.specs.Prelude.{◌≡◌, ◌≤◌, ◌<◌, ◌++◌, ◌
 ghost use Rattle.std.specs.List.{All, list_all};
 ghost use Rattle.module_box.specs.Locals.{is_among};
 ghost use Rattle.certificate_lines.specs.BuilderView.{IsCutWire, wires_made_local};
-ghost use Rattle.certificate_lines.specs.Rules.{are_new};
+ghost use Rattle.certificate_lines.specs.Rules.{are_new_and_distinct};
 
 use crate::certificate_line::CertificateLine;
 use crate::line_tables::LineTables;
@@ -32,8 +32,8 @@ fn is_among_earlier(wires: &[WireNo], wire: WireNo) -> bool
 }
 
 /// Returns whether none of these wires is local, and none is in the list twice.
-pub(crate) fn are_all_new(known: &WireList, wires: &[WireNo]) -> bool
-    ensures { result ≡ are_new known.now.wires wires.now }
+pub(crate) fn are_all_new_and_distinct(known: &WireList, wires: &[WireNo]) -> bool
+    ensures { result ≡ are_new_and_distinct known.now.wires wires.now }
 {
     for at in 0..wires.len() {
         let wire = wires[at];

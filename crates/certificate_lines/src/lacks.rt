@@ -7,9 +7,9 @@ ghost use Rattle.certificate_lines.specs.Rules.{whole};
 ghost use Rattle.module_box.specs.Boxes.{in_box, in_halo};
 ghost use Rattle.module_box.specs.Locals.{is_among};
 ghost use Rattle.circuit.specs.Meaning.{wire_of};
-ghost use Rattle.certificate_lines.specs.BuilderView.{AreModuleOwners, does_neighbour_lack_wire, is_nonlocal_outside, is_nonlocal_in_neighbour, lacks_edge_wire};
-ghost use Rattle.certificate_lines.specs.LastNames.{AreKnownWires, IsLastName};
-ghost use Rattle.certificate_lines.specs.Versions.{is_nonlocal_signal, lacks_wire};
+ghost use Rattle.certificate_lines.specs.BuilderView.{AreModuleOwners, does_neighbour_lack_wire, is_outside_and_nonlocal, is_nonlocal_in_neighbour, lacks_edge_wire};
+ghost use Rattle.certificate_lines.specs.LastNames.{AreKnownWires, IsLastNameCorrect};
+ghost use Rattle.certificate_lines.specs.Versions.{is_nonlocal_signal, lacks_edge_wire_beside};
 
 use crate::blocks::odd_partner;
 use crate::builder::Builder;
@@ -80,14 +80,14 @@ struct LastName<'b> {
 
 // Returns the number of the circuit's wire of this name. Most edge lines have the name of the line before them, and to
 // compare two names costs less than to look one up by its hash.
-fn wire_by_last<'b>(
+fn look_up_wire_or_last<'b>(
     tables: &LineTables,
     last: &mut Option<LastName<'b>>,
     name: &'b Name,
 ) -> Option<u16>
-    requires last { IsLastName tables.now.circuit last.old }
+    requires last { IsLastNameCorrect tables.now.circuit last.old }
     ensures wire { result ≡ wire_of tables.now.circuit name.now }
-    ensures last { IsLastName tables.now.circuit last.new }
+    ensures last { IsLastNameCorrect tables.now.circuit last.new }
 {
     if let Some(known) = *last {
         if *known.name == *name {
@@ -111,7 +111,7 @@ struct KnownWire {
 
 impl<'a> Builder<'a> {
     // The wires that are local in the module of this number.
-    fn wires_of(&self, number: usize) -> &WireList
+    fn local_wires_of_module(&self, number: usize) -> &WireList
         requires { number < length (modules_of self.now.entries) }
         ensures { slice_get (map (known self.now.setting.circuit) (modules_of self.now.entries))
             number ≡ Some result.now.wires }
@@ -126,7 +126,7 @@ impl<'a> Builder<'a> {
 
     // Whether one of the edge lines of a module names a wire that is not local in the module of this number, which is
     // beside it.
-    fn lacks_wire_in(&self, number: usize, area: Box2, lines: &[StoredLine]) -> bool
+    fn lacks_edge_wire_in(&self, number: usize, area: Box2, lines: &[StoredLine]) -> bool
         requires number { number < length (modules_of self.now.entries) }
         requires inside { AreInBox area (flat_map edge_in lines.now) }
         ensures { (m : ModuleLines) → slice_get (modules_of self.now.entries) number ≡ Some m →
@@ -136,7 +136,7 @@ impl<'a> Builder<'a> {
         if !own.is_near(area) {
             return false;
         }
-        has_nonlocal_halo_edge(&self.tables, self.wires_of(number), own, lines)
+        has_nonlocal_halo_edge(&self.tables, self.local_wires_of_module(number), own, lines)
     }
 
     // Whether one of the edge lines of a module names a wire that is not local in a module beside it. It asks each
@@ -148,7 +148,7 @@ impl<'a> Builder<'a> {
             (modules_of self.now.entries) }
     {
         'modules: for number in 0..self.modules.len() {
-            if self.lacks_wire_in(number, area, lines) {
+            if self.lacks_edge_wire_in(number, area, lines) {
                 return true;
             }
         }
@@ -203,7 +203,7 @@ impl<'a> Builder<'a> {
                 return true;
             }
         }
-        if !self.wires_of(number).contains(wire) {
+        if !self.local_wires_of_module(number).contains(wire) {
             return false;
         }
         found[slot] = Some(KnownWire {
@@ -214,7 +214,7 @@ impl<'a> Builder<'a> {
     }
 
     // Whether the cell is outside the module of this number, and there is no such wire or it is not local there.
-    fn is_nonlocal_outside(
+    fn is_outside_and_nonlocal(
         &self,
         number: usize,
         cell: Cell,
@@ -225,7 +225,7 @@ impl<'a> Builder<'a> {
         requires found { AreKnownWires self.now found.old }
         ensures lacked { (m : ModuleLines) →
             slice_get (modules_of self.now.entries) number ≡ Some m →
-            result ≡ is_nonlocal_outside self.now.setting.circuit cell wire m }
+            result ≡ is_outside_and_nonlocal self.now.setting.circuit cell wire m }
         ensures found { AreKnownWires self.now found.new }
     {
         if self.modules[number].area.holds(cell) {
@@ -240,7 +240,7 @@ impl<'a> Builder<'a> {
     // Whether some module has the cell `beside` and not the cell, and there is no such wire or it is not local in it.
     // Inlined, since it runs three times for each edge line.
     #[inline(always)]
-    fn is_nonlocal_at_owner(
+    fn is_nonlocal_at_other_owner(
         &self,
         owners: &Owners,
         cell: Cell,
@@ -252,14 +252,14 @@ impl<'a> Builder<'a> {
         requires found { AreKnownWires self.now found.old }
         ensures lacked { result
             ≡ list_any (λ m. in_box m.area beside.x beside.y
-            && is_nonlocal_outside self.now.setting.circuit cell wire m)
+            && is_outside_and_nonlocal self.now.setting.circuit cell wire m)
             (modules_of self.now.entries) }
         ensures found { AreKnownWires self.now found.new }
     {
         if !whole_of(self.tables.size()).holds(beside) {
             return false;
         }
-        self.is_nonlocal_outside(owners.owner(beside), cell, wire, found)
+        self.is_outside_and_nonlocal(owners.owner(beside), cell, wire, found)
     }
 
     // Whether some module has the cell in its halo, and there is no such wire or it is not local there.
@@ -282,9 +282,15 @@ impl<'a> Builder<'a> {
         // Corners and sides are even, so a box with a neighbour of the cell has it or one of these.
         let column = odd_partner(x);
         let row = odd_partner(y);
-        let beside = self.is_nonlocal_at_owner(owners, cell, wire, Cell { x: column, y }, found);
-        let above = self.is_nonlocal_at_owner(owners, cell, wire, Cell { x, y: row }, found);
-        let corner = self.is_nonlocal_at_owner(
+        let beside = self.is_nonlocal_at_other_owner(
+            owners,
+            cell,
+            wire,
+            Cell { x: column, y },
+            found,
+        );
+        let above = self.is_nonlocal_at_other_owner(owners, cell, wire, Cell { x, y: row }, found);
+        let corner = self.is_nonlocal_at_other_owner(
             owners,
             cell,
             wire,
@@ -303,21 +309,21 @@ impl<'a> Builder<'a> {
         border: &StoredBorder<'b>,
     ) -> bool
         requires owners { AreModuleOwners self.now owners.now }
-        requires last { IsLastName self.now.setting.circuit last.old }
+        requires last { IsLastNameCorrect self.now.setting.circuit last.old }
         requires found { AreKnownWires self.now found.old }
         requires inside { IsTrue
             (in_box (whole self.now.setting.size) border.now.cell.x border.now.cell.y) }
         ensures lacked { result
             ≡ does_neighbour_lack_wire self.now.setting.circuit (modules_of self.now.entries)
             border.now }
-        ensures last { IsLastName self.now.setting.circuit last.new }
+        ensures last { IsLastNameCorrect self.now.setting.circuit last.new }
         ensures found { AreKnownWires self.now found.new }
     {
         match border.signal() {
             None => false,
             Some(name) => {
                 // The name is looked up once for all modules beside the cell.
-                let wire = wire_by_last(&self.tables, last, name);
+                let wire = look_up_wire_or_last(&self.tables, last, name);
                 self.is_nonlocal_in_neighbour(owners, border.cell(), wire, found)
             }
         }
@@ -326,7 +332,7 @@ impl<'a> Builder<'a> {
 
 impl<'a> Builder<'a> {
     // Whether a line is an edge line of which some module has the cell in its halo, and lacks the wire.
-    fn does_neighbour_lack_line_wire<'b>(
+    fn neighbour_lacks_edge_wire<'b>(
         &self,
         owners: &Owners,
         last: &mut Option<LastName<'b>>,
@@ -334,13 +340,13 @@ impl<'a> Builder<'a> {
         line: &StoredLine<'b>,
     ) -> bool
         requires owners { AreModuleOwners self.now owners.now }
-        requires last { IsLastName self.now.setting.circuit last.old }
+        requires last { IsLastNameCorrect self.now.setting.circuit last.old }
         requires found { AreKnownWires self.now found.old }
         requires inside { AreInBox (whole self.now.setting.size) (edge_in line.now) }
         ensures lacked { result
             ≡ list_any (does_neighbour_lack_wire self.now.setting.circuit
             (modules_of self.now.entries)) (edge_in line.now) }
-        ensures last { IsLastName self.now.setting.circuit last.new }
+        ensures last { IsLastNameCorrect self.now.setting.circuit last.new }
         ensures found { AreKnownWires self.now found.new }
     {
         match line.edge() {
@@ -360,7 +366,7 @@ impl<'a> Builder<'a> {
         let mut last = None;
         let mut found = [None; SLOT_COUNT];
         'lines: for line in lines {
-            if self.does_neighbour_lack_line_wire(owners, &mut last, &mut found, line) {
+            if self.neighbour_lacks_edge_wire(owners, &mut last, &mut found, line) {
                 return true;
             }
         }
@@ -369,7 +375,12 @@ impl<'a> Builder<'a> {
 
     // Whether one of the edge lines of a module names a wire that is not local in a module beside it, by a table of
     // owners if there is one.
-    fn lacks_some_in(&self, owners: &Option<Owners>, area: Box2, lines: &[StoredLine]) -> bool
+    fn is_edge_wire_lacked_beside(
+        &self,
+        owners: &Option<Owners>,
+        area: Box2,
+        lines: &[StoredLine],
+    ) -> bool
         requires owners { IfSome owners.now (AreModuleOwners self.now) }
         requires inside { AreInBox area (flat_map edge_in lines.now) }
         requires on_layout { AreInBox (whole self.now.setting.size) (flat_map edge_in lines.now) }
@@ -385,14 +396,18 @@ impl<'a> Builder<'a> {
 
     // Whether one of the edge lines of all modules names a wire that is not local in a module beside it. There are odd
     // times.
-    fn lacks_some_wire(&self, owners: &Option<Owners>) -> bool
+    fn lacks_any_edge_wire(&self, owners: &Option<Owners>) -> bool
         requires owners { IfSome owners.now (AreModuleOwners self.now) }
         requires long { 1 < self.now.setting.size.steps }
-        ensures { result ≡ lacks_wire self.now.setting (modules_of self.now.entries) }
+        ensures { result ≡ lacks_edge_wire_beside self.now.setting (modules_of self.now.entries) }
     {
         'lines: for (place, entry) in self.entries.iter().enumerate() {
             if let CertificateLine::Module(area) = entry.line() {
-                if self.lacks_some_in(owners, area, lines_of_module(&self.entries[place + 1..])) {
+                if self.is_edge_wire_lacked_beside(
+                    owners,
+                    area,
+                    lines_of_module(&self.entries[place + 1..]),
+                ) {
                     return true;
                 }
             }
@@ -406,14 +421,14 @@ impl<'a> Builder<'a> {
     ///
     /// It takes memory for a table of the modules that have the cells. With the table it asks at most three modules for
     /// each edge line. If there is no memory for the table, it asks each module.
-    pub fn lacks_wire(&self, alloc: Global) -> bool
-        ensures { result ≡ lacks_wire self.now.setting (modules_of self.now.entries) }
+    pub fn lacks_edge_wire_beside(&self, alloc: Global) -> bool
+        ensures { result ≡ lacks_edge_wire_beside self.now.setting (modules_of self.now.entries) }
     {
         let size = self.tables.size();
         if size.steps <= 1 {
             return false;
         }
         let owners = self.owners(alloc);
-        self.lacks_some_wire(&owners)
+        self.lacks_any_edge_wire(&owners)
     }
 }

@@ -41,7 +41,7 @@ impl<'a> Model for LineTables<'a> {
     ghost invariant = { AreLineTables };
 }
 
-fn push_named(names: &mut Vec<Name>, name: Option<Name>) -> Result<(), AllocError>
+fn push_name_if_some(names: &mut Vec<Name>, name: Option<Name>) -> Result<(), AllocError>
     ensures { OnOk result ((f : List ℕ → Bool) →
         list_any f names.new.items ≡ (list_any f names.old.items || option_map_or f name false)) }
 {
@@ -53,7 +53,7 @@ fn push_named(names: &mut Vec<Name>, name: Option<Name>) -> Result<(), AllocErro
 }
 
 // Adds the names of the ports at `width` cells of row `y`, from column `x` on.
-fn push_row_names(
+fn push_port_names_in_row(
     names: &mut Vec<Name>,
     ports: &PortTable,
     x: u32,
@@ -66,10 +66,10 @@ fn push_row_names(
         ≡ (list_any f names.old.items || list_any
         (λ c. option_map_or f (port_at ports.now c.x c.y) false) (row_cells x width y))) }
 {
-    if ports.is_row_empty(y) {
+    if ports.is_row_without_port(y) {
         return Ok(());
     }
-    if ports.is_row_free(x, y, width) {
+    if ports.is_row_part_without_port(x, y, width) {
         return Ok(());
     }
     for column in x..x + width {
@@ -77,13 +77,13 @@ fn push_row_names(
             x: column as i32,
             y: y as i32,
         };
-        push_named(names, ports.get(cell))?;
+        push_name_if_some(names, ports.get(cell))?;
     }
     Ok(())
 }
 
 // Adds the names of the ports in a box.
-fn push_names(names: &mut Vec<Name>, ports: &PortTable, area: Box2) -> Result<(), AllocError>
+fn push_port_names(names: &mut Vec<Name>, ports: &PortTable, area: Box2) -> Result<(), AllocError>
     requires { (area.x + area.w ≤ 512) × (area.y + area.h ≤ 512) }
     ensures { OnOk result ((f : List ℕ → Bool) →
         list_any f names.new.items
@@ -91,7 +91,7 @@ fn push_names(names: &mut Vec<Name>, ports: &PortTable, area: Box2) -> Result<()
         (λ c. option_map_or f (port_at ports.now c.x c.y) false) (box_cells area))) }
 {
     for y in area.y..area.y + area.h {
-        push_row_names(names, ports, area.x, y, area.w)?;
+        push_port_names_in_row(names, ports, area.x, y, area.w)?;
     }
     Ok(())
 }
@@ -143,7 +143,7 @@ impl<'a> LineTables<'a> {
         let _wire_count = self.circuit.wires();
         match self.circuit.named_wire(name) {
             None => None,
-            Some((wire, circuit_name)) => Some((wire.number(), circuit_name)),
+            Some((wire, name_held_by_circuit)) => Some((wire.number(), name_held_by_circuit)),
         }
     }
 
@@ -183,8 +183,8 @@ impl<'a> LineTables<'a> {
             ≡ (list_any f names.old.items || list_any
             (λ p. in_box area p.cell.x p.cell.y && f p.name) self.now.ports)) }
     {
-        push_names(names, &self.ins, area)?;
-        push_names(names, &self.outs, area)?;
+        push_port_names(names, &self.ins, area)?;
+        push_port_names(names, &self.outs, area)?;
         Ok(())
     }
 }

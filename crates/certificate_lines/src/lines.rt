@@ -58,7 +58,7 @@ fn uses(entry: &StoredLine, number: u32) -> bool
 
 /// Returns whether the last module of the lines uses the gate of this number. It looks back as far as that module's
 /// `module` line.
-pub(crate) fn is_used(entries: &[StoredLine], number: u32) -> bool
+pub(crate) fn is_gate_used_in_last(entries: &[StoredLine], number: u32) -> bool
     ensures { (m : ModuleLines) → last_module entries.now ≡ Some m →
         result ≡ is_among (gates m) number }
 {
@@ -141,7 +141,7 @@ pub fn used_gates(alloc: Global, lines: &[StoredLine]) -> Result<Vec<GateNo>, Al
 }
 
 // The place of a gate among the used ones.
-fn place_of(gates: &[GateNo], number: u32) -> u16
+fn gate_place(gates: &[GateNo], number: u32) -> u16
     requires at_most_64 { length gates.now ≤ 64 }
     requires used { IsTrue (is_among gates.now number) }
     ensures within { result < length gates.now }
@@ -164,7 +164,7 @@ fn push_keep(places: &mut Vec<u16>, gates: &[GateNo], line: &StoredLine) -> Resu
     ensures within { OnOk result (All (λ place. place < length gates.now) places.new.items) }
 {
     if let CertificateLine::Keep(number) = line.line() {
-        places.push(place_of(gates, number))?;
+        places.push(gate_place(gates, number))?;
     }
     Ok(())
 }

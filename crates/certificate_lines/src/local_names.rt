@@ -2,7 +2,7 @@
 ghost use Rattle.std.specs.Prelude.{◌≡◌, ◌<◌, None, Some, replicate, IfSome, IsTrue};
 ghost use Rattle.circuit.specs.Meaning.{wire_of};
 ghost use Rattle.std.specs.Option.{is_some, option_map};
-ghost use Rattle.certificate_lines.specs.BuilderView.{AreLocalNames, IsCutWire, NamesWire};
+ghost use Rattle.certificate_lines.specs.BuilderView.{AreLocalNames, IsCutWire, NamesLocalOrCutWire};
 ghost use Rattle.certificate_lines.specs.Entries.{name_in};
 ghost use Rattle.certificate_lines.specs.Rules.{is_local};
 
@@ -59,7 +59,7 @@ fn slot_of(name: &Name) -> usize
 
 // Returns the circuit's name of the wire of this name, if it is local. The name gets the slot.
 #[inline(never)]
-fn look_up<'a>(
+fn look_up_local_name<'a>(
     tables: &LineTables<'a>,
     known: &WireList,
     slots: &mut [Option<LocalName<'a>>; SLOT_COUNT],
@@ -72,18 +72,20 @@ fn look_up<'a>(
     ensures same_name { IfSome result (λ own. own.now ≡ name.now) }
     ensures names { AreLocalNames tables.now.circuit known.now.wires slots.new }
 {
-    let (wire, circuit_name) = tables.named_wire(name)?;
+    let (wire, name_held_by_circuit) = tables.named_wire(name)?;
     if !known.contains(wire) {
         return None;
     }
-    slots[slot] = Some(LocalName { name: circuit_name });
-    Some(circuit_name)
+    slots[slot] = Some(LocalName {
+        name: name_held_by_circuit,
+    });
+    Some(name_held_by_circuit)
 }
 
 // Returns the circuit's name of the wire of this name, if it is local. It looks the name up only if its slot does not
 // hold it.
 #[inline(always)]
-fn find_in<'a>(
+fn find_name_in_slots<'a>(
     tables: &LineTables<'a>,
     known: &WireList,
     slots: &mut [Option<LocalName<'a>>; SLOT_COUNT],
@@ -102,11 +104,11 @@ fn find_in<'a>(
     }
     // a copy, so that the compiler knows that the call does not change the line
     let name = *name;
-    look_up(tables, known, slots, slot, &name)
+    look_up_local_name(tables, known, slots, slot, &name)
 }
 
 // Puts the name of a wire that was cut into its slot, if the wire is local.
-fn put_cut<'a>(
+fn put_cut_name_in_slot<'a>(
     tables: &LineTables<'a>,
     known: &WireList,
     slots: &mut [Option<LocalName<'a>>; SLOT_COUNT],
@@ -124,7 +126,7 @@ fn put_cut<'a>(
 impl<'a> LocalNames<'a> {
     /// Notes the name of the wire that a line cut, if it cut one. Lines of the module that name it look nothing up
     /// then.
-    pub(crate) fn note_cut(
+    pub(crate) fn cache_cut_name(
         &mut self,
         tables: &LineTables<'a>,
         known: &WireList,
@@ -137,7 +139,7 @@ impl<'a> LocalNames<'a> {
     {
         if let CertificateLine::Cut(_) = line {
             if let Some(cut) = cut {
-                put_cut(tables, known, &mut self.slots, cut);
+                put_cut_name_in_slot(tables, known, &mut self.slots, cut);
             }
         }
     }
@@ -167,14 +169,14 @@ impl<'a> LocalNames<'a> {
         ensures same_name { IfSome result (λ own. own.now ≡ name.now) }
         ensures names { AreLocalNames tables.now.circuit known.now.wires self.new.slots }
     {
-        find_in(tables, known, &mut self.slots, name)
+        find_name_in_slots(tables, known, &mut self.slots, name)
     }
 
     /// Returns the circuit's name of the wire of this name.
     ///
     /// The name is looked up only if its slot does not hold it.
     #[inline(always)]
-    pub(crate) fn circuit_name(&self, tables: &LineTables<'a>, name: &Name) -> &'a Name
+    pub(crate) fn name_held_by_circuit(&self, tables: &LineTables<'a>, name: &Name) -> &'a Name
         requires { IsTrue (is_some (wire_of tables.now.circuit name.now)) }
         ensures { result.now ≡ name.now }
     {
@@ -185,7 +187,7 @@ impl<'a> LocalNames<'a> {
             }
         }
         match tables.named_wire(name) {
-            Some((_, circuit_name)) => circuit_name,
+            Some((_, name_held_by_circuit)) => name_held_by_circuit,
             None => unreachable!(),
         }
     }
@@ -193,14 +195,14 @@ impl<'a> LocalNames<'a> {
 
 /// Returns the name in a line as the circuit has it, if the line has one.
 #[inline(always)]
-pub(crate) fn circuit_name<'a>(
+pub(crate) fn name_held_by_circuit<'a>(
     tables: &LineTables<'a>,
     known: &WireList,
     names: &LocalNames<'a>,
     line: &CertificateLine,
     cut: Option<CutWire<'a>>,
 ) -> Option<&'a Name>
-    requires wire { NamesWire tables.now.circuit known.now.wires line.now }
+    requires wire { NamesLocalOrCutWire tables.now.circuit known.now.wires line.now }
     requires cut { IsCutWire tables.now.circuit line.now cut }
     ensures { option_map (λ n. n.now) result ≡ name_in line.now }
 {
@@ -211,7 +213,7 @@ pub(crate) fn circuit_name<'a>(
         },
         CertificateLine::Edge(border) => circuit_signal_name(tables, known, names, &border.signal),
         CertificateLine::Halo(border) => circuit_signal_name(tables, known, names, &border.signal),
-        CertificateLine::Stop(stop) => Some(names.circuit_name(tables, &stop.wire)),
+        CertificateLine::Stop(stop) => Some(names.name_held_by_circuit(tables, &stop.wire)),
         _ => None,
     }
 }
@@ -228,7 +230,7 @@ fn circuit_signal_name<'a>(
     ensures { option_map (λ n. n.now) result ≡ signal.now }
 {
     match signal {
-        Some(name) => Some(names.circuit_name(tables, name)),
+        Some(name) => Some(names.name_held_by_circuit(tables, name)),
         None => None,
     }
 }

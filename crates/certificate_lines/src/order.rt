@@ -3,7 +3,7 @@ ghost use Rattle.std.specs.Prelude.{◌≡◌, ℕ, List};
 ghost use Rattle.std.specs.Ordering.{is_lt};
 ghost use Rattle.certificate_lines.specs.Entries.{last_of};
 ghost use Rattle.certificate_lines.specs.Orders.{AreInOrder, rank_of, time_rank, number_of, cell_of, line_cmp, is_cut, may_precede, may_follow};
-ghost use Rattle.certificate_lines.specs.Versions.{line_order};
+ghost use Rattle.certificate_lines.specs.Versions.{border_line_cmp};
 ghost use Rattle.certificate_lines.specs.BuilderView.{IsBodyLine, last_body_line};
 ghost use Rattle.certificate_lines.specs.declared.certificate_line.CertificateLine.{CertificateLine};
 ghost use Rattle.certificate_lines.specs.declared.certificate_line.CertificateLine.TheVariants.{Cut, Use, Stop};
@@ -96,7 +96,7 @@ fn is_cut_line(entry: &CertificateLine) -> bool
 // Whether the first of two lines of any kinds may stand before the second.
 #[inline(never)]
 #[tactic(auto, unfolding(crate::specs::Orders::may_precede))]
-fn does_any_precede(first: &CertificateLine, second: &CertificateLine) -> bool
+fn may_any_line_precede(first: &CertificateLine, second: &CertificateLine) -> bool
     ensures { result ≡ may_precede first.now second.now }
 {
     compare(first, second).is_lt() | (is_cut_line(first) & is_cut_line(second))
@@ -104,9 +104,9 @@ fn does_any_precede(first: &CertificateLine, second: &CertificateLine) -> bool
 
 // Whether the first of two edge lines, or of two halo lines, may stand before the second.
 #[inline(always)]
-#[tactic(auto, unfolding(crate::specs::Versions::line_order))]
-fn does_border_precede(first: &StoredBorder, second: &BorderLine) -> bool
-    ensures { result ≡ is_lt (line_order first.now second.now) }
+#[tactic(auto, unfolding(crate::specs::Versions::border_line_cmp))]
+fn may_border_precede(first: &StoredBorder, second: &BorderLine) -> bool
+    ensures { result ≡ is_lt (border_line_cmp first.now second.now) }
 {
     let first_time = rank_of_time(first.time());
     let second_time = rank_of_time(second.time);
@@ -120,7 +120,7 @@ fn does_border_precede(first: &StoredBorder, second: &BorderLine) -> bool
 // Whether the first of two stops may stand before the second.
 #[inline(always)]
 #[tactic(auto, unfolding(crate::specs::Orders::line_cmp, crate::specs::Orders::rank_of, crate::specs::Orders::number_of, crate::specs::Orders::cell_of))]
-fn does_stop_precede(first: &StoredStop, second: &StopLine) -> bool
+fn may_stop_precede(first: &StoredStop, second: &StopLine) -> bool
     ensures { result ≡ is_lt (line_cmp (Stop first.now) (Stop second.now)) }
 {
     if first.time() == second.time {
@@ -133,7 +133,7 @@ fn does_stop_precede(first: &StoredStop, second: &StopLine) -> bool
 // Whether a line may stand before a cut: cuts come first, in any order.
 #[inline(always)]
 #[tactic(auto, unfolding(crate::specs::Orders::may_precede, crate::specs::Orders::line_cmp, crate::specs::Orders::rank_of, crate::specs::Orders::is_cut))]
-fn does_precede_cut(first: &StoredLine) -> bool
+fn may_precede_cut(first: &StoredLine) -> bool
     ensures { (name : List ℕ) → result ≡ may_precede first.now (Cut name) }
 {
     match first.line() {
@@ -146,7 +146,7 @@ fn does_precede_cut(first: &StoredLine) -> bool
 // Whether a line may stand before one that uses this gate.
 #[inline(always)]
 #[tactic(auto, unfolding(crate::specs::Orders::may_precede, crate::specs::Orders::line_cmp, crate::specs::Orders::rank_of, crate::specs::Orders::is_cut))]
-fn does_precede_use(first: &StoredLine, gate: u32) -> bool
+fn may_precede_use(first: &StoredLine, gate: u32) -> bool
     ensures { result ≡ may_precede first.now (Use gate) }
 {
     match first.line() {
@@ -159,39 +159,39 @@ fn does_precede_use(first: &StoredLine, gate: u32) -> bool
 
 // Whether the first line may stand before the second. It makes a copy of the first line with its name.
 #[inline(never)]
-fn does_any_precede_line(first: &StoredLine, second: &CertificateLine) -> bool
+fn may_stored_any_precede(first: &StoredLine, second: &CertificateLine) -> bool
     ensures { result ≡ may_precede first.now second.now }
 {
-    does_any_precede(&first.line(), second)
+    may_any_line_precede(&first.line(), second)
 }
 
 // Whether the first line may stand before the second. Most lines follow a line of their kind, or begin with cuts and
 // gates, so it compares these without a copy of the first line.
 #[inline(always)]
-fn does_precede(first: &StoredLine, second: &CertificateLine) -> bool
+fn may_stored_precede(first: &StoredLine, second: &CertificateLine) -> bool
     ensures { result ≡ may_precede first.now second.now }
 {
     match second {
-        CertificateLine::Cut(_) => return does_precede_cut(first),
-        CertificateLine::Use(gate) => return does_precede_use(first, *gate),
+        CertificateLine::Cut(_) => return may_precede_cut(first),
+        CertificateLine::Use(gate) => return may_precede_use(first, *gate),
         CertificateLine::Edge(second) => {
             if let Some(first) = first.edge() {
-                return does_border_precede(&first, second);
+                return may_border_precede(&first, second);
             }
         }
         CertificateLine::Halo(second) => {
             if let Some(first) = first.halo() {
-                return does_border_precede(&first, second);
+                return may_border_precede(&first, second);
             }
         }
         CertificateLine::Stop(second) => {
             if let Some(first) = first.stop() {
-                return does_stop_precede(&first, second);
+                return may_stop_precede(&first, second);
             }
         }
         _ => {}
     }
-    does_any_precede_line(first, second)
+    may_stored_any_precede(first, second)
 }
 
 /// Returns whether a line of a module may follow the lines of the last module of a certificate.
@@ -206,14 +206,14 @@ pub(crate) fn may_follow(entries: &[StoredLine], entry: &CertificateLine) -> boo
 {
     match entries.last() {
         None => true,
-        Some(last) => does_precede(last, entry),
+        Some(last) => may_stored_precede(last, entry),
     }
 }
 
 /// Compares two edge lines, or two halo lines.
-#[tactic(auto, unfolding(crate::specs::Versions::line_order))]
+#[tactic(auto, unfolding(crate::specs::Versions::border_line_cmp))]
 pub fn compare_borders(first: &StoredBorder, second: &StoredBorder) -> Ordering
-    ensures { result ≡ line_order first.now second.now }
+    ensures { result ≡ border_line_cmp first.now second.now }
 {
     rank_of_time(first.time())
         .cmp(&rank_of_time(second.time()))

@@ -1,7 +1,7 @@
 //! The ports of a layout by their cells.
 ghost use Rattle.std.specs.Prelude.{◌≡◌, ◌+◌, ◌<◌, ◌≤◌, ℕ, ℤ, length, nat_eq, pos, true, None, OnOk, IfOk};
 ghost use Rattle.std.specs.List.{list_all};
-ghost use Rattle.pattern.specs.Layout.{HaveOwnCells};
+ghost use Rattle.pattern.specs.Layout.{HaveDistinctCells};
 ghost use Rattle.pattern.specs.Lines.{size_fault};
 ghost use Rattle.module_box.specs.Boxes.{in_box};
 ghost use Rattle.certificate_lines.specs.PortTables.{port_at, entry_place, AreInBox, AreNumberedRows, AreOnBoard};
@@ -82,7 +82,7 @@ fn index_ports<'a>(
     ports: &'a [Port],
 ) -> Result<PortTable<'a>, AllocError>
     requires limits { size_fault size ≡ None }
-    requires apart { HaveOwnCells ports.now }
+    requires apart { HaveDistinctCells ports.now }
     requires inside { AreOnBoard size ports.now }
     ensures { IfOk result (λ table. table ≡ ports.now) }
 {
@@ -109,8 +109,8 @@ pub fn port_tables<'a>(
 ) -> Result<(PortTable<'a>, PortTable<'a>), AllocError>
     ensures ins { IfOk result (λ tables. tables.0 ≡ layout.now.ins) }
     ensures outs { IfOk result (λ tables. tables.1 ≡ layout.now.outs) }
-    ensures ins_apart { OnOk result (HaveOwnCells layout.now.ins) }
-    ensures outs_apart { OnOk result (HaveOwnCells layout.now.outs) }
+    ensures ins_apart { OnOk result (HaveDistinctCells layout.now.ins) }
+    ensures outs_apart { OnOk result (HaveDistinctCells layout.now.outs) }
 {
     let size = layout.size();
     let ins = index_ports(alloc, size, layout.ins())?;
@@ -127,7 +127,7 @@ fn are_all_zero(numbers: &[u32]) -> bool
 impl<'a> PortTable<'a> {
     // Whether no port is in row `y`, by the row's number alone. Most rows of a layout have no port.
     #[inline(always)]
-    pub(crate) fn is_row_empty(&self, y: u32) -> bool
+    pub(crate) fn is_row_without_port(&self, y: u32) -> bool
         ensures { result ≡ true → (x : ℤ) → port_at self.now x (pos y) ≡ None }
     {
         let Some(row) = y.checked_sub(self.area.y) else {
@@ -140,7 +140,7 @@ impl<'a> PortTable<'a> {
     }
 
     // Whether no port is at `width` cells of row `y`, from column `x` on. It looks at the row once.
-    pub(crate) fn is_row_free(&self, x: u32, y: u32, width: u32) -> bool
+    pub(crate) fn is_row_part_without_port(&self, x: u32, y: u32, width: u32) -> bool
         requires { (x + width ≤ 512) × (y < 512) }
         ensures { result ≡ true → (k : ℕ) → k < width →
             port_at self.now (pos (x + k)) (pos y) ≡ None }

@@ -4,12 +4,12 @@ ghost use Rattle.std.specs.List.{list_any};
 ghost use Rattle.circuit.specs.Meaning.{Circuit, wire_of};
 ghost use Rattle.certificate_lines.specs.BuilderView.{AreLocalNames};
 ghost use Rattle.certificate_lines.specs.Entries.{ModuleLines, gates, last_module};
-ghost use Rattle.certificate_lines.specs.Rules.{is_wrong_side, is_misplaced, is_odd, is_local, is_local_wire, cut_fault, gate_fault, use_fault, keep_line_code, is_time, is_edge_place, is_halo_place, is_stop_place, signal_fault, wire_fault, border_line_code};
+ghost use Rattle.certificate_lines.specs.Rules.{is_wrong_side, is_misplaced, is_odd, is_local, is_local_wire, cut_fault, used_gate_fault, use_fault, keep_line_code, is_line_time_allowed, is_edge_place_and_time, is_halo_place_and_time, is_stop_place_and_time, signal_fault, wire_fault, border_line_code};
 
 use crate::certificate_line::{BorderLine, StopLine};
-use crate::known::{are_all_new, knows_all};
+use crate::known::{are_all_new_and_distinct, knows_all};
 use crate::line_tables::LineTables;
-use crate::lines::is_used;
+use crate::lines::is_gate_used_in_last;
 use crate::local_names::LocalNames;
 use crate::stored_line::StoredLine;
 use crate::tiles::whole_of;
@@ -32,14 +32,14 @@ fn is_odd_number(n: u32) -> bool
 }
 
 /// Returns whether a box's side is odd, too small or too large.
-pub(crate) fn is_bad_side(n: u32) -> bool
+pub(crate) fn is_bad_box_side(n: u32) -> bool
     ensures { result ≡ is_wrong_side n }
 {
     is_odd_number(n) || n < 2 || n > 64
 }
 
 /// Returns whether a box has an odd corner, or a cell outside the rectangle.
-pub(crate) fn is_bad_place(size: LayoutHeader, area: Box2) -> bool
+pub(crate) fn is_misplaced_box(size: LayoutHeader, area: Box2) -> bool
     ensures { result ≡ is_misplaced size area }
 {
     let right = u64::from(area.x) + u64::from(area.w);
@@ -93,7 +93,7 @@ pub(crate) fn cut_code(count: usize, known: &WireList, wire: Option<u16>) -> Opt
 }
 
 /// Returns the code of a used gate, if `count` gates are used already.
-#[tactic(auto, unfolding(crate::specs::Rules::use_fault, crate::specs::Rules::gate_fault))]
+#[tactic(auto, unfolding(crate::specs::Rules::use_fault, crate::specs::Rules::used_gate_fault))]
 pub(crate) fn use_code(
     tables: &LineTables,
     count: usize,
@@ -111,7 +111,7 @@ pub(crate) fn use_code(
     if !knows_all(known, gate.ins()) {
         return Some(RefusalCode::NotLocal);
     }
-    if !are_all_new(known, gate.outs()) {
+    if !are_all_new_and_distinct(known, gate.outs()) {
         return Some(RefusalCode::DefinedTwice);
     }
     None
@@ -130,7 +130,7 @@ pub(crate) fn keep_code(
     if !tables.is_inverse(number) {
         return Some(RefusalCode::UnknownName);
     }
-    if !is_used(entries, number) {
+    if !is_gate_used_in_last(entries, number) {
         return Some(RefusalCode::NotLocal);
     }
     None
@@ -138,7 +138,7 @@ pub(crate) fn keep_code(
 
 // The code of a wire's name, which is looked up: it must be that of a local wire.
 #[inline(never)]
-fn looked_up_code(tables: &LineTables, known: &WireList, name: &Name) -> Option<RefusalCode>
+fn code_of_looked_up_name(tables: &LineTables, known: &WireList, name: &Name) -> Option<RefusalCode>
     ensures { result ≡ wire_fault known.now.wires (wire_of tables.now.circuit name.now) }
 {
     match tables.wire(name) {
@@ -164,7 +164,7 @@ fn name_code<'a>(
         return None;
     }
     let name = *name;
-    looked_up_code(tables, known, &name)
+    code_of_looked_up_name(tables, known, &name)
 }
 
 #[inline(always)]
@@ -241,9 +241,9 @@ pub(crate) fn stop_code<'a>(
 }
 
 // Whether a line may have its time, where its cell has a `*` or has none.
-#[tactic(auto, unfolding(crate::specs::Rules::is_time))]
-fn is_good_time(steps: u32, starred: bool, time: Option<u32>) -> bool
-    ensures { result ≡ is_time steps starred time }
+#[tactic(auto, unfolding(crate::specs::Rules::is_line_time_allowed))]
+fn may_line_have_time(steps: u32, starred: bool, time: Option<u32>) -> bool
+    ensures { result ≡ is_line_time_allowed steps starred time }
 {
     match time {
         None => true,
@@ -252,14 +252,14 @@ fn is_good_time(steps: u32, starred: bool, time: Option<u32>) -> bool
 }
 
 /// Returns whether an edge line may have its cell and time.
-#[tactic(auto, unfolding(crate::specs::Rules::is_edge_place))]
-pub(crate) fn may_be_edge(
+#[tactic(auto, unfolding(crate::specs::Rules::is_edge_place_and_time))]
+pub(crate) fn may_edge_be_there(
     size: LayoutHeader,
     area: Box2,
     starred: bool,
     border: &BorderLine,
 ) -> bool
-    ensures { result ≡ is_edge_place size area starred border.now }
+    ensures { result ≡ is_edge_place_and_time size area starred border.now }
 {
     if !area.in_ring(border.cell) {
         return false;
@@ -267,18 +267,18 @@ pub(crate) fn may_be_edge(
     if whole_of(size).in_ring(border.cell) {
         return false;
     }
-    is_good_time(size.steps, starred, border.time)
+    may_line_have_time(size.steps, starred, border.time)
 }
 
 /// Returns whether a halo line may have its cell and time.
-#[tactic(auto, unfolding(crate::specs::Rules::is_halo_place))]
-pub(crate) fn may_be_halo(
+#[tactic(auto, unfolding(crate::specs::Rules::is_halo_place_and_time))]
+pub(crate) fn may_halo_be_there(
     size: LayoutHeader,
     area: Box2,
     starred: bool,
     border: &BorderLine,
 ) -> bool
-    ensures { result ≡ is_halo_place size area starred border.now }
+    ensures { result ≡ is_halo_place_and_time size area starred border.now }
 {
     if !area.in_halo(border.cell) {
         return false;
@@ -286,13 +286,13 @@ pub(crate) fn may_be_halo(
     if !whole_of(size).holds(border.cell) {
         return false;
     }
-    is_good_time(size.steps, starred, border.time)
+    may_line_have_time(size.steps, starred, border.time)
 }
 
 /// Returns whether a stop may have its cell and time.
-#[tactic(auto, unfolding(crate::specs::Rules::is_stop_place))]
-pub(crate) fn may_be_stop(size: LayoutHeader, area: Box2, stop: &StopLine) -> bool
-    ensures { result ≡ is_stop_place size area stop.now }
+#[tactic(auto, unfolding(crate::specs::Rules::is_stop_place_and_time))]
+pub(crate) fn may_stop_be_there(size: LayoutHeader, area: Box2, stop: &StopLine) -> bool
+    ensures { result ≡ is_stop_place_and_time size area stop.now }
 {
     let inside = area.holds(stop.cell);
     inside & (stop.time <= size.steps)

@@ -4,7 +4,7 @@ ghost use Rattle.std.specs.List.{list_any};
 ghost use Rattle.indexmap.specs.IndexSet.{spare};
 ghost use Rattle.certificate_lines.specs.BuilderView.{starred};
 ghost use Rattle.certificate_lines.specs.Entries.{edge_in, halo_in};
-ghost use Rattle.certificate_lines.specs.Rules.{same_cell, is_starred};
+ghost use Rattle.certificate_lines.specs.Rules.{same_cell, is_starred_line_at};
 ghost use Rattle.bbm_rule.specs.declared.block.Cell.{Cell};
 
 use crate::certificate_line::{BorderLine, CertificateLine};
@@ -44,7 +44,7 @@ fn note_star(stars: &mut IndexSet<Cell>, border: &BorderLine)
     requires { length (starred (border.now ∷ [])) ≤ spare stars.old }
     ensures { (c : Cell) →
         list_any (same_cell c) stars.new.keys
-        ≡ (list_any (same_cell c) stars.old.keys || is_starred c border.now) }
+        ≡ (list_any (same_cell c) stars.old.keys || is_starred_line_at c border.now) }
 {
     if border.time.is_some() {
         return;
@@ -94,10 +94,12 @@ pub(crate) fn note_stars(
     requires halos { length (starred (halo_in entry.now)) ≤ spare halos.old }
     ensures edges { (c : Cell) →
         list_any (same_cell c) edges.new.keys
-        ≡ (list_any (same_cell c) edges.old.keys || list_any (is_starred c) (edge_in entry.now)) }
+        ≡ (list_any (same_cell c) edges.old.keys || list_any (is_starred_line_at c)
+        (edge_in entry.now)) }
     ensures halos { (c : Cell) →
         list_any (same_cell c) halos.new.keys
-        ≡ (list_any (same_cell c) halos.old.keys || list_any (is_starred c) (halo_in entry.now)) }
+        ≡ (list_any (same_cell c) halos.old.keys || list_any (is_starred_line_at c)
+        (halo_in entry.now)) }
 {
     match entry {
         CertificateLine::Edge(border) => note_star(edges, border),

@@ -30,7 +30,7 @@ pub fn is_live(grid: &Grid, cell: Cell) -> bool
 }
 
 // Whether the first w cells of row y are live.
-fn is_row_full(grid: &Grid, w: u32, y: u32) -> bool
+fn is_row_all_live(grid: &Grid, w: u32, y: u32) -> bool
     requires columns { (w ≤ grid.now.width) × (w ≤ 512) }
     requires row { (y < grid.now.height) × (y < 512) }
     ensures { result ≡ list_all (λ c. live grid.now c.x c.y) (row_cells 0 w y) }
@@ -39,14 +39,14 @@ fn is_row_full(grid: &Grid, w: u32, y: u32) -> bool
 }
 
 /// Returns whether all cells of a rectangle from the cell (0, 0) on, as wide and as high as the grid, are live.
-pub(crate) fn is_full(grid: &Grid, w: u32, h: u32) -> bool
+pub(crate) fn are_all_cells_live(grid: &Grid, w: u32, h: u32) -> bool
     requires same_size { (grid.now.width ≡ w) × (grid.now.height ≡ h) }
     requires small { (w ≤ 512) × (h ≤ 512) }
     ensures { result ≡ list_all (λ c. live grid.now c.x c.y) (box_cells (rectangle_of w h)) }
 {
     let mut full = true;
     for y in 0..h {
-        full &= is_row_full(grid, w, y);
+        full &= is_row_all_live(grid, w, y);
     }
     full
 }

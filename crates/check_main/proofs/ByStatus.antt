@@ -10,11 +10,11 @@ use Rattle.command_line.specs.declared.Request.TheVariants.{Check}
 use Rattle.answers.specs.declared.outcome.Outcome.{Outcome}
 use Rattle.answers.specs.declared.outcome.Outcome.TheVariants.{Yes, No, Refused}
 use Rattle.meaning.specs.Headline.{IsRight}
-use Rattle.meaning.specs.Streams.{ReaderGives, YesMeans}
+use Rattle.meaning.specs.Streams.{HoldsOfKnownInput, YesMeans}
 use Rattle.headline.specs.RightInFull.{IsRightInFull}
 use Rattle.headline.specs.Stops.{HasRightStops}
 use Rattle.headline.specs.Plain.{IsWrongIfPlain}
-use Rattle.headline.specs.SmallDesigns.{IsNoSmallDesign}
+use Rattle.headline.specs.SmallDesigns.{IsNoSmallDesignText}
 use Rattle.headline.specs.ReportLines.{LinesHaveMeaning, RelatesReadToWritten}
 use Rattle.check_main.specs.declared.fault.CheckFault.{CheckFault}
 use Rattle.check_main.specs.declared.fault.CheckFault.TheVariants.{Read, Write, TooLong, Memory}
@@ -208,7 +208,7 @@ module _ {R W E : Type 0} {source : Source R} {sink : Sink W} {messages : Sink E
   -- 0 of `check`: the text is right in full
   pub right_in_full : (AsksForCheck words → YesPromises IsRightInFull (status ≡ 0) (source.left old.reader)
       (sink.written_bytes old.writer) (sink.written_bytes new.writer)) →
-      IsAccepted words → asked_by words ≡ Check → status ≡ 0 → ReaderGives IsRightInFull (source.left old.reader)
+      IsAccepted words → asked_by words ≡ Check → status ≡ 0 → HoldsOfKnownInput IsRightInFull (source.left old.reader)
   right_in_full full a asked zero = (full (record { accepted = a; asked = asked })).by_end zero
 
   -- a fourth line `verdict yes` of `check`, whatever the status: the same
@@ -221,7 +221,7 @@ module _ {R W E : Type 0} {source : Source R} {sink : Sink W} {messages : Sink E
   -- so the layout computes the circuit, at 0 of `check`
   pub correct : (AsksForCheck words → YesPromises IsRightInFull (status ≡ 0) (source.left old.reader)
       (sink.written_bytes old.writer) (sink.written_bytes new.writer)) →
-      IsAccepted words → asked_by words ≡ Check → status ≡ 0 → ReaderGives IsRight (source.left old.reader)
+      IsAccepted words → asked_by words ≡ Check → status ≡ 0 → HoldsOfKnownInput IsRight (source.left old.reader)
   correct full a asked zero text known = (right_in_full full a asked zero text known).right
 
   -- and at a fourth line `verdict yes`
@@ -235,7 +235,7 @@ module _ {R W E : Type 0} {source : Source R} {sink : Sink W} {messages : Sink E
   -- and the stops hold, at 0 of `check`
   pub stops : (AsksForCheck words → YesPromises IsRightInFull (status ≡ 0) (source.left old.reader)
       (sink.written_bytes old.writer) (sink.written_bytes new.writer)) →
-      IsAccepted words → asked_by words ≡ Check → status ≡ 0 → ReaderGives HasRightStops (source.left old.reader)
+      IsAccepted words → asked_by words ≡ Check → status ≡ 0 → HoldsOfKnownInput HasRightStops (source.left old.reader)
   stops full a asked zero text known = (right_in_full full a asked zero text known).stops
 
   -- and at a fourth line `verdict yes`
@@ -247,8 +247,8 @@ module _ {R W E : Type 0} {source : Source R} {sink : Sink W} {messages : Sink E
       (says_yes_in_full full a asked before output f g line text known).stops
 
   -- 1 of `check`: the text is wrong, if its certificate is plain
-  pub wrong : (AsksForCheck words → status ≡ 1 → ReaderGives IsWrongIfPlain (source.left old.reader)) →
-      asked_by words ≡ Check → status ≡ 1 → ReaderGives IsWrongIfPlain (source.left old.reader)
+  pub wrong : (AsksForCheck words → status ≡ 1 → HoldsOfKnownInput IsWrongIfPlain (source.left old.reader)) →
+      asked_by words ≡ Check → status ≡ 1 → HoldsOfKnownInput IsWrongIfPlain (source.left old.reader)
   wrong means asked one = means (record { accepted = accepted_at_one one; asked = asked }) one
 
   -- 1 of `check`: the lines have their meaning
@@ -259,6 +259,6 @@ module _ {R W E : Type 0} {source : Source R} {sink : Sink W} {messages : Sink E
   lines means asked one = means (record { accepted = accepted_at_one one; asked = asked }) one
 
   -- 3 of `check`: the text is not the plain text of a small design
-  pub small : (AsksForCheck words → status ≡ 3 → ReaderGives IsNoSmallDesign (source.left old.reader)) →
-      asked_by words ≡ Check → status ≡ 3 → ReaderGives IsNoSmallDesign (source.left old.reader)
+  pub small : (AsksForCheck words → status ≡ 3 → HoldsOfKnownInput IsNoSmallDesignText (source.left old.reader)) →
+      asked_by words ≡ Check → status ≡ 3 → HoldsOfKnownInput IsNoSmallDesignText (source.left old.reader)
   small means asked three = means (record { accepted = accepted_at_three three; asked = asked }) three

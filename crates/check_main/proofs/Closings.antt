@@ -1,14 +1,14 @@
 -- The book of an audit.
 use Rattle.std.proofs.Common.{◌≡◌, ◌∙◌, ◌+◌, ◌≤◌, ℕ, suc, zero, List, [], ◌∷◌, ◌++◌, length, map, false, refl, sym, ap}
-use Rattle.std.proofs.Common.{arith, subst, length-append}
-use Rattle.std.specs.Prelude.{replicate}
+use Rattle.std.proofs.Common.{arith, subst, length-append, replicate}
 use Rattle.sha2.specs.Sha256.{sha256}
 use Rattle.certificate.specs.Grammars.{CertView}
 use Rattle.certificate.specs.Text.{certificate_text}
 use Rattle.core_book.specs.Book.{BookView, IsReplayed, accepted_in, after_closing, new_book}
-use Rattle.core_book.specs.Concluding.{AreOwnJobs}
-use Rattle.core_book.specs.Replay.{Replayed, accepted_after, after_entry, beginning, has_closing, replay, replay_from}
-use Rattle.core_book.specs.Verdicts.{AreHeldBelow}
+use Rattle.core_book.specs.Concluding.{AreJobsOfCertificate}
+use Rattle.core_book.specs.Replay.{Replayed, accepted_after, after_entry, empty_replayed, has_closing, replay}
+use Rattle.core_book.specs.Replay.{replay_from}
+use Rattle.core_book.specs.Verdicts.{AreFindingsHeldBelow}
 use Rattle.core_book.specs.declared.reply.Reply.{Reply}
 use Rattle.core_book.specs.declared.reply.Reply.TheVariants as reply
 use Rattle.core_book.proofs.Replays.{closed-by_its_history}
@@ -16,7 +16,7 @@ use Rattle.core_book.specs.declared.log_entry.LogEntry.{LogEntry}
 use Rattle.core_book.specs.declared.log_entry.LogEntry.TheVariants.{Filed, Closing}
 use Rattle.module_job.specs.Jobs.{JobView}
 use Rattle.verdict_book.specs.Counts.{no_counts}
-use Rattle.job_pool.specs.Work.{filed_by}
+use Rattle.job_pool.specs.Work.{sum_of_filed}
 use Rattle.check_main.specs.Audits.{IsAuditOf, IsClosedOnce, IsCompleted, filings_in}
 
 pub no_history : (b : BookView) (digest : List ℕ) (jobs : List JobView) → b ≡ new_book digest jobs → b.history ≡ []
@@ -78,29 +78,29 @@ accepted_filed p (Filed f ∷ es) =
 pub many_filings : (b : BookView) → IsReplayed b → accepted_in b ≤ length (filings_in b.history)
 many_filings b is =
     let count : length (replay b.history).accepted ≡ accepted_in b = is.count in
-    let most = accepted_filed beginning b.history in
+    let most = accepted_filed empty_replayed b.history in
     omega (arith, count, most)
 
-held_closed : (b : BookView) (jobs : List JobView) (n : ℕ) → AreHeldBelow b jobs n →
-    AreHeldBelow (after_closing b) jobs n
+held_closed : (b : BookView) (jobs : List JobView) (n : ℕ) → AreFindingsHeldBelow b jobs n →
+    AreFindingsHeldBelow (after_closing b) jobs n
 held_closed b jobs n held k j below at =
     let h = held k j below at in
     record { finding = h.finding; held = h.held; whole = h.whole }
 
 pub audit_of : (s : CertView) (digest : List ℕ) (jobs : List JobView) (b c : BookView) →
-    digest ≡ sha256 (certificate_text s) → AreOwnJobs s jobs → IsCompleted digest jobs b c → IsAuditOf s c
+    digest ≡ sha256 (certificate_text s) → AreJobsOfCertificate s jobs → IsCompleted digest jobs b c → IsAuditOf s c
 audit_of s digest jobs b c of_text own is =
     let full = is.is_full in
     let same : jobs ≡ is.full.jobs = sym full.is_open.jobs_are in
     subst (IsAuditOf s) (sym is.closed) (record {
       digest_is = full.is_open.digest_is ∙ of_text;
-      jobs_are = subst (AreOwnJobs s) same own;
+      jobs_are = subst (AreJobsOfCertificate s) same own;
       all_held = held_closed is.full is.full.jobs (length is.full.jobs)
-          (subst (λ (js : List JobView). AreHeldBelow is.full js (length js)) same full.all_held);
+          (subst (λ (js : List JobView). AreFindingsHeldBelow is.full js (length js)) same full.all_held);
       all_accepted = full.all_accepted ∙ ap length same;
     })
 
 -- new shares have filed nothing
-pub none_filed : (n : ℕ) → filed_by (replicate n no_counts) ≡ 0
+pub none_filed : (n : ℕ) → sum_of_filed (replicate n no_counts) ≡ 0
 none_filed zero = refl
 none_filed (suc n) = none_filed n

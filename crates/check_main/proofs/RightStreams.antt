@@ -1,12 +1,11 @@
 -- What an outcome means for a text, of what a reader had to give and of what a writer holds.
 use Rattle.std.proofs.Common.{◌≡◌, ℕ, List, [], ◌++◌, Option, Some, None, Result, Ok, Err, sym, ap, subst, ◌∙◌, arith}
-use Rattle.std.proofs.Common.{append-nil}
+use Rattle.std.proofs.Common.{append-nil, ◌↔◌, IfErr, IfOk, OnOk}
 use Rattle.std.proofs.lemmas.List.{append_cancel_left}
-use Rattle.std.specs.Prelude.{◌↔◌, IfErr, IfOk, OnOk}
 use Rattle.std.specs.Io.KnownBytes.{Appends, Consumes, IsAtEnd}
 use Rattle.answers.specs.declared.outcome.Outcome.{Outcome}
 use Rattle.answers.specs.declared.outcome.Outcome.TheVariants.{Yes}
-use Rattle.meaning.specs.Streams.{ReaderGives, SaysYes, YesMeans}
+use Rattle.meaning.specs.Streams.{HoldsOfKnownInput, SaysYes, YesMeans}
 use Rattle.headline.specs.ReportLines.{RelatesReadToWritten}
 use Rattle.headline.proofs.FourthLines.{says_on}
 use Rattle.check_main.specs.Program.{YesPromises}
@@ -21,7 +20,7 @@ all_read (Some xs) (Some ys) text known e given ended =
     sym (append-nil text) ∙ ap (λ t. text ++ t) (sym ended) ∙ sym given ∙ own
 
 given : (P : List ℕ → Type 0) (left left' : Option (List ℕ)) (text : List ℕ) → ReadsAll left left' text → P text →
-    ReaderGives P left
+    HoldsOfKnownInput P left
 given P left left' text read right known e = subst P (all_read left left' text known e read.given read.ended) right
 
 taken_is : (written_bytes written_bytes' : Option (List ℕ)) (before more taken : List ℕ) → written_bytes ≡ Some before →
@@ -80,7 +79,7 @@ written_right P left left' written_bytes written_bytes' text output holds read (
 pub outcome_means : {E : Type 0} (P : List ℕ → Type 0) (wanted : Outcome)
     (left left' : Option (List ℕ)) (text : List ℕ) (outcome : Outcome) →
     (outcome ≡ wanted → P text) → ReadsAll left left' text → (result : Result Outcome E) → result ≡ Ok wanted →
-    IfOk result (λ o. o ≡ outcome) → ReaderGives P left
+    IfOk result (λ o. o ≡ outcome) → HoldsOfKnownInput P left
 outcome_means P wanted left left' text outcome holds read (Ok o) is same =
     let wanted_is : o ≡ wanted = cc in
     given P left left' text read (holds (sym same ∙ wanted_is))

@@ -1,12 +1,11 @@
 -- The bytes that a reader of the section took are the text of the certificate that it gave.
-use Rattle.std.proofs.Common.{◌≡◌, ℕ, ◌+◌, ◌≤◌, List, ◌++◌, length, take, drop, Option, None, Some, Ok, refl}
-use Rattle.std.proofs.Common.{ap, ◌∙◌, arith}
-use Rattle.std.specs.List.{flat_map}
+use Rattle.std.proofs.Common.{◌≡◌, ℕ, ◌+◌, ◌≤◌, List, ◌++◌, length, take, drop, Option, None, Some, Ok, refl, ap, ◌∙◌}
+use Rattle.std.proofs.Common.{arith, flat_map}
 use Rattle.std.proofs.Math.Seq.{drop-append_seam, take-add}
 use Rattle.std.proofs.lemmas.Grind.{flat_map-append}
 use Rattle.std.proofs.lemmas.List.{length-append}
 use Rattle.section_text.specs.Feeds.{FeedView}
-use Rattle.section_text.specs.Section.{Reads, ReadsSection, ended_line}
+use Rattle.section_text.specs.Section.{Reads, ReadsSection, with_line_feed}
 use Rattle.section_text.specs.Words.{lines_of}
 use Rattle.section_text.specs.declared.fault.ReadFault.{ReadFault}
 use Rattle.certificate_lines.specs.Entries.{Setting}
@@ -30,8 +29,8 @@ text_taken printed g old new c r =
     let ls = lines_of old.text in
     let k = length c.entries + 2 in
     ap taken_bytes s.after
-    ∙ ap (flat_map ended_line) (take-add old.taken k ls)
-    ∙ flat_map-append ended_line (take old.taken ls) (take k (drop old.taken ls))
+    ∙ ap (flat_map with_line_feed) (take-add old.taken k ls)
+    ∙ flat_map-append with_line_feed (take old.taken ls) (take k (drop old.taken ls))
     ∙ ap (λ (t : List ℕ). taken_bytes old ++ t) (printed g old.taken (drop old.taken ls) c s.gives)
 
 -- so the bytes behind those before are the certificate's text

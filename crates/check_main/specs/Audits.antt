@@ -5,9 +5,9 @@ use Rattle.certificate.specs.Grammars.{CertView}
 use Rattle.module_job.specs.Jobs.{JobView}
 use Rattle.certificate.specs.Text.{certificate_text}
 use Rattle.core_book.specs.Book.{BookView, accepted_in, after_closing}
-use Rattle.core_book.specs.Concluding.{AreOwnJobs}
+use Rattle.core_book.specs.Concluding.{AreJobsOfCertificate}
 use Rattle.core_book.specs.Filling.{IsFull, IsPartlyFilled}
-use Rattle.core_book.specs.Verdicts.{AreHeldBelow}
+use Rattle.core_book.specs.Verdicts.{AreFindingsHeldBelow}
 use Rattle.core_book.specs.declared.log_entry.LogEntry.{LogEntry}
 use Rattle.core_book.specs.declared.log_entry.LogEntry.TheVariants.{Filed, Closing}
 use Rattle.core_book.specs.declared.log_entry.Filing.{Filing}
@@ -25,8 +25,8 @@ IsClosedOnce history = history ≡ map Filed (filings_in history) ++ Closing ∷
 -- the book is of the certificate's digest and jobs, and a finding of each job was accepted
 pub record IsAuditOf (c : CertView) (b : BookView) : Type 0 where
   pub digest_is : b.digest ≡ sha256 (certificate_text c)
-  pub jobs_are : AreOwnJobs c b.jobs
-  pub all_held : AreHeldBelow b b.jobs (length b.jobs)
+  pub jobs_are : AreJobsOfCertificate c b.jobs
+  pub all_held : AreFindingsHeldBelow b b.jobs (length b.jobs)
   pub all_accepted : accepted_in b ≡ length b.jobs
 
 -- the first book was filled up, and closed then

@@ -4,18 +4,18 @@ use Rattle.std.specs.Arc.{arc_value}
 use Rattle.std.specs.List.{flat_map}
 use Rattle.sha2.specs.Sha256.{sha256}
 use Rattle.section_text.specs.Feeds.{FeedView}
-use Rattle.section_text.specs.Section.{ended_line}
+use Rattle.section_text.specs.Section.{with_line_feed}
 use Rattle.section_text.specs.Words.{lines_of}
 use Rattle.border_match.specs.BorderFaults.{AreBorderFaultsOf}
 use Rattle.certificate.specs.Grammars.{CertView}
 use Rattle.certificate.specs.Text.{certificate_text}
-use Rattle.core_book.specs.Concluding.{AreOwnJobs, modules, setting}
+use Rattle.core_book.specs.Concluding.{AreJobsOfCertificate, modules, setting}
 use Rattle.check_main.specs.declared.preparing.JobsAndBorders.{JobsAndBorders}
 use Rattle.check_main.specs.declared.preparing.Prepared.{Prepared}
 
 -- the bytes of the lines that were taken
 abbrev pub taken_bytes : FeedView → List ℕ
-taken_bytes f = flat_map ended_line (take f.taken (lines_of f.text))
+taken_bytes f = flat_map with_line_feed (take f.taken (lines_of f.text))
 
 -- the lines that were taken are the text of the certificate, from this byte on
 pub record IsSectionOf (f : FeedView) (from : ℕ) (c : CertView) : Type 0 where
@@ -24,11 +24,11 @@ pub record IsSectionOf (f : FeedView) (from : ℕ) (c : CertView) : Type 0 where
 
 -- the jobs of the certificate's modules, and the faults of its borders
 pub record IsMadeFor (c : CertView) (made : JobsAndBorders) : Type 0 where
-  pub jobs : AreOwnJobs c (map arc_value made.jobs.items)
+  pub jobs : AreJobsOfCertificate c (map arc_value made.jobs.items)
   pub borders : AreBorderFaultsOf (setting c) (modules c) made.borders.items
 
 -- the same, and the certificate's digest
 pub record IsPreparedFor (c : CertView) (prepared : Prepared) : Type 0 where
   pub digest : prepared.opening.digest ≡ sha256 (certificate_text c)
-  pub jobs : AreOwnJobs c (map arc_value prepared.opening.jobs.items)
+  pub jobs : AreJobsOfCertificate c (map arc_value prepared.opening.jobs.items)
   pub borders : AreBorderFaultsOf (setting c) (modules c) prepared.borders.items

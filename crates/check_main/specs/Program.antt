@@ -12,7 +12,7 @@ use Rattle.command_line.specs.CommandLine.{AsksForHelp, IsAccepted, AsksOnlyForH
 use Rattle.command_line.specs.declared.Request.{Request}
 use Rattle.command_line.specs.declared.Request.TheVariants.{Check}
 use Rattle.answers.specs.declared.outcome.Outcome.{Outcome}
-use Rattle.meaning.specs.Streams.{ReaderGives, YesMeans}
+use Rattle.meaning.specs.Streams.{HoldsOfKnownInput, YesMeans}
 use Rattle.check_main.specs.declared.fault.CheckFault.{CheckFault}
 use Rattle.check_main.specs.declared.fault.CheckFault.TheVariants.{Write, Memory}
 use Rattle.check_main.specs.declared.front.Streams.{Streams}
@@ -29,7 +29,7 @@ pub record AsksForCheck (words : List Text) : Type 0 where
 -- line of the bytes that it wrote, whatever its end.
 pub record YesPromises (P : List ℕ → Type 0) (EndsAsYes : Type 0)
     (left written_bytes written_bytes' : Option (List ℕ)) : Type 0 where
-  pub by_end : EndsAsYes → ReaderGives P left
+  pub by_end : EndsAsYes → HoldsOfKnownInput P left
   pub by_line : YesMeans P left written_bytes written_bytes'
 
 -- The command of a request ran on the streams, and its end gave the status.

@@ -18,18 +18,18 @@ status_for (Err TooLong) = 4
 status_for (Err Memory) = 5
 
 -- the words for a fault
-abbrev pub text_of : CheckFault → List ℕ
-text_of Read = codes "read fault"
-text_of Write = codes "write fault"
-text_of TooLong = codes "text too long"
-text_of Memory = codes "out of memory"
+abbrev pub fault_text : CheckFault → List ℕ
+fault_text Read = codes "read fault"
+fault_text Write = codes "write fault"
+fault_text TooLong = codes "text too long"
+fault_text Memory = codes "out of memory"
 
 -- the line for a fault on standard error
-unfoldable pub line_for : CheckFault → List ℕ
-line_for fault = codes "bbmcheck: " ++ text_of fault ++ codes "\n"
+unfoldable pub fault_line : CheckFault → List ℕ
+fault_line fault = codes "bbmcheck: " ++ fault_text fault ++ codes "\n"
 
 -- the line for a fault was written to a sink, unless that failed
 abbrev pub Says : {E : Type 0} → Sink E → E → E → CheckFault → Type 0
 Says sink errors errors' fault =
     sink.has_failed errors' ≡ false →
-    Appends (sink.written_bytes errors) (sink.written_bytes errors') (line_for fault)
+    Appends (sink.written_bytes errors) (sink.written_bytes errors') (fault_line fault)

@@ -6,7 +6,7 @@ ghost use Rattle.certificate.specs.Text.{certificate_text};
 ghost use Rattle.core_book.specs.Book.{IsReplayed};
 ghost use Rattle.core_book.specs.Filling.{IsOpenFor};
 ghost use Rattle.module_job.specs.Groups.{AreGroups};
-ghost use Rattle.core_book.specs.Concluding.{AreOwnJobs, modules};
+ghost use Rattle.core_book.specs.Concluding.{AreJobsOfCertificate, modules};
 ghost use Rattle.core_book.specs.Replay.{has_closing};
 ghost use Rattle.core_book.specs.Filling.{shapes_of};
 ghost use Rattle.check_main.specs.Audits.{IsAuditOf, IsClosedOnce, IsCompleted, filings_in};
@@ -59,12 +59,19 @@ pub fn audit<G: Gate + Sync, R: Threads + Wait + Sync>(
 {
     let digest = cert.digest(alloc)?;
     let jobs = cert.jobs(alloc)?;
-    audit_opening(rt, alloc, cert, Opening { digest, jobs }, workers, gate)
+    audit_opening(
+        rt,
+        alloc,
+        cert,
+        DigestAndJobs { digest, jobs },
+        workers,
+        gate,
+    )
 }
 
 /// The digest and the jobs that a book is opened with.
 #[derive(Drop)]
-pub(crate) struct Opening {
+pub(crate) struct DigestAndJobs {
     pub(crate) digest: [u8; 32],
     pub(crate) jobs: Vec<Arc<Job>>,
 }
@@ -74,13 +81,13 @@ pub(crate) fn audit_opening<G: Gate + Sync, R: Threads + Wait + Sync>(
     rt: &R,
     alloc: Global,
     cert: &Cert<'_>,
-    opening: Opening,
+    opening: DigestAndJobs,
     workers: usize,
     gate: &G,
 ) -> Result<Audited, AllocError>
     requires workers { (0 < workers) × (workers ≤ 64) }
     requires own_digest { opening.digest ≡ sha256 (certificate_text cert.now) }
-    requires own_jobs { AreOwnJobs cert.now (map arc_value opening.jobs.items) }
+    requires own_jobs { AreJobsOfCertificate cert.now (map arc_value opening.jobs.items) }
     ensures full { IfOk result (λ audited. IsAuditOf cert.now audited.state) }
     ensures replays { IfOk result (λ audited. IsReplayed audited.state) }
     ensures closed { IfOk result (λ audited. IsClosedOnce audited.state.history) }
@@ -89,7 +96,7 @@ pub(crate) fn audit_opening<G: Gate + Sync, R: Threads + Wait + Sync>(
 {
     // There are at most 1024 modules.
     let _count = cert.modules();
-    let Opening { digest, jobs } = opening;
+    let DigestAndJobs { digest, jobs } = opening;
     let copies = jobs.clone()?;
     let groups = job_groups(alloc, &copies)?;
     let state = BookState::new(alloc, digest, jobs)?;

@@ -7,7 +7,7 @@ ghost use Rattle.headline.specs.Stops.{HasRightStops};
 ghost use Rattle.headline.specs.Plain.{IsWrongIfPlain};
 ghost use Rattle.headline.specs.ReportLines.{LinesHaveMeaning};
 ghost use Rattle.headline.specs.RightInFull.{IsRightInFull};
-ghost use Rattle.headline.specs.SmallDesigns.{IsNoSmallDesign};
+ghost use Rattle.headline.specs.SmallDesigns.{IsNoSmallDesignText};
 
 use crate::check::report_on;
 use crate::preparing::prepare;
@@ -77,7 +77,7 @@ pub fn check_text<G: Gate + Sync, R: Threads + Wait + Sync>(
 
     // A refusal: the text is not the plain text of a small design.
     ensures small { IfOk result (λ answered. answered.outcome ≡ Outcome.Refused →
-        IsNoSmallDesign feed.text) }
+        IsNoSmallDesignText feed.text) }
 {
     report_of_text(rt, alloc, feed, workers, gate)
 }

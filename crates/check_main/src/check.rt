@@ -2,7 +2,7 @@
 ghost use Rattle.std.specs.Prelude.{◌≡◌, ◌<◌, ◌≤◌, IfOk};
 ghost use Rattle.sha2.specs.Sha256.{sha256};
 ghost use Rattle.certificate.specs.Text.{certificate_text};
-ghost use Rattle.answers.specs.BundleReading.{bundle_by};
+ghost use Rattle.answers.specs.BundleReading.{bundle_of_certificate};
 ghost use Rattle.answers.specs.CheckText.{IsVerdictOn, SaysReport, verdict_outcome};
 ghost use Rattle.border_match.specs.BorderFaults.{AreBorderFaultsOf};
 ghost use Rattle.core_book.specs.Concluding.{modules, setting};
@@ -33,10 +33,12 @@ pub(crate) fn report_on<G: Gate + Sync, R: Threads + Wait + Sync>(
 ) -> Result<Answered, AllocError>
     requires workers { (0 < workers) × (workers ≤ 64) }
     requires prepared { IsPreparedFor cert.now prepared }
-    ensures says { IfOk result (λ answered. SaysReport (bundle_by cert.now) answered.output.items
-        answered.outcome) }
+    ensures says { IfOk result (λ answered. SaysReport (bundle_of_certificate cert.now)
+        answered.output.items answered.outcome) }
 {
-    let Concluded { digest, verdict } = conclude_on(rt, alloc, cert, prepared, workers, gate)?;
+    let VerdictWithDigest { digest, verdict } = conclude_on(
+        rt, alloc, cert, prepared, workers, gate,
+    )?;
     let output = report_with_digest(alloc, cert, digest, &verdict)?;
     Ok(Answered {
         outcome: outcome_of(&verdict),
@@ -46,7 +48,7 @@ pub(crate) fn report_on<G: Gate + Sync, R: Threads + Wait + Sync>(
 
 // The digest of a certificate, and the verdict on it.
 #[derive(Drop)]
-struct Concluded {
+struct VerdictWithDigest {
     digest: [u8; 32],
     verdict: Verdict,
 }
@@ -59,7 +61,7 @@ fn conclude_on<G: Gate + Sync, R: Threads + Wait + Sync>(
     prepared: Prepared,
     workers: usize,
     gate: &G,
-) -> Result<Concluded, AllocError>
+) -> Result<VerdictWithDigest, AllocError>
     requires workers { (0 < workers) × (workers ≤ 64) }
     requires prepared { IsPreparedFor cert.now prepared }
     ensures digest { IfOk result (λ concluded. concluded.digest
@@ -69,7 +71,7 @@ fn conclude_on<G: Gate + Sync, R: Threads + Wait + Sync>(
     let Prepared { opening, borders } = prepared;
     let audited = audit_opening(rt, alloc, cert, opening, workers, gate)?;
     let verdict = verdict_from(alloc, cert, &borders, &audited.state)?;
-    Ok(Concluded {
+    Ok(VerdictWithDigest {
         digest: audited.state.digest(),
         verdict,
     })

@@ -19,11 +19,11 @@ pub enum CheckFault {
 
 impl CheckFault {
     ghost use Rattle.std.specs.Prelude.{◌≡◌};
-    ghost use Rattle.check_main.specs.Status.{text_of};
+    ghost use Rattle.check_main.specs.Status.{fault_text};
 
     // What the program says of it.
     pub(crate) fn text(self) -> &'static str
-        ensures { result.now ≡ text_of self }
+        ensures { result.now ≡ fault_text self }
     {
         match self {
             CheckFault::Read => "read fault",

@@ -3,10 +3,10 @@ ghost use Rattle.std.specs.Prelude.{◌≡◌, ◌<◌, ◌≤◌, ◌⊎◌, fa
 ghost use Rattle.clap.specs.Walk.{texts};
 ghost use Rattle.clap.specs.Words.{kind_of};
 ghost use Rattle.command_line.specs.CommandLine.{IsAccepted, asked_by};
-ghost use Rattle.meaning.specs.Streams.{ReaderGives};
+ghost use Rattle.meaning.specs.Streams.{HoldsOfKnownInput};
 ghost use Rattle.headline.specs.RightInFull.{IsRightInFull};
 ghost use Rattle.headline.specs.Plain.{IsWrongIfPlain};
-ghost use Rattle.headline.specs.SmallDesigns.{IsNoSmallDesign};
+ghost use Rattle.headline.specs.SmallDesigns.{IsNoSmallDesignText};
 ghost use Rattle.headline.specs.ReportLines.{LinesHaveMeaning, RelatesReadToWritten};
 ghost use Rattle.check_main.specs.Commands.{IsAnswerTo};
 ghost use Rattle.check_main.specs.Program.{AsksForCheck, Explained, Explains, IsHelp, Ran, YesPromises};
@@ -93,18 +93,18 @@ where
 
     // A no of `check`: if the certificate is plain, the text is wrong. The lines of the report have a meaning.
     ensures wrong { AsksForCheck (texts words.entry.now) → result ≡ 1 →
-        ReaderGives IsWrongIfPlain (R.left streams.old.reader) }
+        HoldsOfKnownInput IsWrongIfPlain (R.left streams.old.reader) }
     ensures lines { AsksForCheck (texts words.entry.now) → result ≡ 1 →
         RelatesReadToWritten LinesHaveMeaning (R.left streams.old.reader)
         (W.written_bytes streams.old.writer) (W.written_bytes streams.new.writer) }
 
     // A refusal of `check`: the text is not the plain text of a small design.
     ensures small { AsksForCheck (texts words.entry.now) → result ≡ 3 →
-        ReaderGives IsNoSmallDesign (R.left streams.old.reader) }
+        HoldsOfKnownInput IsNoSmallDesignText (R.left streams.old.reader) }
 {
     match read_words(alloc, words) {
         Ok(asked) => {
-            let ended = serve(
+            let ended = run_request(
                 rt,
                 alloc,
                 asked,
@@ -114,12 +114,17 @@ where
             );
             status_of(ended, &mut streams.errors)
         }
-        Err(error) => explain(alloc, &error, &mut streams.writer, &mut streams.errors),
+        Err(error) => write_help_or_word_fault(
+            alloc,
+            &error,
+            &mut streams.writer,
+            &mut streams.errors,
+        ),
     }
 }
 
 // Each command is a call over the two streams.
-fn serve<T, R, W, G>(
+fn run_request<T, R, W, G>(
     rt: &T,
     alloc: Global,
     asked: Asked,
@@ -141,12 +146,12 @@ where
         YesPromises IsRightInFull (result ≡ Ok Outcome.Yes) (R.left reader.old)
         (W.written_bytes writer.old) (W.written_bytes writer.new) }
     ensures wrong { asked.request ≡ Request.Check → result ≡ Ok Outcome.No →
-        ReaderGives IsWrongIfPlain (R.left reader.old) }
+        HoldsOfKnownInput IsWrongIfPlain (R.left reader.old) }
     ensures lines { asked.request ≡ Request.Check → result ≡ Ok Outcome.No →
         RelatesReadToWritten LinesHaveMeaning (R.left reader.old) (W.written_bytes writer.old)
         (W.written_bytes writer.new) }
     ensures small { asked.request ≡ Request.Check → result ≡ Ok Outcome.Refused →
-        ReaderGives IsNoSmallDesign (R.left reader.old) }
+        HoldsOfKnownInput IsNoSmallDesignText (R.left reader.old) }
 {
     match asked.request {
         Request::Check => check_stream(rt, alloc, reader, writer, asked.workers, gate),
@@ -178,7 +183,12 @@ pub fn status_of<E: Sink>(ended: Result<Outcome, CheckFault>, errors: &mut E) ->
 }
 
 // Help goes to the writer, and what is wrong with the words to `errors`.
-fn explain<W: Sink, E: Sink>(alloc: Global, error: &Error, writer: &mut W, errors: &mut E) -> u8
+fn write_help_or_word_fault<W: Sink, E: Sink>(
+    alloc: Global,
+    error: &Error,
+    writer: &mut W,
+    errors: &mut E,
+) -> u8
     requires { W.has_failed writer.old ≡ false }
     ensures explains { Explains W.Sink E.Sink (IsHelp (kind_of error.now))
         (IsHelp (kind_of error.now)) writer.old writer.new errors.old errors.new result }
@@ -218,7 +228,7 @@ fn show<W: Sink, E: Sink>(text: &str, writer: &mut W, errors: &mut E) -> u8
 }
 
 // Says the one line for a fault, without memory.
-#[tactic(auto, unfolding(crate::specs::Status::line_for))]
+#[tactic(auto, unfolding(crate::specs::Status::fault_line))]
 fn say<E: Sink>(errors: &mut E, fault: CheckFault)
     ensures { Says E.Sink errors.old errors.new fault }
 {

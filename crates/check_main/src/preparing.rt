@@ -4,7 +4,7 @@ ghost use Rattle.sha2.specs.Sha256.{sha256};
 ghost use Rattle.certificate.specs.Text.{certificate_text};
 ghost use Rattle.check_main.specs.Preparing.{IsMadeFor, IsPreparedFor, IsSectionOf, taken_bytes};
 
-use crate::auditing::Opening;
+use crate::auditing::DigestAndJobs;
 use border_match::{BorderFault, match_borders};
 use certificate::{Cert, Job};
 use section_text::Feed;
@@ -16,7 +16,7 @@ use std::thread::{Threads, join_mut};
 /// The digest and the jobs of a certificate, and the faults of its borders.
 #[derive(Drop)]
 pub(crate) struct Prepared {
-    pub(crate) opening: Opening,
+    pub(crate) opening: DigestAndJobs,
     pub(crate) borders: Vec<Option<BorderFault>>,
 }
 
@@ -36,16 +36,16 @@ pub(crate) fn prepare<R: Threads>(
     requires { IsSectionOf text from cert.now }
     ensures { IfOk result (IsPreparedFor cert.now) }
 {
-    let (digest, made) = digest_and_make(rt, alloc, cert, text, from, workers);
+    let (digest, made) = digest_jobs_and_borders(rt, alloc, cert, text, from, workers);
     let JobsAndBorders { jobs, borders } = made?;
     Ok(Prepared {
-        opening: Opening { digest, jobs },
+        opening: DigestAndJobs { digest, jobs },
         borders,
     })
 }
 
 // The digest of a certificate, and what is made without it.
-fn digest_and_make<R: Threads>(
+fn digest_jobs_and_borders<R: Threads>(
     rt: &R,
     alloc: Global,
     cert: &Cert<'_>,
@@ -60,7 +60,7 @@ fn digest_and_make<R: Threads>(
     if workers == 1 {
         let digest = Sha256::digest(certificate_section_in(&text, from));
         drop(text);
-        return (digest, make(alloc, cert));
+        return (digest, make_jobs_and_borders(alloc, cert));
     }
     digest_in_parallel(rt, alloc, cert, certificate_section_in(&text, from))
 }
@@ -80,7 +80,7 @@ fn digest_in_parallel<R: Threads>(
         &mut || -> [u8; 32]
             ensures { result ≡ sha256 section.entry.now }
         { Sha256::digest(section) },
-        &mut || make(alloc, cert),
+        &mut || make_jobs_and_borders(alloc, cert),
     )
 }
 
@@ -91,7 +91,7 @@ struct JobsAndBorders {
     borders: Vec<Option<BorderFault>>,
 }
 
-fn make(alloc: Global, cert: &Cert<'_>) -> Result<JobsAndBorders, AllocError>
+fn make_jobs_and_borders(alloc: Global, cert: &Cert<'_>) -> Result<JobsAndBorders, AllocError>
     ensures { IfOk result (IsMadeFor cert.now) }
 {
     let jobs = cert.jobs(alloc)?;

@@ -2,10 +2,10 @@
 ghost use Rattle.std.specs.Prelude.{◌≡◌, ◌≢◌, ◌<◌, ◌≤◌, [], true, false, None, Ok, IfOk, IfErr, IsErrOf, OnOk, length};
 ghost use Rattle.std.specs.Io.KnownBytes.{Appends};
 ghost use Rattle.answers.specs.CheckText.{IsReportOf};
-ghost use Rattle.meaning.specs.Streams.{ReaderGives};
+ghost use Rattle.meaning.specs.Streams.{HoldsOfKnownInput};
 ghost use Rattle.headline.specs.RightInFull.{IsRightInFull};
 ghost use Rattle.headline.specs.Plain.{IsWrongIfPlain};
-ghost use Rattle.headline.specs.SmallDesigns.{IsNoSmallDesign};
+ghost use Rattle.headline.specs.SmallDesigns.{IsNoSmallDesignText};
 ghost use Rattle.headline.specs.ReportLines.{LinesHaveMeaning, RelatesReadToWritten};
 ghost use Rattle.answers.specs.MigrateText.{IsMigrationOf};
 ghost use Rattle.answers.specs.ModulesText.{IsModulesOf};
@@ -66,11 +66,12 @@ where
         result }
     ensures in_full { YesPromises IsRightInFull (result ≡ Ok Outcome.Yes) (R.left reader.old)
         (W.written_bytes writer.old) (W.written_bytes writer.new) }
-    ensures wrong { result ≡ Ok Outcome.No → ReaderGives IsWrongIfPlain (R.left reader.old) }
+    ensures wrong { result ≡ Ok Outcome.No → HoldsOfKnownInput IsWrongIfPlain (R.left reader.old) }
     ensures lines { result ≡ Ok Outcome.No →
         RelatesReadToWritten LinesHaveMeaning (R.left reader.old) (W.written_bytes writer.old)
         (W.written_bytes writer.new) }
-    ensures small { result ≡ Ok Outcome.Refused → ReaderGives IsNoSmallDesign (R.left reader.old) }
+    ensures small { result ≡ Ok Outcome.Refused →
+        HoldsOfKnownInput IsNoSmallDesignText (R.left reader.old) }
 {
     let feed = read_text(rt, alloc, reader)?;
     let answered = check_text(rt, alloc, feed, workers, gate)?;

@@ -16,8 +16,9 @@ use Rattle.section_text.specs.Words.{has}
 use Rattle.circuit.specs.Rules.{consumed, consume, define, is_gate, gate_count, add_fault, limit_fault, name_fault}
 use Rattle.section_text.specs.Codes.{or_else}
 use Rattle.circuit.specs.Meaning.{AreOrdered, Gate, number}
-use Rattle.circuit.specs.Wiring.{gate_at}
-use Rattle.circuit.specs.Bridge.{is_input, input_count, gate_in, gates_of, IsGoodAfter, AreGoodAfter, AreGood}
+use Rattle.circuit.specs.Wiring.{gate_with_outs_from}
+use Rattle.circuit.specs.Bridge.{is_input, input_count, gate_of_line_kind, gates_of, IsGoodAfter, AreGoodAfter}
+use Rattle.circuit.specs.Bridge.{AreGoodCircuitLines}
 use Rattle.circuit.specs.Laws.{GatesAreOrdered}
 use Rattle.circuit.proofs.Places.{Have, number_new, numbers_left, numbers_below, consume_have, bytes_same}
 use Rattle.section_text.specs.declared.code.RefusalCode.{RefusalCode}
@@ -102,7 +103,7 @@ ordered_line : (names : List (List ℕ)) (before rest : List CircuitLine) (kind 
     IsGoodAfter before (record { kind = kind; ins = ins; outs = outs }) →
     AreOrdered (length (defined before ++ outs)) (gates_of names rest) →
     names ≡ defined before ++ (outs ++ defined rest) → is_input kind ≡ false →
-    AreOrdered (length (defined before)) (gate_in names ins outs kind ++ gates_of names rest)
+    AreOrdered (length (defined before)) (gate_of_line_kind names ins outs kind ++ gates_of names rest)
 unfolding AreOrdered
 ordered_line names before rest Input ins outs good later e f = absurd (true≢false f)
 ordered_line names before rest (GateLine k) ins outs good later e f =
@@ -233,8 +234,8 @@ good_push before (a ∷ rest) r good next = (
 -- more names leave the gates as they are
 line_keeps : (before rest : List CircuitLine) (e : List (List ℕ)) (kind : Kind) (ins outs : List (List ℕ)) →
     IsGoodAfter before (record { kind = kind; ins = ins; outs = outs }) →
-    gate_in ((defined before ++ (outs ++ defined rest)) ++ e) ins outs kind
-    ≡ gate_in (defined before ++ (outs ++ defined rest)) ins outs kind
+    gate_of_line_kind ((defined before ++ (outs ++ defined rest)) ++ e) ins outs kind
+    ≡ gate_of_line_kind (defined before ++ (outs ++ defined rest)) ins outs kind
 line_keeps before rest e Input ins outs good = refl
 line_keeps before rest e Output ins outs good = refl
 line_keeps before rest e Spill ins outs good = refl
@@ -260,8 +261,9 @@ unfolding AreGoodAfter
 gates_keep names e before [] good is = refl
 gates_keep names e before (r ∷ rest) good is =
     let all : names ≡ defined before ++ (r.outs ++ defined rest) = is ∙ defined_cons before r rest in
-    let line : gate_in (names ++ e) r.ins r.outs r.kind ≡ gate_in names r.ins r.outs r.kind =
-    subst (λ (l : List (List ℕ)). gate_in (l ++ e) r.ins r.outs r.kind ≡ gate_in l r.ins r.outs r.kind) (sym all)
+    let line : gate_of_line_kind (names ++ e) r.ins r.outs r.kind ≡ gate_of_line_kind names r.ins r.outs r.kind =
+    subst (λ (l : List (List ℕ)).
+    gate_of_line_kind (l ++ e) r.ins r.outs r.kind ≡ gate_of_line_kind l r.ins r.outs r.kind) (sym all)
     (line_keeps before rest e r.kind r.ins r.outs good.0) in
     ap₂ (λ (g gs : List Gate). g ++ gs) line
     (gates_keep names e (before ++ r ∷ []) rest good.1 (is ∙ ap defined (sym (push_cons before r rest))))
@@ -270,7 +272,8 @@ gates_keep names e before (r ∷ rest) good is =
 line_added : (entries : List CircuitLine) (numbers : List ℕ) (kind : Kind) (ins outs : List (List ℕ)) →
     IsGoodAfter entries (record { kind = kind; ins = ins; outs = outs }) →
     take (length ins) numbers ≡ map (number (defined entries)) ins →
-    gate_in (defined entries ++ outs) ins outs kind ≡ gate_at kind numbers (length (defined entries))
+    gate_of_line_kind (defined entries ++ outs) ins outs kind
+    ≡ gate_with_outs_from kind numbers (length (defined entries))
 line_added entries numbers Input ins outs good same = refl
 line_added entries numbers Output ins outs good same = refl
 line_added entries numbers Spill ins outs good same = refl
@@ -282,13 +285,14 @@ line_added entries numbers (GateLine k) ins outs good same =
     (ap (λ (l : List (List ℕ)). map (number (defined entries ++ l)) outs) (sym (append-nil outs))
     ∙ numbers_new (defined entries) outs [] pass.1 ∙ ap (range_with_len (length (defined entries))) good.fits.1)
 
-pub gates_push : (entries : List CircuitLine) (r : CircuitLine) (numbers : List ℕ) → AreGood entries →
+pub gates_push : (entries : List CircuitLine) (r : CircuitLine) (numbers : List ℕ) → AreGoodCircuitLines entries →
     IsGoodAfter entries r →
     take (length r.ins) numbers ≡ map (number (defined entries)) r.ins →
     gates_of (defined (entries ++ r ∷ [])) (entries ++ r ∷ [])
-    ≡ gates_of (defined entries) entries ++ gate_at r.kind numbers (length (defined entries))
+    ≡ gates_of (defined entries) entries ++ gate_with_outs_from r.kind numbers (length (defined entries))
 gates_push entries r numbers good next same =
     ap (λ (l : List (List ℕ)). gates_of l (entries ++ r ∷ [])) (defined_push entries r)
-    ∙ flat_map-append (λ (s : CircuitLine). gate_in (defined entries ++ r.outs) s.ins s.outs s.kind) entries (r ∷ [])
+    ∙ flat_map-append (λ (s : CircuitLine). gate_of_line_kind (defined entries ++ r.outs) s.ins s.outs s.kind) entries
+    (r ∷ [])
     ∙ ap₂ (λ (a b : List Gate). a ++ b) (gates_keep (defined entries) r.outs [] entries good refl)
     (append-nil _ ∙ line_added entries numbers r.kind r.ins r.outs next same)

@@ -2,9 +2,8 @@
 use Rattle.std.proofs.Common.{◌≡◌, ℕ, List, [], ◌∷◌, ◌++◌, length, cond, refl, sym, ◌∙◌, arith, length-append}
 use Rattle.circuit.specs.declared.circuit_line.CircuitLine.{CircuitLine}
 use Rattle.circuit.specs.declared.circuit_line.Kind.{Kind}
-use Rattle.circuit.specs.declared.circuit_line.Kind.TheVariants.{Input, Output, Spill}
-use Rattle.circuit.specs.declared.circuit_line.Kind.TheVariants.{Gate as GateLine}
-use Rattle.circuit.specs.Bridge.{AreGood, AreGoodAfter, FitsKind, is_input, input_count, input_names}
+use Rattle.circuit.specs.declared.circuit_line.Kind.TheVariants.{Input, Output, Spill, Gate as GateLine}
+use Rattle.circuit.specs.Bridge.{AreGoodCircuitLines, AreGoodAfter, FitsKind, is_input, input_count, input_names}
 use Rattle.circuit.proofs.Bridging.{input_cons}
 
 line_counted : (kind : Kind) (ins outs : List (List ℕ)) → FitsKind (record { kind = kind; ins = ins; outs = outs }) →
@@ -23,5 +22,6 @@ counted before (r ∷ rest) good =
     length-append (cond (is_input r.kind) r.outs []) (input_names rest) ∙ omega (arith, here, more)
     ∙ sym (input_cons r rest)
 
-pub inputs_counted : (entries : List CircuitLine) → AreGood entries → length (input_names entries) ≡ input_count entries
+pub inputs_counted : (entries : List CircuitLine) → AreGoodCircuitLines entries →
+    length (input_names entries) ≡ input_count entries
 inputs_counted entries good = counted [] entries good

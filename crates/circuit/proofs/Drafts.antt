@@ -1,18 +1,17 @@
 -- A draft with one more line.
 use Rattle.std.proofs.Common.{◌≡◌, ℕ, ◌+◌, ◌≤◌, ◌||◌, ◌&&◌, Bool, true, false, cond, List, [], ◌∷◌, ◌++◌, map, length}
-use Rattle.std.proofs.Common.{take, get_or, Some, None, refl, sym, ap, ap₂, subst, ◌∙◌, arith, length-append}
-use Rattle.std.specs.Prelude.{nat_lt, nat_le}
-use Rattle.std.specs.List.{position}
+use Rattle.std.proofs.Common.{take, get_or, Some, None, refl, sym, ap, ap₂, subst, ◌∙◌, arith, length-append, nat_lt}
+use Rattle.std.proofs.Common.{nat_le, position}
 use Rattle.std.specs.Str.{bytes_eq}
 use Rattle.std.proofs.lemmas.Bool.{true≢false, ltb-false, leb-false}
 use Rattle.circuit.specs.Entries.{defined}
 use Rattle.circuit.specs.declared.circuit_line.CircuitLine.{CircuitLine}
 use Rattle.circuit.specs.Rules.{consumed, consume, define, is_gate, gate_count, add_fault, exceeds_limit}
 use Rattle.circuit.specs.Rules.{is_wrong_delay}
-use Rattle.circuit.specs.Bridge.{gates_of, FitsKind, InputsFirst, IsGoodAfter, AreGood}
+use Rattle.circuit.specs.Bridge.{gates_of, FitsKind, IsNoInputAfterGate, IsGoodAfter, AreGoodCircuitLines}
 use Rattle.circuit.specs.Meaning.{Gate, number}
 use Rattle.section_text.specs.Words.{has}
-use Rattle.circuit.specs.Wiring.{gate_of, gate_at, marked}
+use Rattle.circuit.specs.Wiring.{gate_of, gate_with_outs_from, with_marks_set}
 use Rattle.circuit.specs.declared.draft.Draft.TheInside.{Inside}
 use Rattle.circuit.specs.DraftView.{IsDraft}
 use Rattle.circuit.proofs.Bridging.{gates_push, good_push, defined_push, count_append}
@@ -33,14 +32,16 @@ no_fault entries r limit ins outs = rw (limit, ins) outs
 pub record Added (a b : Inside) (r : CircuitLine) (numbers : List ℕ) : Type 0 where
   pub entries : b.entries.items ≡ a.entries.items ++ r ∷ []
   pub wires : b.wires.keys ≡ a.wires.keys ++ r.outs
-  pub used : b.consumed.items ≡ marked (take (length r.ins) numbers) (a.consumed.items ++ map (λ _. false) r.outs)
+  pub used : b.consumed.items ≡ with_marks_set (take (length r.ins) numbers)
+      (a.consumed.items ++ map (λ _. false) r.outs)
   pub limit : exceeds_limit a.entries.items r ≡ false
   pub ins_pass : consume (defined a.entries.items) (consumed a.entries.items) r.ins ≡ None
   pub outs_pass : define a.wires.keys r.outs ≡ None
   pub fits : FitsKind r
-  pub inputs_first : InputsFirst a.entries.items r
+  pub inputs_first : IsNoInputAfterGate a.entries.items r
   pub numbered : take (length r.ins) numbers ≡ map (number (defined a.entries.items)) r.ins
-  pub wired : map gate_of b.wired.items ≡ map gate_of a.wired.items ++ gate_at r.kind numbers (length a.wires.keys)
+  pub wired : map gate_of b.wired.items
+      ≡ map gate_of a.wired.items ++ gate_with_outs_from r.kind numbers (length a.wires.keys)
   pub gates : b.gates ≡ a.gates + cond (is_gate r.kind) 1 0
 
 few : (entries : List CircuitLine) (r : CircuitLine) → exceeds_limit entries r ≡ false →
@@ -62,7 +63,7 @@ added a b r numbers is new =
     let faultless : add_fault entries r ≡ None = no_fault entries r new.limit
     new.ins_pass outs_pass in
     let good : IsGoodAfter entries r = record { adds = faultless; fits = new.fits; inputs_first = new.inputs_first } in
-    let more : AreGood (entries ++ r ∷ []) = good_push [] entries r is.good good in
+    let more : AreGoodCircuitLines (entries ++ r ∷ []) = good_push [] entries r is.good good in
     let here = few entries r new.limit in
     let count : gate_count (entries ++ r ∷ []) ≡ gate_count entries + cond (is_gate r.kind) 1 0 =
     count_append (λ (r : CircuitLine). is_gate r.kind) entries (r ∷ []) ∙ omega arith in
@@ -73,7 +74,7 @@ added a b r numbers is new =
     record {
       wires = new.wires ∙ ap (λ (l : List (List ℕ)). l ++ r.outs) is.wires ∙ sym (defined_push entries r)
           ∙ ap defined (sym new.entries);
-      consumed = new.used ∙ ap₂ marked new.numbered
+      consumed = new.used ∙ ap₂ with_marks_set new.numbered
           (ap (λ (marks : List Bool). marks ++ map (λ (n : List ℕ). false) r.outs) is.consumed)
           ∙ marks_push entries r is.good more new.ins_pass outs_pass
           ∙ ap (λ (l : List CircuitLine). map (has (consumed l)) (defined l)) (sym new.entries);
@@ -85,9 +86,9 @@ added a b r numbers is new =
         few_more (is_gate r.kind) (gate_count entries) here.1 (omega (arith, is.few_gates, is.gates)),
       );
       few_wires = omega (arith, longer, here.0, ap (λ (l : List CircuitLine). length (defined l)) new.entries);
-      good = subst AreGood (sym new.entries) more;
+      good = subst AreGoodCircuitLines (sym new.entries) more;
       wired = new.wired ∙ ap₂ (λ (x y : List Gate). x ++ y) is.wired
-          (ap (λ (d : List (List ℕ)). gate_at r.kind numbers (length d)) is.wires)
+          (ap (λ (d : List (List ℕ)). gate_with_outs_from r.kind numbers (length d)) is.wires)
           ∙ sym (gates_push entries r numbers is.good good new.numbered)
           ∙ ap (λ (l : List CircuitLine). gates_of (defined l) l) (sym new.entries);
     }

@@ -1,7 +1,6 @@
 -- A line that is read has as many names as its kind.
 use Rattle.std.proofs.Common.{◌≡◌, ℕ, zero, suc, ◌+◌, ◌≤◌, true, cond, eqb, List, [], ◌∷◌, length, Some, None, refl}
-use Rattle.std.proofs.Common.{sym, ap, subst, ◌∙◌, arith, inl, inr}
-use Rattle.std.specs.Prelude.{codes}
+use Rattle.std.proofs.Common.{sym, ap, subst, ◌∙◌, arith, inl, inr, codes}
 use Rattle.std.proofs.lemmas.Option.{cond_some, option_and_then_some, same_Some}
 use Rattle.section_text.specs.Words.{◌>>=◌, is_word_at, name_at, names_at, lone, lone_name}
 use Rattle.section_text.specs.declared.section.Form.TheVariants.{Header, Item, End}

@@ -1,8 +1,6 @@
 -- A gate line by the names on both sides of its arrow.
 use Rattle.std.proofs.Common.{◌≡◌, ◌∙◌, ◌==◌, if◌then◌else◌, ℕ, ◌+◌, Bool, true, false, List, length, Option, Some}
-use Rattle.std.proofs.Common.{None}
-use Rattle.std.proofs.Common.{refl, ap}
-use Rattle.std.specs.Prelude.{codes}
+use Rattle.std.proofs.Common.{None, refl, ap, codes}
 use Rattle.section_text.specs.Words.{◌>>=◌, is_word_at, names_at, names_beside_arrow}
 use Rattle.circuit.specs.declared.circuit_line.CircuitLine.{CircuitLine}
 use Rattle.circuit.specs.declared.circuit_line.GateKind.{GateKind}

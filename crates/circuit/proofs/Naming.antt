@@ -1,9 +1,7 @@
 -- The names of wires.
-use Rattle.std.proofs.Common.{◌≡◌, ℕ, zero, suc, ◌+◌, ◌<◌, ◌≤◌, true, false, cond, List, [], ◌∷◌, ◌++◌}
-use Rattle.std.proofs.Common.{length, take, Option, Some, None, refl, sym, ap, subst, ◌∙◌, arith, inl, inr}
-use Rattle.std.proofs.Common.{append_assoc, length-append}
-use Rattle.std.specs.Prelude.{slice_get}
-use Rattle.std.specs.List.{position}
+use Rattle.std.proofs.Common.{◌≡◌, ℕ, zero, suc, ◌+◌, ◌<◌, ◌≤◌, true, false, cond, List, [], ◌∷◌, ◌++◌, length, take}
+use Rattle.std.proofs.Common.{Option, Some, None, refl, sym, ap, subst, ◌∙◌, arith, inl, inr, append_assoc}
+use Rattle.std.proofs.Common.{length-append, slice_get, position}
 use Rattle.std.specs.Str.{bytes_eq}
 use Rattle.std.proofs.lemmas.List.{append-nil}
 use Rattle.std.proofs.lemmas.List.Sums.{sum_by-cons}
@@ -12,14 +10,14 @@ use Rattle.std.proofs.lemmas.List.Folds.{list_any-append}
 use Rattle.std.proofs.Math.Bool.{or-true}
 use Rattle.circuit.specs.Entries.{defined}
 use Rattle.circuit.specs.declared.circuit_line.Kind.{Kind}
-use Rattle.circuit.specs.declared.circuit_line.Kind.TheVariants.{Input, Output, Spill}
-use Rattle.circuit.specs.declared.circuit_line.Kind.TheVariants.{Gate as GateLine}
+use Rattle.circuit.specs.declared.circuit_line.Kind.TheVariants.{Input, Output, Spill, Gate as GateLine}
 use Rattle.circuit.specs.declared.circuit_line.CircuitLine.{CircuitLine}
 use Rattle.circuit.specs.Gates.{defines}
 use Rattle.section_text.specs.Words.{has}
 use Rattle.circuit.specs.Rules.{define, gate_count, is_gate}
 use Rattle.circuit.specs.Meaning.{Gate, place_of, wires_after, number}
-use Rattle.circuit.specs.Bridge.{is_input, input_count, input_names, gate_in, gates_of, FitsKind, AreGoodAfter}
+use Rattle.circuit.specs.Bridge.{is_input, input_count, input_names, gate_of_line_kind, gates_of, FitsKind}
+use Rattle.circuit.specs.Bridge.{AreGoodAfter}
 use Rattle.circuit.specs.Laws.{WiresAreNamed, WireNamesAreDistinct, InputsAreFirst}
 use Rattle.circuit.proofs.Places.{has_front, has_left, number_left, number_new, bytes_same, position_number, look_up}
 use Rattle.circuit.proofs.Bridging.{names_pass, define_first, defined_push, push_cons, input_cons, count_append}
@@ -54,7 +52,7 @@ place_position d n = elim (cases_Bool (has d n)) [
 wires_line : (names : List (List ℕ)) (n : ℕ) (kind : Kind) (ins outs : List (List ℕ)) (rest : List CircuitLine) →
     FitsKind (record { kind = kind; ins = ins; outs = outs }) →
     ((m : ℕ) → wires_after m (gates_of names rest) + input_count rest ≡ m + length (defined rest)) →
-    wires_after n (gate_in names ins outs kind ++ gates_of names rest) + input_count
+    wires_after n (gate_of_line_kind names ins outs kind ++ gates_of names rest) + input_count
     (record { kind = kind; ins = ins; outs = outs } ∷ rest) ≡ n + length (outs ++ defined rest)
 unfolding wires_after
 wires_line names n Input ins outs rest fits more =
@@ -104,7 +102,7 @@ wires_are_named entries good = let all = wires_more (defined entries) (input_cou
 -- ---- each gate's line has a gate
 
 counted_line : (names : List (List ℕ)) (kind : Kind) (ins outs : List (List ℕ)) (gates : List Gate) →
-    length (gate_in names ins outs kind ++ gates) ≡ cond (is_gate kind) 1 0 + length gates
+    length (gate_of_line_kind names ins outs kind ++ gates) ≡ cond (is_gate kind) 1 0 + length gates
 counted_line names Input ins outs gates = omega arith
 counted_line names (GateLine k) ins outs gates = omega arith
 counted_line names Output ins outs gates = omega arith

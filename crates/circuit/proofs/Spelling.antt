@@ -1,18 +1,16 @@
 -- Each line of the circuit section is the spelling of its form.
 use Rattle.std.proofs.Common.{◌≡◌, ℕ, ◌+◌, Bool, true, false, cond, eqb, List, [], ◌∷◌, length, take, Option, Some}
-use Rattle.std.proofs.Common.{None, ap, subst, ◌∙◌, inl, inr}
-use Rattle.std.specs.Prelude.{slice_get, codes}
+use Rattle.std.proofs.Common.{None, ap, subst, ◌∙◌, inl, inr, slice_get, codes}
 use Rattle.std.specs.Fmt.{decimal}
 use Rattle.std.proofs.lemmas.Bool.{eqb-true}
 use Rattle.std.proofs.lemmas.Option.{cond_some, option_and_then_some, same_Some}
 use Rattle.section_text.specs.Words.{◌>>=◌, words_of, is_word_at, name_at, names_at, number_at, lone, lone_name}
-use Rattle.section_text.specs.Section.{ended_line}
+use Rattle.section_text.specs.Section.{with_line_feed}
 use Rattle.section_text.specs.declared.section.Form.TheVariants.{Header, Item, End}
 use Rattle.section_text.proofs.WordPlaces.{is_at_is, name_at_is, names_at_are, assembled, line_from_words}
 use Rattle.circuit.specs.declared.circuit_line.GateKind.{GateKind}
 use Rattle.circuit.specs.declared.circuit_line.GateKind.TheVariants.{Source, Fredkin, Cswap, Interact, Switch, Delay}
-use Rattle.circuit.specs.declared.circuit_line.GateKind.TheVariants.{Unswitch}
-use Rattle.circuit.specs.declared.circuit_line.GateKind.TheVariants.{Uninteract}
+use Rattle.circuit.specs.declared.circuit_line.GateKind.TheVariants.{Unswitch, Uninteract}
 use Rattle.circuit.specs.declared.circuit_line.Kind.TheVariants.{Input, Gate, Output, Spill}
 use Rattle.circuit.specs.declared.circuit_line.CircuitLine.{CircuitLine}
 use Rattle.circuit.specs.Entries.{entry}
@@ -20,8 +18,7 @@ use Rattle.circuit.specs.Gates.{uses, defines}
 use Rattle.section_text.proofs.Spellings.{chosen, passed, one_word, two_words, number_at_spelled}
 use Rattle.circuit.specs.Forms.{bit_at, gate_kind, words_before_names, gate_line_of_kind, gate_entry, form_of}
 use Rattle.circuit.specs.Text.{bit_word, gate_word, gate_parameter_words, first_word, words_after_first}
-use Rattle.circuit.specs.Text.{words_after_keyword, entry_text}
-use Rattle.circuit.specs.Text.{Line, form_text}
+use Rattle.circuit.specs.Text.{words_after_keyword, entry_text, Line, form_text}
 
 -- the first word of a form, and the others
 first_of : Line → List ℕ
@@ -170,9 +167,10 @@ form_words ws f e =
       ]
     ]
 
-pub form_line : (l : List ℕ) (f : Line) → form_of (words_of l) ≡ Some f → ended_line l ≡ form_text f
+pub form_line : (l : List ℕ) (f : Line) → form_of (words_of l) ≡ Some f → with_line_feed l ≡ form_text f
 unfolding first_of others_of entry_text
-form_line l (Header h) e = ap ended_line (line_from_words l (codes "circuit") [] (form_words (words_of l) (Header h) e))
-form_line l (Item r) e = ap ended_line
+form_line l (Header h) e = ap with_line_feed
+    (line_from_words l (codes "circuit") [] (form_words (words_of l) (Header h) e))
+form_line l (Item r) e = ap with_line_feed
     (line_from_words l (first_word r.kind) (words_after_keyword r) (form_words (words_of l) (Item r) e))
-form_line l End e = ap ended_line (line_from_words l (codes "end") [] (form_words (words_of l) End e))
+form_line l End e = ap with_line_feed (line_from_words l (codes "end") [] (form_words (words_of l) End e))

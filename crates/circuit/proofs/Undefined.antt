@@ -1,9 +1,8 @@
 -- The first gate that has no row, if there is one; else the gates have a valuation
 use Rattle.std.proofs.Common.{◌≡◌, ℕ, zero, suc, ◌+◌, ◌-◌, ◌<◌, ◌≤◌, Bool, true, false, List, [], ◌∷◌, ◌++◌, map}
 use Rattle.std.proofs.Common.{get_or, length, take, slice_get, Option, Some, None, refl, sym, ap, subst, ◌∙◌, arith}
-use Rattle.std.proofs.Common.{inl, inr, length-append, get_or-append-add}
-use Rattle.std.specs.Prelude.{option_and_then, option_map}
-use Rattle.std.specs.List.{All, range_with_len}
+use Rattle.std.proofs.Common.{inl, inr, length-append, get_or-append-add, option_and_then, option_map, All}
+use Rattle.std.specs.List.{range_with_len}
 use Rattle.std.proofs.lemmas.Bool.{cases_lt, cases_Bool}
 use Rattle.std.proofs.lemmas.List.{length-map, get_or_append_left}
 use Rattle.std.proofs.lemmas.List.FromFn.{get_or-map-range_with_len, length-range_with_len}
@@ -11,63 +10,63 @@ use Rattle.std.proofs.lemmas.Option.{slice_get_within, get_or_from_slice_get, sa
 use Rattle.circuit.specs.declared.netlist.ValuesFault.{ValuesFault}
 use Rattle.circuit.specs.declared.netlist.ValuesFault.TheVariants.{OutOfDomain, Memory}
 use Rattle.circuit.specs.Gates.{row, uses, defines, is_inverse}
-use Rattle.circuit.specs.Meaning.{Gate, Netlist, Valuation, HasRow, RowsBelow, Satisfies, AreOrdered, AreNonInverse}
-use Rattle.circuit.specs.Meaning.{IsUndefined, first_gates, wires, wires_after}
+use Rattle.circuit.specs.Meaning.{Gate, Netlist, Valuation, HasRow, FirstGatesHaveRows, Satisfies, AreOrdered}
+use Rattle.circuit.specs.Meaning.{AreNonInverse, IsUndefined, first_gates, wires, wires_after}
 use Rattle.circuit.specs.Bridge.{read, StopsAt, IsValuesFault}
-use Rattle.circuit.specs.Evaluate.{evaluate, first_undefined, undefined_gate_or_later, EvaluatesUpTo}
+use Rattle.circuit.specs.Evaluate.{evaluate, first_undefined_gate, this_or_later_undefined, EvaluatesUpTo}
 use Rattle.circuit.specs.Evaluate.{IsGateEvaluationError}
 use Rattle.circuit.specs.Laws.{HasValuation, UndefinedHasNoValuation, OnlyInverseGatesAreUndefined}
-use Rattle.circuit.specs.Laws.{AtMostOneGateIsUndefined}
-use Rattle.circuit.specs.Laws.{ValuesStopAtUndefinedGate}
+use Rattle.circuit.specs.Laws.{AtMostOneGateIsUndefined, ValuesStopAtUndefinedGate}
 use Rattle.circuit.proofs.Valuations.{row_of, row_cases, map_below, all_head, all_tail, evaluated}
 
--- ---- what `first_undefined` answers
+-- ---- what `first_undefined_gate` answers
 clash : {A : Type 0} (x : A) → ◌≡◌ {A = Option A} None (Some x) → ⊥
 clash x e = cc
 
-undefined_gate_or_later-cases : (o : Option ℕ) (k : ℕ) → option_map (λ k. k + 1) o ≡ Some k →
+this_or_later_undefined-cases : (o : Option ℕ) (k : ℕ) → option_map (λ k. k + 1) o ≡ Some k →
     (m : ℕ) × (o ≡ Some m) × (k ≡ suc m)
-undefined_gate_or_later-cases None k e = absurd (clash k e)
-undefined_gate_or_later-cases (Some m) k e = (m, refl, omega (arith, same_Some (m + 1) k e))
+this_or_later_undefined-cases None k e = absurd (clash k e)
+this_or_later_undefined-cases (Some m) k e = (m, refl, omega (arith, same_Some (m + 1) k e))
 
-undefined_gate_or_later-none : (o : Option ℕ) → option_map (λ k. k + 1) o ≡ None → o ≡ None
-undefined_gate_or_later-none None e = refl
-undefined_gate_or_later-none (Some m) e = absurd (clash (m + 1) (sym e))
+this_or_later_undefined-none : (o : Option ℕ) → option_map (λ k. k + 1) o ≡ None → o ≡ None
+this_or_later_undefined-none None e = refl
+this_or_later_undefined-none (Some m) e = absurd (clash (m + 1) (sym e))
 
 total : (vs r : List Bool) (d : ℕ) → length r ≡ d → length vs + d ≡ length (vs ++ r)
 total vs r d e = sym (length-append vs r ∙ ap (λ n. length vs + n) e)
 
 -- no gate: all gates were evaluated
-pub all_evaluated : (vs : List Bool) (gs : List Gate) → AreOrdered (length vs) gs → first_undefined vs gs ≡ None →
+pub all_evaluated : (vs : List Bool) (gs : List Gate) → AreOrdered (length vs) gs → first_undefined_gate vs gs ≡ None →
     (out : List Bool) × (evaluate vs gs ≡ Some out)
-unfolding evaluate first_undefined AreOrdered
+unfolding evaluate first_undefined_gate AreOrdered
 all_evaluated vs [] ordered e = (vs, refl)
 all_evaluated vs (g ∷ gs) ordered e =
     elim (row_cases g.kind (map (read vs) g.ins) (length-map g.ins (read vs) ∙ ordered.1)) [
-      | inl none ↦ absurd (clash 0 (sym e ∙ ap (undefined_gate_or_later (λ r. first_undefined (vs ++ r) gs)) none))
+      | inl none ↦ absurd (clash 0 (sym e ∙ ap (this_or_later_undefined (λ r. first_undefined_gate (vs ++ r) gs)) none))
       | inr s ↦
           let rest = all_evaluated (vs ++ s.0) gs (subst (λ n. AreOrdered n gs) (total vs s.0 _ s.2) ordered.3)
-          (undefined_gate_or_later-none _
-          (sym (ap (undefined_gate_or_later (λ r. first_undefined (vs ++ r) gs)) s.1) ∙ e)) in
+          (this_or_later_undefined-none _
+          (sym (ap (this_or_later_undefined (λ r. first_undefined_gate (vs ++ r) gs)) s.1) ∙ e)) in
           (rest.0, ap (option_and_then (λ r. evaluate (vs ++ r) gs)) s.1 ∙ rest.1)
     ]
 
 -- some gate: those before it were evaluated, and it has no row
-pub up_to : (vs : List Bool) (gs : List Gate) (k : ℕ) → AreOrdered (length vs) gs → first_undefined vs gs ≡ Some k →
+pub up_to : (vs : List Bool) (gs : List Gate) (k : ℕ) → AreOrdered (length vs) gs →
+    first_undefined_gate vs gs ≡ Some k →
     (before : List Bool) × EvaluatesUpTo vs gs k before
-unfolding evaluate first_undefined AreOrdered
+unfolding evaluate first_undefined_gate AreOrdered
 up_to vs [] k ordered e = absurd (clash k e)
 up_to vs (g ∷ gs) k ordered e = elim (row_cases g.kind (map (read vs) g.ins) (length-map g.ins (read vs) ∙ ordered.1)) [
   | inl none ↦
       let at : 0 ≡ k = same_Some 0 k
-      (sym (ap (undefined_gate_or_later (λ r. first_undefined (vs ++ r) gs)) none) ∙ e) in (
+      (sym (ap (this_or_later_undefined (λ r. first_undefined_gate (vs ++ r) gs)) none) ∙ e) in (
         vs,
         subst (λ k. EvaluatesUpTo vs (g ∷ gs) k vs) at
             (record { gate = g; numbered = refl; before = refl; none = none }),
       )
   | inr s ↦
-      let later = undefined_gate_or_later-cases _ k
-      (sym (ap (undefined_gate_or_later (λ r. first_undefined (vs ++ r) gs)) s.1) ∙ e) in
+      let later = this_or_later_undefined-cases _ k
+      (sym (ap (this_or_later_undefined (λ r. first_undefined_gate (vs ++ r) gs)) s.1) ∙ e) in
       let m : ℕ = later.0 in
       let rest = up_to (vs ++ s.0) gs m (subst (λ n. AreOrdered n gs) (total vs s.0 _ s.2) ordered.3) later.1 in
       let is : EvaluatesUpTo (vs ++ s.0) gs m rest.0 = rest.1 in (
@@ -114,21 +113,21 @@ next vs g gs v ordered agree here =
 
 -- where they do up to a gate that has none, that is the first one
 pub undefined_from : (vs : List Bool) (gs : List Gate) (v : Valuation) (k : ℕ) (g : Gate) → AreOrdered (length vs) gs →
-    ((w : ℕ) → w < length vs → v w ≡ read vs w) → RowsBelow k gs v →
-    slice_get gs k ≡ Some g → row g.kind (map v g.ins) ≡ None → first_undefined vs gs ≡ Some k
-unfolding first_undefined AreOrdered
+    ((w : ℕ) → w < length vs → v w ≡ read vs w) → FirstGatesHaveRows k gs v →
+    slice_get gs k ≡ Some g → row g.kind (map v g.ins) ≡ None → first_undefined_gate vs gs ≡ Some k
+unfolding first_undefined_gate AreOrdered
 undefined_from vs [] v k g ordered agree rows at none = absurd (clash g at)
 undefined_from vs (h ∷ gs) v zero g ordered agree rows at none =
     let same : h ≡ g = same_Some h g at in
     let here : row h.kind (map v h.ins) ≡ None =
     subst (λ (f : Gate). row f.kind (map v f.ins) ≡ None) (sym same) none in
-    ap (undefined_gate_or_later (λ r. first_undefined (vs ++ r) gs))
+    ap (this_or_later_undefined (λ r. first_undefined_gate (vs ++ r) gs))
     (ap (row h.kind) (sym (map_below (length vs) v (read vs) h.ins ordered.0 agree)) ∙ here)
 undefined_from vs (h ∷ gs) v (suc k) g ordered agree rows at none =
     let n : IsNext vs h v = next vs h gs v ordered agree (rows 0 h (omega arith) refl) in
     let rest = undefined_from (vs ++ map v h.outs) gs v k g (subst (λ n. AreOrdered n gs) n.long ordered.3) n.agree
     (λ j f l e. rows (suc j) f (omega arith) e) at none in
-    ap (undefined_gate_or_later (λ r. first_undefined (vs ++ r) gs)) n.is ∙ ap (option_map (λ k. k + 1)) rest
+    ap (this_or_later_undefined (λ r. first_undefined_gate (vs ++ r) gs)) n.is ∙ ap (option_map (λ k. k + 1)) rest
     ∙ ap Some (plus_one k)
   where
     plus_one : (k : ℕ) → k + 1 ≡ suc k
@@ -136,14 +135,14 @@ undefined_from vs (h ∷ gs) v (suc k) g ordered agree rows at none =
 
 -- where they all do, there is none
 pub defined_from : (vs : List Bool) (gs : List Gate) (v : Valuation) → AreOrdered (length vs) gs →
-    ((w : ℕ) → w < length vs → v w ≡ read vs w) → All (HasRow v) gs → first_undefined vs gs ≡ None
-unfolding first_undefined AreOrdered
+    ((w : ℕ) → w < length vs → v w ≡ read vs w) → All (HasRow v) gs → first_undefined_gate vs gs ≡ None
+unfolding first_undefined_gate AreOrdered
 defined_from vs [] v ordered agree rows = refl
 defined_from vs (h ∷ gs) v ordered agree rows =
     let n : IsNext vs h v = next vs h gs v ordered agree (all_head (HasRow v) h gs rows) in
     let rest = defined_from (vs ++ map v h.outs) gs v (subst (λ n. AreOrdered n gs) n.long ordered.3) n.agree
     (all_tail (HasRow v) h gs rows) in
-    ap (undefined_gate_or_later (λ r. first_undefined (vs ++ r) gs)) n.is ∙ ap (option_map (λ k. k + 1)) rest
+    ap (this_or_later_undefined (λ r. first_undefined_gate (vs ++ r) gs)) n.is ∙ ap (option_map (λ k. k + 1)) rest
 
 -- ---- a netlist
 -- some values of the given wires
@@ -163,14 +162,14 @@ ordered_given n given long ordered = subst (λ m. AreOrdered m n.gates) (sym lon
 
 pub undefined_at : (n : Netlist) (a : Valuation) (given : List Bool) (k : ℕ) → AreOrdered n.given n.gates →
     length given ≡ n.given → ((i : ℕ) → i < n.given → read given i ≡ a i) → IsUndefined n a k →
-    first_undefined given n.gates ≡ Some k
+    first_undefined_gate given n.gates ≡ Some k
 undefined_at n a given k ordered long same u =
     undefined_from given n.gates u.values k u.gate (ordered_given n given long ordered)
     (λ w h. u.given w (omega (arith, long)) ∙ sym (same w (omega (arith, long)))) u.before u.numbered u.none
 
 pub defined_at : (n : Netlist) (a v : Valuation) (given : List Bool) → AreOrdered n.given n.gates →
     length given ≡ n.given → ((i : ℕ) → i < n.given → read given i ≡ a i) → Satisfies n a v →
-    first_undefined given n.gates ≡ None
+    first_undefined_gate given n.gates ≡ None
 defined_at n a v given ordered long same s =
     defined_from given n.gates v (ordered_given n given long ordered)
     (λ w h. s.given w (omega (arith, long)) ∙ sym (same w (omega (arith, long)))) s.rows
@@ -222,12 +221,12 @@ fault_stops n a given Memory ordered long same e = tt
 
 pub undefined_is : (n : Netlist) (a : Valuation) (given : List Bool) (k : ℕ) → AreOrdered n.given n.gates →
     length given ≡ n.given → ((i : ℕ) → i < n.given → read given i ≡ a i) →
-    first_undefined given n.gates ≡ Some k → IsUndefined n a k
+    first_undefined_gate given n.gates ≡ Some k → IsUndefined n a k
 undefined_is n a given k ordered long same e =
     let found = up_to given n.gates k (ordered_given n given long ordered) e in
     stopped n a k found.0 (stops n a given k found.0 ordered long same found.1)
 
-by_answer : (n : Netlist) (a : Valuation) (given : List Bool) (o : Option ℕ) → first_undefined given n.gates ≡ o →
+by_answer : (n : Netlist) (a : Valuation) (given : List Bool) (o : Option ℕ) → first_undefined_gate given n.gates ≡ o →
     AreOrdered n.given n.gates → IsGiven n a given → ((k : ℕ) → ¬ IsUndefined n a k) →
     (v : Valuation) × Satisfies n a v
 by_answer n a given None e ordered is none =

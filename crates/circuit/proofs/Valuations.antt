@@ -1,17 +1,15 @@
 -- Gates that are ordered have at most one valuation, and what `evaluate` finds is one.
 use Rattle.std.proofs.Common.{◌≡◌, ℕ, zero, suc, ◌+◌, ◌-◌, ◌<◌, ◌≤◌, Bool, true, false, List, [], ◌∷◌, ◌++◌, map}
 use Rattle.std.proofs.Common.{get_or, length, Option, Some, None, refl, sym, ap, ap₂, subst, ◌∙◌, arith, inl, inr, ◌⊎◌}
-use Rattle.std.proofs.Common.{length-append, get_or-append-add}
-use Rattle.std.specs.Prelude.{option_and_then}
-use Rattle.std.specs.List.{All, range_with_len}
+use Rattle.std.proofs.Common.{length-append, get_or-append-add, option_and_then, All}
+use Rattle.std.specs.List.{range_with_len}
 use Rattle.std.proofs.lemmas.List.{length-map, get_or_append_left}
 use Rattle.std.proofs.lemmas.List.FromFn.{get_or-map-range_with_len}
 use Rattle.std.proofs.lemmas.Bool.{cases_lt, true≢false}
 use Rattle.circuit.specs.declared.circuit_line.GateKind.{GateKind}
 use Rattle.circuit.specs.declared.circuit_line.GateKind.TheVariants.{Source, Fredkin, Cswap, Interact, Switch, Delay}
 use Rattle.circuit.specs.declared.circuit_line.GateKind.TheVariants.{Unswitch, Uninteract}
-use Rattle.circuit.specs.Gates.{row, uses}
-use Rattle.circuit.specs.Gates.{defines, is_inverse}
+use Rattle.circuit.specs.Gates.{row, uses, defines, is_inverse}
 use Rattle.circuit.specs.Meaning.{Gate, Netlist, Valuation, HasRow, Satisfies, AreOrdered, wires_after, wires}
 use Rattle.circuit.specs.Bridge.{read, AreValues}
 use Rattle.circuit.specs.Evaluate.{evaluate}

@@ -1,10 +1,9 @@
 -- Marks of wires, by the names that lines consume.
-use Rattle.std.proofs.Common.{◌≡◌, ℕ, suc, ◌+◌, ◌<◌, ◌≤◌, ◌||◌, Bool, true, false, List, [], ◌∷◌, ◌++◌, map}
-use Rattle.std.proofs.Common.{length, take, drop, eqb, Some, None, refl, sym, ap, ap₂, subst, ◌∙◌, arith, inl, inr}
-use Rattle.std.proofs.Common.{get_or, append_assoc}
+use Rattle.std.proofs.Common.{◌≡◌, ℕ, suc, ◌+◌, ◌<◌, ◌≤◌, ◌||◌, Bool, true, false, List, [], ◌∷◌, ◌++◌, map, length}
+use Rattle.std.proofs.Common.{take, drop, eqb, Some, None, refl, sym, ap, ap₂, subst, ◌∙◌, arith, inl, inr, get_or}
+use Rattle.std.proofs.Common.{append_assoc, slice_get, slice_set, All}
 use Rattle.std.proofs.lemmas.Option.{get_or_from_slice_get}
-use Rattle.std.specs.Prelude.{slice_get, slice_set}
-use Rattle.std.specs.List.{All, list_any}
+use Rattle.std.specs.List.{list_any}
 use Rattle.std.specs.Str.{bytes_eq}
 use Rattle.std.proofs.lemmas.Bool.{cases_Bool, true≢false, eqb-true, eq-eqb}
 use Rattle.std.proofs.lemmas.List.{append-nil, map-append, take_more, drop_more, take_more_set}
@@ -16,8 +15,8 @@ use Rattle.circuit.specs.Entries.{defined}
 use Rattle.circuit.specs.declared.circuit_line.CircuitLine.{CircuitLine}
 use Rattle.circuit.specs.Rules.{consumed, consume, define}
 use Rattle.circuit.specs.Meaning.{number}
-use Rattle.circuit.specs.Bridge.{AreGood, AreGoodAfter}
-use Rattle.circuit.specs.Wiring.{marked}
+use Rattle.circuit.specs.Bridge.{AreGoodCircuitLines, AreGoodAfter}
+use Rattle.circuit.specs.Wiring.{with_marks_set}
 use Rattle.circuit.proofs.Places.{Have, has_front, has_left, have_left, numbers_left, numbers_below, consume_have}
 use Rattle.circuit.proofs.Places.{bytes_same}
 use Rattle.section_text.specs.declared.code.RefusalCode.TheVariants.{ConsumedTwice}
@@ -92,7 +91,7 @@ distinct_good before (r ∷ rest) good is =
     subst (λ (l : List CircuitLine). Distinct (defined l)) (push_cons before r rest)
     (distinct_good (before ++ r ∷ []) rest good.1 here)
 
-pub distinct : (entries : List CircuitLine) → AreGood entries → Distinct (defined entries)
+pub distinct : (entries : List CircuitLine) → AreGoodCircuitLines entries → Distinct (defined entries)
 distinct entries good = distinct_good [] entries good tt
 
 -- ---- the marks of names that are consumed are set
@@ -128,10 +127,10 @@ mark_one c (m ∷ d) n is h = elim (cases_Bool (bytes_eq n m)) [
 ]
 
 mark_names : (c d ns : List (List ℕ)) → Distinct d → Have d ns →
-    marked (map (number d) ns) (map (has c) d) ≡ map (has (c ++ ns)) d
+    with_marks_set (map (number d) ns) (map (has c) d) ≡ map (has (c ++ ns)) d
 mark_names c d [] is h = ap (λ (l : List (List ℕ)). map (has l) d) (sym (append-nil c))
 mark_names c d (n ∷ ns) is h =
-    ap (marked (map (number d) ns)) (mark_one c d n is h.0) ∙ mark_names (c ++ n ∷ []) d ns is h.1
+    ap (with_marks_set (map (number d) ns)) (mark_one c d n is h.0) ∙ mark_names (c ++ n ∷ []) d ns is h.1
     ∙ ap (λ (l : List (List ℕ)). map (has l) d) (append_assoc c (n ∷ []) ns)
 
 -- ---- what is consumed is defined
@@ -189,9 +188,10 @@ new_unmarked c d (n ∷ ns) is h =
     ]
 
 -- the marks after one more line
-pub marks_push : (before : List CircuitLine) (r : CircuitLine) → AreGood before → AreGood (before ++ r ∷ []) →
+pub marks_push : (before : List CircuitLine) (r : CircuitLine) → AreGoodCircuitLines before →
+    AreGoodCircuitLines (before ++ r ∷ []) →
     consume (defined before) (consumed before) r.ins ≡ None → define (defined before) r.outs ≡ None →
-    marked (map (number (defined before)) r.ins)
+    with_marks_set (map (number (defined before)) r.ins)
     (map (has (consumed before)) (defined before) ++ map (λ (n : List ℕ). false) r.outs)
     ≡ map (has (consumed (before ++ r ∷ []))) (defined (before ++ r ∷ []))
 marks_push before r good more ins outs =
@@ -202,7 +202,7 @@ marks_push before r good more ins outs =
     let unset : map (has c) d ++ map (λ (n : List ℕ). false) r.outs ≡ map (has c) (d ++ r.outs) =
     ap (λ bs. map (has c) d ++ bs) (new_unmarked c d r.outs in_d outs) ∙ sym (map-append (has c) d r.outs) in
     let own : Distinct (d ++ r.outs) = subst Distinct (defined_push before r) (distinct (before ++ r ∷ []) more) in
-    ap₂ marked (sym (numbers_left d r.outs r.ins have)) unset
+    ap₂ with_marks_set (sym (numbers_left d r.outs r.ins have)) unset
     ∙ mark_names c (d ++ r.outs) r.ins own (have_left d r.outs r.ins have)
     ∙ ap₂ (λ (c d : List (List ℕ)). map (has c) d) (sym (consumed_push before r)) (sym (defined_push before r))
 

@@ -23,14 +23,14 @@ abbrev pub input_count : List CircuitLine → ℕ
 input_count entries = count_by (λ r. is_input r.kind) entries
 
 -- the gate of a line, if the wires have these names
-abbrev pub gate_in : List (List ℕ) → List (List ℕ) → List (List ℕ) → Kind → List Gate
-gate_in names ins outs (GateLine k) =
+abbrev pub gate_of_line_kind : List (List ℕ) → List (List ℕ) → List (List ℕ) → Kind → List Gate
+gate_of_line_kind names ins outs (GateLine k) =
     record { kind = k; ins = map (number names) ins; outs = map (number names) outs } ∷ []
-gate_in names ins outs _ = []
+gate_of_line_kind names ins outs _ = []
 
 -- the gates of lines, over the numbers of names
 abbrev pub gates_of : List (List ℕ) → List CircuitLine → List Gate
-gates_of names entries = flat_map (λ r. gate_in names r.ins r.outs r.kind) entries
+gates_of names entries = flat_map (λ r. gate_of_line_kind names r.ins r.outs r.kind) entries
 
 -- the gates of a circuit, over its inputs
 abbrev pub netlist_of : List CircuitLine → Netlist
@@ -55,32 +55,32 @@ output_names entries = flat_map (λ r. if is_output r.kind then r.ins else []) e
 
 -- ---- which lines make a circuit
 -- how many wires a line of a kind consumes
-abbrev pub kind_ins : Kind → ℕ
-kind_ins Input = 0
-kind_ins (GateLine k) = uses k
-kind_ins Output = 1
-kind_ins Spill = 1
+abbrev pub kind_in_count : Kind → ℕ
+kind_in_count Input = 0
+kind_in_count (GateLine k) = uses k
+kind_in_count Output = 1
+kind_in_count Spill = 1
 
 -- how many wires a line of a kind defines
-abbrev pub kind_outs : Kind → ℕ
-kind_outs Input = 1
-kind_outs (GateLine k) = defines k
-kind_outs Output = 0
-kind_outs Spill = 0
+abbrev pub kind_out_count : Kind → ℕ
+kind_out_count Input = 1
+kind_out_count (GateLine k) = defines k
+kind_out_count Output = 0
+kind_out_count Spill = 0
 
 -- the line has as many names as its kind
 abbrev pub FitsKind : CircuitLine → Type 0
-FitsKind r = (length r.ins ≡ kind_ins r.kind) × (length r.outs ≡ kind_outs r.kind)
+FitsKind r = (length r.ins ≡ kind_in_count r.kind) × (length r.outs ≡ kind_out_count r.kind)
 
 -- no input comes after a gate
-abbrev pub InputsFirst : List CircuitLine → CircuitLine → Type 0
-InputsFirst before r = is_input r.kind ≡ true → gate_count before ≡ 0
+abbrev pub IsNoInputAfterGate : List CircuitLine → CircuitLine → Type 0
+IsNoInputAfterGate before r = is_input r.kind ≡ true → gate_count before ≡ 0
 
 -- the line is good after those before it
 pub record IsGoodAfter (before : List CircuitLine) (r : CircuitLine) : Type 0 where
   pub adds : add_fault before r ≡ None
   pub fits : FitsKind r
-  pub inputs_first : InputsFirst before r
+  pub inputs_first : IsNoInputAfterGate before r
 
 -- each line is good after those before it
 unfoldable pub AreGoodAfter : List CircuitLine → List CircuitLine → Type 0
@@ -88,8 +88,8 @@ AreGoodAfter before [] = ⊤
 AreGoodAfter before (r ∷ rest) = IsGoodAfter before r × AreGoodAfter (before ++ r ∷ []) rest
 
 -- each line is good after those before it
-abbrev pub AreGood : List CircuitLine → Type 0
-AreGood entries = AreGoodAfter [] entries
+abbrev pub AreGoodCircuitLines : List CircuitLine → Type 0
+AreGoodCircuitLines entries = AreGoodAfter [] entries
 
 -- the values of wires that are listed, and false for all others
 abbrev pub read : List Bool → Valuation

@@ -4,7 +4,7 @@ use Rattle.circuit.specs.Entries.{defined}
 use Rattle.circuit.specs.declared.circuit_line.CircuitLine.{CircuitLine}
 use Rattle.circuit.specs.declared.netlist.Circuit.TheInside.{Inside}
 use Rattle.circuit.specs.Rules.{consumed, gate_count, first_unconsumed}
-use Rattle.circuit.specs.Bridge.{AreGood, gates_of}
+use Rattle.circuit.specs.Bridge.{AreGoodCircuitLines, gates_of}
 use Rattle.circuit.specs.Wiring.{gate_of}
 
 -- the lines of a circuit, from its fields
@@ -17,5 +17,5 @@ pub record IsCircuit (a : Inside) : Type 0 where
   pub all_used : first_unconsumed (consumed a.entries.items) (defined a.entries.items) ≡ None
   pub few_wires : length (defined a.entries.items) ≤ 4096
   pub few_gates : gate_count a.entries.items ≤ 1024
-  pub good : AreGood a.entries.items
+  pub good : AreGoodCircuitLines a.entries.items
   pub wired : map gate_of a.wired.items ≡ gates_of (defined a.entries.items) a.entries.items

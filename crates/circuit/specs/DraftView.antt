@@ -5,7 +5,7 @@ use Rattle.circuit.specs.Entries.{defined}
 use Rattle.circuit.specs.declared.circuit_line.CircuitLine.{CircuitLine}
 use Rattle.circuit.specs.declared.draft.Draft.TheInside.{Inside}
 use Rattle.circuit.specs.Rules.{consumed, gate_count}
-use Rattle.circuit.specs.Bridge.{AreGood, gates_of}
+use Rattle.circuit.specs.Bridge.{AreGoodCircuitLines, gates_of}
 use Rattle.circuit.specs.Wiring.{gate_of}
 
 -- the lines of a draft, from its fields
@@ -20,5 +20,5 @@ pub record IsDraft (a : Inside) : Type 0 where
   pub gates : a.gates ≡ gate_count a.entries.items
   pub few_gates : a.gates ≤ 1024
   pub few_wires : length (defined a.entries.items) ≤ 4096
-  pub good : AreGood a.entries.items
+  pub good : AreGoodCircuitLines a.entries.items
   pub wired : map gate_of a.wired.items ≡ gates_of (defined a.entries.items) a.entries.items

@@ -13,15 +13,15 @@ evaluate vs [] = Some vs
 evaluate vs (g ∷ gs) = option_and_then (λ r. evaluate (vs ++ r) gs) (row g.kind (map (read vs) g.ins))
 
 -- the number of a gate, if this one has these outputs or no row
-abbrev pub undefined_gate_or_later : (List Bool → Option ℕ) → Option (List Bool) → Option ℕ
-undefined_gate_or_later later None = Some 0
-undefined_gate_or_later later (Some r) = option_map (λ k. k + 1) (later r)
+abbrev pub this_or_later_undefined : (List Bool → Option ℕ) → Option (List Bool) → Option ℕ
+this_or_later_undefined later None = Some 0
+this_or_later_undefined later (Some r) = option_map (λ k. k + 1) (later r)
 
 -- the first gate that has no row
-unfoldable pub first_undefined : List Bool → List Gate → Option ℕ
-first_undefined vs [] = None
-first_undefined vs (g ∷ gs) =
-    undefined_gate_or_later (λ r. first_undefined (vs ++ r) gs) (row g.kind (map (read vs) g.ins))
+unfoldable pub first_undefined_gate : List Bool → List Gate → Option ℕ
+first_undefined_gate vs [] = None
+first_undefined_gate vs (g ∷ gs) =
+    this_or_later_undefined (λ r. first_undefined_gate (vs ++ r) gs) (row g.kind (map (read vs) g.ins))
 
 -- gate k has no row, and vs are the values after the gates before it
 pub record EvaluatesUpTo (given : List Bool) (gs : List Gate) (k : ℕ) (vs : List Bool) : Type 0 where

@@ -10,9 +10,9 @@ use Rattle.section_text.specs.declared.code.RefusalCode.{RefusalCode}
 use Rattle.section_text.specs.declared.code.RefusalCode.TheVariants.{SomethingMissing}
 
 -- the code of a wire that no line consumes, if there is one
-abbrev pub missing_code : Option (List ℕ) → Option RefusalCode
-missing_code None = None
-missing_code (Some n) = Some SomethingMissing
+abbrev pub unconsumed_wire_code : Option (List ℕ) → Option RefusalCode
+unconsumed_wire_code None = None
+unconsumed_wire_code (Some n) = Some SomethingMissing
 
 -- the grammar of the circuit section
 abbrev pub circuit_grammar : Grammar (Unit {0}) CircuitLine
@@ -20,7 +20,7 @@ circuit_grammar = record {
   form = form_of;
   header_fault = λ h. None;
   item_fault = λ h entries r. or_else (order_fault entries r) (add_fault entries r);
-  end_fault = λ h entries. missing_code (first_unconsumed (consumed entries) (defined entries));
+  end_fault = λ h entries. unconsumed_wire_code (first_unconsumed (consumed entries) (defined entries));
 }
 
 -- what the section of a circuit gives

@@ -6,19 +6,20 @@ use Rattle.circuit.specs.declared.circuit_line.GateKind.TheVariants.{Source, Swi
 use Rattle.circuit.specs.Gates.{is_inverse, row}
 use Rattle.std.specs.List.{count_by, flat_map, range_with_len}
 use Rattle.circuit.specs.Entries.{defined}
-use Rattle.section_text.specs.Section.{section_of, ended_line}
+use Rattle.section_text.specs.Section.{section_of, with_line_feed}
 use Rattle.circuit.specs.declared.circuit_line.CircuitLine.{CircuitLine}
 use Rattle.circuit.specs.Grammars.{circuit_grammar}
 use Rattle.circuit.specs.Text.{circuit_text}
 use Rattle.circuit.specs.Meaning.{Netlist, Valuation, Satisfies, AreOrdered, AreNonInverse, IsUndefined, wires, wire_of}
-use Rattle.circuit.specs.Bridge.{AreGood, AreValues, StopsAt, input_count, input_names, gates_of, netlist_of}
+use Rattle.circuit.specs.Bridge.{AreGoodCircuitLines, AreValues, StopsAt, input_count, input_names, gates_of}
+use Rattle.circuit.specs.Bridge.{netlist_of}
 use Rattle.circuit.specs.Bridge.{circuit_of}
 
 -- the text of a circuit that is read is the text of the lines that it is read from
 abbrev pub PrintsWhatIsRead : Type 0
 PrintsWhatIsRead = (n : ℕ) (ls : List (List ℕ)) (entries : List CircuitLine) →
     section_of circuit_grammar n ls ≡ Ok (tt, entries) →
-    flat_map ended_line (take (length entries + 2) ls) ≡ circuit_text entries
+    flat_map with_line_feed (take (length entries + 2) ls) ≡ circuit_text entries
 
 -- and it is read as the same circuit again, wherever it is
 abbrev pub ReadsWhatIsPrinted : Type 0
@@ -28,7 +29,7 @@ ReadsWhatIsPrinted = (text : List ℕ) (from n m : ℕ) (entries : List CircuitL
 
 -- the gates of a good list of lines are ordered
 abbrev pub GatesAreOrdered : Type 0
-GatesAreOrdered = (entries : List CircuitLine) → AreGood entries →
+GatesAreOrdered = (entries : List CircuitLine) → AreGoodCircuitLines entries →
     AreOrdered (input_count entries) (gates_of (defined entries) entries)
 
 -- ordered gates have a valuation if none of them is undefined
@@ -64,7 +65,7 @@ HasAtMostOneValuation = (n : Netlist) (a u v : Valuation) → AreOrdered n.given
 
 -- a circuit of good lines without inverse gates has one valuation, whatever its inputs are
 abbrev pub HasOneValuation : Type 0
-HasOneValuation = (entries : List CircuitLine) (a : Valuation) → AreGood entries →
+HasOneValuation = (entries : List CircuitLine) (a : Valuation) → AreGoodCircuitLines entries →
     AreNonInverse (netlist_of entries).gates →
     (v : Valuation) × Satisfies (netlist_of entries) a v
     × ((u : Valuation) → Satisfies (netlist_of entries) a u → (w : ℕ) → w < wires (netlist_of entries) → u w ≡ v w)
@@ -76,16 +77,17 @@ ValuesAreTheValuation = (n : Netlist) (a v : Valuation) (vs : List Bool) → Are
 
 -- the wires of a circuit have names of their own: the wire of the name of a wire is that wire
 abbrev pub WireNamesAreDistinct : Type 0
-WireNamesAreDistinct = (entries : List CircuitLine) (w : ℕ) (name : List ℕ) → AreGood entries →
+WireNamesAreDistinct = (entries : List CircuitLine) (w : ℕ) (name : List ℕ) → AreGoodCircuitLines entries →
     slice_get (defined entries) w ≡ Some name → wire_of (circuit_of entries) name ≡ Some w
 
 -- each wire has a name
 abbrev pub WiresAreNamed : Type 0
-WiresAreNamed = (entries : List CircuitLine) → AreGood entries → length (defined entries) ≡ wires (netlist_of entries)
+WiresAreNamed = (entries : List CircuitLine) → AreGoodCircuitLines entries →
+    length (defined entries) ≡ wires (netlist_of entries)
 
 -- the inputs are the first wires
 abbrev pub InputsAreFirst : Type 0
-InputsAreFirst = (entries : List CircuitLine) → AreGood entries →
+InputsAreFirst = (entries : List CircuitLine) → AreGoodCircuitLines entries →
     take (input_count entries) (defined entries) ≡ input_names entries
 
 -- how many of the bits are true

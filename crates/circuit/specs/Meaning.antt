@@ -46,8 +46,8 @@ abbrev pub HasRow : Valuation → Gate → Type 0
 HasRow v g = row g.kind (map v g.ins) ≡ Some (map v g.outs)
 
 -- the first n gates have their rows
-abbrev pub RowsBelow : ℕ → List Gate → Valuation → Type 0
-RowsBelow n gates v = (k : ℕ) (g : Gate) → k < n → slice_get gates k ≡ Some g → HasRow v g
+abbrev pub FirstGatesHaveRows : ℕ → List Gate → Valuation → Type 0
+FirstGatesHaveRows n gates v = (k : ℕ) (g : Gate) → k < n → slice_get gates k ≡ Some g → HasRow v g
 
 -- v satisfies the gates if the given wires have the values a
 pub record Satisfies (n : Netlist) (a v : Valuation) : Type 0 where
@@ -76,7 +76,7 @@ pub record IsUndefined (n : Netlist) (a : Valuation) (k : ℕ) : Type 0 where
   pub numbered : slice_get n.gates k ≡ Some gate
   pub values : Valuation
   pub given : (i : ℕ) → i < n.given → values i ≡ a i
-  pub before : RowsBelow k n.gates values
+  pub before : FirstGatesHaveRows k n.gates values
   pub none : row gate.kind (map values gate.ins) ≡ None
 
 -- the first k gates alone

@@ -9,7 +9,7 @@ use Rattle.circuit.specs.declared.circuit_line.Kind.{Kind}
 use Rattle.circuit.specs.declared.circuit_line.Kind.TheVariants.{Input, Gate, Output, Spill}
 use Rattle.circuit.specs.declared.circuit_line.CircuitLine.{CircuitLine}
 use Rattle.section_text.specs.Words.{has}
-use Rattle.section_text.specs.Codes.{code_where, or_else}
+use Rattle.section_text.specs.Codes.{code_if, or_else}
 use Rattle.circuit.specs.Entries.{defined, rank_of}
 use Rattle.section_text.specs.declared.code.RefusalCode.{RefusalCode}
 use Rattle.section_text.specs.declared.code.RefusalCode.TheVariants.{PastLimit, UnknownName, DefinedTwice}
@@ -68,7 +68,7 @@ exceeds_limit entries r = is_wrong_delay r.kind
 
 -- the code of a line outside the limits
 abbrev pub limit_fault : List CircuitLine → CircuitLine → Option RefusalCode
-limit_fault entries r = code_where (exceeds_limit entries r) PastLimit
+limit_fault entries r = code_if (exceeds_limit entries r) PastLimit
 
 -- the first of codes 2 to 5
 unfoldable pub add_fault : List CircuitLine → CircuitLine → Option RefusalCode
@@ -84,7 +84,7 @@ last_rank (r ∷ s ∷ entries) = last_rank (s ∷ entries)
 
 -- the code of a line of an earlier kind than the last one
 abbrev pub order_fault : List CircuitLine → CircuitLine → Option RefusalCode
-order_fault entries r = code_where (nat_lt (rank_of r.kind) (last_rank entries)) OutOfOrder
+order_fault entries r = code_if (nat_lt (rank_of r.kind) (last_rank entries)) OutOfOrder
 
 -- the first wire that nobody consumes
 abbrev pub first_unconsumed : List (List ℕ) → List (List ℕ) → Option (List ℕ)

@@ -18,15 +18,15 @@ gate_of g =
     }
 
 -- the gate of a line of this kind, if it is a gate's line
-abbrev pub gate_at : Kind → List ℕ → ℕ → List Gate
-gate_at Input ins first = []
-gate_at (GateLine k) ins first =
+abbrev pub gate_with_outs_from : Kind → List ℕ → ℕ → List Gate
+gate_with_outs_from Input ins first = []
+gate_with_outs_from (GateLine k) ins first =
     record { kind = k; ins = take (uses k) ins; outs = range_with_len first (defines k) }
     ∷ []
-gate_at Output ins first = []
-gate_at Spill ins first = []
+gate_with_outs_from Output ins first = []
+gate_with_outs_from Spill ins first = []
 
 -- the marks after those of some wires are set
-abbrev pub marked : List ℕ → List Bool → List Bool
-marked [] marks = marks
-marked (w ∷ ws) marks = marked ws (slice_set marks w true)
+abbrev pub with_marks_set : List ℕ → List Bool → List Bool
+with_marks_set [] marks = marks
+with_marks_set (w ∷ ws) marks = with_marks_set ws (slice_set marks w true)

@@ -5,11 +5,11 @@ ghost use Rattle.circuit.specs.Gates.{uses, defines};
 ghost use Rattle.circuit.specs.declared.circuit_line.Kind.TheVariants.{Input, Gate, Output, Spill};
 ghost use Rattle.circuit.specs.declared.circuit_line.GateKind.TheVariants.{Source};
 ghost use Rattle.circuit.specs.Rules.{add_fault, exceeds_limit, is_wrong_delay, is_gate, gate_count, consumed, consume, define, first_unconsumed};
-ghost use Rattle.circuit.specs.Wiring.{gate_of, gate_at};
+ghost use Rattle.circuit.specs.Wiring.{gate_of, gate_with_outs_from};
 ghost use Rattle.circuit.specs.Meaning.{number};
 ghost use Rattle.section_text.specs.Words.{has};
 ghost use Rattle.section_text.specs.Adding.{HasRefusalCode};
-ghost use Rattle.circuit.specs.Bridge.{FitsKind, InputsFirst};
+ghost use Rattle.circuit.specs.Bridge.{FitsKind, IsNoInputAfterGate};
 
 use crate::circuit_line::{CircuitLine, GateKind, Kind};
 use crate::netlist::Circuit;
@@ -87,7 +87,7 @@ fn push_line_and_gate(
     requires { first ≤ 4096 }
     ensures line { OnOk result (entries.new.items ≡ entries.old.items ++ entry ∷ []) }
     ensures gate { OnOk result (map gate_of wired.new.items
-        ≡ map gate_of wired.old.items ++ gate_at entry.kind ins first) }
+        ≡ map gate_of wired.old.items ++ gate_with_outs_from entry.kind ins first) }
     ensures err { OnErr result ((entries.new.items ≡ entries.old.items)
         × (wired.new.items ≡ wired.old.items)) }
 {
@@ -171,7 +171,7 @@ impl Draft {
     #[tactic(auto, unfolding(crate::specs::Rules::add_fault))]
     pub(crate) fn add(&mut self, entry: CircuitLine) -> Result<(), LineFault>
         requires fits { FitsKind entry }
-        requires inputs_first { InputsFirst self.old entry }
+        requires inputs_first { IsNoInputAfterGate self.old entry }
         ensures ok { OnOk result ((add_fault self.old entry ≡ None)
             × (self.new ≡ self.old ++ entry ∷ [])) }
         ensures err { OnErr result (self.new ≡ self.old) }

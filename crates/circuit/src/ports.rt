@@ -8,7 +8,7 @@ use crate::netlist::Circuit;
 use section_text::{Name, PortNames};
 use std::alloc::{AllocError, Global};
 
-fn add_inputs(names: &mut Vec<Name>, entry: &CircuitLine) -> Result<(), AllocError>
+fn push_input_name(names: &mut Vec<Name>, entry: &CircuitLine) -> Result<(), AllocError>
     ensures { OnOk result (names.new.items ≡ names.old.items ++ input_names (entry.now ∷ [])) }
 {
     match entry.kind {
@@ -17,7 +17,7 @@ fn add_inputs(names: &mut Vec<Name>, entry: &CircuitLine) -> Result<(), AllocErr
     }
 }
 
-fn add_outputs(names: &mut Vec<Name>, entry: &CircuitLine) -> Result<(), AllocError>
+fn push_output_name(names: &mut Vec<Name>, entry: &CircuitLine) -> Result<(), AllocError>
     ensures { OnOk result (names.new.items ≡ names.old.items ++ output_names (entry.now ∷ [])) }
 {
     match entry.kind {
@@ -26,7 +26,7 @@ fn add_outputs(names: &mut Vec<Name>, entry: &CircuitLine) -> Result<(), AllocEr
     }
 }
 
-fn ports_of(
+fn push_port_names_of_lines(
     ins: &mut Vec<Name>,
     outs: &mut Vec<Name>,
     entries: &[CircuitLine],
@@ -35,8 +35,8 @@ fn ports_of(
     ensures outs { OnOk result (outs.new.items ≡ outs.old.items ++ output_names entries.now) }
 {
     for entry in entries {
-        add_inputs(ins, entry)?;
-        add_outputs(outs, entry)?;
+        push_input_name(ins, entry)?;
+        push_output_name(outs, entry)?;
     }
     Ok(())
 }
@@ -49,6 +49,6 @@ pub fn port_names(alloc: Global, circuit: &Circuit) -> Result<PortNames, AllocEr
 {
     let mut ins = Vec::with_capacity(alloc, circuit.inputs())?;
     let mut outs = Vec::new(alloc);
-    ports_of(&mut ins, &mut outs, circuit.entries())?;
+    push_port_names_of_lines(&mut ins, &mut outs, circuit.entries())?;
     Ok(PortNames::Only { ins, outs })
 }

@@ -2,7 +2,7 @@
 ghost use Rattle.std.specs.Prelude.{◌≡◌, ◌≤◌, length, ◌++◌, OnOk, IfOk};
 ghost use Rattle.std.specs.List.{flat_map};
 ghost use Rattle.circuit.specs.Entries.{defined};
-ghost use Rattle.section_text.specs.Spelling.{spaced};
+ghost use Rattle.section_text.specs.Spelling.{space_and_word};
 ghost use Rattle.circuit.specs.Bridge.{netlist_of};
 ghost use Rattle.circuit.specs.Meaning.{wires};
 ghost use Rattle.circuit.specs.Text.{value_line, value_lines, gate_word, gate_parameter_words, first_word, words_after_keyword, entry_text, circuit_text};
@@ -13,7 +13,7 @@ use section_text::{Name, print_number, print_word};
 use std::alloc::{AllocError, Global};
 
 fn print_names(out: &mut Vec<u8>, names: &[Name]) -> Result<(), AllocError>
-    ensures { OnOk result (out.new.items ≡ out.old.items ++ flat_map spaced names.now) }
+    ensures { OnOk result (out.new.items ≡ out.old.items ++ flat_map space_and_word names.now) }
 {
     for name in names {
         print_word(out, name.bytes())?;
@@ -24,7 +24,8 @@ fn print_names(out: &mut Vec<u8>, names: &[Name]) -> Result<(), AllocError>
 // The keyword of a gate, and its bit or number.
 fn print_gate(out: &mut Vec<u8>, kind: GateKind) -> Result<(), AllocError>
     ensures { OnOk result (out.new.items
-        ≡ out.old.items ++ (gate_word kind ++ flat_map spaced (gate_parameter_words kind))) }
+        ≡ out.old.items ++ (gate_word kind
+        ++ flat_map space_and_word (gate_parameter_words kind))) }
 {
     match kind {
         GateKind::Source(true) => out.extend_from_slice(b"source 1"),

@@ -3,7 +3,7 @@ ghost use Rattle.std.specs.Prelude.{◌≡◌, ◌+◌, ◌<◌, ◌≤◌, true
 ghost use Rattle.std.specs.List.{All};
 ghost use Rattle.section_text.specs.Words.{has};
 ghost use Rattle.circuit.specs.Rules.{define};
-ghost use Rattle.circuit.specs.Wiring.{marked};
+ghost use Rattle.circuit.specs.Wiring.{with_marks_set};
 ghost use Rattle.section_text.specs.Adding.{HasRefusalCode};
 
 use crate::number::WireNo;
@@ -70,7 +70,7 @@ pub(crate) fn define_wires(
 /// Sets the marks of wires.
 pub(crate) fn mark_wires(consumed: &mut Vec<bool>, wires: &[WireNo])
     requires { All (λ w. w < length consumed.old.items) wires.now }
-    ensures { consumed.new.items ≡ marked wires.now consumed.old.items }
+    ensures { consumed.new.items ≡ with_marks_set wires.now consumed.old.items }
 {
     for wire in wires {
         consumed[wire.number() as usize] = true;

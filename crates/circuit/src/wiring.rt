@@ -4,7 +4,7 @@ ghost use Rattle.std.specs.List.{range_with_len};
 ghost use Rattle.circuit.specs.Gates.{row, uses};
 ghost use Rattle.circuit.specs.Bridge.{read};
 ghost use Rattle.circuit.specs.Evaluate.{evaluate, IsGateEvaluationError};
-ghost use Rattle.circuit.specs.Wiring.{gate_of, gate_at};
+ghost use Rattle.circuit.specs.Wiring.{gate_of, gate_with_outs_from};
 
 use crate::circuit_line::{GateKind, Kind};
 use crate::netlist::ValuesFault;
@@ -66,7 +66,7 @@ pub(crate) fn push_gate_of_line(
 ) -> Result<(), AllocError>
     requires { first ≤ 4096 }
     ensures ok { OnOk result (map gate_of gates.new.items
-        ≡ map gate_of gates.old.items ++ gate_at kind ins first) }
+        ≡ map gate_of gates.old.items ++ gate_with_outs_from kind ins first) }
     ensures earlier_gates_stay { OnOk result (take (length gates.old.items) gates.new.items
         ≡ gates.old.items) }
     ensures err { OnErr result (gates.new.items ≡ gates.old.items) }
@@ -89,7 +89,7 @@ fn value_at(values: &[bool], wire: WireNo) -> bool
 
 /// Adds the values of the wires that the gate defines. `false`: it has no row.
 #[tactic(auto, unfolding(crate::specs::Gates::row))]
-fn push_outs(values: &mut Vec<bool>, gate: GateWires) -> Result<bool, AllocError>
+fn push_out_values(values: &mut Vec<bool>, gate: GateWires) -> Result<bool, AllocError>
     ensures found { result ≡ Ok true →
         option_map (λ (r : List Bool). values.old.items ++ r)
         (row gate.kind
@@ -149,7 +149,7 @@ pub(crate) fn values_of(
 {
     let mut values = given.to_vec(alloc)?;
     for (number, gate) in gates.iter().enumerate() {
-        if !push_outs(&mut values, *gate)? {
+        if !push_out_values(&mut values, *gate)? {
             return Err(ValuesFault::OutOfDomain {
                 gate: number,
                 before: values,

@@ -1,7 +1,6 @@
 -- If a parse ends without an error, a property of the arguments that each successful step keeps holds at the end.
 use Rattle.std.proofs.Common.{◌≡◌, ◌&&◌, ℕ, Bool, cond, true, false, zero, suc, refl, List, [], ◌∷◌, length, drop}
-use Rattle.std.proofs.Common.{Option, Some, None, is_some, fold}
-use Rattle.std.specs.Prelude.{encode_utf8, slice_get, find}
+use Rattle.std.proofs.Common.{Option, Some, None, is_some, fold, encode_utf8, slice_get, find}
 use Rattle.std.specs.Option.{option_map_or}
 use Rattle.std.specs.Str.{bytes_eq, chars}
 use Rattle.clap.specs.Lexer.{long_of, short_of}

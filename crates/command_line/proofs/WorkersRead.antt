@@ -1,7 +1,6 @@
 -- The number that `get_one` reads of `--workers` is the one that the words ask for.
 use Rattle.std.proofs.Common.{◌≡◌, ◌∙◌, ◌≤◌, ℕ, Bool, cond, true, false, refl, sym, ap, List, [], Option, Some, None}
-use Rattle.std.proofs.Common.{codes, arith}
-use Rattle.std.specs.Prelude.{Err, Ok, Result, option_and_then, option_map, unwrap_or}
+use Rattle.std.proofs.Common.{codes, arith, Err, Ok, Result, option_and_then, option_map, unwrap_or}
 use Rattle.std.specs.Option.{option_map_or}
 use Rattle.std.specs.Str.{bytes_eq}
 use Rattle.std.specs.Str.Parse.{ParsesUnsigned}

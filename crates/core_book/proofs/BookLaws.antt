@@ -1,7 +1,6 @@
 -- The laws of books
 use Rattle.std.proofs.Common.{◌≡◌, ◌≢◌, ◌∙◌, ◌<◌, ℕ, Bool, true, false, not, List, length, get_or, Option, None, Some}
-use Rattle.std.proofs.Common.{refl, sym, ap, subst, arith, nat_eq, nat_lt}
-use Rattle.std.specs.Prelude.{is_some, if◌then◌else◌, slice_get, IsSome}
+use Rattle.std.proofs.Common.{refl, sym, ap, subst, arith, nat_eq, nat_lt, is_some, if◌then◌else◌, slice_get, IsSome}
 use Rattle.std.specs.Option.{option_eq}
 use Rattle.std.specs.Cmp.Lexicographic.{pointwise, bytes_decides}
 use Rattle.std.proofs.lemmas.Bool.Decides.{nat_tests}
@@ -15,18 +14,15 @@ use Rattle.local_run.specs.Shown.{digest_of, number_of, job_of, fault_of, keep_o
 use Rattle.local_run.specs.declared.finding.Finding.{Finding}
 use Rattle.local_run.proofs.Least.{least_unique, least_keep_unique}
 use Rattle.core_book.specs.Book.{BookView, IsOwn, after_filing, found_in, is_job_of, reply_to}
-use Rattle.core_book.specs.Laws.{AcceptedIsOwnAndNew, BooksAgreeOnFaults, ClosedAnswersClosed, DoubleIsOwnAndHeld}
+use Rattle.core_book.specs.Laws.{AcceptedIsBooksAndNew, BooksAgreeOnFaults, ClosedAnswersClosed, DoubleIsBooksAndHeld}
 use Rattle.core_book.specs.Laws.{AcceptedFindingIsHeld, UnacceptedKeepsFindings, FilingKeepsHeldFindings}
-use Rattle.core_book.specs.Laws.{OwnFindingIsNoStranger, FilingKeepsBookValid}
-use Rattle.core_book.specs.Laws.{EachEntryKeepsReplay}
+use Rattle.core_book.specs.Laws.{BooksFindingIsNoStranger, FilingKeepsBookValid, EachEntryKeepsReplay}
 use Rattle.core_book.specs.declared.reply.Mismatch.{Mismatch}
 use Rattle.core_book.specs.declared.reply.Mismatch.TheVariants.{Digest, Number, Content}
 use Rattle.core_book.specs.declared.reply.Reply.{Reply}
 use Rattle.core_book.specs.declared.reply.Reply.TheVariants.{Closed, Stranger, Double, Accepted}
-use Rattle.core_book.proofs.Filings.{IsBook-filed, accepted-inside, accepted-new, accepted-own}
-use Rattle.core_book.proofs.Filings.{findings_after-accepted}
-use Rattle.core_book.proofs.Filings.{findings_after-other, is_job_of-true, reply_to-closed, reply_to-held}
-use Rattle.core_book.proofs.Filings.{reply_to-new}
+use Rattle.core_book.proofs.Filings.{IsBook-filed, accepted-inside, accepted-new, accepted-own, findings_after-accepted}
+use Rattle.core_book.proofs.Filings.{findings_after-other, is_job_of-true, reply_to-closed, reply_to-held, reply_to-new}
 use Rattle.core_book.proofs.Replays.{IsReplayed-closed, IsReplayed-filed}
 
 pub none_held : (o : Option Finding) → is_some o ≡ false → o ≡ None
@@ -48,7 +44,7 @@ unfolding is_job_of
 own-job b n f own = ap (λ (o : Option JobView). option_eq same_job o (Some (job_of f))) own.job
     ∙ (jobs_decide (job_of f) (job_of f)).1 refl
 
-pub accepts-its-own : AcceptedIsOwnAndNew
+pub accepts-its-own : AcceptedIsBooksAndNew
 accepts-its-own b f e = (accepted-own b f e, none_held _ (accepted-new b f e))
 
 no_stranger : (b : BookView) (f : Finding) (mismatch : Mismatch) (closed held : Bool) → IsOwn b (number_of f) f →
@@ -63,7 +59,7 @@ no_stranger b f mismatch false false own is held_is e =
     let new = reply_to-new b f is (own-digest b _ f own) (own-number b f own) (own-job b _ f own) held_is in
     cc
 
-pub knows-its-own : OwnFindingIsNoStranger
+pub knows-its-own : BooksFindingIsNoStranger
 knows-its-own b f k mismatch own =
     no_stranger b f mismatch _ _ (subst (λ (n : ℕ). IsOwn b n f) (sym own.number_is) own) refl refl
 
@@ -121,7 +117,7 @@ double-own b f k e =
     } in
     subst (λ (n : ℕ). IsOwn b n f) p.same own
 
-pub doubles-what_is_held : DoubleIsOwnAndHeld
+pub doubles-what_is_held : DoubleIsBooksAndHeld
 doubles-what_is_held b f k e =
     let p = double_tells b f k e in
     (double-own b f k e, subst (λ (n : ℕ). IsSome (found_in b n)) p.same p.held_is)

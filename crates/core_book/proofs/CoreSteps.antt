@@ -1,16 +1,14 @@
 -- The parts of a core that each event keeps
 use Rattle.std.proofs.Common.{◌≡◌, ◌∙◌, ◌+◌, ◌<◌, ◌≤◌, ◌++◌, ◌∷◌, ℕ, suc, zero, List, [], Bool, true, false, length}
-use Rattle.std.proofs.Common.{map, refl, sym, ap, subst, arith, get_or, set, All}
-use Rattle.std.specs.Prelude.{if◌then◌else◌, nat_lt}
+use Rattle.std.proofs.Common.{map, refl, sym, ap, subst, arith, get_or, set, All, if◌then◌else◌, nat_lt}
 use Rattle.std.proofs.lemmas.Bool.Decides.{nat_tests}
 use Rattle.std.proofs.lemmas.List.{length-set, length-replicate}
 use Rattle.std.proofs.lemmas.List.Elements.{All-head, All-tail}
 use Rattle.module_job.specs.Jobs.{JobView}
 use Rattle.core_book.specs.Draws.{IsDrawn, total}
-use Rattle.core_book.specs.Claims.{claim_draws, claim_next, has_ended}
+use Rattle.core_book.specs.Claims.{draws_after_claim, next_after_claim, has_ended}
 use Rattle.core_book.specs.Core.{CoreView, IsCore, HasSeatBelow, after_claim, after_event, after_events, draws_of}
-use Rattle.core_book.specs.Core.{ended}
-use Rattle.core_book.specs.Core.{new_core, job_count_of}
+use Rattle.core_book.specs.Core.{ended, new_core, job_count_of}
 use Rattle.core_book.specs.declared.machine.Event.{Event}
 use Rattle.core_book.specs.declared.machine.Event.TheVariants as Events
 use Rattle.core_book.proofs.Counting.{drawn-none, drawn-push, has_ended-push, total-le, total-set}
@@ -120,10 +118,11 @@ drawn-at f (x ∷ vs) (suc k) v inside at = drawn-at f vs k v (omega (arith, ins
 
 pub left-claim : (c : CoreView) (seat count next : ℕ) (before after : List ℕ) (draws : List (List ℕ)) →
     count ≡ job_count_of c → before ≡ draws_of c seat →
-    next ≡ claim_next count before c.next → after ≡ claim_draws count before c.next → draws ≡ set c.draws seat after →
+    next ≡ next_after_claim count before c.next → after ≡ draws_after_claim count before c.next →
+    draws ≡ set c.draws seat after →
     record c { next = next; draws = draws } ≡ after_claim c seat
 left-claim c seat count next before after draws counts was next_is after_is draws_are =
-    let n : next ≡ (after_claim c seat).next = next_is ∙ (λ i. claim_next (counts i) (was i) c.next) in
+    let n : next ≡ (after_claim c seat).next = next_is ∙ (λ i. next_after_claim (counts i) (was i) c.next) in
     let d : draws ≡ (after_claim c seat).draws =
-    draws_are ∙ ap (set c.draws seat) (after_is ∙ (λ i. claim_draws (counts i) (was i) c.next)) in
+    draws_are ∙ ap (set c.draws seat) (after_is ∙ (λ i. draws_after_claim (counts i) (was i) c.next)) in
     (λ i. record c { next = n i; draws = d i })

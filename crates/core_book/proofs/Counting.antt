@@ -1,7 +1,6 @@
 -- Sums over lists, and lists of numbers that were drawn
 use Rattle.std.proofs.Common.{◌≡◌, ◌+◌, ◌-◌, ◌<◌, ◌≤◌, ◌++◌, ◌∷◌, ℕ, suc, zero, List, [], true, length, refl, ap, arith}
-use Rattle.std.proofs.Common.{get_or, set, length-append}
-use Rattle.std.specs.Prelude.{nat_le, nat_lt, replicate, slice_get, Some}
+use Rattle.std.proofs.Common.{get_or, set, length-append, nat_le, nat_lt, replicate, slice_get, Some}
 use Rattle.std.proofs.lemmas.Option.{same_Some}
 use Rattle.std.proofs.lemmas.Bool.Decides.{nat_tests}
 use Rattle.core_book.specs.Draws.{IsDrawn, past_last, one_if_below, times, total}

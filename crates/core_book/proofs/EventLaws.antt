@@ -1,8 +1,7 @@
 -- The laws of the core
 use Rattle.std.proofs.Common.{◌≡◌, ◌≢◌, ◌∙◌, ◌+◌, ◌<◌, ◌≤◌, ◌∷◌, ◌⊎◌, inl, inr, cond, ℕ, suc, zero, List, [], Bool}
 use Rattle.std.proofs.Common.{true, false, length, Option, None, Some, refl, sym, ap, subst, arith, get_or, All}
-use Rattle.std.specs.Prelude.{if◌then◌else◌, nat_lt, is_some, ◌==◌}
-use Rattle.std.specs.List.{Contains, sum_by}
+use Rattle.std.proofs.Common.{if◌then◌else◌, nat_lt, is_some, ◌==◌, Contains, sum_by}
 use Rattle.std.proofs.lemmas.Bool.Decides.{nat_tests, eqb_tells}
 use Rattle.std.proofs.lemmas.List.Elements.{Contains-append_left, Contains-append_right, Contains-append_cases}
 use Rattle.std.proofs.lemmas.List.Elements.{Contains-push, All-contains}
@@ -15,13 +14,11 @@ use Rattle.core_book.specs.Draws.{IsDrawn, times, total}
 use Rattle.core_book.specs.Claims.{claim_of_draw, has_ended}
 use Rattle.core_book.specs.Book.{IsBook, IsReplayed, after_filing, found_in, reply_to}
 use Rattle.core_book.specs.Core.{CoreView, IsCore, HasSeatBelow, after_claim, after_event, after_events}
-use Rattle.core_book.specs.Core.{answer_of_claim}
-use Rattle.core_book.specs.Core.{answer_to, draws_of, new_core, job_count_of}
+use Rattle.core_book.specs.Core.{answer_of_claim, answer_to, draws_of, new_core, job_count_of}
 use Rattle.core_book.specs.CoreLaws.{AcceptsAtMostOnePerNumber, AreAllDrawn, DrawsEachOnce, EmptyOnlyIfAllAreDrawn}
-use Rattle.core_book.specs.CoreLaws.{EventsKeepHeldFindings, HistoryReplaysAfterEvents, HeldFindingsAreOwnAndLeast}
-use Rattle.core_book.specs.CoreLaws.{HoldsWhatWasAccepted}
-use Rattle.core_book.specs.CoreLaws.{OnlyAcceptedChangesWhatIsHeld, accepted_among, accepted_by, accepted_of}
-use Rattle.core_book.specs.CoreLaws.{core_after}
+use Rattle.core_book.specs.CoreLaws.{EventsKeepHeldFindings, HistoryReplaysAfterEvents, HeldFindingsAreBooksAndLeast}
+use Rattle.core_book.specs.CoreLaws.{HoldsWhatWasAccepted, OnlyAcceptedChangesWhatIsHeld, findings_accepted_in}
+use Rattle.core_book.specs.CoreLaws.{findings_accepted_by, finding_if_accepted, core_after}
 use Rattle.core_book.specs.declared.machine.Answer.TheVariants as Answered
 use Rattle.core_book.specs.declared.machine.Event.{Event}
 use Rattle.core_book.specs.declared.machine.Event.TheVariants as Events
@@ -124,7 +121,7 @@ pub events-replay : HistoryReplaysAfterEvents
 events-replay digest jobs seats es =
     events-replayed es (new_core digest jobs seats) (new-book digest jobs seats) (new-replayed digest jobs seats)
 
-pub holds-honest_own : HeldFindingsAreOwnAndLeast
+pub holds-honest_own : HeldFindingsAreBooksAndLeast
 holds-honest_own digest jobs seats es k f h =
     ((events-book es (new_core digest jobs seats) (new-book digest jobs seats)).own k f h, f.honest, f.keeps)
 
@@ -142,7 +139,7 @@ one-in {X = X} x y h = All-contains (λ z. x ≡ z) (x ∷ []) y single h
 
 -- what is held after an event was held before it, or was accepted by it
 held-event : (c : CoreView) (e : Event) (k : ℕ) (f : Finding) → IsBook c.book →
-    found_in (after_event c e).book k ≡ Some f → (found_in c.book k ≡ Some f) ⊎ (Contains (accepted_by c e) f)
+    found_in (after_event c e).book k ≡ Some f → (found_in c.book k ≡ Some f) ⊎ (Contains (findings_accepted_by c e) f)
 held-event c (Events.Claim seat) k f is h = inl h
 held-event c (Events.Lose number) k f is h = inl h
 held-event c (Events.File g) k f is h = by_reply (reply_to c.book g) refl
@@ -150,7 +147,8 @@ held-event c (Events.File g) k f is h = by_reply (reply_to c.book g) refl
     kept : reply_to c.book g ≢ Accepted → found_in c.book k ≡ Some f
     kept other = ap (λ (xs : List (Option Finding)). get_or xs k None) (sym (holds-nothing_else c.book g other)) ∙ h
 
-    by_reply : (r : Reply) → reply_to c.book g ≡ r → (found_in c.book k ≡ Some f) ⊎ (Contains (accepted_of g r) f)
+    by_reply : (r : Reply) → reply_to c.book g ≡ r →
+        (found_in c.book k ≡ Some f) ⊎ (Contains (finding_if_accepted g r) f)
     by_reply Accepted e =
         elim (eqb_tells (number_of g) k) [
           | inl p ↦
@@ -165,13 +163,13 @@ held-event c (Events.File g) k f is h = by_reply (reply_to c.book g) refl
     by_reply (Double number) e = inl (kept (λ s. cc))
 
 -- what is accepted by an event is held after it
-accepted-event : (c : CoreView) (e : Event) (f : Finding) → IsBook c.book → Contains (accepted_by c e) f →
+accepted-event : (c : CoreView) (e : Event) (f : Finding) → IsBook c.book → Contains (findings_accepted_by c e) f →
     found_in (after_event c e).book (number_of f) ≡ Some f
 accepted-event c (Events.Claim seat) f is m = absurd (none-in f m)
 accepted-event c (Events.Lose number) f is m = absurd (none-in f m)
 accepted-event c (Events.File g) f is m = by_reply (reply_to c.book g) refl m
   where
-    by_reply : (r : Reply) → reply_to c.book g ≡ r → Contains (accepted_of g r) f →
+    by_reply : (r : Reply) → reply_to c.book g ≡ r → Contains (finding_if_accepted g r) f →
         found_in (after_filing c.book g) (number_of f) ≡ Some f
     by_reply Accepted e m =
         let same : g ≡ f = one-in g f m in
@@ -187,23 +185,25 @@ events-keep-all [] c k f h = h
 events-keep-all (e ∷ es) c k f h = events-keep-all es (after_event c e) k f (events-keep c e k f h)
 
 held-among : (es : List Event) (c : CoreView) (k : ℕ) (f : Finding) → IsBook c.book →
-    found_in (after_events c es).book k ≡ Some f → (found_in c.book k ≡ Some f) ⊎ (Contains (accepted_among c es) f)
+    found_in (after_events c es).book k ≡ Some f →
+    (found_in c.book k ≡ Some f) ⊎ (Contains (findings_accepted_in c es) f)
 held-among [] c k f is h = inl h
 held-among (e ∷ es) c k f is h =
     elim (held-among es (after_event c e) k f (event-book c e is) h) [
       | inl before ↦
           elim (held-event c e k f is before) [
             | inl first ↦ inl first
-            | inr m ↦ inr (Contains-append_left (accepted_by c e) (accepted_among (after_event c e) es) f m)
+            | inr m ↦ inr (Contains-append_left (findings_accepted_by c e)
+                (findings_accepted_in (after_event c e) es) f m)
           ]
-      | inr m ↦ inr (Contains-append_right (accepted_by c e) (accepted_among (after_event c e) es) f m)
+      | inr m ↦ inr (Contains-append_right (findings_accepted_by c e) (findings_accepted_in (after_event c e) es) f m)
     ]
 
-among-held : (es : List Event) (c : CoreView) (f : Finding) → IsBook c.book → Contains (accepted_among c es) f →
+among-held : (es : List Event) (c : CoreView) (f : Finding) → IsBook c.book → Contains (findings_accepted_in c es) f →
     found_in (after_events c es).book (number_of f) ≡ Some f
 among-held [] c f is m = absurd (none-in f m)
 among-held (e ∷ es) c f is m =
-    elim (Contains-append_cases (accepted_by c e) (accepted_among (after_event c e) es) f m) [
+    elim (Contains-append_cases (findings_accepted_by c e) (findings_accepted_in (after_event c e) es) f m) [
       | inl first ↦ events-keep-all es (after_event c e) (number_of f) f (accepted-event c e f is first)
       | inr rest ↦ among-held es (after_event c e) f (event-book c e is) rest
     ]
@@ -212,7 +212,7 @@ pub holds-what_was_accepted : HoldsWhatWasAccepted
 holds-what_was_accepted digest jobs seats es k f = (forth, back)
   where
     forth : found_in (core_after digest jobs seats es).book k ≡ Some f →
-        Contains (accepted_among (new_core digest jobs seats) es) f × (number_of f ≡ k)
+        Contains (findings_accepted_in (new_core digest jobs seats) es) f × (number_of f ≡ k)
     forth h = (
       elim (held-among es (new_core digest jobs seats) k f (new-book digest jobs seats) h) [
         | inl before ↦ let none = new-nothing digest jobs seats k in absurd cc
@@ -221,7 +221,7 @@ holds-what_was_accepted digest jobs seats es k f = (forth, back)
       ((events-book es (new_core digest jobs seats) (new-book digest jobs seats)).own k f h).number_is,
     )
 
-    back : Contains (accepted_among (new_core digest jobs seats) es) f × (number_of f ≡ k) →
+    back : Contains (findings_accepted_in (new_core digest jobs seats) es) f × (number_of f ≡ k) →
         found_in (core_after digest jobs seats es).book k ≡ Some f
     back p = subst (λ (n : ℕ). found_in (core_after digest jobs seats es).book n ≡ Some f) p.1
         (among-held es (new_core digest jobs seats) f (new-book digest jobs seats) p.0)
@@ -235,7 +235,7 @@ abbrev at_number : ℕ → Finding → ℕ
 at_number k f = cond (number_of f == k) 1 0
 
 one-event : (c : CoreView) (e : Event) (k : ℕ) → IsBook c.book →
-    sum_by (at_number k) (accepted_by c e) + held_at c k ≤ held_at (after_event c e) k
+    sum_by (at_number k) (findings_accepted_by c e) + held_at c k ≤ held_at (after_event c e) k
 one-event c (Events.Claim seat) k is = omega arith
 one-event c (Events.Lose number) k is = omega arith
 one-event c (Events.File g) k is = by_reply (reply_to c.book g) refl
@@ -245,7 +245,7 @@ one-event c (Events.File g) k is = by_reply (reply_to c.book g) refl
         (sym (holds-nothing_else c.book g other))
 
     by_reply : (r : Reply) → reply_to c.book g ≡ r →
-        sum_by (at_number k) (accepted_of g r) + held_at c k ≤ held_at (after_event c (Events.File g)) k
+        sum_by (at_number k) (finding_if_accepted g r) + held_at c k ≤ held_at (after_event c (Events.File g)) k
     by_reply Accepted e =
         elim (eqb_tells (number_of g) k) [
           | inl p ↦
@@ -269,12 +269,12 @@ one-event c (Events.File g) k is = by_reply (reply_to c.book g) refl
     by_reply (Double number) e = omega (arith, kept (λ s. cc))
 
 one-among : (es : List Event) (c : CoreView) (k : ℕ) → IsBook c.book →
-    sum_by (at_number k) (accepted_among c es) + held_at c k ≤ held_at (after_events c es) k
+    sum_by (at_number k) (findings_accepted_in c es) + held_at c k ≤ held_at (after_events c es) k
 one-among [] c k is = omega arith
 one-among (e ∷ es) c k is =
     omega (
       arith,
-      sum_by-append (at_number k) (accepted_by c e) (accepted_among (after_event c e) es),
+      sum_by-append (at_number k) (findings_accepted_by c e) (findings_accepted_in (after_event c e) es),
       one-event c e k is,
       one-among es (after_event c e) k (event-book c e is),
     )

@@ -1,23 +1,22 @@
 -- Replies, and what filing keeps
 use Rattle.std.proofs.Common.{◌≡◌, ◌≢◌, ◌∙◌, ◌+◌, ◌<◌, ◌≤◌, ◌++◌, ◌∷◌, ℕ, suc, zero, Bool, true, false, not, cond, inl}
 use Rattle.std.proofs.Common.{inr, List, [], length, map, Option, None, Some, refl, sym, ap, ap₂, subst, arith, nat_eq}
-use Rattle.std.proofs.Common.{nat_lt, get_or, set}
-use Rattle.std.specs.Prelude.{is_some, if◌then◌else◌, slice_get}
+use Rattle.std.proofs.Common.{nat_lt, get_or, set, is_some, if◌then◌else◌, slice_get, IfSome, option_copied, option_map}
+use Rattle.std.proofs.Common.{sum_by}
 use Rattle.std.specs.Borrow.{Bor}
-use Rattle.std.specs.Option.{IfSome, option_copied, option_eq, option_map}
+use Rattle.std.specs.Option.{option_eq}
 use Rattle.std.specs.Cmp.Lexicographic.{pointwise, same_text}
 use Rattle.std.proofs.lemmas.Bool.Decides.{eqb_tells, nat_tests}
 use Rattle.std.proofs.lemmas.List.{get_or-set_same, get_or-set_other, length-set}
 use Rattle.std.proofs.lemmas.List.Sums.{sum_by-set}
-use Rattle.std.specs.List.{sum_by}
 use Rattle.std.proofs.lemmas.Option.{slice_get-map, slice_get_read}
 use Rattle.module_job.specs.Equality.{same_job}
 use Rattle.module_job.specs.Jobs.{JobView}
 use Rattle.module_job.proofs.EqualJobs.{jobs_decide}
 use Rattle.local_run.specs.Shown.{digest_of, number_of, job_of}
 use Rattle.local_run.specs.declared.finding.Finding.{Finding}
-use Rattle.core_book.specs.Book.{BookView, IsBook, IsOwn, accepted_in, after_closing, after_filing, count_after}
-use Rattle.core_book.specs.Book.{filing_of, found_in, findings_after, is_job_of, reply_to}
+use Rattle.core_book.specs.Book.{BookView, IsBook, IsOwn, accepted_in, after_closing, after_filing}
+use Rattle.core_book.specs.Book.{accepted_count_after, filing_of, found_in, findings_after, is_job_of, reply_to}
 use Rattle.core_book.specs.declared.log_entry.LogEntry.{LogEntry}
 use Rattle.core_book.specs.declared.log_entry.LogEntry.TheVariants.{Filed}
 use Rattle.core_book.specs.declared.log_entry.Filing.{Filing}
@@ -267,23 +266,23 @@ pub accepted_in-other : (b : BookView) (f : Finding) → reply_to b f ≢ Accept
 accepted_in-other b f other = ap (sum_by counted) (findings_after-other b.findings f (reply_to b f) other)
 
 by_reply : (b : BookView) (f : Finding) (r : Reply) → reply_to b f ≡ r → IsBook b →
-    accepted_in (after_filing b f) ≡ count_after (accepted_in b) r
+    accepted_in (after_filing b f) ≡ accepted_count_after (accepted_in b) r
 by_reply b f Accepted e is = accepted_in-accepted b f is e
 by_reply b f Closed e is = accepted_in-other b f (λ s. cc)
 by_reply b f (Stranger mismatch) e is = accepted_in-other b f (λ s. cc)
 by_reply b f (Double number) e is = accepted_in-other b f (λ s. cc)
 
 pub accepted_in-filed : (b c after : BookView) (f : Finding) (r : Reply) → IsBook b → b ≡ c → r ≡ reply_to c f →
-    after ≡ after_filing c f → accepted_in after ≡ count_after (accepted_in c) r
+    after ≡ after_filing c f → accepted_in after ≡ accepted_count_after (accepted_in c) r
 accepted_in-filed b c after f r is same e left =
     ap accepted_in left ∙ by_reply c f (reply_to c f) refl (subst IsBook same is)
-    ∙ ap (count_after (accepted_in c)) (sym e)
+    ∙ ap (accepted_count_after (accepted_in c)) (sym e)
 
-pub count_after-other : (n : ℕ) (r : Reply) → (r ≡ Accepted → ⊥) → count_after n r ≡ n
-count_after-other n Accepted other = absurd (other refl)
-count_after-other n Closed other = refl
-count_after-other n (Stranger mismatch) other = refl
-count_after-other n (Double number) other = refl
+pub accepted_count_after-other : (n : ℕ) (r : Reply) → (r ≡ Accepted → ⊥) → accepted_count_after n r ≡ n
+accepted_count_after-other n Accepted other = absurd (other refl)
+accepted_count_after-other n Closed other = refl
+accepted_count_after-other n (Stranger mismatch) other = refl
+accepted_count_after-other n (Double number) other = refl
 
 -- ---- what a book says of a number
 

@@ -18,7 +18,7 @@ use Rattle.core_book.specs.Book.{BookView, IsBook, IsOwn, IsReplayed, accepted_i
 use Rattle.core_book.specs.Book.{is_job_of, new_book, reply_to}
 use Rattle.core_book.specs.Filling.{IsHeldOrFiled, IsFilledTo, IsFull, IsOpenFor, IsPartlyFilled, accepted_entry}
 use Rattle.core_book.specs.Filling.{missing_numbers_below}
-use Rattle.core_book.specs.Verdicts.{AreHeldBelow}
+use Rattle.core_book.specs.Verdicts.{AreFindingsHeldBelow}
 use Rattle.core_book.specs.declared.log_entry.LogEntry.{LogEntry}
 use Rattle.core_book.specs.declared.log_entry.LogEntry.TheVariants.{Filed}
 use Rattle.core_book.specs.declared.reply.Reply.TheVariants.{Accepted}
@@ -216,7 +216,7 @@ pub is-full : (digest : List ℕ) (jobs : List JobView) (b : BookView) → IsOpe
 is-full digest jobs b own replays book all = record {
   is_open = own;
   replays = replays;
-  all_held = subst (λ (js : List JobView). AreHeldBelow b js (length js)) own.jobs_are
+  all_held = subst (λ (js : List JobView). AreFindingsHeldBelow b js (length js)) own.jobs_are
       (full_book_holds-all b book all);
   all_accepted = all ∙ ap length own.jobs_are;
 }

@@ -1,8 +1,6 @@
 -- Jobs for which a finding is held, and their least faults
 use Rattle.std.proofs.Common.{◌≡◌, ◌≢◌, ◌∙◌, ◌+◌, ◌<◌, ℕ, Bool, true, false, inl, inr, List, [], ◌∷◌, ◌++◌, length}
-use Rattle.std.proofs.Common.{Some, refl, sym, ap, subst, arith, length-append, get_or, map}
-use Rattle.std.specs.Prelude.{slice_get}
-use Rattle.std.specs.Option.{option_map}
+use Rattle.std.proofs.Common.{Some, refl, sym, ap, subst, arith, length-append, get_or, map, slice_get, option_map}
 use Rattle.std.proofs.lemmas.Bool.Decides.{eqb_tells}
 use Rattle.std.proofs.lemmas.Option.{same_Some, slice_get-map, slice_get_read}
 use Rattle.module_box.proofs.Rising.{pushed}
@@ -12,8 +10,8 @@ use Rattle.module_job.proofs.EqualJobs.{jobs_decide}
 use Rattle.local_run.specs.Shown.{job_of}
 use Rattle.local_run.specs.declared.finding.Finding.{Finding}
 use Rattle.core_book.specs.Book.{BookView, found_in}
-use Rattle.core_book.specs.Verdicts.{AreHeldBelow, AreLeastFaults, IsFirstMissing, IsHeld, IsToldOf}
-use Rattle.core_book.specs.declared.verdict.Reasons.{Reasons}
+use Rattle.core_book.specs.Verdicts.{AreFindingsHeldBelow, AreLeastFaults, IsFirstMissing, IsHeld, IsToldOf}
+use Rattle.core_book.specs.declared.verdict.LeastFaults.{LeastFaults}
 
 -- ---- the finding of a number, beside a job
 
@@ -38,10 +36,11 @@ job-at view ys n y below at =
 -- ---- the jobs below a number
 
 -- a finding is held for each of the jobs below the number, and these are their least faults
-pub record AreFaultsBelow (b : BookView) (jobs : List JobView) (count : ℕ) (fs : List Reasons) : Type 0 where
-  pub held : AreHeldBelow b jobs count
+pub record AreFaultsBelow (b : BookView) (jobs : List JobView) (count : ℕ) (fs : List LeastFaults) : Type 0 where
+  pub held : AreFindingsHeldBelow b jobs count
   pub count_is : length fs ≡ count
-  pub each : (n : ℕ) (j : JobView) (f : Reasons) → slice_get jobs n ≡ Some j → slice_get fs n ≡ Some f → IsToldOf j f
+  pub each : (n : ℕ) (j : JobView) (f : LeastFaults) → slice_get jobs n ≡ Some j → slice_get fs n ≡ Some f →
+      IsToldOf j f
 
 pub none-below : (b : BookView) (jobs : List JobView) → AreFaultsBelow b jobs 0 []
 none-below b jobs =
@@ -49,7 +48,7 @@ none-below b jobs =
 
 -- a job more
 held_more : (b : BookView) (jobs : List JobView) (n : ℕ) (j : JobView) → slice_get jobs n ≡ Some j →
-    AreHeldBelow b jobs n → IsHeld b n j → AreHeldBelow b jobs (n + 1)
+    AreFindingsHeldBelow b jobs n → IsHeld b n j → AreFindingsHeldBelow b jobs (n + 1)
 held_more b jobs n j at below now k i less there =
     elim (eqb_tells k n) [
       | inl p ↦
@@ -58,10 +57,10 @@ held_more b jobs n j at below now k i less there =
       | inr q ↦ below k i (let other : k ≢ n = q.1 in omega arith) there
     ]
 
-each_more : (jobs : List JobView) (fs : List Reasons) (n : ℕ) (j : JobView) (g : Reasons) → length fs ≡ n →
+each_more : (jobs : List JobView) (fs : List LeastFaults) (n : ℕ) (j : JobView) (g : LeastFaults) → length fs ≡ n →
     slice_get jobs n ≡ Some j → IsToldOf j g
-    → ((k : ℕ) (i : JobView) (f : Reasons) → slice_get jobs k ≡ Some i → slice_get fs k ≡ Some f → IsToldOf i f)
-    → (k : ℕ) (i : JobView) (f : Reasons) → slice_get jobs k ≡ Some i → slice_get (fs ++ g ∷ []) k ≡ Some f →
+    → ((k : ℕ) (i : JobView) (f : LeastFaults) → slice_get jobs k ≡ Some i → slice_get fs k ≡ Some f → IsToldOf i f)
+    → (k : ℕ) (i : JobView) (f : LeastFaults) → slice_get jobs k ≡ Some i → slice_get (fs ++ g ∷ []) k ≡ Some f →
     IsToldOf i f
 each_more jobs fs n j g count at least each k i f there got =
     elim (pushed fs g k f got) [
@@ -71,8 +70,8 @@ each_more jobs fs n j g count at least each k i f there got =
           subst (IsToldOf i) new.1 (subst (λ (x : JobView). IsToldOf x g) same least)
     ]
 
-pub one-more : (b : BookView) (jobs : List JobView) (n : ℕ) (fs : List Reasons) (j : JobView) (f : Finding)
-    (r : Reasons) → AreFaultsBelow b jobs n fs → slice_get jobs n ≡ Some j → found_in b n ≡ Some f → job_of f ≡ j →
+pub one-more : (b : BookView) (jobs : List JobView) (n : ℕ) (fs : List LeastFaults) (j : JobView) (f : Finding)
+    (r : LeastFaults) → AreFaultsBelow b jobs n fs → slice_get jobs n ≡ Some j → found_in b n ≡ Some f → job_of f ≡ j →
     IsToldOf (job_of f) r → AreFaultsBelow b jobs (n + 1) (fs ++ r ∷ [])
 one-more b jobs n fs j f r below at held whole told = record {
   held = held_more b jobs n j at below.held (record { finding = f; held = held; whole = whole });
@@ -80,10 +79,10 @@ one-more b jobs n fs j f r below at held whole told = record {
   each = each_more jobs fs n j r below.count_is at (subst (λ (x : JobView). IsToldOf x r) whole told) below.each;
 }
 
-pub first-missing : (b : BookView) (jobs : List JobView) (n : ℕ) (fs : List Reasons) (j : JobView) →
+pub first-missing : (b : BookView) (jobs : List JobView) (n : ℕ) (fs : List LeastFaults) (j : JobView) →
     AreFaultsBelow b jobs n fs → slice_get jobs n ≡ Some j → ¬ IsHeld b n j → IsFirstMissing b jobs n
 first-missing b jobs n fs j below at missing = record { job = j; numbered = at; missing = missing; before = below.held }
 
-pub all-least : (b : BookView) (jobs : List JobView) (n : ℕ) (fs : List Reasons) → n ≡ length jobs →
+pub all-least : (b : BookView) (jobs : List JobView) (n : ℕ) (fs : List LeastFaults) → n ≡ length jobs →
     AreFaultsBelow b jobs n fs → AreLeastFaults jobs fs
 all-least b jobs n fs all below = record { count = below.count_is ∙ all; each = below.each }

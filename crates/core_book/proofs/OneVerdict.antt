@@ -1,21 +1,19 @@
 -- The modules of a certificate have one verdict
 use Rattle.std.proofs.Common.{◌≡◌, ◌∙◌, ◌<◌, ◌≤◌, ◌∷◌, ℕ, suc, zero, List, [], length, map, Option, None, Some, refl}
-use Rattle.std.proofs.Common.{sym, ap, arith, ◌++◌}
-use Rattle.std.specs.Prelude.{slice_get}
-use Rattle.std.specs.Option.{option_map}
+use Rattle.std.proofs.Common.{sym, ap, arith, ◌++◌, slice_get, option_map}
 use Rattle.std.proofs.lemmas.List.{same_lists}
 use Rattle.std.proofs.lemmas.Option.{slice_get-get_or, slice_get_within}
 use Rattle.certificate_lines.specs.Entries.{Setting, ModuleLines}
 use Rattle.module_job.specs.Jobs.{JobView}
-use Rattle.certificate.specs.Times.{time_lines}
+use Rattle.certificate.specs.Times.{delay_and_meet_lines}
 use Rattle.local_run.proofs.Least.{least_unique, least_keep_unique}
 use Rattle.border_match.specs.BorderFaults.{AreBorderFaultsOf}
 use Rattle.border_match.specs.declared.fault.BorderFault.{BorderFault}
 use Rattle.border_match.proofs.Unique.{least_unique as least_border_unique}
 use Rattle.core_book.specs.CoreLaws.{VerdictIsUnique}
-use Rattle.core_book.specs.Verdicts.{AreLeastFaults, AreReportLines, IsToldOf, IsVerdict, lines_from, renumber_keep}
-use Rattle.core_book.specs.Verdicts.{timing_report, unkept_lines}
-use Rattle.core_book.specs.declared.verdict.Reasons.{Reasons}
+use Rattle.core_book.specs.Verdicts.{AreLeastFaults, AreReportLines, IsToldOf, IsVerdict, report_lines_from}
+use Rattle.core_book.specs.Verdicts.{renumber_keep, timing_report, unkept_lines}
+use Rattle.core_book.specs.declared.verdict.LeastFaults.{LeastFaults}
 use Rattle.core_book.specs.declared.verdict.ReportLine.{ReportLine}
 use Rattle.core_book.specs.declared.verdict.Verdict.TheVariants.{Yes, No}
 
@@ -30,7 +28,7 @@ none-past [] k e = omega arith
 none-past (x ∷ xs) zero e = absurd cc
 none-past (x ∷ xs) (suc k) e = let rest = none-past xs k e in omega (arith, rest)
 
-told_unique : (j : JobView) (x y : Reasons) → IsToldOf j x → IsToldOf j y → x ≡ y
+told_unique : (j : JobView) (x y : LeastFaults) → IsToldOf j x → IsToldOf j y → x ≡ y
 told_unique j x y a b =
     let fault : x.fault ≡ y.fault = least_unique j x.fault y.fault a.fault b.fault in
     let keep : x.keep ≡ y.keep = a.same
@@ -38,10 +36,11 @@ told_unique j x y a b =
     ∙ sym b.same in
     λ i. record { fault = fault i; keep = keep i }
 
-faults-same : (jobs : List JobView) (fs gs : List Reasons) → AreLeastFaults jobs fs → AreLeastFaults jobs gs → fs ≡ gs
+faults-same : (jobs : List JobView) (fs gs : List LeastFaults) → AreLeastFaults jobs fs → AreLeastFaults jobs gs →
+    fs ≡ gs
 faults-same jobs fs gs a b = same-elements fs gs (a.count ∙ sym b.count) each
   where
-    each : (k : ℕ) (x y : Reasons) → slice_get fs k ≡ Some x → slice_get gs k ≡ Some y → x ≡ y
+    each : (k : ℕ) (x y : LeastFaults) → slice_get fs k ≡ Some x → slice_get gs k ≡ Some y → x ≡ y
     each k x y hx hy = by_job (slice_get jobs k) refl
       where
         by_job : (o : Option JobView) → slice_get jobs k ≡ o → x ≡ y
@@ -58,9 +57,9 @@ borders-same g ms fs gs a b =
 lines-same : (g : Setting) (ms : List ModuleLines) (jobs : List JobView) (xs ys : List ReportLine) →
     AreReportLines g ms jobs xs → AreReportLines g ms jobs ys → xs ≡ ys
 lines-same g ms jobs xs ys a b =
-    a.lines_are ∙ (λ i. lines_from 0 (faults-same jobs a.faults b.faults a.are_least b.are_least i)
+    a.lines_are ∙ (λ i. report_lines_from 0 (faults-same jobs a.faults b.faults a.are_least b.are_least i)
     (borders-same g ms a.borders b.borders a.are_border_faults b.are_border_faults i) ++ unkept_lines g ms
-    ++ map timing_report (time_lines g.circuit ms)) ∙ sym b.lines_are
+    ++ map timing_report (delay_and_meet_lines g.circuit ms)) ∙ sym b.lines_are
 
 pub verdict-is-one : VerdictIsUnique
 unfolding IsVerdict

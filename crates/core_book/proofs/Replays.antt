@@ -1,18 +1,16 @@
 -- The history of a book replays to it
 use Rattle.std.proofs.Common.{◌≡◌, ◌∙◌, ◌+◌, ◌<◌, ◌++◌, ◌∷◌, ℕ, suc, zero, Bool, inl, inr, List, [], length, Option}
 use Rattle.std.proofs.Common.{None, Some, refl, sym, ap, arith, nat_eq, get_or, set, length-append, true, false}
-use Rattle.std.specs.Prelude.{if◌then◌else◌, is_some, replicate}
+use Rattle.std.proofs.Common.{if◌then◌else◌, is_some, replicate, count_by}
 use Rattle.std.proofs.lemmas.Bool.Decides.{eqb_tells}
 use Rattle.std.proofs.lemmas.Grind.{common_steps}
 use Rattle.std.proofs.lemmas.List.{get_or-set_same, get_or-set_other, length-replicate}
 use Rattle.std.proofs.lemmas.List.Folds.{list_any-append}
-use Rattle.std.specs.List.{count_by}
 use Rattle.module_job.specs.Jobs.{JobView}
 use Rattle.local_run.specs.Shown.{digest_of, number_of, job_of}
 use Rattle.local_run.specs.declared.finding.Finding.{Finding}
-use Rattle.core_book.specs.Replay.{Replayed, AreRepliesByRule, IsReplyByRule, accepted_after, after_entry, beginning}
-use Rattle.core_book.specs.Replay.{has_closing}
-use Rattle.core_book.specs.Replay.{has_number, replay, replay_from, rule}
+use Rattle.core_book.specs.Replay.{Replayed, AreRepliesByRule, IsReplyByRule, accepted_after, after_entry}
+use Rattle.core_book.specs.Replay.{empty_replayed, has_closing, has_number, replay, replay_from, rule}
 use Rattle.core_book.specs.Book.{BookView, IsBook, IsReplayed, accepted_in, after_closing, after_filing, filing_of}
 use Rattle.core_book.specs.Book.{findings_after, is_job_of, new_book, reply_to, found_in}
 use Rattle.core_book.specs.declared.log_entry.LogEntry.{LogEntry}
@@ -70,10 +68,10 @@ by-reply : (b : BookView) (f : Finding) (ks : List ℕ) (held : List (Option Fin
     IsReplayed (after_filing b f)
 by-reply b f ks held is numbers same count each =
     let e : LogEntry = Filed (filing_of b f) in
-    let push = replay_from-push beginning b.history e in
+    let push = replay_from-push empty_replayed b.history e in
     let now : (replay (b.history ++ e ∷ [])).accepted ≡ ks = ap (λ (p : Replayed). p.accepted) push ∙ numbers in
     record {
-      due = AreRepliesByRule-push b.digest (length b.jobs) beginning b.history e is.due (due-filing b f is);
+      due = AreRepliesByRule-push b.digest (length b.jobs) empty_replayed b.history e is.due (due-filing b f is);
       accepted = λ k. ap (λ (xs : List ℕ). has_number xs k) now ∙ each k
           ∙ ap (λ (xs : List (Option Finding)). is_some (get_or xs k None)) (sym same);
       count = ap length now ∙ count;
@@ -103,11 +101,11 @@ IsReplayed-filed b f book is = filed-by b f (reply_to b f) refl book is
 
 pub IsReplayed-closed : (b : BookView) → IsReplayed b → IsReplayed (after_closing b)
 IsReplayed-closed b is =
-    let push = replay_from-push beginning b.history Closing in
+    let push = replay_from-push empty_replayed b.history Closing in
     let same : (replay (b.history ++ Closing ∷ [])).accepted ≡ (replay b.history).accepted =
     ap (λ (p : Replayed). p.accepted) push in
     record {
-      due = AreRepliesByRule-push b.digest (length b.jobs) beginning b.history Closing is.due tt;
+      due = AreRepliesByRule-push b.digest (length b.jobs) empty_replayed b.history Closing is.due tt;
       accepted = λ k. ap (λ (xs : List ℕ). has_number xs k) same ∙ is.accepted k;
       count = ap length same ∙ is.count;
       closed_is = ap (λ (p : Replayed). p.closed) push;
@@ -164,7 +162,7 @@ closed-from p (Closing ∷ es) = closed-from (after_entry p Closing) es ∙ by_c
     by_case false = refl
 
 pub closed-by_its_history : (b : BookView) → IsReplayed b → b.closed ≡ has_closing b.history
-closed-by_its_history b is = sym is.closed_is ∙ closed-from beginning b.history
+closed-by_its_history b is = sym is.closed_is ∙ closed-from empty_replayed b.history
 
 found-nothing : (n k : ℕ) → get_or (nothing n) k None ≡ None
 found-nothing zero k = refl

@@ -1,9 +1,8 @@
 -- The lines of a report
 use Rattle.std.proofs.Common.{◌≡◌, ◌∙◌, ◌+◌, ◌<◌, ◌≤◌, ◌&&◌, ℕ, suc, zero, inl, inr, Bool, true, false, not, cond, List}
 use Rattle.std.proofs.Common.{[], ◌∷◌, ◌++◌, map, length, drop, get_or, Option, None, Some, refl, sym, ap, ap₂, subst}
-use Rattle.std.proofs.Common.{arith, append_assoc, append-nil, add-one, drop-cons}
-use Rattle.std.specs.Prelude.{slice_get}
-use Rattle.std.specs.Option.{option_map, option_to_list}
+use Rattle.std.proofs.Common.{arith, append_assoc, append-nil, add-one, drop-cons, slice_get, option_map}
+use Rattle.std.proofs.Common.{option_to_list}
 use Rattle.std.proofs.lemmas.Bool.{true≢false}
 use Rattle.std.proofs.lemmas.List.{drop_all}
 use Rattle.std.proofs.lemmas.Option.{same_Some, slice_get_cases, slice_get_within, slice_get-get_or}
@@ -12,15 +11,15 @@ use Rattle.circuit.specs.Meaning.{Gate}
 use Rattle.certificate_lines.specs.Entries.{Setting, ModuleLines}
 use Rattle.module_job.specs.Jobs.{JobView}
 use Rattle.certificate.specs.Keeps.{is_kept, unkept_from}
-use Rattle.certificate.specs.Times.{are_all_obeyed, time_lines}
+use Rattle.certificate.specs.Times.{are_all_obeyed, delay_and_meet_lines}
 use Rattle.local_run.specs.Faults.{IsFault, IsKeepFault, IsLeastFault, IsLeastKeepFault}
 use Rattle.local_run.specs.declared.fault.Fault.{Fault}
 use Rattle.local_run.specs.declared.fault.KeepFault.{KeepFault}
 use Rattle.border_match.specs.BorderFaults.{AreBorderFaultsOf, IsBorderFault, IsLeastBorderFault}
 use Rattle.border_match.specs.declared.fault.BorderFault.{BorderFault}
-use Rattle.core_book.specs.Verdicts.{Accepts, AreLeastFaults, IsToldOf, border_line, keep_line, lines_from, local_line}
-use Rattle.core_book.specs.Verdicts.{renumber_keep, unkept_lines}
-use Rattle.core_book.specs.declared.verdict.Reasons.{Reasons}
+use Rattle.core_book.specs.Verdicts.{Accepts, AreLeastFaults, IsToldOf, border_line, keep_line, report_lines_from}
+use Rattle.core_book.specs.Verdicts.{local_line, renumber_keep, unkept_lines}
+use Rattle.core_book.specs.declared.verdict.LeastFaults.{LeastFaults}
 use Rattle.core_book.specs.declared.verdict.ReportLine.{ReportLine}
 use Rattle.core_book.specs.declared.verdict.ReportLine.TheVariants.{Local, Keep, Border, Unkept}
 
@@ -44,15 +43,15 @@ none_listed : {X Y : Type 0} (f : X → Y) (o : Option X) → o ≡ None → opt
 none_listed f o e = ap (λ p. option_to_list (option_map f p)) e
 
 -- nothing is told of a job
-abbrev pub IsClear : Reasons → Type 0
+abbrev pub IsClear : LeastFaults → Type 0
 IsClear f = (f.fault ≡ None) × (f.keep ≡ None)
 
-record NoneHere (n : ℕ) (f : Reasons) (b : Option BorderFault) (rest : List ReportLine) : Type 0 where
+record NoneHere (n : ℕ) (f : LeastFaults) (b : Option BorderFault) (rest : List ReportLine) : Type 0 where
   clear : IsClear f
   border : b ≡ None
   later : rest ≡ []
 
-none_here : (n : ℕ) (f : Reasons) (b : Option BorderFault) (rest : List ReportLine) →
+none_here : (n : ℕ) (f : LeastFaults) (b : Option BorderFault) (rest : List ReportLine) →
     option_to_list (local_line n f.fault) ++ option_to_list (keep_line n f.keep) ++ option_to_list (border_line n b)
     ++ rest ≡ [] → NoneHere n f b rest
 none_here n f b rest e =
@@ -63,30 +62,31 @@ none_here n f b rest e =
     let r = nil_parts (option_to_list (local_line n f.fault)) (option_to_list (keep_line n f.keep)) q.0 in
     record { clear = (no_option _ f.fault r.0, no_option _ f.keep r.1); border = no_option _ b q.1; later = p.1 }
 
-no_faults : (n : ℕ) (fs : List Reasons) (bs : List (Option BorderFault)) → length fs ≡ length bs →
-    lines_from n fs bs ≡ [] → (k : ℕ) (f : Reasons) → slice_get fs k ≡ Some f → IsClear f
-unfolding lines_from
+no_faults : (n : ℕ) (fs : List LeastFaults) (bs : List (Option BorderFault)) → length fs ≡ length bs →
+    report_lines_from n fs bs ≡ [] → (k : ℕ) (f : LeastFaults) → slice_get fs k ≡ Some f → IsClear f
+unfolding report_lines_from
 no_faults n [] bs len e k f got = absurd cc
 no_faults n (x ∷ fs) [] len e k f got = absurd (omega (arith, len))
 no_faults n (x ∷ fs) (b ∷ bs) len e zero f got =
-    subst IsClear (same_Some x f got) (none_here n x b (lines_from (n + 1) fs bs) e).clear
+    subst IsClear (same_Some x f got) (none_here n x b (report_lines_from (n + 1) fs bs) e).clear
 no_faults n (x ∷ fs) (b ∷ bs) len e (suc k) f got =
-    no_faults (n + 1) fs bs (omega (arith, len)) (none_here n x b (lines_from (n + 1) fs bs) e).later k f got
+    no_faults (n + 1) fs bs (omega (arith, len)) (none_here n x b (report_lines_from (n + 1) fs bs) e).later k f got
 
-no_border_faults : (n : ℕ) (fs : List Reasons) (bs : List (Option BorderFault)) → length fs ≡ length bs →
-    lines_from n fs bs ≡ [] → (k : ℕ) (b : Option BorderFault) → slice_get bs k ≡ Some b → b ≡ None
-unfolding lines_from
+no_border_faults : (n : ℕ) (fs : List LeastFaults) (bs : List (Option BorderFault)) → length fs ≡ length bs →
+    report_lines_from n fs bs ≡ [] → (k : ℕ) (b : Option BorderFault) → slice_get bs k ≡ Some b → b ≡ None
+unfolding report_lines_from
 no_border_faults n fs [] len e k b got = absurd cc
 no_border_faults n [] (y ∷ bs) len e k b got = absurd (omega (arith, len))
 no_border_faults n (x ∷ fs) (y ∷ bs) len e zero b got =
-    sym (same_Some y b got) ∙ (none_here n x y (lines_from (n + 1) fs bs) e).border
+    sym (same_Some y b got) ∙ (none_here n x y (report_lines_from (n + 1) fs bs) e).border
 no_border_faults n (x ∷ fs) (y ∷ bs) len e (suc k) b got =
-    no_border_faults (n + 1) fs bs (omega (arith, len)) (none_here n x y (lines_from (n + 1) fs bs) e).later k b got
+    no_border_faults (n + 1) fs bs (omega (arith, len))
+    (none_here n x y (report_lines_from (n + 1) fs bs) e).later k b got
 
-no_lines : (n : ℕ) (fs : List Reasons) (bs : List (Option BorderFault)) →
-    ((k : ℕ) (f : Reasons) → slice_get fs k ≡ Some f → IsClear f) →
-    ((k : ℕ) (b : Option BorderFault) → slice_get bs k ≡ Some b → b ≡ None) → lines_from n fs bs ≡ []
-unfolding lines_from
+no_lines : (n : ℕ) (fs : List LeastFaults) (bs : List (Option BorderFault)) →
+    ((k : ℕ) (f : LeastFaults) → slice_get fs k ≡ Some f → IsClear f) →
+    ((k : ℕ) (b : Option BorderFault) → slice_get bs k ≡ Some b → b ≡ None) → report_lines_from n fs bs ≡ []
+unfolding report_lines_from
 no_lines n [] bs no_fs no_bs = refl
 no_lines n (f ∷ fs) [] no_fs no_bs = refl
 no_lines n (f ∷ fs) (b ∷ bs) no_fs no_bs =
@@ -145,9 +145,10 @@ from_none k = omega arith
 
 -- ---- what is accepted has no lines, and only that
 
-pub accepted : (g : Setting) (ms : List ModuleLines) (jobs : List JobView) (fs : List Reasons)
+pub accepted : (g : Setting) (ms : List ModuleLines) (jobs : List JobView) (fs : List LeastFaults)
     (bs : List (Option BorderFault)) → AreLeastFaults jobs fs → AreBorderFaultsOf g ms bs → length fs ≡ length bs →
-    lines_from 0 fs bs ++ unkept_lines g ms ≡ [] → are_all_obeyed (time_lines g.circuit ms) ≡ true → Accepts g ms jobs
+    report_lines_from 0 fs bs ++ unkept_lines g ms ≡ [] → are_all_obeyed (delay_and_meet_lines g.circuit ms) ≡ true →
+    Accepts g ms jobs
 accepted g ms jobs fs bs least borders len e rules = record {
   no_fault = λ k j f at.
       let t = told k j at in
@@ -165,10 +166,10 @@ accepted g ms jobs fs bs least borders len e rules = record {
   on_time = rules;
 }
   where
-    parts : (lines_from 0 fs bs ≡ []) × (unkept_lines g ms ≡ [])
-    parts = nil_parts (lines_from 0 fs bs) (unkept_lines g ms) e
+    parts : (report_lines_from 0 fs bs ≡ []) × (unkept_lines g ms ≡ [])
+    parts = nil_parts (report_lines_from 0 fs bs) (unkept_lines g ms) e
 
-    nothing : Reasons
+    nothing : LeastFaults
     nothing = record { fault = None; keep = None }
 
     told : (k : ℕ) (j : JobView) → slice_get jobs k ≡ Some j →
@@ -198,9 +199,9 @@ no_least_border : (g : Setting) (ms : List ModuleLines) (k : ℕ) (b : Option Bo
 no_least_border g ms k None least none = refl
 no_least_border g ms k (Some x) least none = absurd (none x least.0)
 
-pub accepted-no_lines : (g : Setting) (ms : List ModuleLines) (jobs : List JobView) (fs : List Reasons)
+pub accepted-no_lines : (g : Setting) (ms : List ModuleLines) (jobs : List JobView) (fs : List LeastFaults)
     (bs : List (Option BorderFault)) → AreLeastFaults jobs fs → AreBorderFaultsOf g ms bs → Accepts g ms jobs →
-    lines_from 0 fs bs ++ unkept_lines g ms ≡ []
+    report_lines_from 0 fs bs ++ unkept_lines g ms ≡ []
 accepted-no_lines g ms jobs fs bs least borders is = ap₂ (λ (x y : List ReportLine). x ++ y)
     (no_lines 0 fs bs
     (λ k f got.
@@ -220,30 +221,33 @@ accepted-no_lines g ms jobs fs bs least borders is = ap₂ (λ (x y : List Repor
 
 -- ---- module by module
 
-lines_from-step : (n : ℕ) (fs : List Reasons) (bs : List (Option BorderFault)) (d : Reasons) → n < length fs →
+report_lines_from-step : (n : ℕ) (fs : List LeastFaults) (bs : List (Option BorderFault)) (d : LeastFaults) →
+    n < length fs →
     n < length bs →
-    lines_from n (drop n fs) (drop n bs)
+    report_lines_from n (drop n fs) (drop n bs)
     ≡ option_to_list (local_line n (get_or fs n d).fault) ++ option_to_list (keep_line n (get_or fs n d).keep)
-    ++ option_to_list (border_line n (get_or bs n None)) ++ lines_from (n + 1) (drop (n + 1) fs) (drop (n + 1) bs)
-unfolding lines_from
-lines_from-step n fs bs d inside inside_too =
+    ++ option_to_list (border_line n (get_or bs n None))
+    ++ report_lines_from (n + 1) (drop (n + 1) fs) (drop (n + 1) bs)
+unfolding report_lines_from
+report_lines_from-step n fs bs d inside inside_too =
     let front : drop n fs ≡ get_or fs n d ∷ drop (n + 1) fs =
     drop-cons fs n d inside ∙ ap (λ k. get_or fs n d ∷ drop k fs) (sym (add-one n)) in
     let front_too : drop n bs ≡ get_or bs n None ∷ drop (n + 1) bs =
     drop-cons bs n None inside_too ∙ ap (λ k. get_or bs n None ∷ drop k bs) (sym (add-one n)) in
-    ap₂ (lines_from n) front front_too
+    ap₂ (report_lines_from n) front front_too
 
 -- the lines so far, with those on a module more
-pub one_module_more : (all lines with_local with_keep with_all : List ReportLine) (n : ℕ) (fs : List Reasons)
-    (bs : List (Option BorderFault)) (d : Reasons) (x z y : Option ReportLine) → n < length fs → length fs ≡ length bs
+pub one_module_more : (all lines with_local with_keep with_all : List ReportLine) (n : ℕ) (fs : List LeastFaults)
+    (bs : List (Option BorderFault)) (d : LeastFaults) (x z y : Option ReportLine) → n < length fs →
+    length fs ≡ length bs
     → x ≡ local_line n (get_or fs n d).fault → z ≡ keep_line n (get_or fs n d).keep →
     y ≡ border_line n (get_or bs n None) → with_local ≡ lines ++ option_to_list x →
     with_keep ≡ with_local ++ option_to_list z → with_all ≡ with_keep ++ option_to_list y
-    → lines ++ lines_from n (drop n fs) (drop n bs) ≡ all →
-    with_all ++ lines_from (n + 1) (drop (n + 1) fs) (drop (n + 1) bs) ≡ all
+    → lines ++ report_lines_from n (drop n fs) (drop n bs) ≡ all →
+    with_all ++ report_lines_from (n + 1) (drop (n + 1) fs) (drop (n + 1) bs) ≡ all
 one_module_more all lines with_local with_keep with_all n fs bs d x z y inside len x_is z_is y_is first second third
     so_far =
-    let rest = lines_from (n + 1) (drop (n + 1) fs) (drop (n + 1) bs) in
+    let rest = report_lines_from (n + 1) (drop (n + 1) fs) (drop (n + 1) bs) in
     let inside_too : n < length bs = omega (arith, len) in
     let joined : with_all ≡ lines ++ (option_to_list x ++ option_to_list z ++ option_to_list y) =
     third ∙ ap (λ xs. xs ++ option_to_list y)
@@ -253,13 +257,13 @@ one_module_more all lines with_local with_keep with_all n fs bs d x z y inside l
     ∙ ap (λ u. lines ++ (option_to_list u ++ option_to_list z ++ option_to_list y ++ rest)) x_is
     ∙ ap₂ (λ u v. lines ++ (option_to_list (local_line n (get_or fs n d).fault) ++ option_to_list u ++ option_to_list v
     ++ rest)) z_is y_is
-    ∙ ap (λ xs. lines ++ xs) (sym (lines_from-step n fs bs d inside inside_too))
+    ∙ ap (λ xs. lines ++ xs) (sym (report_lines_from-step n fs bs d inside inside_too))
     ∙ so_far
 
-pub all_modules : (all lines : List ReportLine) (n : ℕ) (fs : List Reasons) (bs : List (Option BorderFault)) →
-    length fs ≤ n → lines ++ lines_from n (drop n fs) (drop n bs) ≡ all → lines ≡ all
-unfolding lines_from
+pub all_modules : (all lines : List ReportLine) (n : ℕ) (fs : List LeastFaults) (bs : List (Option BorderFault)) →
+    length fs ≤ n → lines ++ report_lines_from n (drop n fs) (drop n bs) ≡ all → lines ≡ all
+unfolding report_lines_from
 all_modules all lines n fs bs past so_far =
-    let none : lines_from n (drop n fs) (drop n bs) ≡ [] =
-    ap (λ xs. lines_from n xs (drop n bs)) (drop_all n fs past) in
+    let none : report_lines_from n (drop n fs) (drop n bs) ≡ [] =
+    ap (λ xs. report_lines_from n xs (drop n bs)) (drop_all n fs past) in
     sym (append-nil lines) ∙ ap (λ xs. lines ++ xs) (sym none) ∙ so_far

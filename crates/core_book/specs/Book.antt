@@ -7,7 +7,7 @@ use Rattle.module_job.specs.Equality.{same_job}
 use Rattle.module_job.specs.Jobs.{JobView}
 use Rattle.local_run.specs.Shown.{digest_of, number_of, job_of}
 use Rattle.local_run.specs.declared.finding.Finding.{Finding}
-use Rattle.core_book.specs.Replay.{rule, replay, beginning, has_number, AreRepliesByRule}
+use Rattle.core_book.specs.Replay.{rule, replay, empty_replayed, has_number, AreRepliesByRule}
 use Rattle.core_book.specs.declared.log_entry.LogEntry.{LogEntry}
 use Rattle.core_book.specs.declared.log_entry.LogEntry.TheVariants.{Filed, Closing}
 use Rattle.core_book.specs.declared.log_entry.Filing.{Filing}
@@ -62,9 +62,9 @@ findings_after held f Accepted = slice_set held (number_of f) (Some f)
 findings_after held f _ = held
 
 -- for how many numbers a finding is held after a reply, if one was held for n
-abbrev pub count_after : ℕ → Reply → ℕ
-count_after count Accepted = count + 1
-count_after count _ = count
+abbrev pub accepted_count_after : ℕ → Reply → ℕ
+accepted_count_after count Accepted = count + 1
+accepted_count_after count _ = count
 
 -- the book after a filing
 abbrev pub after_filing : BookView → Finding → BookView
@@ -90,7 +90,7 @@ pub record IsBook (b : BookView) : Type 0 where
 -- The history replays to what the book is. Each stored reply is the one that the rule gives there. The numbers that
 -- were accepted are those for which a finding is held, and as many. The book is closed where the history says so.
 pub record IsReplayed (b : BookView) : Type 0 where
-  pub due : AreRepliesByRule b.digest (length b.jobs) beginning b.history
+  pub due : AreRepliesByRule b.digest (length b.jobs) empty_replayed b.history
   pub accepted : (number : ℕ) → has_number (replay b.history).accepted number ≡ is_some (found_in b number)
   pub count : length (replay b.history).accepted ≡ accepted_in b
   pub closed_is : (replay b.history).closed ≡ b.closed

@@ -17,9 +17,9 @@ abbrev pub claim_answer : ℕ → List ℕ → ℕ → Claim
 claim_answer n draws next = if has_ended n draws then Empty else claim_of_draw n next
 
 -- the seat's draws after it
-abbrev pub claim_draws : ℕ → List ℕ → ℕ → List ℕ
-claim_draws n draws next = if has_ended n draws then draws else draws ++ next ∷ []
+abbrev pub draws_after_claim : ℕ → List ℕ → ℕ → List ℕ
+draws_after_claim n draws next = if has_ended n draws then draws else draws ++ next ∷ []
 
 -- the next number after it
-abbrev pub claim_next : ℕ → List ℕ → ℕ → ℕ
-claim_next n draws next = if has_ended n draws then next else next + 1
+abbrev pub next_after_claim : ℕ → List ℕ → ℕ → ℕ
+next_after_claim n draws next = if has_ended n draws then next else next + 1

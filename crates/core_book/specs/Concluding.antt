@@ -18,8 +18,8 @@ abbrev pub modules : CertView → List ModuleLines
 modules s = modules_in s
 
 -- these are the jobs of the certificate's modules
-abbrev pub AreOwnJobs : CertView → List JobView → Type 0
-AreOwnJobs s jobs = AreJobsOf (circuit_of s.circuit) s.layout (modules s) jobs
+abbrev pub AreJobsOfCertificate : CertView → List JobView → Type 0
+AreJobsOfCertificate s jobs = AreJobsOf (circuit_of s.circuit) s.layout (modules s) jobs
 
 -- the names that the ports of a layout for the circuit may have
 abbrev pub port_names_of : List CircuitLine → Named

@@ -3,7 +3,7 @@ use Rattle.std.specs.Prelude.{ℕ, ◌+◌, ◌<◌, ◌≤◌, List, [], ◌∷
 use Rattle.std.specs.Prelude.{if◌then◌else◌, ⊤}
 use Rattle.module_job.specs.Jobs.{JobView}
 use Rattle.core_book.specs.Draws.{IsDrawn, total}
-use Rattle.core_book.specs.Claims.{claim_answer, claim_draws, claim_next, has_ended}
+use Rattle.core_book.specs.Claims.{claim_answer, draws_after_claim, next_after_claim, has_ended}
 use Rattle.core_book.specs.Book.{BookView, IsBook, IsReplayed, after_filing, new_book, reply_to}
 use Rattle.core_book.specs.declared.claim.Claim.{Claim}
 use Rattle.core_book.specs.declared.claim.Claim.TheVariants as Claimed
@@ -39,8 +39,8 @@ claim_of c seat = claim_answer (job_count_of c) (draws_of c seat) c.next
 -- the core after a claim of a seat
 abbrev pub after_claim : CoreView → ℕ → CoreView
 after_claim c seat = record c {
-  next = claim_next (job_count_of c) (draws_of c seat) c.next;
-  draws = slice_set c.draws seat (claim_draws (job_count_of c) (draws_of c seat) c.next);
+  next = next_after_claim (job_count_of c) (draws_of c seat) c.next;
+  draws = slice_set c.draws seat (draws_after_claim (job_count_of c) (draws_of c seat) c.next);
 }
 
 -- the answer to an event that is a claim

@@ -44,36 +44,36 @@ EmptyOnlyIfAllAreDrawn = (digest : List ℕ) (jobs : List JobView) (seats : ℕ)
 -- ---- findings
 
 -- the finding, if the reply to it is `Accepted`
-abbrev pub accepted_of : Finding → Reply → List Finding
-accepted_of f Accepted = f ∷ []
-accepted_of f _ = []
+abbrev pub finding_if_accepted : Finding → Reply → List Finding
+finding_if_accepted f Accepted = f ∷ []
+finding_if_accepted f _ = []
 
 -- the finding that an event has accepted, if it does
-abbrev pub accepted_by : CoreView → Event → List Finding
-accepted_by c (Events.Claim seat) = []
-accepted_by c (Events.File f) = accepted_of f (reply_to c.book f)
-accepted_by c (Events.Lose number) = []
+abbrev pub findings_accepted_by : CoreView → Event → List Finding
+findings_accepted_by c (Events.Claim seat) = []
+findings_accepted_by c (Events.File f) = finding_if_accepted f (reply_to c.book f)
+findings_accepted_by c (Events.Lose number) = []
 
 -- the findings that are answered `Accepted`, in their order
-abbrev pub accepted_among : CoreView → List Event → List Finding
-accepted_among c [] = []
-accepted_among c (e ∷ es) = accepted_by c e ++ accepted_among (after_event c e) es
+abbrev pub findings_accepted_in : CoreView → List Event → List Finding
+findings_accepted_in c [] = []
+findings_accepted_in c (e ∷ es) = findings_accepted_by c e ++ findings_accepted_in (after_event c e) es
 
 -- the findings held are those that were answered `Accepted`, each for its number
 abbrev pub HoldsWhatWasAccepted : Type 0
 HoldsWhatWasAccepted = (digest : List ℕ) (jobs : List JobView) (seats : ℕ) (events : List Event) (number : ℕ)
     (f : Finding) →
     (found_in (core_after digest jobs seats events).book number ≡ Some f)
-    ↔ (Contains (accepted_among (new_core digest jobs seats) events) f × (number_of f ≡ number))
+    ↔ (Contains (findings_accepted_in (new_core digest jobs seats) events) f × (number_of f ≡ number))
 
 -- at most one for each number
 abbrev pub AcceptsAtMostOnePerNumber : Type 0
 AcceptsAtMostOnePerNumber = (digest : List ℕ) (jobs : List JobView) (seats : ℕ) (events : List Event) (number : ℕ) →
-    count_by (λ f. number_of f == number) (accepted_among (new_core digest jobs seats) events) ≤ 1
+    count_by (λ f. number_of f == number) (findings_accepted_in (new_core digest jobs seats) events) ≤ 1
 
 -- each is of the book's job of its number, and has the least fault of that job
-abbrev pub HeldFindingsAreOwnAndLeast : Type 0
-HeldFindingsAreOwnAndLeast = (digest : List ℕ) (jobs : List JobView) (seats : ℕ) (events : List Event) (number : ℕ)
+abbrev pub HeldFindingsAreBooksAndLeast : Type 0
+HeldFindingsAreBooksAndLeast = (digest : List ℕ) (jobs : List JobView) (seats : ℕ) (events : List Event) (number : ℕ)
     (f : Finding) →
     found_in (core_after digest jobs seats events).book number ≡ Some f →
     IsOwn (core_after digest jobs seats events).book number f × IsLeastFault (job_of f) (fault_of f)

@@ -7,7 +7,7 @@ use Rattle.module_job.specs.Shapes.{ShapeView, shape_of}
 use Rattle.local_run.specs.Shown.{job_of, number_of}
 use Rattle.local_run.specs.declared.finding.Finding.{Finding}
 use Rattle.core_book.specs.Book.{BookView, IsReplayed, accepted_in, after_filing, found_in, reply_to}
-use Rattle.core_book.specs.Verdicts.{AreHeldBelow}
+use Rattle.core_book.specs.Verdicts.{AreFindingsHeldBelow}
 use Rattle.core_book.specs.declared.log_entry.LogEntry.{LogEntry}
 use Rattle.core_book.specs.declared.log_entry.LogEntry.TheVariants.{Filed}
 use Rattle.core_book.specs.declared.reply.Reply.TheVariants.{Accepted}
@@ -23,7 +23,7 @@ pub record IsOpenFor (digest : List ℕ) (jobs : List JobView) (b : BookView) : 
 pub record IsFull (digest : List ℕ) (jobs : List JobView) (b : BookView) : Type 0 where
   pub is_open : IsOpenFor digest jobs b
   pub replays : IsReplayed b
-  pub all_held : AreHeldBelow b jobs (length jobs)
+  pub all_held : AreFindingsHeldBelow b jobs (length jobs)
   pub all_accepted : accepted_in b ≡ length jobs
 
 -- the numbers below this one for which the book holds nothing, in their order

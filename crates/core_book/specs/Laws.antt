@@ -4,24 +4,24 @@ use Rattle.local_run.specs.Shown.{number_of, fault_of, keep_of}
 use Rattle.local_run.specs.declared.finding.Finding.{Finding}
 use Rattle.core_book.specs.Book.{BookView, IsBook, IsOwn, IsReplayed, accepted_in, after_closing, after_filing}
 use Rattle.core_book.specs.Book.{found_in, reply_to}
-use Rattle.core_book.specs.Verdicts.{AreHeldBelow}
+use Rattle.core_book.specs.Verdicts.{AreFindingsHeldBelow}
 use Rattle.core_book.specs.Replay.{has_closing}
 use Rattle.core_book.specs.declared.reply.Mismatch.{Mismatch}
 use Rattle.core_book.specs.declared.reply.Reply.TheVariants.{Closed, Stranger, Double, Accepted}
 
 -- what is accepted is the book's own, and nothing is held for its number
-abbrev pub AcceptedIsOwnAndNew : Type 0
-AcceptedIsOwnAndNew = (b : BookView) (f : Finding) → reply_to b f ≡ Accepted →
+abbrev pub AcceptedIsBooksAndNew : Type 0
+AcceptedIsBooksAndNew = (b : BookView) (f : Finding) → reply_to b f ≡ Accepted →
     IsOwn b (number_of f) f × (found_in b (number_of f) ≡ None)
 
 -- what is answered `Double` is the book's own, and a finding is held for its number
-abbrev pub DoubleIsOwnAndHeld : Type 0
-DoubleIsOwnAndHeld = (b : BookView) (f : Finding) (number : ℕ) → reply_to b f ≡ Double number →
+abbrev pub DoubleIsBooksAndHeld : Type 0
+DoubleIsBooksAndHeld = (b : BookView) (f : Finding) (number : ℕ) → reply_to b f ≡ Double number →
     IsOwn b number f × IsSome (found_in b number)
 
 -- what is the book's own is no stranger
-abbrev pub OwnFindingIsNoStranger : Type 0
-OwnFindingIsNoStranger = (b : BookView) (f : Finding) (number : ℕ) (mismatch : Mismatch) → IsOwn b number f →
+abbrev pub BooksFindingIsNoStranger : Type 0
+BooksFindingIsNoStranger = (b : BookView) (f : Finding) (number : ℕ) (mismatch : Mismatch) → IsOwn b number f →
     reply_to b f ≢ Stranger mismatch
 
 -- a closed book answers `Closed`, and no other does
@@ -63,4 +63,5 @@ BooksAgreeOnFaults = (b c : BookView) (number : ℕ) (f g : Finding) → IsBook 
 
 -- a book that accepted as many findings as it has jobs holds one for each job
 abbrev pub FullBookHoldsAll : Type 0
-FullBookHoldsAll = (b : BookView) → IsBook b → accepted_in b ≡ length b.jobs → AreHeldBelow b b.jobs (length b.jobs)
+FullBookHoldsAll = (b : BookView) → IsBook b → accepted_in b ≡ length b.jobs →
+    AreFindingsHeldBelow b b.jobs (length b.jobs)

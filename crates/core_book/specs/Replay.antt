@@ -26,8 +26,8 @@ pub record Replayed : Type 0 where
   pub closed : Bool
 
 -- before the first entry
-abbrev pub beginning : Replayed
-beginning = record { accepted = []; closed = false }
+abbrev pub empty_replayed : Replayed
+empty_replayed = record { accepted = []; closed = false }
 
 -- whether the number is one of these
 abbrev pub has_number : List ℕ → ℕ → Bool
@@ -50,7 +50,7 @@ replay_from p (e ∷ es) = replay_from (after_entry p e) es
 
 -- after a whole history
 abbrev pub replay : List LogEntry → Replayed
-replay history = replay_from beginning history
+replay history = replay_from empty_replayed history
 
 -- whether a history has a closing entry
 abbrev pub has_closing : List LogEntry → Bool

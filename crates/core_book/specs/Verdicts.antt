@@ -7,7 +7,7 @@ use Rattle.module_box.specs.Locals.{circuit_gate}
 use Rattle.certificate_lines.specs.Entries.{Setting, ModuleLines}
 use Rattle.module_job.specs.Jobs.{JobView}
 use Rattle.certificate.specs.Keeps.{is_kept, unkept}
-use Rattle.certificate.specs.Times.{are_all_obeyed, time_lines}
+use Rattle.certificate.specs.Times.{are_all_obeyed, delay_and_meet_lines}
 use Rattle.certificate.specs.declared.times.TimeLine.{TimeLine}
 use Rattle.certificate.specs.declared.times.TimeLine.TheVariants as times
 use Rattle.local_run.specs.Faults.{IsFault, IsKeepFault, IsLeastFault, IsLeastKeepFault}
@@ -18,7 +18,7 @@ use Rattle.local_run.specs.declared.finding.Finding.{Finding}
 use Rattle.border_match.specs.BorderFaults.{IsBorderFault, AreBorderFaultsOf}
 use Rattle.border_match.specs.declared.fault.BorderFault.{BorderFault}
 use Rattle.core_book.specs.Book.{BookView, found_in}
-use Rattle.core_book.specs.declared.verdict.Reasons.{Reasons}
+use Rattle.core_book.specs.declared.verdict.LeastFaults.{LeastFaults}
 use Rattle.core_book.specs.declared.verdict.ReportLine.{ReportLine}
 use Rattle.core_book.specs.declared.verdict.ReportLine.TheVariants.{Local, Keep, Border, Unkept, Delay, Meet}
 use Rattle.core_book.specs.declared.verdict.Verdict.{Verdict}
@@ -34,7 +34,7 @@ pub record Accepts (g : Setting) (ms : List ModuleLines) (jobs : List JobView) :
   pub no_keep_fault : (number : ℕ) (j : JobView) (f : KeepFault) → slice_get jobs number ≡ Some j → ¬ IsKeepFault j f
   pub kept : (number : ℕ) (gate : Gate) → slice_get g.circuit.netlist.gates number ≡ Some gate →
       IsTrue (is_inverse gate.kind) → IsTrue (is_kept ms number)
-  pub on_time : IsTrue (are_all_obeyed (time_lines g.circuit ms))
+  pub on_time : IsTrue (are_all_obeyed (delay_and_meet_lines g.circuit ms))
 
 -- ---- the lines of a report
 
@@ -44,16 +44,17 @@ renumber_keep j f = record f { gate = circuit_gate j.locals f.gate }
 
 -- what is told of a job: its least fault, if there is one, and its least keep fault, by the number of the gate in the
 -- circuit
-pub record IsToldOf (j : JobView) (r : Reasons) : Type 0 where
+pub record IsToldOf (j : JobView) (r : LeastFaults) : Type 0 where
   pub fault : IsLeastFault j r.fault
   pub keep : Option KeepFault
   pub least_keep : IsLeastKeepFault j keep
   pub same : r.keep ≡ option_map (renumber_keep j) keep
 
 -- it is told of each of the jobs
-pub record AreLeastFaults (jobs : List JobView) (fs : List Reasons) : Type 0 where
+pub record AreLeastFaults (jobs : List JobView) (fs : List LeastFaults) : Type 0 where
   pub count : length fs ≡ length jobs
-  pub each : (number : ℕ) (j : JobView) (f : Reasons) → slice_get jobs number ≡ Some j → slice_get fs number ≡ Some f →
+  pub each : (number : ℕ) (j : JobView) (f : LeastFaults) → slice_get jobs number ≡ Some j →
+      slice_get fs number ≡ Some f →
       IsToldOf j f
 
 -- the line for the least fault of a module's job, if it has one
@@ -69,12 +70,12 @@ abbrev pub border_line : ℕ → Option BorderFault → Option ReportLine
 border_line number f = option_map (λ f. Border number f) f
 
 -- the lines of each module, from this number on: its least fault, its least keep fault, and then its least border fault
-unfoldable pub lines_from : ℕ → List Reasons → List (Option BorderFault) → List ReportLine
-lines_from number [] borders = []
-lines_from number (f ∷ faults) [] = []
-lines_from number (f ∷ faults) (b ∷ borders) =
+unfoldable pub report_lines_from : ℕ → List LeastFaults → List (Option BorderFault) → List ReportLine
+report_lines_from number [] borders = []
+report_lines_from number (f ∷ faults) [] = []
+report_lines_from number (f ∷ faults) (b ∷ borders) =
     option_to_list (local_line number f.fault) ++ option_to_list (keep_line number f.keep)
-    ++ option_to_list (border_line number b) ++ lines_from (number + 1) faults borders
+    ++ option_to_list (border_line number b) ++ report_lines_from (number + 1) faults borders
 
 -- then the inverse gates that no module keeps
 abbrev pub unkept_lines : Setting → List ModuleLines → List ReportLine
@@ -88,13 +89,13 @@ timing_report (times.Meet gate at) = Meet gate at
 -- all lines on modules of these jobs
 pub record AreReportLines (g : Setting) (ms : List ModuleLines) (jobs : List JobView)
     (lines : List ReportLine) : Type 0 where
-  pub faults : List Reasons
+  pub faults : List LeastFaults
   pub are_least : AreLeastFaults jobs faults
   pub borders : List (Option BorderFault)
   pub are_border_faults : AreBorderFaultsOf g ms borders
   -- then the inverse gates that no module keeps, and then a line for each delay and each meeting
-  pub lines_are : lines ≡ lines_from 0 faults borders ++ unkept_lines g ms
-      ++ map timing_report (time_lines g.circuit ms)
+  pub lines_are : lines ≡ report_lines_from 0 faults borders ++ unkept_lines g ms
+      ++ map timing_report (delay_and_meet_lines g.circuit ms)
 
 -- `Yes` if the modules are accepted, and else `No` with all lines
 unfoldable pub IsVerdict : Setting → List ModuleLines → List JobView → Verdict → Type 0
@@ -110,8 +111,8 @@ pub record IsHeld (b : BookView) (number : ℕ) (j : JobView) : Type 0 where
   pub whole : job_of finding ≡ j
 
 -- it does for each of the jobs below this number
-abbrev pub AreHeldBelow : BookView → List JobView → ℕ → Type 0
-AreHeldBelow b jobs count = (number : ℕ) (j : JobView) → number < count → slice_get jobs number ≡ Some j →
+abbrev pub AreFindingsHeldBelow : BookView → List JobView → ℕ → Type 0
+AreFindingsHeldBelow b jobs count = (number : ℕ) (j : JobView) → number < count → slice_get jobs number ≡ Some j →
     IsHeld b number j
 
 -- the first of the jobs for which it does not
@@ -119,4 +120,4 @@ pub record IsFirstMissing (b : BookView) (jobs : List JobView) (number : ℕ) : 
   pub job : JobView
   pub numbered : slice_get jobs number ≡ Some job
   pub missing : ¬ IsHeld b number job
-  pub before : AreHeldBelow b jobs number
+  pub before : AreFindingsHeldBelow b jobs number

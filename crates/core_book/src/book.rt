@@ -53,7 +53,7 @@ pub struct NotFiled {
 impl BookState {
     ghost use Rattle.local_run.specs.Shown.{job_of, number_of};
     ghost use Rattle.core_book.specs.Verdicts.{IsHeld};
-    ghost use Rattle.core_book.specs.Book.{IsBook, IsOwn, IsReplayed, accepted_in, after_closing, after_filing, count_after, filing_of, found_in, is_job_of, new_book, reply_to};
+    ghost use Rattle.core_book.specs.Book.{IsBook, IsOwn, IsReplayed, accepted_in, after_closing, after_filing, accepted_count_after, filing_of, found_in, is_job_of, new_book, reply_to};
 
     /// Creates an open book of these jobs, numbered from 0 in their order, without findings and without history.
     pub fn new(
@@ -63,7 +63,7 @@ impl BookState {
     ) -> Result<BookState, AllocError>
         ensures { IfOk result (λ b. b ≡ new_book digest (map arc_value jobs.items)) }
     {
-        let found = nothing_found(alloc, jobs.len())?;
+        let found = no_findings(alloc, jobs.len())?;
         Ok(BookState {
             digest,
             jobs,
@@ -86,7 +86,7 @@ impl BookState {
         ensures reply { IfOk result (λ r. r ≡ reply_to self.old finding) }
         ensures after { IfOk result (λ _. self.new ≡ after_filing self.old finding) }
         ensures counted { IfOk result (λ r. accepted_in self.new
-            ≡ count_after (accepted_in self.old) r) }
+            ≡ accepted_count_after (accepted_in self.old) r) }
         ensures history_fits { OnOk result (length self.new.history < 2 ^ 64) }
         ensures unchanged { OnErr result (self.new ≡ self.old) }
         ensures returned { IfErr result (λ e. e.finding ≡ finding) }
@@ -247,7 +247,7 @@ impl BookState {
 }
 
 // As many places without a finding.
-fn nothing_found(alloc: Global, count: usize) -> Result<Vec<Option<Finding>>, AllocError>
+fn no_findings(alloc: Global, count: usize) -> Result<Vec<Option<Finding>>, AllocError>
     ensures { IfOk result (λ v. v.items ≡ replicate count None) }
 {
     let mut found = Vec::with_capacity(alloc, count)?;

@@ -44,11 +44,11 @@ fn is_open_for(state: &BookState, digest: [u8; 32], jobs: &[Arc<Job>]) -> bool
     ensures open_for_jobs { result ≡ true → IsOpenFor digest (map arc_value jobs.now) state.now }
     ensures other { result ≡ false → ¬ IsOpenFor digest (map arc_value jobs.now) state.now }
 {
-    !state.is_closed() && state.digest() == digest && are_same(state.jobs(), jobs)
+    !state.is_closed() && state.digest() == digest && are_same_jobs(state.jobs(), jobs)
 }
 
 // Whether two lists have the same jobs.
-fn are_same(own: &[Arc<Job>], jobs: &[Arc<Job>]) -> bool
+fn are_same_jobs(own: &[Arc<Job>], jobs: &[Arc<Job>]) -> bool
     ensures same_jobs { result ≡ true → map arc_value own.now ≡ map arc_value jobs.now }
     ensures other { result ≡ false → map arc_value own.now ≢ map arc_value jobs.now }
 {
@@ -109,7 +109,7 @@ fn fill_number(
     if state.found(number).is_some() {
         return Ok(());
     }
-    let finding = finding_of(alloc, state, number, job, first, runs)?;
+    let finding = moved_or_run_finding(alloc, state, number, job, first, runs)?;
     match state.file(finding) {
         Ok(_) => Ok(()),
         Err(_) => Err(AllocError),
@@ -118,7 +118,7 @@ fn fill_number(
 
 // The finding of a job: that of the first number of its group, where one is held and the shapes are the same, else by a
 // run.
-fn finding_of(
+fn moved_or_run_finding(
     alloc: Global,
     state: &BookState,
     number: usize,

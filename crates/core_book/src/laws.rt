@@ -1,6 +1,6 @@
 //! Laws of books and of the core, each the contract of a function without a body.
-ghost use Rattle.core_book.specs.CoreLaws.{AcceptsAtMostOnePerNumber, DrawsEachOnce, EmptyOnlyIfAllAreDrawn, EventsKeepHeldFindings, HistoryReplaysAfterEvents, HeldFindingsAreOwnAndLeast, HoldsWhatWasAccepted, OnlyAcceptedChangesWhatIsHeld, VerdictIsUnique};
-ghost use Rattle.core_book.specs.Laws.{AcceptedIsOwnAndNew, BooksAgreeOnFaults, ClosedAnswersClosed, ClosedIfHistoryHasClosing, DoubleIsOwnAndHeld, FullBookHoldsAll, AcceptedFindingIsHeld, UnacceptedKeepsFindings, FilingKeepsHeldFindings, OwnFindingIsNoStranger, FilingKeepsBookValid, EachEntryKeepsReplay};
+ghost use Rattle.core_book.specs.CoreLaws.{AcceptsAtMostOnePerNumber, DrawsEachOnce, EmptyOnlyIfAllAreDrawn, EventsKeepHeldFindings, HistoryReplaysAfterEvents, HeldFindingsAreBooksAndLeast, HoldsWhatWasAccepted, OnlyAcceptedChangesWhatIsHeld, VerdictIsUnique};
+ghost use Rattle.core_book.specs.Laws.{AcceptedIsBooksAndNew, BooksAgreeOnFaults, ClosedAnswersClosed, ClosedIfHistoryHasClosing, DoubleIsBooksAndHeld, FullBookHoldsAll, AcceptedFindingIsHeld, UnacceptedKeepsFindings, FilingKeepsHeldFindings, BooksFindingIsNoStranger, FilingKeepsBookValid, EachEntryKeepsReplay};
 
 /// States that, after any events, a new core has given each number below the next to one seat, once.
 ///
@@ -16,7 +16,7 @@ pub fn core_draws_each_once()
 pub fn core_holds_what_was_accepted()
     ensures accepted { HoldsWhatWasAccepted }
     ensures one { AcceptsAtMostOnePerNumber }
-    ensures honest { HeldFindingsAreOwnAndLeast }
+    ensures honest { HeldFindingsAreBooksAndLeast }
     ensures replays { HistoryReplaysAfterEvents }
 {}
 
@@ -53,9 +53,9 @@ pub fn history_replays()
 /// - One that is answered `Double` is the book's own, and one is held for its number.
 /// - One that is the book's own is no stranger.
 pub fn replies_tell_whose_a_finding_is()
-    ensures accepted { AcceptedIsOwnAndNew }
-    ensures double { DoubleIsOwnAndHeld }
-    ensures knows_its_own { OwnFindingIsNoStranger }
+    ensures accepted { AcceptedIsBooksAndNew }
+    ensures double { DoubleIsBooksAndHeld }
+    ensures knows_its_own { BooksFindingIsNoStranger }
 {}
 
 /// States what a book holds after a filing.

@@ -25,4 +25,4 @@ pub use filling::{fill, fill_open_book};
 pub use log_entry::{Filing, LogEntry};
 pub use machine::{Answer, Core, Event, NotApplied};
 pub use reply::{Mismatch, Reply};
-pub use verdict::{Reasons, ReportLine, Unfinished, Verdict};
+pub use verdict::{LeastFaults, ReportLine, Unfinished, Verdict};

@@ -1,7 +1,7 @@
 //! The core: seats that draw numbers, and a book.
 ghost use Rattle.std.specs.Prelude.{◌≡◌, ◌<◌, ◌≤◌, ◌^◌, IfErr, IfOk, OnErr, OnOk, [], length, map, nat_lt, replicate, vec_len};
 ghost use Rattle.std.specs.Arc.{arc_value};
-ghost use Rattle.core_book.specs.Claims.{claim_answer, claim_draws, claim_next, claim_of_draw, has_ended};
+ghost use Rattle.core_book.specs.Claims.{claim_answer, draws_after_claim, next_after_claim, claim_of_draw, has_ended};
 ghost use Rattle.core_book.specs.CoreView.{lists_of};
 
 use crate::book::{BookState, NotFiled};
@@ -87,7 +87,7 @@ impl Core {
         requires seats { (0 < seats) × (seats ≤ 64) }
         ensures { IfOk result (λ c. c ≡ new_core digest (map arc_value jobs.items) seats) }
     {
-        let draws = no_draws(alloc, seats)?;
+        let draws = empty_draw_lists(alloc, seats)?;
         let book = BookState::new(alloc, digest, jobs)?;
         Ok(Core {
             next: 0,
@@ -196,8 +196,8 @@ fn next_claim(
 ) -> Result<(Claim, usize), AllocError>
     requires { next < 2 ^ 63 }
     ensures answer { IfOk result (λ r. r.0 ≡ claim_answer count drawn.old.items next) }
-    ensures next { IfOk result (λ r. r.1 ≡ claim_next count drawn.old.items next) }
-    ensures draws { OnOk result (drawn.new.items ≡ claim_draws count drawn.old.items next) }
+    ensures next { IfOk result (λ r. r.1 ≡ next_after_claim count drawn.old.items next) }
+    ensures draws { OnOk result (drawn.new.items ≡ draws_after_claim count drawn.old.items next) }
     ensures unchanged { OnErr result (drawn.new.items ≡ drawn.old.items) }
 {
     if has_ended(drawn.as_slice(), count) {
@@ -229,7 +229,7 @@ fn claim_of_draw(draw: usize, count: usize) -> Claim
 }
 
 // As many seats that drew nothing.
-fn no_draws(alloc: Global, seats: usize) -> Result<Vec<Vec<usize>>, AllocError>
+fn empty_draw_lists(alloc: Global, seats: usize) -> Result<Vec<Vec<usize>>, AllocError>
     ensures { IfOk result (λ v. lists_of v.items ≡ replicate seats []) }
 {
     let mut draws = Vec::with_capacity(alloc, seats)?;

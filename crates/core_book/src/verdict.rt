@@ -45,7 +45,7 @@ pub enum ReportLine {
 /// The part of a job's finding that a verdict uses: its least fault, and its least keep fault by the number of the gate
 /// in the circuit.
 #[derive(Clone, Copy, Debug, PartialEq, Eq)]
-pub struct Reasons {
+pub struct LeastFaults {
     pub fault: Option<Fault>,
     pub keep: Option<KeepFault>,
 }

@@ -14,7 +14,7 @@ use Rattle.certificate.specs.Grammars.{CertView, certificate_grammar, migrated, 
 use Rattle.certificate_lines.specs.Settings.{setting_of}
 use Rattle.certificate.specs.Jobs.{AreJobsOf}
 use Rattle.certificate.specs.Laws.{AreFaultlessLines, IsSectionOf}
-use Rattle.certificate_lines.specs.Versions.{is_haloless, lacks_wire, without_halos}
+use Rattle.certificate_lines.specs.Versions.{is_haloless_version, lacks_edge_wire_beside, without_halos}
 use Rattle.certificate_lines.specs.declared.certificate_line.CertificateLine.{CertificateLine}
 use Rattle.certificate.proofs.FullModules.{meant_modules, meant_old}
 use Rattle.certificate.proofs.Migrated.{migrated_lacks, migrated_modules}
@@ -27,7 +27,7 @@ use Rattle.report.specs.ReportText.{report_lines}
 use Rattle.answers.specs.Answers.{Answered}
 use Rattle.answers.specs.BundleText.{Bundle, bundle_of}
 use Rattle.answers.specs.CheckText.{IsReportOf, IsVerdictOn, SaysReport}
-use Rattle.answers.specs.MigrateText.{in_version_two, migrate_of}
+use Rattle.answers.specs.MigrateText.{migrated_bundle, migrate_of}
 use Rattle.answers.specs.declared.outcome.Outcome.TheVariants.{Yes}
 use Rattle.headline.proofs.OneAnswer.{layout_from}
 use Rattle.headline.specs.Migration.{MigrationIsAccepted}
@@ -105,7 +105,7 @@ module _ (text report output : List ℕ) (b : Bundle) (read : bundle_of text ≡
     end = accepted.section.end;
   }
 
-  good_two : IsGoodBundle (in_version_two b)
+  good_two : IsGoodBundle (migrated_bundle b)
   good_two = record {
     circuit = good.circuit;
     layout = good.layout;
@@ -114,16 +114,16 @@ module _ (text report output : List ℕ) (b : Bundle) (read : bundle_of text ≡
         (subst (λ h. IsFaultless (certificate_grammar h) 2 (without_halos c.entries)) (sym own) faultless_two);
   }
 
-  read_two : bundle_of output ≡ Ok (in_version_two b)
-  read_two = bundle_made output (in_version_two b)
-      (subst (λ t. HasSections t (in_version_two b)) (sym written)
+  read_two : bundle_of output ≡ Ok (migrated_bundle b)
+  read_two = bundle_made output (migrated_bundle b)
+      (subst (λ t. HasSections t (migrated_bundle b)) (sym written)
       (migrated_sections text b (sections_read text b read))) good_two
 
-  complete : lacks_wire g ms ≡ false
+  complete : lacks_edge_wire_beside g ms ≡ false
   complete = sym (migrated_lacks g c.entries) ∙ read_complete g 2 (without_halos c.entries) faultless_two
 
   same_modules : modules_in c ≡ ms
-  same_modules = meant_old c.version g ms (ap is_haloless version)
+  same_modules = meant_old c.version g ms (ap is_haloless_version version)
 
   verdict_two : IsVerdictOn (migrated c) verdict.Yes
   unfolding IsVerdict
@@ -143,7 +143,7 @@ module _ (text report output : List ℕ) (b : Bundle) (read : bundle_of text ≡
         judged = accepted.accepted jobs.0 are;
       }
 
-  reported : SaysReport (in_version_two b) (report_lines (migrated c) verdict.Yes) Yes
+  reported : SaysReport (migrated_bundle b) (report_lines (migrated c) verdict.Yes) Yes
   reported = record {
     certificate = migrated c;
     its_own = record {

@@ -3,9 +3,7 @@
 -- One is of four modules around a gate, with stops and a delay, and one of a switch and its inverse gate. Two are plain
 -- texts of two balls that meet, the second of them with a wrong layout.
 use Rattle.std.proofs.Common.{◌≡◌, ℕ, zero, suc, true, List, [], ◌∷◌, Ok, Some, option_map, refl, sym, ap, subst, ◌∙◌}
-use Rattle.std.proofs.Common.{arith}
-use Rattle.std.specs.Prelude.{◌≢◌, codes, slice_get, unwrap_or}
-use Rattle.std.specs.List.{All, flat_map}
+use Rattle.std.proofs.Common.{arith, ◌≢◌, codes, slice_get, unwrap_or, All, flat_map}
 use Rattle.std.proofs.lemmas.Bool.{true≢false}
 use Rattle.std.proofs.lemmas.List.Elements.{All-cons, All-head, All-nil, All-tail}
 use Rattle.bbm_rule.specs.Bits.{bit}
@@ -207,30 +205,36 @@ record AreRead : Type 0 where
   pub no_fails : Fails (meeting_bundle wrong_layout) wrong_layout one (cell 2 2) 1 (Meet 0 (Some 1) ∷ [])
 
 are_read : AreRead
-unfolding timed_modules there_and_back plain_yes plain_no bundle_of words.lines_of words.bytes_after_lines
+unfolding timed_modules there_and_back plain_yes plain_no bundle_of words.lines_of words.bytes_after_last_line_feed
     words.number_of
     words.name_of
     words.number_at words.name_at words.names_at words.is_word_at words.lone words.lone_number words.lone_name
-    section.section_of section.body_of circuit_forms.form_of circuit_forms.gate_entry circuit_forms.gate_line_of_kind
+    section.section_of section.section_body_of circuit_forms.form_of circuit_forms.gate_entry
+    circuit_forms.gate_line_of_kind
     circuit_forms.gate_kind circuit_forms.bit_at circuit_rules.add_fault meaning.number meaning.place_of
-    layout_forms.form_of layout_forms.cell_from layout_forms.lone_cell layout_forms.named_cell layout_forms.port_of
+    layout_forms.form_of layout_forms.cell_of_words_from layout_forms.cell_after_keyword layout_forms.port_after_keyword
+    layout_forms.port_of
     layout_forms.size_of layout_forms.sides_and_steps layout_rules.size_fault layout_rules.limit_fault
-    layout_rules.rank_of layout_rules.is_late layout_rules.order_fault layout_rules.name_fault layout_rules.cells_of
-    layout_rules.is_inside layout_rules.begins layout_rules.ends layout_rules.taken_at_start layout_rules.ended
-    layout_rules.is_taken layout_rules.cell_fault layout_rules.line_fault layout_rules.part_fault
+    layout_rules.rank_of layout_rules.has_later_kind_before layout_rules.order_fault layout_rules.name_fault
+    layout_rules.cells_of
+    layout_rules.is_inside layout_rules.begins layout_rules.ends layout_rules.cells_taken_at_start layout_rules.ended
+    layout_rules.is_taken layout_rules.cell_fault layout_rules.line_fault layout_rules.layout_line_fault
     layout_rules.missing_fault layouts.rectangle_cells in_span boxes.in_box boxes.some_neighbour boxes.in_ring
     boxes.in_halo entries.change_last entries.last_of entries.add_line entries.modules_of forms.corner_and_sides
-    forms.area_of forms.time_at forms.signal_at forms.timed_cell forms.border_of forms.timed_wire forms.stop_of
+    forms.area_of forms.star_or_time_at_word forms.signal_at forms.border_of_five_words forms.border_of
+    forms.stop_of_five_words forms.stop_of
     forms.form_of orders.rank_of orders.number_of orders.cell_of orders.line_cmp orders.is_cut orders.may_precede
-    orders.may_follow rules.lacks_port rules.box_fault rules.module_fault rules.cut_fault rules.are_new rules.gate_fault
-    rules.use_fault rules.keep_line_code rules.is_time rules.is_edge_place rules.is_halo_place rules.is_stop_place
+    orders.may_follow rules.has_nonlocal_port rules.box_fault rules.module_fault rules.cut_fault
+    rules.are_new_and_distinct rules.used_gate_fault
+    rules.use_fault rules.keep_line_code rules.is_line_time_allowed rules.is_edge_place_and_time
+    rules.is_halo_place_and_time rules.is_stop_place_and_time
     rules.signal_fault rules.border_line_code rules.entry_fault rules.end_fault cell_cmp versions.modules_by_version
     start_signal
     end_demand
     port_at places placed_gate placed_gates place_among numbered numbered_all_times numbered_event numbered_signals
     demanded placed_stop bit row evaluate job_start job_demand local_run local_step with_halo step partner turned
     signal_at all_times_at event_at times.numbered versions.edge_lines_beside versions.in_order versions.precedes_halos
-    versions.with_halos versions.is_halo versions.lacks_wire fault_cmp keeps.unkept_from
+    versions.with_halos versions.is_halo versions.lacks_edge_wire_beside fault_cmp keeps.unkept_from
 are_read = record {
   timed = record { layout = refl; tests = record { jobs = refl; kept = refl; borders = refl; on_time = refl } };
   inverse = record { layout = refl; tests = record { jobs = refl; kept = refl; borders = refl; on_time = refl } };

@@ -1,12 +1,11 @@
 -- A text is refuted by one `local` line if its one module passes tests, which a proof by computation can run.
 --
 -- By the tests a cell is not as asked at the end, and no fault comes before this one in the order of faults.
-use Rattle.std.proofs.Common.{◌≡◌, ℕ, zero, suc, ◌<◌, Bool, true, false, not, ◌||◌, ◌&&◌, refl}
-use Rattle.std.proofs.Common.{sym, ap, ap₂, subst, ◌∙◌, arith, map, length, List, [], ◌∷◌, ◌++◌, Option, Some, None, Ok}
-use Rattle.std.proofs.Common.{Ordering, Less, Equal, Greater}
-use Rattle.std.specs.Prelude.{ℤ, ◌≢◌, codes, slice_get}
+use Rattle.std.proofs.Common.{◌≡◌, ℕ, zero, suc, ◌<◌, Bool, true, false, not, ◌||◌, ◌&&◌, refl, sym, ap, ap₂, subst}
+use Rattle.std.proofs.Common.{◌∙◌, arith, map, length, List, [], ◌∷◌, ◌++◌, Option, Some, None, Ok, Ordering, Less}
+use Rattle.std.proofs.Common.{Equal, Greater, ℤ, ◌≢◌, codes, slice_get, All, flat_map}
 use Rattle.std.specs.Cmp.{booleans_Decides}
-use Rattle.std.specs.List.{All, flat_map, list_all, range_with_len}
+use Rattle.std.specs.List.{list_all, range_with_len}
 use Rattle.std.specs.Bool.{beq}
 use Rattle.std.proofs.lemmas.Bool.{and_parts, false≢true, true≢false}
 use Rattle.std.proofs.lemmas.List.{length-map}
@@ -36,9 +35,9 @@ use Rattle.certificate_lines.specs.Settings.{setting_of}
 use Rattle.certificate.specs.Grammars.{CertView, modules_in}
 use Rattle.certificate.specs.Jobs.{AreJobsOf}
 use Rattle.certificate.specs.Text.{certificate_text}
-use Rattle.certificate.specs.Times.{time_lines}
+use Rattle.certificate.specs.Times.{delay_and_meet_lines}
 use Rattle.module_job.specs.Jobs.{IsJob, JobView, job_demand}
-use Rattle.module_job.specs.Signals.{Meets}
+use Rattle.module_job.specs.Signals.{MeetsDemand}
 use Rattle.module_job.specs.declared.job.Demand.{Demand}
 use Rattle.module_job.specs.declared.job.Demand.TheVariants as Demanded
 use Rattle.local_run.specs.Faults.{IsFaultUnder, IsLeastFault, assignments}
@@ -52,8 +51,8 @@ use Rattle.border_match.specs.BorderFaults.{IsBorderFault, IsLeastBorderFault}
 use Rattle.border_match.specs.declared.fault.BorderFault.{BorderFault}
 use Rattle.soundness.specs.HeadlineLaws.{BelongTogether}
 use Rattle.soundness.specs.PlainCertificates.{IsPlain, LineMeans, Shows}
-use Rattle.core_book.specs.Verdicts.{IsToldOf, IsVerdict, lines_from, timing_report, unkept_lines}
-use Rattle.core_book.specs.declared.verdict.Reasons.{Reasons}
+use Rattle.core_book.specs.Verdicts.{IsToldOf, IsVerdict, report_lines_from, timing_report, unkept_lines}
+use Rattle.core_book.specs.declared.verdict.LeastFaults.{LeastFaults}
 use Rattle.core_book.specs.declared.verdict.ReportLine.{ReportLine}
 use Rattle.core_book.specs.declared.verdict.ReportLine.TheVariants.{Local}
 use Rattle.core_book.specs.declared.verdict.Verdict.{Verdict}
@@ -66,7 +65,7 @@ use Rattle.soundness.proofs.SomeVerdict.{IsVecOf, jobs_good, vec_of}
 use Rattle.soundness.proofs.Trials.{all_at, all_below, at_every, at_odd, at_odd_times, edge_test, every_cell, given_of}
 use Rattle.soundness.proofs.Trials.{implied, meets, meets_is, stop_test}
 use Rattle.soundness.proofs.YesMeansCorrect.{IsRead}
-use Rattle.report.specs.ReportText.{report_line_text, opening_lines, report_lines}
+use Rattle.report.specs.ReportText.{report_line_text, lines_before_verdict, report_lines}
 use Rattle.answers.specs.Answers.{Answered}
 use Rattle.answers.specs.BundleText.{Bundle, bundle_of}
 use Rattle.answers.specs.CheckText.{IsReportOf, SaysReport}
@@ -83,7 +82,7 @@ one_of false b e h = e
 
 -- ---- what is demanded
 
-met : (v : Valuation) (d : Demand) (live : Bool) → Meets v d live → meets v d live ≡ true
+met : (v : Valuation) (d : Demand) (live : Bool) → MeetsDemand v d live → meets v d live ≡ true
 met v Demanded.Dead live h = ap not h
 met v Demanded.Live live h = h
 met v (Demanded.Wire w) live h = (booleans_Decides live (v w)).1 h
@@ -176,7 +175,7 @@ module _ (j : JobView) (is : IsJob j) (ordered : AreOrdered j.locals.netlist.giv
     where
       by : (b : Bool) → meets u (job_demand j x y) (local_run j u j.steps x y) ≡ b → b ≡ false
       by false e = refl
-      by true e = absurd (g.differs (subst (λ n. Meets u (job_demand j x y) (local_run j u n x y)) (sym g.last)
+      by true e = absurd (g.differs (subst (λ n. MeetsDemand u (job_demand j x y) (local_run j u n x y)) (sym g.last)
           (meets_is u _ _ e)))
 
   first_is_least : (d : Cell) (a : ℕ) → IsFirstByTests j d a → IsLeastFault j (Some (end_fault_at j d a))
@@ -225,7 +224,7 @@ pub record Fails (b : Bundle) (p : Pattern) (m : ModuleLines) (d : Cell) (a : �
   pub none_kept : (its_job b p m).kept ≡ []
   pub first : IsFirstByTests (its_job b p m) d a
   pub unkept : unkept_lines (setting_of b.circuit p) (m ∷ []) ≡ []
-  pub on_times : map timing_report (time_lines (circuit_of b.circuit) (m ∷ [])) ≡ times
+  pub on_times : map timing_report (delay_and_meet_lines (circuit_of b.circuit) (m ∷ [])) ≡ times
   pub few : length times < 1024
 
 -- it is reported with a no, whose lines are one on the fault, and then these
@@ -275,7 +274,7 @@ module _ (text : List ℕ) (b : Bundle) (e : bundle_of text ≡ Ok b) (p : Patte
   least : IsLeastFault j (Some f)
   least = first_is_least j job_is.0 job_is.1 d a fails.first
 
-  reasons : Reasons
+  reasons : LeastFaults
   reasons = record { fault = Some f; keep = None }
 
   told : IsToldOf j reasons
@@ -287,7 +286,7 @@ module _ (text : List ℕ) (b : Bundle) (e : bundle_of text ≡ Ok b) (p : Patte
     same = refl;
   }
 
-  told_at : (k : ℕ) (i : JobView) (r : Reasons) → slice_get (j ∷ []) k ≡ Some i →
+  told_at : (k : ℕ) (i : JobView) (r : LeastFaults) → slice_get (j ∷ []) k ≡ Some i →
       slice_get (reasons ∷ []) k ≡ Some r → IsToldOf i r
   told_at zero i r at there =
       let same : j ≡ i = cc in
@@ -304,7 +303,7 @@ module _ (text : List ℕ) (b : Bundle) (e : bundle_of text ≡ Ok b) (p : Patte
   vec = vec_of lines (let few = fails.few in omega (arith, few))
 
   judged : IsVerdict g (m ∷ []) (j ∷ []) (verdict.No vec.vec)
-  unfolding IsVerdict lines_from reasons
+  unfolding IsVerdict report_lines_from reasons
   judged = (
     (λ is. is.no_fault 0 j f refl least.0),
     record {
@@ -341,7 +340,7 @@ module _ (text : List ℕ) (b : Bundle) (e : bundle_of text ≡ Ok b) (p : Patte
   spelled = record {
     digest = sha256 (certificate_text c);
     modules = length (modules_of c.entries);
-    spelled = ap (λ ls. opening_lines (sha256 (certificate_text c)) (length (modules_of c.entries))
+    spelled = ap (λ ls. lines_before_verdict (sha256 (certificate_text c)) (length (modules_of c.entries))
         ++ (line_text (codes "verdict") (codes "no" ∷ []) ++ flat_map report_line_text ls)) vec.items;
   }
 

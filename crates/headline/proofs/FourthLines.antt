@@ -1,17 +1,16 @@
 -- The fourth line of a report.
 use Rattle.std.proofs.Common.{◌≡◌, ℕ, zero, suc, ◌+◌, ◌/◌, ◌%◌, ◌<◌, Bool, true, false, cond, eqb, not, ◌&&◌, List, []}
 use Rattle.std.proofs.Common.{◌∷◌, ◌++◌, length, get_or, Option, Some, refl, sym, ap, ap₂, ◌∙◌, append_assoc}
-use Rattle.std.proofs.Common.{append-nil, arith}
-use Rattle.std.specs.Prelude.{slice_get, codes, nat_lt}
+use Rattle.std.proofs.Common.{append-nil, arith, slice_get, codes, nat_lt, flat_map}
 use Rattle.std.specs.Fmt.{decimal, digit_glyph, digits, digits_onto}
-use Rattle.std.specs.List.{flat_map, list_all, slice_split, onto_first}
+use Rattle.std.specs.List.{list_all, slice_split, onto_first}
 use Rattle.std.proofs.lemmas.Bool.{and_parts, ne_eqb}
 use Rattle.std.proofs.lemmas.List.Elements.{All-from_recursion}
 use Rattle.std.proofs.lemmas.List.Folds.{list_all-append}
 use Rattle.std.proofs.lemmas.List.Splits.{slice_split_at}
 use Rattle.hex.specs.Hex.{encode_lower, encode_with, lower_digits}
 use Rattle.sha2.specs.Sha256.{sha256}
-use Rattle.section_text.specs.Spelling.{line_text, spaced}
+use Rattle.section_text.specs.Spelling.{line_text, space_and_word}
 use Rattle.section_text.specs.Words.{ended, is_line_feed, lines_of}
 use Rattle.section_text.specs.declared.fault.Refusal.{Refusal}
 use Rattle.section_text.proofs.Again.{IsOneLine}
@@ -119,14 +118,14 @@ line_opening digest count = (line_text (codes "bbmcheck") (codes "1" ∷ [])
 fourth_by : (digest : List ℕ) (count : ℕ) (times : List TimeLine) (v : Verdict) → is_clean digest ≡ true →
     slice_get (lines_of (line_opening digest count ++ verdict_lines times v)) 3 ≡ Some (verdict_word v)
 fourth_by digest count times verdict.Yes clean = ap (λ ls. slice_get ls 3)
-    (four_lines (codes "bbmcheck 1") (codes "certificate" ++ flat_map spaced (digest ∷ []))
-    (codes "modules" ++ flat_map spaced (decimal count ∷ [])) (codes "verdict yes")
+    (four_lines (codes "bbmcheck 1") (codes "certificate" ++ flat_map space_and_word (digest ∷ []))
+    (codes "modules" ++ flat_map space_and_word (decimal count ∷ [])) (codes "verdict yes")
     (flat_map (λ t. report_line_text (timing_report t)) times)
     refl (ap is_clean (append-nil digest) ∙ clean)
     (ap is_clean (append-nil (decimal count)) ∙ clean_decimal count) refl)
 fourth_by digest count times (verdict.No lines) clean = ap (λ ls. slice_get ls 3)
-    (four_lines (codes "bbmcheck 1") (codes "certificate" ++ flat_map spaced (digest ∷ []))
-    (codes "modules" ++ flat_map spaced (decimal count ∷ [])) (codes "verdict no")
+    (four_lines (codes "bbmcheck 1") (codes "certificate" ++ flat_map space_and_word (digest ∷ []))
+    (codes "modules" ++ flat_map space_and_word (decimal count ∷ [])) (codes "verdict no")
     (flat_map report_line_text lines.items)
     refl (ap is_clean (append-nil digest) ∙ clean)
     (ap is_clean (append-nil (decimal count)) ∙ clean_decimal count) refl)
@@ -181,11 +180,11 @@ yes_says c = says_yes_by_line (report_lines c verdict.Yes) (fourth_line c verdic
 
 -- and the line for a refusal does not say yes
 abbrev refused : Refusal → List ℕ
-refused r = codes "refused" ++ flat_map spaced (decimal r.line ∷ decimal r.code ∷ [])
+refused r = codes "refused" ++ flat_map space_and_word (decimal r.line ∷ decimal r.code ∷ [])
 
 clean_refused : (r : Refusal) → is_clean (refused r) ≡ true
 clean_refused r =
-    list_all-append (λ b. not (is_line_feed b)) (decimal r.line) (spaced (decimal r.code) ++ [])
+    list_all-append (λ b. not (is_line_feed b)) (decimal r.line) (space_and_word (decimal r.code) ++ [])
     ∙ ap₂ (λ p q. p && q) (clean_decimal r.line) (ap is_clean (append-nil (decimal r.code)) ∙ clean_decimal r.code)
 
 none_is_no_yes : (l : List ℕ) → slice_get (l ∷ lines_of []) 3 ≡ Some (codes "verdict yes") → ⊥

@@ -1,7 +1,6 @@
 -- The modules without halo lines have the jobs of the modules whose halos are the edge lines beside them
 use Rattle.std.proofs.Common.{◌≡◌, ℕ, zero, suc, false, List, [], ◌∷◌, map, length, Some, refl, sym, ap, ap₂, subst}
-use Rattle.std.proofs.Common.{◌∙◌, arith}
-use Rattle.std.specs.Prelude.{slice_get}
+use Rattle.std.proofs.Common.{◌∙◌, arith, slice_get}
 use Rattle.std.proofs.lemmas.List.{length-map}
 use Rattle.circuit.specs.Bridge.{circuit_of}
 use Rattle.circuit.specs.Meaning.{Circuit}
@@ -10,10 +9,10 @@ use Rattle.pattern.specs.Layout.{Pattern}
 use Rattle.certificate_lines.specs.Entries.{Setting, ModuleLines, halos, known}
 use Rattle.certificate_lines.specs.Settings.{setting_of}
 use Rattle.module_job.specs.Jobs.{JobView, job_demand, job_start}
-use Rattle.certificate.specs.Jobs.{IsJobOf, AreJobsOf, line_signals, line_stops}
+use Rattle.certificate.specs.Jobs.{IsJobOf, AreJobsOf, line_signals, stops_of_lines}
 use Rattle.certificate_lines.specs.Modules.{AreModules, IsHalo}
-use Rattle.module_job.specs.Signals.{IsBelow}
-use Rattle.certificate_lines.specs.Versions.{lacks_wire, with_halos}
+use Rattle.module_job.specs.Signals.{IsSignalWireBelow}
+use Rattle.certificate_lines.specs.Versions.{lacks_edge_wire_beside, with_halos}
 use Rattle.certificate_lines.proofs.InList.{all_in}
 use Rattle.certificate.proofs.FullModules.{all_of_each, full_cuts, full_edges, full_gates, full_keeps, full_known}
 use Rattle.certificate.proofs.FullModules.{full_modules, full_stops, mapped_at, mapped_from}
@@ -28,7 +27,7 @@ new_job c g ms m j = record j
     { halos = numbered_signals c j.locals.circuit_wires (line_signals c (halos (with_halos g ms m))) }
 
 module _ (lines : List CircuitLine) (p : Pattern) (ms : List ModuleLines) (good : AreModules (setting_of lines p) ms)
-    (complete : lacks_wire (setting_of lines p) ms ≡ false) where
+    (complete : lacks_edge_wire_beside (setting_of lines p) ms ≡ false) where
   abbrev g : Setting
   g = setting_of lines p
 
@@ -67,15 +66,15 @@ module _ (lines : List CircuitLine) (p : Pattern) (ms : List ModuleLines) (good 
           edge_all_times = is.own.edge_all_times;
           edge_events = is.own.edge_events;
           halo_all_times = all_of_each _ _ (subst
-              (λ n. Each (λ h. IsBelow n h.signal)
+              (λ n. Each (λ h. IsSignalWireBelow n h.signal)
               (map (numbered_all_times c ws) (line_signals c (halos full)).all_times))
               is.locals.sized back.all_times_below);
           halo_events = all_of_each _ _
-              (subst (λ n. Each (λ e. IsBelow n e.signal)
+              (subst (λ n. Each (λ e. IsSignalWireBelow n e.signal)
               (map (numbered_event c ws) (line_signals c (halos full)).events)) is.locals.sized back.events_below);
           stops = is.own.stops;
         };
-        stops = is.stops ∙ ap (line_stops c) (sym (full_stops g ms good m));
+        stops = is.stops ∙ ap (stops_of_lines c) (sym (full_stops g ms good m));
         kept = is.kept ∙ sym (full_keeps g ms good m);
         kept_are_used = is.kept_are_used;
       }

@@ -1,18 +1,16 @@
 -- The output of `migrate` says what was read, in version 2.
 use Rattle.std.proofs.Common.{◌≡◌, ℕ, ◌+◌, Bool, true, false, not, if◌then◌else◌, List, [], ◌∷◌, ◌++◌, length, map}
 use Rattle.std.proofs.Common.{take, drop, Option, Some, None, Result, Ok, Err, refl, sym, ap, ap₂, subst, ◌∙◌}
-use Rattle.std.proofs.Common.{append_assoc, take-append-drop, arith}
-use Rattle.std.specs.Prelude.{◌&&◌, codes}
-use Rattle.std.specs.List.{flat_map}
+use Rattle.std.proofs.Common.{append_assoc, take-append-drop, arith, ◌&&◌, codes, flat_map}
 use Rattle.std.proofs.lemmas.Grind.{flat_map-append}
 use Rattle.std.proofs.lemmas.List.{append-nil, length-map, length-append}
 use Rattle.std.proofs.Math.Seq.{drop-append_seam}
-use Rattle.section_text.specs.Words.{is_word_at, lines_of, lone_number, number_at, number_of, bytes_after_lines}
-use Rattle.section_text.specs.Words.{words_of}
-use Rattle.section_text.specs.Codes.{code_where, or_else}
+use Rattle.section_text.specs.Words.{is_word_at, lines_of, lone_number, number_at, number_of}
+use Rattle.section_text.specs.Words.{bytes_after_last_line_feed, words_of}
+use Rattle.section_text.specs.Codes.{code_if, or_else}
 use Rattle.section_text.specs.SaidSection.{IsSection}
-use Rattle.section_text.specs.Section.{Grammar, ended_line}
-use Rattle.section_text.specs.Sections.{value_at_end, go_on, section_then}
+use Rattle.section_text.specs.Section.{Grammar, with_line_feed}
+use Rattle.section_text.specs.Sections.{value_if_at_end, continue_after_section, section_then}
 use Rattle.section_text.specs.declared.fault.Refusal.{Refusal}
 use Rattle.section_text.specs.declared.section.Form.{Form}
 use Rattle.section_text.specs.declared.section.Form.TheVariants.{Header, Item, End}
@@ -41,13 +39,13 @@ use Rattle.certificate_lines.specs.Forms.{form_of as certificate_form}
 use Rattle.certificate.specs.Grammars.{certificate_grammar}
 use Rattle.certificate_lines.specs.Settings.{setting_of}
 use Rattle.certificate.specs.Text.{form_text as certificate_line}
-use Rattle.certificate_lines.specs.Versions.{is_halo, is_haloless, without_halos}
+use Rattle.certificate_lines.specs.Versions.{is_halo, is_haloless_version, without_halos}
 use Rattle.certificate_lines.specs.declared.certificate_line.CertificateLine.{CertificateLine}
 use Rattle.certificate.proofs.Spelling.{form_line as certificate_spelled}
 use Rattle.core_book.specs.Concluding.{port_names_of}
 use Rattle.answers.specs.Answers.{Answered}
 use Rattle.answers.specs.BundleText.{Bundle, bundle_of}
-use Rattle.answers.specs.MigrateText.{IsMigrationOf, SaysMigration, bundle_text, certificate_lines, in_version_two}
+use Rattle.answers.specs.MigrateText.{IsMigrationOf, SaysMigration, bundle_text, certificate_lines, migrated_bundle}
 use Rattle.answers.specs.MigrateText.{layout_lines, migrate_of}
 use Rattle.answers.specs.declared.outcome.Outcome.TheVariants.{Yes, Refused}
 use Rattle.headline.specs.Migration.{MigrationKeepsVersionTwo, MigrationIsIdempotent, MigrationSaysTheSame}
@@ -65,7 +63,7 @@ pub record HasSections (text : List ℕ) (b : Bundle) : Type 0 where
   pub second : List (List ℕ)
   pub third : List (List ℕ)
   pub lines : lines_of text ≡ first ++ (second ++ third)
-  pub rest : bytes_after_lines text ≡ []
+  pub rest : bytes_after_last_line_feed text ≡ []
   pub circuit_is : IsSection circuit_form first tt b.circuit
   pub layout_is : IsSection layout_form second b.size b.parts
   pub certificate_is : IsSection certificate_form third b.version b.entries
@@ -128,7 +126,8 @@ then_made : {H I B : Type 0} (g : Grammar H I) (n : ℕ) (ls others lines : List
     section_then g n lines next ≡ next h items (n + (length items + 2)) others
 then_made g n ls others lines h items next e is good =
     ap (λ k. section_then g n k next) e
-    ∙ ap (λ r. go_on r (λ h items. next h items (n + (length items + 2)) (drop (length items + 2) (ls ++ others))))
+    ∙ ap (λ r. continue_after_section r
+    (λ h items. next h items (n + (length items + 2)) (drop (length items + 2) (ls ++ others))))
     (section_made g n ls others h items is good)
     ∙ ap (next h items (n + (length items + 2)))
     (ap (λ k. drop k (ls ++ others)) (sym (section_length g ls h items is)) ∙ drop-append_seam ls others)
@@ -137,7 +136,7 @@ module _ (text : List ℕ) where
   abbrev ended : List CircuitLine → LayoutHeader → List LayoutLine → ℕ → List CertificateLine → ℕ → List (List ℕ) →
       Result Bundle Refusal
   ended circuit size parts version entries k last =
-      value_at_end k last (bytes_after_lines text)
+      value_if_at_end k last (bytes_after_last_line_feed text)
       (record { circuit = circuit; size = size; parts = parts; version = version; entries = entries })
 
   abbrev after_layout : List CircuitLine → LayoutHeader → List LayoutLine → ℕ → List (List ℕ) → Result Bundle Refusal
@@ -161,7 +160,7 @@ bundle_made text b s good =
     ∙ then_made (certificate_grammar (setting_of b.circuit (layout_of b.size b.parts)))
     (0 + i + j) s.third [] s.third b.version b.entries (ended text b.circuit b.size b.parts)
     (sym (append-nil s.third)) s.certificate_is good.certificate
-    ∙ at_the_end (0 + i + j + n) [] (bytes_after_lines text) b refl s.rest
+    ∙ at_the_end (0 + i + j + n) [] (bytes_after_last_line_feed text) b refl s.rest
 
 -- ---- they are those of one bundle
 
@@ -213,7 +212,7 @@ said_so text b circuit layout certificate s says =
 
 sections_text : (b : Bundle) (first second third : List (List ℕ)) → IsSection circuit_form first tt b.circuit →
     IsSection layout_form second b.size b.parts → IsSection certificate_form third b.version b.entries
-    → flat_map ended_line (first ++ (second ++ third)) ≡ bundle_text b
+    → flat_map with_line_feed (first ++ (second ++ third)) ≡ bundle_text b
 unfolding bundle_text layout_lines certificate_lines circuit_text
 sections_text b first second third c l k =
     let setting : Setting = setting_of b.circuit (layout_of b.size b.parts) in
@@ -226,16 +225,17 @@ sections_text b first second third c l k =
     let three = text_said (certificate_grammar setting) certificate_line certificate_spelled third b.version b.entries k
     ∙ sym (append_assoc (certificate_line (Header b.version)) (flat_map (λ i. certificate_line (Item i)) b.entries)
     (certificate_line End)) in
-    flat_map-append ended_line first (second ++ third)
-    ∙ ap (λ t. flat_map ended_line first ++ t) (flat_map-append ended_line second third)
-    ∙ sym (append_assoc (flat_map ended_line first) (flat_map ended_line second) (flat_map ended_line third))
+    flat_map-append with_line_feed first (second ++ third)
+    ∙ ap (λ t. flat_map with_line_feed first ++ t) (flat_map-append with_line_feed second third)
+    ∙ sym (append_assoc (flat_map with_line_feed first) (flat_map with_line_feed second)
+    (flat_map with_line_feed third))
     ∙ ap₂ (λ a t. a ++ t) (ap₂ (λ a t. a ++ t) one two) three
 
 -- a text that has only these sections is spelled in the one way
 pub text_is : (text : List ℕ) (b : Bundle) → HasSections text b → text ≡ bundle_text b
 text_is text b s =
-    sym (whole_text text) ∙ ap₂ (λ ls r. flat_map ended_line ls ++ r) s.lines s.rest
-    ∙ append-nil (flat_map ended_line (s.first ++ (s.second ++ s.third)))
+    sym (whole_text text) ∙ ap₂ (λ ls r. flat_map with_line_feed ls ++ r) s.lines s.rest
+    ∙ append-nil (flat_map with_line_feed (s.first ++ (s.second ++ s.third)))
     ∙ sections_text b s.first s.second s.third s.circuit_is s.layout_is s.certificate_is
 
 -- ---- the lines of a certificate other than its halo lines
@@ -295,7 +295,7 @@ header_clean =
 -- ---- the text that is written has sections
 
 pub migrated_sections : (text : List ℕ) (b : Bundle) → HasSections text b →
-    HasSections (migrate_of b) (in_version_two b)
+    HasSections (migrate_of b) (migrated_bundle b)
 migrated_sections text b s =
     let clean : AreLines (s.first ++ (s.second ++ s.third)) = subst AreLines s.lines (lines_clean text) in
     let later = clean_right s.first (s.second ++ s.third) clean in
@@ -310,14 +310,14 @@ migrated_sections text b s =
     let all_clean : AreLines all =
     clean_both s.first (s.second ++ third) (clean_left s.first (s.second ++ s.third) clean)
     (clean_both s.second third (clean_left s.second s.third later) (header_clean.0, k.clean)) in
-    let is : migrate_of b ≡ flat_map ended_line all =
-    sym (sections_text (in_version_two b) s.first s.second third s.circuit_is s.layout_is certificate_is) in
+    let is : migrate_of b ≡ flat_map with_line_feed all =
+    sym (sections_text (migrated_bundle b) s.first s.second third s.circuit_is s.layout_is certificate_is) in
     record {
       first = s.first;
       second = s.second;
       third = third;
       lines = ap lines_of is ∙ lines_again all all_clean;
-      rest = ap bytes_after_lines is ∙ nothing_follows all all_clean;
+      rest = ap bytes_after_last_line_feed is ∙ nothing_follows all all_clean;
       circuit_is = s.circuit_is;
       layout_is = s.layout_is;
       certificate_is = certificate_is;
@@ -358,15 +358,15 @@ migrates_once text output again first second =
     let a = was_migrated text output first in
     let b = was_migrated output again second in
     let made = migrated_sections text a.bundle (sections_read text a.bundle a.read) in
-    let same : b.bundle ≡ in_version_two a.bundle =
-    one_bundle output b.bundle (in_version_two a.bundle) (sections_read output b.bundle b.read)
-    (subst (λ t. HasSections t (in_version_two a.bundle)) (sym a.says) made) in
+    let same : b.bundle ≡ migrated_bundle a.bundle =
+    one_bundle output b.bundle (migrated_bundle a.bundle) (sections_read output b.bundle b.read)
+    (subst (λ t. HasSections t (migrated_bundle a.bundle)) (sym a.says) made) in
     b.says ∙ ap migrate_of same ∙ ap (λ es. bundle_text (record a.bundle { version = 2; entries = es }))
     (without_twice a.bundle.entries) ∙ sym a.says
 
 -- ---- version 2 has no halo lines
 
-no_code : (b : Bool) (code : RefusalCode) (more : Option RefusalCode) → or_else (code_where b code) more ≡ None →
+no_code : (b : Bool) (code : RefusalCode) (more : Option RefusalCode) → or_else (code_if b code) more ≡ None →
     b ≡ false
 no_code true code more e = absurd cc
 no_code false code more e = refl
@@ -376,11 +376,11 @@ no_halos : (g : Setting) (before es : List CertificateLine) → AreFaultless (ce
 unfolding without_halos
 no_halos g before [] good = refl
 no_halos g before (i ∷ es) good =
-    with_other i es (no_code (is_haloless 2 && is_halo i) NoForm _ good.0)
+    with_other i es (no_code (is_haloless_version 2 && is_halo i) NoForm _ good.0)
     ∙ ap (λ l. i ∷ l) (no_halos g (before ++ i ∷ []) es good.1)
 
 -- a bundle of version 2 is its own migration
-pub in_place : (b : Bundle) → IsGoodBundle b → b.version ≡ 2 → in_version_two b ≡ b
+pub in_place : (b : Bundle) → IsGoodBundle b → b.version ≡ 2 → migrated_bundle b ≡ b
 in_place b good two =
     let g : Setting = setting_of b.circuit (layout_of b.size b.parts) in
     let each = subst (λ v. AreFaultless (certificate_grammar g) v [] b.entries) two good.certificate.each in

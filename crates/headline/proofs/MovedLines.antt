@@ -1,8 +1,8 @@
 -- The lines of a moved layout keep the rules of lines
 use Rattle.std.proofs.Common.{◌≡◌, ℕ, zero, suc, ◌+◌, ◌≤◌, ◌&&◌, ◌||◌, not, Bool, true, false, cond, List, [], ◌∷◌}
-use Rattle.std.proofs.Common.{◌++◌, map, None, refl, sym, ap, ap₂, subst, ◌∙◌, arith}
-use Rattle.std.specs.Prelude.{ℤ, pos, negsuc, ◌+ℤ◌, nat_le}
-use Rattle.std.specs.List.{flat_map, list_any, range_with_len}
+use Rattle.std.proofs.Common.{◌++◌, map, None, refl, sym, ap, ap₂, subst, ◌∙◌, arith, ℤ, pos, negsuc, ◌+ℤ◌, nat_le}
+use Rattle.std.proofs.Common.{flat_map}
+use Rattle.std.specs.List.{list_any, range_with_len}
 use Rattle.std.proofs.lemmas.Bool.{and_parts}
 use Rattle.std.proofs.lemmas.Bool.Decides.{nat_tests}
 use Rattle.std.proofs.lemmas.Int.{ints}
@@ -10,26 +10,25 @@ use Rattle.std.proofs.lemmas.List.{map-append}
 use Rattle.bbm_rule.specs.Plane.{is_at}
 use Rattle.bbm_rule.specs.Spans.{in_span}
 use Rattle.bbm_rule.proofs.Spans.{in_span-negsuc, span_from, span_parts}
-use Rattle.section_text.specs.Codes.{code_where}
+use Rattle.section_text.specs.Codes.{code_if}
 use Rattle.section_text.specs.declared.code.RefusalCode.TheVariants.{PastLimit, TakenCell}
 use Rattle.pattern.specs.Layout.{Pattern, cell, in_layout, parts_of, rectangle_cells, row_cells}
-use Rattle.pattern.specs.Lines.{AreGoodAfter, begins, taken_at_start, cell_fault, cells_of, ended, ends, holds}
-use Rattle.pattern.specs.Lines.{is_inside}
-use Rattle.pattern.specs.Lines.{is_side, is_taken, limit_fault, size_fault}
+use Rattle.pattern.specs.Lines.{AreGoodAfter, begins, cells_taken_at_start, cell_fault, cells_of, ended, ends, holds}
+use Rattle.pattern.specs.Lines.{is_inside, is_layout_side, is_taken, limit_fault, size_fault}
 use Rattle.pattern.specs.declared.layout_line.LayoutHeader.{LayoutHeader}
 use Rattle.pattern.specs.declared.layout_line.LayoutLine.{LayoutLine}
 use Rattle.pattern.specs.declared.layout_line.LayoutLine.TheVariants.{Mirror, Ball, In, Out, Waste}
-use Rattle.headline.specs.MovedDesigns.{enlarged, moved, moved_by_two, moved_port, moved_rectangle}
+use Rattle.headline.specs.MovedDesigns.{enlarged, moved, moved_by_two, port_moved_by_two, rectangle_moved_by_two}
 use Rattle.headline.proofs.MovedPlanes.{any_map, cells_moved}
 
 -- ---- lines
 
 -- the line of the moved layout in the place of this one
 abbrev moved_line : LayoutLine → LayoutLine
-moved_line (Mirror r) = Mirror (moved_rectangle r)
+moved_line (Mirror r) = Mirror (rectangle_moved_by_two r)
 moved_line (Ball c) = Ball (moved_by_two c)
-moved_line (In q) = In (moved_port q)
-moved_line (Out q) = Out (moved_port q)
+moved_line (In q) = In (port_moved_by_two q)
+moved_line (Out q) = Out (port_moved_by_two q)
 moved_line (Waste c) = Waste (moved_by_two c)
 
 abbrev moved_lines : List LayoutLine → List LayoutLine
@@ -51,10 +50,10 @@ all_moved a b c d e =
 
 parts_moved : (p : Pattern) → parts_of (moved p) ≡ moved_lines (parts_of p)
 parts_moved p =
-    ap₂ (λ a b. a ++ b) (map_both moved_rectangle Mirror Mirror moved_line (λ r. refl) p.mirrors)
+    ap₂ (λ a b. a ++ b) (map_both rectangle_moved_by_two Mirror Mirror moved_line (λ r. refl) p.mirrors)
     (ap₂ (λ a b. a ++ b) (map_both moved_by_two Ball Ball moved_line (λ c. refl) p.balls)
-    (ap₂ (λ a b. a ++ b) (map_both moved_port In In moved_line (λ q. refl) p.ins)
-    (ap₂ (λ a b. a ++ b) (map_both moved_port Out Out moved_line (λ q. refl) p.outs)
+    (ap₂ (λ a b. a ++ b) (map_both port_moved_by_two In In moved_line (λ q. refl) p.ins)
+    (ap₂ (λ a b. a ++ b) (map_both port_moved_by_two Out Out moved_line (λ q. refl) p.outs)
     (map_both moved_by_two Waste Waste moved_line (λ c. refl) p.wastes))))
     ∙ sym (all_moved (map Mirror p.mirrors) (map Ball p.balls) (map In p.ins) (map Out p.outs) (map Waste p.wastes))
 
@@ -105,8 +104,8 @@ ends_moved (Out q) = refl
 ends_moved (Waste c) = refl
 
 begun_moved : (parts : List LayoutLine) (x y : ℤ) →
-    taken_at_start (moved_lines parts) (x +ℤ pos 2) (y +ℤ pos 2) ≡ taken_at_start parts x y
-unfolding taken_at_start
+    cells_taken_at_start (moved_lines parts) (x +ℤ pos 2) (y +ℤ pos 2) ≡ cells_taken_at_start parts x y
+unfolding cells_taken_at_start
 begun_moved parts x y =
     any_map moved_line _ _ (λ b. ap₂ (λ a c. a && c) (begins_moved b) (holds_moved b x y)) parts
 
@@ -121,10 +120,10 @@ taken_moved : (before : List LayoutLine) (part : LayoutLine) →
 unfolding is_taken
 taken_moved before part = λ i. cond (begins_moved part i) (at_start i) (at_end i)
   where
-    at_start : list_any (λ c. taken_at_start (moved_lines before) c.x c.y) (cells_of (moved_line part))
-        ≡ list_any (λ c. taken_at_start before c.x c.y) (cells_of part)
+    at_start : list_any (λ c. cells_taken_at_start (moved_lines before) c.x c.y) (cells_of (moved_line part))
+        ≡ list_any (λ c. cells_taken_at_start before c.x c.y) (cells_of part)
     at_start =
-        ap (list_any (λ c. taken_at_start (moved_lines before) c.x c.y)) (line_cells_moved part)
+        ap (list_any (λ c. cells_taken_at_start (moved_lines before) c.x c.y)) (line_cells_moved part)
         ∙ any_map moved_by_two _ _ (λ c. begun_moved before c.x c.y) (cells_of part)
 
     at_end : list_any (λ c. ended (moved_lines before) c.x c.y) (cells_of (moved_line part))
@@ -172,9 +171,9 @@ limit_moved (In q) = refl
 limit_moved (Out q) = refl
 limit_moved (Waste c) = refl
 
-fault_none : (a a' b b' : Bool) → (a ≡ true → a' ≡ true) → b' ≡ b → code_where (not a || b) TakenCell ≡ None →
-    code_where (not a' || b') TakenCell ≡ None
-fault_none true a' false b' f e none = ap₂ (λ p q. code_where (not p || q) TakenCell) (f refl) e
+fault_none : (a a' b b' : Bool) → (a ≡ true → a' ≡ true) → b' ≡ b → code_if (not a || b) TakenCell ≡ None →
+    code_if (not a' || b') TakenCell ≡ None
+fault_none true a' false b' f e none = ap₂ (λ p q. code_if (not p || q) TakenCell) (f refl) e
 fault_none true a' true b' f e none = cc
 fault_none false a' b b' f e none = cc
 
@@ -200,10 +199,10 @@ pub moved_good : (p : Pattern) → AreGoodAfter p.size [] (parts_of p) →
 moved_good p good =
     subst (AreGoodAfter (enlarged p.size) []) (sym (parts_moved p)) (lines_good p.size [] (parts_of p) good)
 
-side_more : (n : ℕ) → is_side n ≡ true → n ≤ 60 → is_side (n + 4) ≡ true
+side_more : (n : ℕ) → is_layout_side n ≡ true → n ≤ 60 → is_layout_side (n + 4) ≡ true
 side_more n side few = grind (arith, nat_tests, side)
 
-no_code : (a : Bool) → code_where (not a) PastLimit ≡ None → a ≡ true
+no_code : (a : Bool) → code_if (not a) PastLimit ≡ None → a ≡ true
 no_code true e = refl
 no_code false e = cc
 
@@ -211,8 +210,8 @@ no_code false e = cc
 pub enlarged_good : (s : LayoutHeader) → size_fault s ≡ None → s.w ≤ 60 → s.h ≤ 60 → size_fault (enlarged s) ≡ None
 unfolding size_fault
 enlarged_good s none wide high =
-    let all = no_code (is_side s.w && is_side s.h && nat_le s.steps 65536) none in
-    let both = and_parts (is_side s.w && is_side s.h) (nat_le s.steps 65536) all in
-    let sides = and_parts (is_side s.w) (is_side s.h) both.0 in
-    ap (λ b. code_where (not b) PastLimit)
+    let all = no_code (is_layout_side s.w && is_layout_side s.h && nat_le s.steps 65536) none in
+    let both = and_parts (is_layout_side s.w && is_layout_side s.h) (nat_le s.steps 65536) all in
+    let sides = and_parts (is_layout_side s.w) (is_layout_side s.h) both.0 in
+    ap (λ b. code_if (not b) PastLimit)
     (ap₂ (λ a b. a && b) (ap₂ (λ a b. a && b) (side_more s.w sides.0 wide) (side_more s.h sides.1 high)) both.1)

@@ -1,9 +1,7 @@
 -- The plane of a moved design is the moved plane, at each time
-use Rattle.std.proofs.Common.{◌≡◌, ℕ, zero, suc, ◌+◌, ◌&&◌, ◌||◌, Bool, List, [], ◌∷◌, map, refl}
-use Rattle.std.proofs.Common.{ap, ap₂, subst, arith}
-use Rattle.std.specs.Prelude.{ℤ, pos, ◌+ℤ◌, ◌-ℤ◌}
+use Rattle.std.proofs.Common.{◌≡◌, ℕ, zero, suc, ◌+◌, ◌&&◌, ◌||◌, Bool, List, [], ◌∷◌, map, refl, ap, ap₂, subst, arith}
+use Rattle.std.proofs.Common.{ℤ, pos, ◌+ℤ◌, ◌-ℤ◌, int_eq}
 use Rattle.std.specs.List.{list_any}
-use Rattle.std.specs.Ordering.{int_eq}
 use Rattle.std.proofs.lemmas.Int.{ints}
 use Rattle.bbm_rule.specs.Moves.{IsMoved}
 use Rattle.bbm_rule.specs.Plane.{is_at, run}
@@ -13,7 +11,7 @@ use Rattle.pattern.specs.Layout.{Pattern, in_cells, in_ports_on, in_rectangle, i
 use Rattle.pattern.specs.declared.layout_line.Port.{Port}
 use Rattle.pattern.specs.declared.layout_line.Rectangle.{Rectangle}
 use Rattle.module_box.proofs.MovedBoxes.{span_moved}
-use Rattle.headline.specs.MovedDesigns.{moved, moved_by_two, moved_port, moved_rectangle}
+use Rattle.headline.specs.MovedDesigns.{moved, moved_by_two, port_moved_by_two, rectangle_moved_by_two}
 
 -- ---- coordinates
 
@@ -30,7 +28,7 @@ eq_moved : (a b : ℤ) → int_eq (a +ℤ pos 2) (b +ℤ pos 2) ≡ int_eq a b
 eq_moved a b = grind (arith, ints)
 
 area_moved : (r : Rectangle) (x y : ℤ) →
-    in_rectangle (moved_rectangle r) (x +ℤ pos 2) (y +ℤ pos 2) ≡ in_rectangle r x y
+    in_rectangle (rectangle_moved_by_two r) (x +ℤ pos 2) (y +ℤ pos 2) ≡ in_rectangle r x y
 area_moved r x y = ap₂ (λ a b. a && b)
     (span_moved r.x (r.x + 2) r.w r.w (pos 2) x (from r.x) refl)
     (span_moved r.y (r.y + 2) r.h r.h (pos 2) y (from r.y) refl)
@@ -53,12 +51,12 @@ pub cells_moved : (cs : List Cell) (x y : ℤ) →
 cells_moved cs x y = any_map moved_by_two _ _ (λ c. is_at_moved c x y) cs
 
 pub rectangles_moved : (rs : List Rectangle) (x y : ℤ) →
-    in_rectangles (map moved_rectangle rs) (x +ℤ pos 2) (y +ℤ pos 2) ≡ in_rectangles rs x y
-rectangles_moved rs x y = any_map moved_rectangle _ _ (λ r. area_moved r x y) rs
+    in_rectangles (map rectangle_moved_by_two rs) (x +ℤ pos 2) (y +ℤ pos 2) ≡ in_rectangles rs x y
+rectangles_moved rs x y = any_map rectangle_moved_by_two _ _ (λ r. area_moved r x y) rs
 
 ports_on_moved : (on : List ℕ → Bool) (qs : List Port) (x y : ℤ) →
-    in_ports_on on (map moved_port qs) (x +ℤ pos 2) (y +ℤ pos 2) ≡ in_ports_on on qs x y
-ports_on_moved on qs x y = any_map moved_port _ _ (λ q. ap (λ b. on q.name && b) (is_at_moved q.cell x y)) qs
+    in_ports_on on (map port_moved_by_two qs) (x +ℤ pos 2) (y +ℤ pos 2) ≡ in_ports_on on qs x y
+ports_on_moved on qs x y = any_map port_moved_by_two _ _ (λ q. ap (λ b. on q.name && b) (is_at_moved q.cell x y)) qs
 
 -- ---- the run
 

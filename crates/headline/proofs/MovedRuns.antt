@@ -1,7 +1,6 @@
 -- A layout that computes a circuit does so after it is moved
-use Rattle.std.proofs.Common.{◌≡◌, ℕ, Bool, true, List, [], ◌∷◌, map, refl, sym, ap}
-use Rattle.std.proofs.Common.{subst, ◌∙◌}
-use Rattle.std.specs.Prelude.{ℤ, pos, ◌+ℤ◌, IsFalse, IsTrue, Some, None, option_map, slice_get}
+use Rattle.std.proofs.Common.{◌≡◌, ℕ, Bool, true, List, [], ◌∷◌, map, refl, sym, ap, subst, ◌∙◌, ℤ, pos, ◌+ℤ◌, IsFalse}
+use Rattle.std.proofs.Common.{IsTrue, Some, None, option_map, slice_get}
 use Rattle.std.proofs.lemmas.Option.{slice_get-map}
 use Rattle.bbm_rule.specs.Plane.{State}
 use Rattle.section_text.specs.Words.{has}
@@ -12,17 +11,17 @@ use Rattle.pattern.specs.Layout.{Pattern, IsDeadOutside, in_cells, in_layout, in
 use Rattle.pattern.specs.declared.layout_line.Port.{Port}
 use Rattle.meaning.specs.Implements.{Computes, HaveNames, Implements, IsCorrect, IsNamed, LooksAsAsked, in_ports}
 use Rattle.meaning.specs.Implements.{run_under}
-use Rattle.headline.specs.MovedDesigns.{enlarged, moved, moved_port}
+use Rattle.headline.specs.MovedDesigns.{enlarged, moved, port_moved_by_two}
 use Rattle.headline.proofs.MovedLines.{layout_enlarged}
 use Rattle.headline.proofs.MovedPlanes.{any_map, by_moved, cells_moved, is_at_moved, rectangles_moved, run_moved}
 
 -- ---- the names of the ports
 
-names_same : (qs : List Port) → map (λ (q : Port). q.name) (map moved_port qs) ≡ map (λ (q : Port). q.name) qs
+names_same : (qs : List Port) → map (λ (q : Port). q.name) (map port_moved_by_two qs) ≡ map (λ (q : Port). q.name) qs
 names_same [] = refl
 names_same (q ∷ qs) = ap (λ l. q.name ∷ l) (names_same qs)
 
-named_same : (qs : List Port) (names : List (List ℕ)) → HaveNames qs names → HaveNames (map moved_port qs) names
+named_same : (qs : List Port) (names : List (List ℕ)) → HaveNames qs names → HaveNames (map port_moved_by_two qs) names
 named_same qs names h n = ap (λ l. has l n) (names_same qs) ∙ h n
 
 pub named_moved : (lines : List CircuitLine) (p : Pattern) → IsNamed lines p → IsNamed lines (moved p)
@@ -33,20 +32,21 @@ named_moved lines p h = record {
 
 -- ---- the plane at the end
 
-ports_moved : (qs : List Port) (x y : ℤ) → in_ports (map moved_port qs) (x +ℤ pos 2) (y +ℤ pos 2) ≡ in_ports qs x y
-ports_moved qs x y = any_map moved_port _ _ (λ q. is_at_moved q.cell x y) qs
+ports_moved : (qs : List Port) (x y : ℤ) →
+    in_ports (map port_moved_by_two qs) (x +ℤ pos 2) (y +ℤ pos 2) ≡ in_ports qs x y
+ports_moved qs x y = any_map port_moved_by_two _ _ (λ q. is_at_moved q.cell x y) qs
 
 module _ (p : Pattern) (value : List ℕ → Bool) (s s' : State)
     (along : (x y : ℤ) → s' (x +ℤ pos 2) (y +ℤ pos 2) ≡ s x y) (looks : LooksAsAsked p value s) where
-  outputs_moved : (i : ℕ) (q : Port) → slice_get (map moved_port p.outs) i ≡ Some q →
+  outputs_moved : (i : ℕ) (q : Port) → slice_get (map port_moved_by_two p.outs) i ≡ Some q →
       s' q.cell.x q.cell.y ≡ value q.name
-  outputs_moved i q at = by_output (slice_get p.outs i) refl (sym (slice_get-map moved_port p.outs i) ∙ at)
+  outputs_moved i q at = by_output (slice_get p.outs i) refl (sym (slice_get-map port_moved_by_two p.outs i) ∙ at)
     where
-      by_output : (o : _) → slice_get p.outs i ≡ o → option_map moved_port o ≡ Some q →
+      by_output : (o : _) → slice_get p.outs i ≡ o → option_map port_moved_by_two o ≡ Some q →
           s' q.cell.x q.cell.y ≡ value q.name
       by_output None here e = cc
       by_output (Some r) here e =
-          let same : moved_port r ≡ q = cc in
+          let same : port_moved_by_two r ≡ q = cc in
           subst (λ (q : Port). s' q.cell.x q.cell.y ≡ value q.name) same
           (along r.cell.x r.cell.y ∙ looks.outputs i r here)
 

@@ -1,9 +1,7 @@
 -- A text has one answer.
-use Rattle.std.proofs.Common.{◌≡◌, ℕ, List, [], ◌∷◌, ◌++◌, length, Bool, Result, Ok, Err, refl}
-use Rattle.std.proofs.Common.{sym, ap, subst, ◌∙◌, inl, inr}
-use Rattle.std.specs.Prelude.{codes}
+use Rattle.std.proofs.Common.{◌≡◌, ℕ, List, [], ◌∷◌, ◌++◌, length, Bool, Result, Ok, Err, refl, sym, ap, subst, ◌∙◌}
+use Rattle.std.proofs.Common.{inl, inr, codes, flat_map}
 use Rattle.std.specs.Fmt.{decimal}
-use Rattle.std.specs.List.{flat_map}
 use Rattle.bbm_rule.specs.Plane.{State}
 use Rattle.std.proofs.lemmas.Bool.{true≢false, cases_order}
 use Rattle.section_text.specs.Spelling.{line_text}
@@ -19,7 +17,8 @@ use Rattle.section_text.specs.Words.{has}
 use Rattle.pattern.specs.Grammars.{layout_section}
 use Rattle.pattern.specs.Run.{IsRunEnd, GoesOutside}
 use Rattle.answers.specs.declared.outcome.Outcome.{Outcome}
-use Rattle.answers.specs.RunText.{IsRunOf, RunSections, SaysRunEnd, cell_line, end_text, end_outcome, run_sections_of}
+use Rattle.answers.specs.RunText.{IsRunOf, LayoutAndNamesOn, SaysRunEnd, live_cell_line, run_end_text, run_end_outcome}
+use Rattle.answers.specs.RunText.{run_sections_of}
 use Rattle.answers.specs.Answers.{Answered}
 use Rattle.answers.proofs.Bundles.{layout_again}
 use Rattle.headline.specs.Laws.{HasAtMostOneAnswer}
@@ -35,15 +34,17 @@ one_layout p q e = sym (layout_from p q.size (parts_of q) e) ∙ layout_again q
 -- ---- a run ends in one way
 
 abbrev SameEnd : RunEnd → RunEnd → Type 0
-SameEnd e e' = (end_text e ≡ end_text e') × (end_outcome e ≡ end_outcome e')
+SameEnd e e' = (run_end_text e ≡ run_end_text e') × (run_end_outcome e ≡ run_end_outcome e')
 
 clash : (s : LayoutHeader) (state : State) → IsDeadOutside s state → GoesOutside s state → ⊥
 clash s state stays goes = true≢false (sym (stays goes.x goes.y goes.lives) ∙ goes.outside)
 
 one_end : (p : Pattern) (on : List ℕ → Bool) (e e' : RunEnd) → IsRunEnd p on e → IsRunEnd p on e' → SameEnd e e'
 one_end p on (Cells cells) (Cells cells') h h' =
-    let same = h.cells ∙ sym h'.cells in
-    (ap (λ (l : List Cell). line_text (codes "cells") (decimal (length l) ∷ []) ++ flat_map cell_line l) same, refl)
+    let same = h.cells ∙ sym h'.cells in (
+      ap (λ (l : List Cell). line_text (codes "cells") (decimal (length l) ∷ []) ++ flat_map live_cell_line l) same,
+      refl,
+    )
 one_end p on (Cells cells) (LeftAt k) h h' = absurd (clash p.size _ (h.stays k h'.within) h'.leaves)
 one_end p on (LeftAt k) (Cells cells) h h' = absurd (clash p.size _ (h'.stays k h.within) h.leaves)
 one_end p on (LeftAt k) (LeftAt j) h h' = elim (cases_order k j) [
@@ -54,7 +55,7 @@ one_end p on (LeftAt k) (LeftAt j) h h' = elim (cases_order k j) [
   ]
 ]
 
-one_run : (asked : RunSections) (output output' : List ℕ) (outcome outcome' : Outcome) →
+one_run : (asked : LayoutAndNamesOn) (output output' : List ℕ) (outcome outcome' : Outcome) →
     SaysRunEnd asked output outcome →
     SaysRunEnd asked output' outcome' → (output ≡ output') × (outcome ≡ outcome')
 one_run asked output output' outcome outcome' h h' =

@@ -1,8 +1,6 @@
 -- A text has one report.
 use Rattle.std.proofs.Common.{◌≡◌, ◌∙◌, ◌<◌, ◌++◌, ◌∷◌, ℕ, List, [], length, Option, Some, None, refl, sym, ap, subst}
-use Rattle.std.proofs.Common.{arith}
-use Rattle.std.specs.Prelude.{slice_get, codes}
-use Rattle.std.specs.List.{flat_map}
+use Rattle.std.proofs.Common.{arith, slice_get, codes, flat_map}
 use Rattle.std.proofs.lemmas.Option.{slice_get_within}
 use Rattle.sha2.specs.Sha256.{sha256}
 use Rattle.section_text.specs.Spelling.{line_text}
@@ -20,7 +18,7 @@ use Rattle.core_book.specs.Verdicts.{IsVerdict}
 use Rattle.core_book.specs.declared.verdict.Verdict.{Verdict}
 use Rattle.core_book.specs.declared.verdict.Verdict.TheVariants as verdict
 use Rattle.core_book.proofs.OneVerdict.{none-past, same-elements, verdict-is-one}
-use Rattle.report.specs.ReportText.{report_line_text, opening_lines, report_lines}
+use Rattle.report.specs.ReportText.{report_line_text, lines_before_verdict, report_lines}
 use Rattle.answers.specs.BundleText.{Bundle, bundle_of}
 use Rattle.answers.specs.CheckText.{IsCertificateOf, IsReportOf, IsVerdictOn, SaysReport, verdict_outcome}
 use Rattle.headline.specs.Laws.{HasAtMostOneAnswer}
@@ -70,7 +68,7 @@ same_lines c verdict.Yes verdict.Yes same = refl
 same_lines c verdict.Yes (verdict.No lines) same = absurd same
 same_lines c (verdict.No lines) verdict.Yes same = absurd same
 same_lines c (verdict.No lines) (verdict.No others) same =
-    ap (λ ls. opening_lines (sha256 (certificate_text c)) (length (modules_of c.entries))
+    ap (λ ls. lines_before_verdict (sha256 (certificate_text c)) (length (modules_of c.entries))
     ++ (line_text (codes "verdict") (codes "no" ∷ []) ++ flat_map report_line_text ls)) same
 
 same_outcome : (v w : Verdict) → AreSameVerdicts v w → verdict_outcome v ≡ verdict_outcome w

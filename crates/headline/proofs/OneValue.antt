@@ -1,18 +1,15 @@
 -- A circuit has one answer.
 use Rattle.std.proofs.Common.{◌≡◌, ◌⊎◌, ℕ, zero, suc, ◌<◌, Bool, false, List, [], ◌∷◌, ◌++◌, inl, inr, subst, length}
-use Rattle.std.proofs.Common.{refl, sym, ap, ap₂, ◌∙◌, arith}
-use Rattle.std.specs.List.{slice_index_or}
+use Rattle.std.proofs.Common.{refl, sym, ap, ap₂, ◌∙◌, arith, slice_index_or, codes}
 use Rattle.circuit.specs.Entries.{defined}
 use Rattle.circuit.specs.Bridge.{AreValues, StopsAt, netlist_of, read}
 use Rattle.circuit.specs.Meaning.{AreOrdered, Netlist, Valuation, first_gates}
 use Rattle.circuit.proofs.Undefined.{stopped, undefined_has_none, undefined_is_one}
 use Rattle.section_text.specs.Spelling.{line_text}
-use Rattle.std.specs.Prelude.{codes}
 use Rattle.std.specs.Fmt.{decimal}
 use Rattle.circuit.specs.Text.{value_lines}
-use Rattle.answers.specs.ValueText.{SaysAll, SaysSome}
+use Rattle.answers.specs.ValueText.{SaysAll, SaysSome, IsValueOf, CircuitAndNamesOn, SaysValues, value_sections_of}
 use Rattle.answers.specs.declared.outcome.Outcome.{Outcome}
-use Rattle.answers.specs.ValueText.{IsValueOf, ValueSections, SaysValues, value_sections_of}
 use Rattle.headline.specs.Laws.{HasAtMostOneAnswer}
 use Rattle.headline.proofs.OneAnswer.{answered_once}
 
@@ -39,7 +36,7 @@ one_stop n a k m vs us ordered s t =
     let before : AreValues (first_gates k n) a us = subst (λ j. AreValues (first_gates j n) a us) (sym same) t.before in
     (same, one_list (first_gates k n) a vs us s.before before)
 
-one_of : (asked : ValueSections) (output output' : List ℕ) (outcome outcome' : Outcome) →
+one_of : (asked : CircuitAndNamesOn) (output output' : List ℕ) (outcome outcome' : Outcome) →
     AreOrdered (netlist_of asked.0).given (netlist_of asked.0).gates →
     SaysAll asked output outcome ⊎ SaysSome asked output outcome →
     SaysAll asked output' outcome' ⊎ SaysSome asked output' outcome' → (output ≡ output') × (outcome ≡ outcome')
@@ -58,7 +55,7 @@ one_of asked output output' outcome outcome' ordered (inr h) (inr h') =
       h.ends ∙ sym h'.ends,
     )
 
-one_evaluation : (asked : ValueSections) (output output' : List ℕ) (outcome outcome' : Outcome) →
+one_evaluation : (asked : CircuitAndNamesOn) (output output' : List ℕ) (outcome outcome' : Outcome) →
     SaysValues asked output outcome → SaysValues asked output' outcome' → (output ≡ output') × (outcome ≡ outcome')
 one_evaluation asked output output' outcome outcome' h h' =
     one_of asked output output' outcome outcome' h.ordered h.says h'.says

@@ -1,16 +1,14 @@
 -- The lines of the plain certificate of a design make a plain module
 use Rattle.std.proofs.Common.{◌≡◌, ℕ, zero, suc, ◌+◌, ◌<◌, ◌≤◌, ◌++◌, ◌&&◌, not, eqb, fold, Bool, true, false, List, []}
-use Rattle.std.proofs.Common.{◌∷◌}
-use Rattle.std.proofs.Common.{length, map, filter, Some, refl, sym, ap, ap₂, subst, ◌∙◌, inl, inr, arith}
-use Rattle.std.proofs.Common.{append-nil, append_assoc}
-use Rattle.std.specs.Prelude.{slice_get}
-use Rattle.std.specs.List.{All, flat_map, list_all, range_with_len}
+use Rattle.std.proofs.Common.{◌∷◌, length, map, filter, Some, refl, sym, ap, ap₂, subst, ◌∙◌, inl, inr, arith}
+use Rattle.std.proofs.Common.{append-nil, append_assoc, slice_get, All, flat_map}
+use Rattle.std.specs.List.{list_all, range_with_len}
 use Rattle.std.proofs.lemmas.Bool.{and_parts, cases_Bool, eq-eqb, eqb-true}
 use Rattle.std.proofs.lemmas.Grind.{flat_map-append}
 use Rattle.std.proofs.lemmas.List.Elements.{All-nil, All-cons}
 use Rattle.std.proofs.lemmas.Option.{slice_get_within}
 use Rattle.section_text.specs.Words.{has}
-use Rattle.circuit.specs.Bridge.{AreGood, input_names, netlist_of}
+use Rattle.circuit.specs.Bridge.{AreGoodCircuitLines, input_names, netlist_of}
 use Rattle.circuit.specs.Entries.{defined}
 use Rattle.circuit.specs.declared.circuit_line.CircuitLine.{CircuitLine}
 use Rattle.circuit.proofs.Naming.{inputs_are_first}
@@ -19,8 +17,7 @@ use Rattle.pattern.specs.Layout.{Pattern}
 use Rattle.module_box.specs.Locals.{is_among}
 use Rattle.module_box.specs.declared.boxes.Box2.{Box2}
 use Rattle.certificate_lines.specs.Entries.{ModuleLines, add_line, change_last, cut_in, cuts, edge_in, edges, keep_in}
-use Rattle.certificate_lines.specs.Entries.{keeps}
-use Rattle.certificate_lines.specs.Entries.{modules_of}
+use Rattle.certificate_lines.specs.Entries.{keeps, modules_of}
 use Rattle.certificate_lines.specs.ModuleParts.{is_module}
 use Rattle.certificate_lines.specs.Rules.{is_inverse_gate, whole}
 use Rattle.certificate_lines.specs.declared.certificate_line.CertificateLine.{CertificateLine}
@@ -128,7 +125,7 @@ among_filter test (x ∷ xs) k h t = elim (cases_Bool (eqb x k)) [
 
 -- ---- the plain module
 
-module _ (circuit : List CircuitLine) (p : Pattern) (good : AreGood circuit) where
+module _ (circuit : List CircuitLine) (p : Pattern) (good : AreGoodCircuitLines circuit) where
   abbrev kept : List ℕ
   kept = filter (λ k. is_inverse_gate (slice_get (netlist_of circuit).gates k)) (gate_numbers circuit)
 

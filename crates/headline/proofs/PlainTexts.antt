@@ -1,7 +1,6 @@
 -- The report on a plain text
 use Rattle.std.proofs.Common.{◌≡◌, ℕ, List, [], ◌∷◌, map, Result, Ok, Err, Vec, Global, refl, sym, ap, subst, ◌∙◌, inl}
-use Rattle.std.proofs.Common.{inr, ℤ, length, Some, option_map}
-use Rattle.std.specs.List.{All, flat_map}
+use Rattle.std.proofs.Common.{inr, ℤ, length, Some, option_map, All, flat_map, Contains, slice_get}
 use Rattle.std.proofs.lemmas.Bool.{cases_Bool}
 use Rattle.section_text.specs.declared.fault.Refusal.{Refusal}
 use Rattle.circuit.specs.Bridge.{circuit_of, netlist_of}
@@ -11,7 +10,8 @@ use Rattle.module_box.specs.Locals.{is_among}
 use Rattle.certificate_lines.specs.Entries.{ModuleLines, Setting, cut_in, edge_in, keep_in, modules_of, stop_in, cuts}
 use Rattle.certificate_lines.specs.Entries.{edges, stops}
 use Rattle.certificate_lines.specs.Settings.{setting_of}
-use Rattle.certificate_lines.specs.Versions.{edge_lines_beside, in_order, is_haloless, modules_by_version, with_halos}
+use Rattle.certificate_lines.specs.Versions.{edge_lines_beside, in_order, is_haloless_version, modules_by_version}
+use Rattle.certificate_lines.specs.Versions.{with_halos}
 use Rattle.certificate_lines.specs.declared.certificate_line.CertificateLine.{CertificateLine}
 use Rattle.certificate_lines.specs.declared.certificate_line.StopLine.{StopLine}
 use Rattle.certificate.specs.Arrivals.{AreOnTime}
@@ -20,7 +20,6 @@ use Rattle.certificate.specs.Times.{all_stops}
 use Rattle.certificate.proofs.FullModules.{meant_new, meant_old, other_lines, stop_lines}
 use Rattle.certificate.proofs.MeantLines.{stops_meant}
 use Rattle.certificate.proofs.TimeLemmas.{all_in_modules}
-use Rattle.std.specs.Prelude.{Contains, slice_get}
 use Rattle.std.proofs.lemmas.Option.{slice_get-map}
 use Rattle.sha2.specs.Sha256.{sha256}
 use Rattle.circuit.specs.Meaning.{Circuit, Satisfies, Valuation}
@@ -37,7 +36,7 @@ use Rattle.headline.specs.Plain.{HasRimTouch, IsWrongIfPlain, IsWrongText, SaysP
 use Rattle.headline.specs.ReportLines.{EarliestIsReal, LinesMeanIfPlain, LinesHaveMeaning, SaysNoWith}
 use Rattle.headline.specs.PlainLaws.{LinesOfNoHaveMeaning, PlainIsDecided, PlainNoMeansWrong, YesKeepsOffRim}
 use Rattle.core_book.specs.declared.verdict.ReportLine.TheVariants.{Local, Keep, Border, Unkept, Delay, Meet}
-use Rattle.soundness.specs.FirstFaults.{HasAssignment, IsAsCertified, IsEarliestLine, IsReal}
+use Rattle.soundness.specs.FirstFaults.{GivesModuleAssignment, IsAsCertified, IsEarliestLine, IsReal}
 use Rattle.soundness.specs.HeadlineLaws.{BelongTogether, HasInputNames, IsInputName}
 use Rattle.meaning.specs.Implements.{IsCorrect}
 use Rattle.soundness.specs.PlainCertificates.{DelayLineMeans, IsPlain, IsWrongDesign, LineMeans, MeetLineMeans}
@@ -108,7 +107,7 @@ record MeansModule (version : ℕ) (g : Setting) (ms : List ModuleLines) (i : �
 
 means_module : (version : ℕ) (g : Setting) (ms : List ModuleLines) (i : ℕ) (m : ModuleLines) →
     slice_get ms i ≡ Some m → MeansModule version g ms i m
-means_module version g ms i m at = elim (cases_Bool (is_haloless version)) [
+means_module version g ms i m at = elim (cases_Bool (is_haloless_version version)) [
   | inl new ↦ record {
     full = with_halos g ms m;
     numbered = ap (λ ns. slice_get ns i) (meant_new version g ms new) ∙ slice_get-map (with_halos g ms) ms i
@@ -138,11 +137,11 @@ real_same lines p full m inputs v f same real = record {
 }
 
 assignment_same : (c : Circuit) (full m : ModuleLines) (v : Valuation) (a : ℕ) → HaveSameLines full m →
-    HasAssignment c m v a → HasAssignment c full v a
+    GivesModuleAssignment c m v a → GivesModuleAssignment c full v a
 assignment_same c full m v a same has k name at = has k name (sym (ap (λ ns. slice_get ns k) same.cuts_same) ∙ at)
 
 assignment_back : (c : Circuit) (full m : ModuleLines) (v : Valuation) (a : ℕ) → HaveSameLines full m →
-    HasAssignment c full v a → HasAssignment c m v a
+    GivesModuleAssignment c full v a → GivesModuleAssignment c m v a
 assignment_back c full m v a same has k name at = has k name (ap (λ ns. slice_get ns k) same.cuts_same ∙ at)
 
 line_same : (lines : List CircuitLine) (p : Pattern) (full m : ModuleLines) (l : ReportLine) → HaveSameLines full m →
@@ -183,7 +182,7 @@ record MeansPlain (version : ℕ) (g : Setting) (ms : List ModuleLines) (lines :
 
 means_plain : (version : ℕ) (g : Setting) (ms : List ModuleLines) (lines : List CircuitLine) (p : Pattern)
     (m : ModuleLines) → ms ≡ m ∷ [] → IsPlain lines p m → MeansPlain version g ms lines p m
-means_plain version g ms lines p m is plain = elim (cases_Bool (is_haloless version)) [
+means_plain version g ms lines p m is plain = elim (cases_Bool (is_haloless_version version)) [
   | inl new ↦ record {
     one = with_halos g ms m;
     alone = meant_new version g ms new ∙ ap (map (with_halos g ms)) is;
@@ -330,7 +329,7 @@ module _ (text : List ℕ) (b : Bundle) (output : List ℕ) (outcome : Outcome) 
     abbrev Earliest : List CircuitLine → Pattern → List CertificateLine → Type 0
     Earliest circuit layout certificate = (i : ℕ) (m : ModuleLines) (f : Fault) (inputs v : Valuation) →
         IsEarliestLine its_no.lines.items i f → slice_get (modules_of certificate) i ≡ Some m →
-        Satisfies (netlist_of circuit) inputs v → HasAssignment (circuit_of circuit) m v f.assignment →
+        Satisfies (netlist_of circuit) inputs v → GivesModuleAssignment (circuit_of circuit) m v f.assignment →
         IsReal circuit layout m inputs v f
 
     own_earliest : Earliest c.circuit c.layout c.entries

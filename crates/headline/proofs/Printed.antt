@@ -1,14 +1,13 @@
 -- A text that begins with a design says it, and the printing is the text of the sections.
-use Rattle.std.proofs.Common.{◌≡◌, ℕ, ℤ, pos, ◌<◌, ◌^◌, true, false, List, [], ◌∷◌, ◌++◌, length, map}
-use Rattle.std.proofs.Common.{None, refl, sym, ap, ap₂, subst, ◌∙◌, append_assoc, arith}
-use Rattle.std.specs.Prelude.{IsTrue, codes, ◌&&◌}
+use Rattle.std.proofs.Common.{◌≡◌, ℕ, ℤ, pos, ◌<◌, ◌^◌, true, false, List, [], ◌∷◌, ◌++◌, length, map, None, refl, sym}
+use Rattle.std.proofs.Common.{ap, ap₂, subst, ◌∙◌, append_assoc, arith, IsTrue, codes, ◌&&◌, All, flat_map}
 use Rattle.std.specs.Fmt.{signed_decimal}
-use Rattle.std.specs.List.{All, AllByRecursion, flat_map, slice_split}
+use Rattle.std.specs.List.{AllByRecursion, slice_split}
 use Rattle.std.proofs.lemmas.Grind.{flat_map-append}
 use Rattle.std.proofs.lemmas.List.{append-nil}
 use Rattle.std.proofs.lemmas.List.Elements.{All-from_recursion, All-head, All-tail}
 use Rattle.std.proofs.lemmas.List.Splits.{slice_split_at}
-use Rattle.section_text.specs.Section.{ended_line}
+use Rattle.section_text.specs.Section.{with_line_feed}
 use Rattle.section_text.specs.Spelling.{line_text}
 use Rattle.section_text.specs.Words.{ended, is_line_feed, is_name, lines_of}
 use Rattle.section_text.specs.declared.section.Form.TheVariants.{Header, Item, End}
@@ -16,7 +15,7 @@ use Rattle.section_text.proofs.Again.{AreLines}
 use Rattle.section_text.proofs.Lines.{ended-cons, some_part}
 use Rattle.section_text.proofs.MadeSections.{clean_both, text_said}
 use Rattle.bbm_rule.specs.declared.block.Cell.{Cell}
-use Rattle.circuit.specs.Bridge.{FitsKind, kind_ins, kind_outs}
+use Rattle.circuit.specs.Bridge.{FitsKind, kind_in_count, kind_out_count}
 use Rattle.circuit.specs.Entries.{entry}
 use Rattle.circuit.specs.Forms.{form_of as circuit_form}
 use Rattle.circuit.specs.Grammars.{circuit_grammar}
@@ -34,8 +33,7 @@ use Rattle.pattern.specs.Text.{form_text as layout_line, layout_text, part_text}
 use Rattle.pattern.specs.declared.layout_line.LayoutLine.{LayoutLine}
 use Rattle.pattern.specs.declared.layout_line.LayoutLine.TheVariants.{Mirror, Ball, In, Out, Waste}
 use Rattle.pattern.proofs.Spelling.{form_line as layout_spelled}
-use Rattle.meaning.specs.Printed.{IsForm, IsLine, circuit_printed, form, layout_printed}
-use Rattle.meaning.specs.Printed.{line_words, part_form, printed}
+use Rattle.meaning.specs.Printed.{IsForm, IsLine, circuit_printed, form, layout_printed, line_words, part_form, printed}
 use Rattle.headline.specs.Laws.{BeginsWithOneDesign, PrintedDesignIsRead}
 use Rattle.headline.proofs.Designs.{one_design}
 use Rattle.headline.proofs.Written.{HasLine, HasSection, has_section}
@@ -46,13 +44,13 @@ use Rattle.headline.proofs.WrittenLayouts.{waste_line}
 -- ---- lines at the head of a text
 
 pub lines_more : (ls : List (List ℕ)) (rest : List ℕ) → AreLines ls →
-    lines_of (flat_map ended_line ls ++ rest) ≡ ls ++ lines_of rest
+    lines_of (flat_map with_line_feed ls ++ rest) ≡ ls ++ lines_of rest
 unfolding lines_of
 lines_more [] rest clean = refl
 lines_more (l ∷ ls) rest clean =
-    let more = flat_map ended_line ls ++ rest in
-    let regroup : (ended_line l ++ flat_map ended_line ls) ++ rest ≡ l ++ 10 ∷ more =
-    append_assoc (ended_line l) (flat_map ended_line ls) rest ∙ append_assoc l (10 ∷ []) more in
+    let more = flat_map with_line_feed ls ++ rest in
+    let regroup : (with_line_feed l ++ flat_map with_line_feed ls) ++ rest ≡ l ++ 10 ∷ more =
+    append_assoc (with_line_feed l) (flat_map with_line_feed ls) rest ∙ append_assoc l (10 ∷ []) more in
     let split : slice_split is_line_feed (l ++ 10 ∷ more) ≡ l ∷ slice_split is_line_feed more =
     slice_split_at is_line_feed l 10 more (All-from_recursion (λ b. is_line_feed b ≡ false) l clean.0) refl in
     ap (λ (t : List ℕ). ended (slice_split is_line_feed t)) regroup ∙ ap ended split
@@ -61,7 +59,7 @@ lines_more (l ∷ ls) rest clean =
 
 -- ---- a line of a circuit
 
-kind_counts : (kind : Kind) → ((form kind).1 ≡ kind_ins kind) × ((form kind).3 ≡ kind_outs kind)
+kind_counts : (kind : Kind) → ((form kind).1 ≡ kind_in_count kind) × ((form kind).3 ≡ kind_out_count kind)
 kind_counts Input = (refl, refl)
 kind_counts (Gate (Source b)) = (refl, refl)
 kind_counts (Gate Fredkin) = (refl, refl)
@@ -276,14 +274,14 @@ printed_is_read text circuit p b =
     (size_line p.size (small p.size.w (first_number (pos p.size.w) ws w))
     (small p.size.h (first_number (pos p.size.h) hs h)) (small p.size.steps (first_number (pos p.size.steps) [] t)))
     end_line l.0 in
-    let one : flat_map ended_line first.lines ≡ circuit_printed circuit =
+    let one : flat_map with_line_feed first.lines ≡ circuit_printed circuit =
     text_said circuit_grammar circuit_line circuit_spelled first.lines tt circuit first.is
     ∙ circuit_whole circuit ∙ sym (circuit_same circuit c.1) in
-    let two : flat_map ended_line second.lines ≡ layout_printed p =
+    let two : flat_map with_line_feed second.lines ≡ layout_printed p =
     text_said (layout_grammar None) layout_line layout_spelled second.lines p.size (parts_of p) second.is
     ∙ layout_whole p ∙ sym (layout_same p l.1) in
-    let spelled : flat_map ended_line (first.lines ++ second.lines) ≡ circuit_printed circuit ++ layout_printed p =
-    flat_map-append ended_line first.lines second.lines ∙ ap₂ (λ a b. a ++ b) one two in
+    let spelled : flat_map with_line_feed (first.lines ++ second.lines) ≡ circuit_printed circuit ++ layout_printed p =
+    flat_map-append with_line_feed first.lines second.lines ∙ ap₂ (λ a b. a ++ b) one two in
     record {
       first = first.lines;
       second = second.lines;

@@ -1,8 +1,7 @@
 -- What a text says that is not refused keeps the rules of a design
 use Rattle.std.proofs.Common.{◌≡◌, ℕ, zero, suc, ◌+◌, Bool, true, cond, eqb, List, [], ◌∷◌, ◌++◌, ◌&&◌, length, Option}
-use Rattle.std.proofs.Common.{Some, None}
-use Rattle.std.proofs.Common.{Result, Ok, Err, refl, sym, ap, ap₂, subst, inl, inr, map}
-use Rattle.std.specs.Prelude.{IsTrue, codes, slice_get}
+use Rattle.std.proofs.Common.{Some, None, Result, Ok, Err, refl, sym, ap, ap₂, subst, inl, inr, map, IsTrue, codes}
+use Rattle.std.proofs.Common.{slice_get}
 use Rattle.std.specs.List.{AllByRecursion, list_all}
 use Rattle.std.proofs.lemmas.Bool.{and_parts}
 use Rattle.std.proofs.lemmas.List.Elements.{All-from_recursion}
@@ -18,7 +17,7 @@ use Rattle.section_text.proofs.Spellings.{chosen, passed}
 use Rattle.circuit.specs.Entries.{defined, entry}
 use Rattle.circuit.specs.Forms.{form_of, gate_entry, gate_kind, gate_line_of_kind, words_before_names}
 use Rattle.circuit.specs.Gates.{defines, uses}
-use Rattle.circuit.specs.Grammars.{circuit_grammar, missing_code}
+use Rattle.circuit.specs.Grammars.{circuit_grammar, unconsumed_wire_code}
 use Rattle.circuit.specs.Rules.{add_fault, consumed, order_fault, first_unconsumed}
 use Rattle.circuit.specs.declared.circuit_line.CircuitLine.{CircuitLine}
 use Rattle.circuit.specs.declared.circuit_line.Kind.TheVariants.{Input, Gate, Output, Spill}
@@ -152,7 +151,7 @@ in_order before [] good = tt
 in_order before (r ∷ rest) good =
     (first_none (order_fault before r) (add_fault before r) good.0, in_order (before ++ r ∷ []) rest good.1)
 
-no_missing : (o : Option (List ℕ)) → missing_code o ≡ None → o ≡ None
+no_missing : (o : Option (List ℕ)) → unconsumed_wire_code o ≡ None → o ≡ None
 no_missing None e = refl
 no_missing (Some n) e = absurd cc
 

@@ -1,20 +1,18 @@
 -- The lines of the plain certificate of a small design are good
 use Rattle.std.proofs.Common.{◌≡◌, ℕ, zero, suc, ◌+◌, ◌<◌, ◌≤◌, ◌++◌, ◌&&◌, ◌||◌, not, eqb, Bool, true, false, List, []}
 use Rattle.std.proofs.Common.{◌∷◌, length, map, filter, take, drop, Some, None, Less, refl, sym, ap, ap₂, subst, ◌∙◌}
-use Rattle.std.proofs.Common.{append-nil, append_assoc, take-append-drop, cond, option_map, inl, inr, arith, ◌%◌}
-use Rattle.std.proofs.Common.{Ok}
+use Rattle.std.proofs.Common.{append-nil, append_assoc, take-append-drop, cond, option_map, inl, inr, arith, ◌%◌, Ok}
+use Rattle.std.proofs.Common.{slice_get, nat_lt, nat_le, ◌==◌, ◌≢◌, All, flat_map, option_to_list, is_lt, nat_cmp}
 use Rattle.std.proofs.Math.Seq.{take-length}
-use Rattle.std.specs.Prelude.{slice_get, nat_lt, nat_le, ◌==◌, ◌≢◌}
-use Rattle.std.specs.List.{All, flat_map, list_all, list_any, range_with_len}
-use Rattle.std.specs.Option.{option_to_list}
-use Rattle.std.specs.Ordering.{is_lt, nat_cmp, ordering_then}
+use Rattle.std.specs.List.{list_all, list_any, range_with_len}
+use Rattle.std.specs.Ordering.{ordering_then}
 use Rattle.std.proofs.lemmas.Bool.{and_parts, cases_Bool, eqb-true, true≢false}
 use Rattle.std.proofs.lemmas.List.Elements.{All-append, All-nil, All-cons, All-head, All-tail}
 use Rattle.std.proofs.lemmas.List.{length-append, map-append}
 use Rattle.std.proofs.lemmas.Option.{same_Some, slice_get-map, slice_get_within}
-use Rattle.section_text.specs.Codes.{code_where, or_else}
+use Rattle.section_text.specs.Codes.{code_if, or_else}
 use Rattle.section_text.specs.Words.{has}
-use Rattle.circuit.specs.Bridge.{AreGood, AreGoodAfter, circuit_of, input_names, netlist_of, output_names}
+use Rattle.circuit.specs.Bridge.{AreGoodCircuitLines, AreGoodAfter, circuit_of, input_names, netlist_of, output_names}
 use Rattle.circuit.specs.Entries.{defined}
 use Rattle.circuit.specs.Gates.{defines}
 use Rattle.circuit.specs.Meaning.{AreOrdered, Circuit, Gate, number, place_of, wire_of, wires, wires_after}
@@ -30,11 +28,11 @@ use Rattle.certificate_lines.specs.Entries.{ModuleLines, Setting, cut_in, cuts, 
 use Rattle.certificate_lines.specs.Entries.{add_line, use_in, areas}
 use Rattle.certificate_lines.specs.ModuleParts.{is_module}
 use Rattle.certificate_lines.specs.Orders.{cell_of, is_cut, line_cmp, may_follow, may_precede, number_of, rank_of}
-use Rattle.certificate_lines.specs.Rules.{are_new, cut_fault, cut_wire_fault, entry_fault, gate_fault, body_line_code}
-use Rattle.certificate_lines.specs.Rules.{is_inverse_gate, keep_line_code, line_fault, use_fault, content_code}
-use Rattle.certificate_lines.specs.Rules.{box_cells}
-use Rattle.certificate_lines.specs.Rules.{box_fault, end_fault, is_incomplete, is_local, is_local_wire, is_odd}
-use Rattle.certificate_lines.specs.Rules.{is_wrong_side, lacks_port, leaves_gap, module_fault, whole}
+use Rattle.certificate_lines.specs.Rules.{are_new_and_distinct, cut_fault, cut_wire_fault, entry_fault, used_gate_fault}
+use Rattle.certificate_lines.specs.Rules.{body_line_code, is_inverse_gate, keep_line_code, line_fault, use_fault}
+use Rattle.certificate_lines.specs.Rules.{content_code, box_cells, box_fault, end_fault, is_last_module_incomplete}
+use Rattle.certificate_lines.specs.Rules.{is_local, is_local_wire, is_odd, is_wrong_side, has_nonlocal_port, leaves_gap}
+use Rattle.certificate_lines.specs.Rules.{module_fault, whole}
 use Rattle.certificate_lines.specs.Settings.{setting_of}
 use Rattle.certificate_lines.specs.declared.certificate_line.CertificateLine.{CertificateLine}
 use Rattle.certificate_lines.specs.declared.certificate_line.CertificateLine.TheVariants.{Module, Cut, Use, Keep, Edge}
@@ -55,7 +53,7 @@ use Rattle.certificate_lines.specs.Forms.{form_of as certificate_form}
 use Rattle.section_text.specs.SaidSection.{IsSection}
 use Rattle.section_text.specs.Section.{Grammar, section_of}
 use Rattle.section_text.proofs.MadeSections.{section_made}
-use Rattle.pattern.specs.Lines.{AreNamed, is_side, size_fault}
+use Rattle.pattern.specs.Lines.{AreNamed, is_layout_side, size_fault}
 use Rattle.pattern.specs.declared.layout_line.Port.{Port}
 use Rattle.pattern.proofs.Named.{faultless_named}
 use Rattle.module_box.specs.Boxes.{in_box}
@@ -85,8 +83,7 @@ use Rattle.std.proofs.lemmas.Bool.Decides.{nat_tests}
 use Rattle.std.proofs.Math.Bool.{and-false, or-true}
 use Rattle.module_box.specs.Moments.{cell_cmp}
 use Rattle.section_text.specs.declared.code.RefusalCode.TheVariants.{PastLimit, UnknownName, DefinedTwice, OutOfOrder}
-use Rattle.section_text.specs.declared.code.RefusalCode.TheVariants.{MisplacedBox, NotLocal}
-use Rattle.section_text.specs.declared.code.RefusalCode.TheVariants.{SomethingMissing}
+use Rattle.section_text.specs.declared.code.RefusalCode.TheVariants.{MisplacedBox, NotLocal, SomethingMissing}
 
 -- ---- numbers in a range
 
@@ -131,7 +128,7 @@ define_all before (r ∷ rest) good h =
     subst (λ l. define [] l ≡ None) (sym (defined_push before r)) (define_append [] (defined before) r.outs h own) in
     subst (λ l. define [] (defined l) ≡ None) (push_cons before r rest) (define_all (before ++ r ∷ []) rest good.1 now)
 
-module _ (circuit : List CircuitLine) (good : AreGood circuit) where
+module _ (circuit : List CircuitLine) (good : AreGoodCircuitLines circuit) where
   abbrev names : List (List ℕ)
   names = defined circuit
 
@@ -265,7 +262,7 @@ keep_keep j k lt =
 follow_by : (g : Setting) (m : ModuleLines) (i : CertificateLine) → may_follow m.lines i ≡ true →
     content_code g m i ≡ None →
     line_fault g m i ≡ None
-follow_by g m i f w = ap₂ or_else (ap (λ b. code_where (not b) OutOfOrder) f) w
+follow_by g m i f w = ap₂ or_else (ap (λ b. code_if (not b) OutOfOrder) f) w
 
 all_below : (n a b : ℕ) → a + n ≤ b → All (λ j. j < b) (range_with_len a n)
 all_below zero a b h = All-nil (λ j. j < b)
@@ -281,23 +278,24 @@ cut_ok : (c : Circuit) (count : ℕ) (local : List ℕ) (n : List ℕ) (w : ℕ)
     is_among local w ≡ false → cut_fault c count local n ≡ None
 unfolding cut_fault
 cut_ok c count local n w few e fresh =
-    ap₂ or_else (ap (λ b. code_where b PastLimit) (below_limit 12 count few))
-    (ap (cut_wire_fault local) e ∙ ap (λ b. code_where b DefinedTwice) fresh)
+    ap₂ or_else (ap (λ b. code_if b PastLimit) (below_limit 12 count few))
+    (ap (cut_wire_fault local) e ∙ ap (λ b. code_if b DefinedTwice) fresh)
 
 use_ok : (c : Circuit) (count : ℕ) (local : List ℕ) (k : ℕ) (x : Gate) → count < 64 →
-    slice_get c.netlist.gates k ≡ Some x → list_all (is_among local) x.ins ≡ true → are_new local x.outs ≡ true →
+    slice_get c.netlist.gates k ≡ Some x → list_all (is_among local) x.ins ≡ true →
+    are_new_and_distinct local x.outs ≡ true →
     use_fault c count local k ≡ None
-unfolding use_fault gate_fault
+unfolding use_fault used_gate_fault
 use_ok c count local k x few at ins new =
-    ap₂ or_else (ap (λ b. code_where b PastLimit) (below_limit 64 count few))
-    (ap (gate_fault local) at ∙ ap₂ or_else (ap (λ b. code_where (not b) NotLocal) ins)
-    (ap (λ b. code_where (not b) DefinedTwice) new))
+    ap₂ or_else (ap (λ b. code_if b PastLimit) (below_limit 64 count few))
+    (ap (used_gate_fault local) at ∙ ap₂ or_else (ap (λ b. code_if (not b) NotLocal) ins)
+    (ap (λ b. code_if (not b) DefinedTwice) new))
 
 keep_ok : (c : Circuit) (used : List ℕ) (k : ℕ) → is_inverse_gate (slice_get c.netlist.gates k) ≡ true →
     is_among used k ≡ true → keep_line_code c used k ≡ None
 unfolding keep_line_code
 keep_ok c used k inverse among =
-    ap₂ or_else (ap (λ b. code_where (not b) UnknownName) inverse) (ap (λ b. code_where (not b) NotLocal) among)
+    ap₂ or_else (ap (λ b. code_if (not b) UnknownName) inverse) (ap (λ b. code_if (not b) NotLocal) among)
 
 all_among : (n : ℕ) (ws : List ℕ) → All (λ w. w < n) ws → list_all (is_among (range_with_len 0 n)) ws ≡ true
 all_among n [] all = refl
@@ -306,12 +304,12 @@ all_among n (w ∷ ws) all =
     ap₂ (λ a b. a && b) (among_range n 0 w (omega arith) (omega (arith, lt)))
     (all_among n ws (All-tail (λ w. w < n) w ws all))
 
-new_range : (d n : ℕ) → are_new (range_with_len 0 n) (range_with_len n d) ≡ true
-unfolding are_new
+new_range : (d n : ℕ) → are_new_and_distinct (range_with_len 0 n) (range_with_len n d) ≡ true
+unfolding are_new_and_distinct
 new_range zero n = refl
 new_range (suc d) n =
     ap₂ (λ a b. not a && b) (not_among n 0 n (omega arith))
-    (ap (λ l. are_new l (range_with_len (n + 1) d)) (range_next n) ∙ new_range d (n + 1))
+    (ap (λ l. are_new_and_distinct l (range_with_len (n + 1) d)) (range_next n) ∙ new_range d (n + 1))
 
 -- ---- the three kinds of lines
 
@@ -327,7 +325,7 @@ wires_by c a (n ∷ ns) h =
     let here : wire_of c n ≡ Some a = h 0 n refl ∙ ap Some (omega arith) in
     ap₂ (λ o ws. option_to_list o ++ ws) here (wires_by c (a + 1) ns (λ k n at. h (suc k) n at ∙ ap Some (omega arith)))
 
-module _ (circuit : List CircuitLine) (good : AreGood circuit) (p : Pattern) (b : Box2)
+module _ (circuit : List CircuitLine) (good : AreGoodCircuitLines circuit) (p : Pattern) (b : Box2)
     (few : length (input_names circuit) ≤ 12) (few_gates : length (netlist_of circuit).gates ≤ 64)
     (given : length (input_names circuit) ≡ (netlist_of circuit).given) where
   abbrev g : Setting
@@ -433,7 +431,7 @@ module _ (circuit : List CircuitLine) (good : AreGood circuit) (p : Pattern) (b 
         follow_by g (module_of (front (range_with_len 0 k))) (Use k) follows
             (use_ok c _ _ k x (omega (arith, within, few_gates, counted)) at
             (ap (λ l. list_all (is_among l) x.ins) local ∙ all_among n x.ins ordered.0)
-            (ap₂ are_new local ordered.2 ∙ new_range (defines x.kind) n)),
+            (ap₂ are_new_and_distinct local ordered.2 ∙ new_range (defines x.kind) n)),
         subst (λ l. Inner g b l (map Use (range_with_len (k + 1) (length gs))))
             (ap (λ ks. map Cut ins ++ ks) (ap (map Use) (sym (range_next k)) ∙ map-append Use (range_with_len 0 k)
             (k ∷ []))
@@ -569,7 +567,7 @@ unfolding wires_after
 more_wires n [] = omega arith
 more_wires n (x ∷ gs) = let more = more_wires (n + defines x.kind) gs in omega (arith, more)
 
-side_ok : (n : ℕ) → is_side n ≡ true → n ≤ 64 → is_wrong_side n ≡ false
+side_ok : (n : ℕ) → is_layout_side n ≡ true → n ≤ 64 → is_wrong_side n ≡ false
 side_ok n side few =
     let first = and_parts (nat_le 2 n && nat_le n 512) (n % 2 == 0) side in
     let low = and_parts (nat_le 2 n) (nat_le n 512) first.0 in
@@ -585,7 +583,7 @@ side_ok n side few =
     not_above : (n k : ℕ) → n ≤ k → nat_lt k n ≡ false
     not_above n k h = grind (arith, nat_tests, h)
 
-module _ (circuit : List CircuitLine) (p : Pattern) (good : AreGood circuit)
+module _ (circuit : List CircuitLine) (p : Pattern) (good : AreGoodCircuitLines circuit)
     (layout_good : IsFaultless (layout_grammar (Some (port_names_of circuit))) p.size (parts_of p))
     (small : IsSmallDesign circuit p) where
   abbrev its_setting : Setting
@@ -644,8 +642,8 @@ module _ (circuit : List CircuitLine) (p : Pattern) (good : AreGood circuit)
       let all = wires_are_named circuit good in
       local_by q.name is.place is.is (omega (arith, early, all))
 
-  lacks_none : lacks_port its_setting its_module ≡ false
-  unfolding lacks_port
+  lacks_none : has_nonlocal_port its_setting its_module ≡ false
+  unfolding has_nonlocal_port
   lacks_none =
       list_any-append _ p.ins p.outs
       ∙ ap₂ (λ a b. a || b)
@@ -658,13 +656,13 @@ module _ (circuit : List CircuitLine) (p : Pattern) (good : AreGood circuit)
   no_gap = ap not (all_pass _ (box_cells (whole p.size)) (λ k d at.
       ap (λ b. b || false) (cells_inside (whole p.size) k d at)))
 
-  sides : (is_side p.size.w ≡ true) × (is_side p.size.h ≡ true)
+  sides : (is_layout_side p.size.w ≡ true) × (is_layout_side p.size.h ≡ true)
   unfolding size_fault
   sides =
-      let all = no_code (is_side p.size.w && is_side p.size.h && nat_le p.size.steps 65536) PastLimit
+      let all = no_code (is_layout_side p.size.w && is_layout_side p.size.h && nat_le p.size.steps 65536) PastLimit
       layout_good.header in
-      let both = and_parts (is_side p.size.w && is_side p.size.h) (nat_le p.size.steps 65536) all in
-      and_parts (is_side p.size.w) (is_side p.size.h) both.0
+      let both = and_parts (is_layout_side p.size.w && is_layout_side p.size.h) (nat_le p.size.steps 65536) all in
+      and_parts (is_layout_side p.size.w) (is_layout_side p.size.h) both.0
 
   not_past : (n : ℕ) → nat_lt n (0 + n) ≡ false
   not_past n = grind (arith, nat_tests)
@@ -674,18 +672,19 @@ module _ (circuit : List CircuitLine) (p : Pattern) (good : AreGood circuit)
   module_good =
       ap₂ or_else
       (ap₂ or_else
-      (ap (λ b. code_where b PastLimit) (ap₂ (λ a b. a || b || nat_le 1024 0) (side_ok p.size.w sides.0 small.wide)
+      (ap (λ b. code_if b PastLimit) (ap₂ (λ a b. a || b || nat_le 1024 0) (side_ok p.size.w sides.0 small.wide)
       (side_ok p.size.h sides.1 small.high)))
-      (ap (λ b. code_where b MisplacedBox) (ap₂ (λ a b. a || b) (not_past p.size.w) (not_past p.size.h))))
-      (ap (λ b. code_where b MisplacedBox) (none_any _ (box_cells (whole p.size)) (λ k d at. refl)))
+      (ap (λ b. code_if b MisplacedBox) (ap₂ (λ a b. a || b) (not_past p.size.w) (not_past p.size.h))))
+      (ap (λ b. code_if b MisplacedBox) (none_any _ (box_cells (whole p.size)) (λ k d at. refl)))
 
   end_good : end_fault its_setting (plain_lines circuit p) ≡ None
   unfolding end_fault last_of
   end_good =
-      ap (λ (ms : List ModuleLines). code_where (is_incomplete its_setting (last_of ms) || leaves_gap p.size (areas ms))
+      ap (λ (ms : List ModuleLines).
+      code_if (is_last_module_incomplete its_setting (last_of ms) || leaves_gap p.size (areas ms))
       SomethingMissing)
       (is_one circuit p good)
-      ∙ ap₂ (λ a b. code_where (a || b) SomethingMissing) lacks_none no_gap
+      ∙ ap₂ (λ a b. code_if (a || b) SomethingMissing) lacks_none no_gap
 
   pub plain_faultless : IsFaultless (certificate_grammar its_setting) 1 (plain_lines circuit p)
   plain_faultless = record {
@@ -742,7 +741,7 @@ small_is_decided text output outcome circuit layout t small reports =
       version = 1;
       entries = plain_lines circuit layout;
     } in
-    let good : AreGood circuit = circuit_good 0 t.first tt circuit t.circuit_read in
+    let good : AreGoodCircuitLines circuit = circuit_good 0 t.first tt circuit t.circuit_read in
     let layout_good : IsFaultless (layout_grammar ports) layout.size (parts_of layout) =
     read_faultless (layout_grammar ports) 0 t.second layout.size (parts_of layout) t.layout_read in
     let sections : HasSections text b = record {

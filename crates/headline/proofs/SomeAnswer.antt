@@ -1,7 +1,5 @@
 -- `modules`, `migrate` and `value` have an answer to each text
-use Rattle.std.proofs.Common.{◌≡◌, ◌⊎◌, ◌++◌, ◌∷◌, [], ℕ, List, Result, Ok, Err}
-use Rattle.std.proofs.Common.{refl, inl, inr, subst}
-use Rattle.std.specs.Prelude.{codes}
+use Rattle.std.proofs.Common.{◌≡◌, ◌⊎◌, ◌++◌, ◌∷◌, [], ℕ, List, Result, Ok, Err, refl, inl, inr, subst, codes}
 use Rattle.std.specs.Fmt.{decimal}
 use Rattle.section_text.specs.Spelling.{line_text}
 use Rattle.section_text.specs.Words.{lines_of}
@@ -16,11 +14,11 @@ use Rattle.circuit.specs.declared.circuit_line.CircuitLine.{CircuitLine}
 use Rattle.circuit.proofs.Bridging.{gates_are_ordered}
 use Rattle.soundness.proofs.SomeValues.{HasStop, HasValues, values_or_stop}
 use Rattle.report.specs.ReportText.{refusal_line}
-use Rattle.answers.specs.Answers.{Answered, with_value}
+use Rattle.answers.specs.Answers.{Answered, pair_with_result}
 use Rattle.answers.specs.BundleText.{bundle_of}
 use Rattle.answers.specs.MigrateText.{IsMigrationOf, SaysMigration}
 use Rattle.answers.specs.ModulesText.{IsModulesOf, SaysModules}
-use Rattle.answers.specs.ValueText.{IsValueOf, SaysValues, ValueSections, assigned_inputs, value_sections_of}
+use Rattle.answers.specs.ValueText.{IsValueOf, SaysValues, CircuitAndNamesOn, assigned_inputs, value_sections_of}
 use Rattle.answers.specs.declared.outcome.Outcome.{Outcome}
 use Rattle.answers.specs.declared.outcome.Outcome.TheVariants.{Yes, No, Refused}
 use Rattle.headline.specs.Laws.{HasAnAnswer}
@@ -49,7 +47,7 @@ some_migration text = answered_always SaysMigration (bundle_of text)
 
 -- ---- the values of a circuit
 
-says_values : (asked : ValueSections) (ordered : AreOrdered (netlist_of asked.0).given (netlist_of asked.0).gates)
+says_values : (asked : CircuitAndNamesOn) (ordered : AreOrdered (netlist_of asked.0).given (netlist_of asked.0).gates)
     → HasValues (netlist_of asked.0) (assigned_inputs asked) ordered ⊎ HasStop (netlist_of asked.0)
     (assigned_inputs asked) ordered
     → SaysSomething SaysValues asked
@@ -69,12 +67,12 @@ says_values asked ordered (inr s) = record {
 }
 
 -- what is asked has the lines of a circuit that was read
-asked_first : (entries : List CircuitLine) (read : Result (List (List ℕ)) Refusal) (asked : ValueSections)
-    → with_value entries read ≡ Ok asked → entries ≡ asked.0
+asked_first : (entries : List CircuitLine) (read : Result (List (List ℕ)) Refusal) (asked : CircuitAndNamesOn)
+    → pair_with_result entries read ≡ Ok asked → entries ≡ asked.0
 asked_first entries (Ok on) asked e = cc
 asked_first entries (Err refusal) asked e = absurd cc
 
-asked_ordered : (text : List ℕ) (asked : ValueSections) → value_sections_of text ≡ Ok asked
+asked_ordered : (text : List ℕ) (asked : CircuitAndNamesOn) → value_sections_of text ≡ Ok asked
     → AreOrdered (netlist_of asked.0).given (netlist_of asked.0).gates
 unfolding value_sections_of
 asked_ordered text asked e =

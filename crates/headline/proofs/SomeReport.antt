@@ -5,7 +5,7 @@ use Rattle.section_text.proofs.Good.{AreFaultless, IsFaultless}
 use Rattle.section_text.specs.Ports.{Named}
 use Rattle.pattern.specs.Grammars.{layout_grammar, layout_section}
 use Rattle.pattern.specs.Layout.{Pattern, parts_of}
-use Rattle.pattern.specs.Lines.{line_fault, order_fault, part_fault, size_fault}
+use Rattle.pattern.specs.Lines.{line_fault, order_fault, layout_line_fault, size_fault}
 use Rattle.pattern.specs.declared.layout_line.LayoutHeader.{LayoutHeader}
 use Rattle.pattern.specs.declared.layout_line.LayoutLine.{LayoutLine}
 use Rattle.pattern.specs.declared.layout_line.LayoutLine.TheVariants.{Mirror, Ball, In, Out, Waste}
@@ -47,8 +47,8 @@ with_part p (Waste c) e = let more = p.wastes ++ c ∷ [] in
     (record p { wastes = more }, ap (λ l. (p.size, l)) (with_waste p p refl (Waste c) e c more refl refl))
 
 follows : (ports : Option Named) (s : LayoutHeader) (before : List LayoutLine) (part : LayoutLine) →
-    part_fault ports s before part ≡ None → order_fault before part ≡ None
-unfolding part_fault line_fault
+    layout_line_fault ports s before part ≡ None → order_fault before part ≡ None
+unfolding layout_line_fault line_fault
 follows ports s before part e = first_none (order_fault before part) _ (first_none _ _ e)
 
 more_parts : (ports : Option Named) (s : LayoutHeader) (before parts : List LayoutLine) → HasLines s before →

@@ -1,8 +1,6 @@
 -- `run` has an answer to each text
-use Rattle.std.proofs.Common.{◌≡◌, ◌⊎◌, ◌≤◌, ◌<◌, ◌*◌, ◌^◌, ◌∷◌, ◌∙◌, [], ℕ, zero, suc, Bool, true, false, List}
-use Rattle.std.proofs.Common.{None, Result, Ok, Err, refl, sym, subst, length, cond, inl, inr, arith}
-use Rattle.std.specs.Prelude.{ℤ}
-use Rattle.std.specs.List.{filter, flat_map}
+use Rattle.std.proofs.Common.{◌≡◌, ◌⊎◌, ◌≤◌, ◌<◌, ◌*◌, ◌^◌, ◌∷◌, ◌∙◌, [], ℕ, zero, suc, Bool, true, false, List, None}
+use Rattle.std.proofs.Common.{Result, Ok, Err, refl, sym, subst, length, cond, inl, inr, arith, ℤ, filter, flat_map}
 use Rattle.std.proofs.Math.Nat.{mul-le-mul_right}
 use Rattle.std.proofs.lemmas.Bool.{cases_Bool, cases_lt, true≢false}
 use Rattle.section_text.specs.Words.{has, lines_of}
@@ -30,8 +28,8 @@ use Rattle.certificate_lines.proofs.InList.{placed}
 use Rattle.certificate.proofs.FullModules.{stands}
 use Rattle.soundness.proofs.SomeLeast.{Decided, HasOne, both_decided, bools_decided, some_decided, true_decided}
 use Rattle.soundness.proofs.SomeVerdict.{vec_of}
-use Rattle.answers.specs.Answers.{with_value}
-use Rattle.answers.specs.RunText.{IsRunOf, RunSections, SaysRunEnd, end_outcome, end_text, run_sections_of}
+use Rattle.answers.specs.Answers.{pair_with_result}
+use Rattle.answers.specs.RunText.{IsRunOf, LayoutAndNamesOn, SaysRunEnd, run_end_outcome, run_end_text, run_sections_of}
 use Rattle.headline.specs.Laws.{HasAnAnswer}
 use Rattle.headline.proofs.SomeAnswer.{SaysSomething, answered_always}
 use Rattle.headline.proofs.SomeReport.{some_layout}
@@ -173,18 +171,19 @@ some_end p on limits inside = elim (run_to p.size (start p on) inside p.size.ste
 -- ---- the answer
 
 -- what is asked has the lines of a layout that was read
-record IsAskedLayout (asked : RunSections) : Type 0 where
+record IsAskedLayout (asked : LayoutAndNamesOn) : Type 0 where
   pub size : LayoutHeader
   pub parts : List LayoutLine
   pub good : IsFaultless (layout_grammar None) size parts
   pub same : (size, parts) ≡ asked.0
 
-asked_first : (lines : LayoutHeader × List LayoutLine) (read : Result (List (List ℕ)) Refusal) (asked : RunSections) →
-    with_value lines read ≡ Ok asked → lines ≡ asked.0
+asked_first : (lines : LayoutHeader × List LayoutLine) (read : Result (List (List ℕ)) Refusal)
+    (asked : LayoutAndNamesOn) →
+    pair_with_result lines read ≡ Ok asked → lines ≡ asked.0
 asked_first lines (Ok on) asked e = cc
 asked_first lines (Err refusal) asked e = absurd cc
 
-asked_layout : (text : List ℕ) (asked : RunSections) → run_sections_of text ≡ Ok asked → IsAskedLayout asked
+asked_layout : (text : List ℕ) (asked : LayoutAndNamesOn) → run_sections_of text ≡ Ok asked → IsAskedLayout asked
 unfolding run_sections_of
 asked_layout text asked e =
     let l = went_on (section_of (layout_grammar None) 0 (lines_of text)) _ asked e in
@@ -195,7 +194,7 @@ asked_layout text asked e =
       same = asked_first (l.header, l.items) _ asked l.then;
     }
 
-says_end : (asked : RunSections) → IsAskedLayout asked → SaysSomething SaysRunEnd asked
+says_end : (asked : LayoutAndNamesOn) → IsAskedLayout asked → SaysSomething SaysRunEnd asked
 says_end asked a =
     let p = some_layout None a.size a.parts a.good in
     let whole : IsFaultless (layout_grammar None) p.0.size (parts_of p.0) =
@@ -203,8 +202,8 @@ says_end asked a =
     let begins = begins_inside p.0 (laid_out None p.0.size [] (parts_of p.0) whole.each) in
     let end = some_end p.0 (has asked.1) whole.header (start_inside p.0 (has asked.1) begins) in
     record {
-      output = end_text end.0;
-      outcome = end_outcome end.0;
+      output = run_end_text end.0;
+      outcome = run_end_outcome end.0;
       is = record { layout = p.0; end = end.0; lines = p.1 ∙ a.same; run = end.1; says = refl; ends = refl };
     }
 

@@ -1,7 +1,7 @@
 -- A mirror that touches the rim of its rectangle: its layout computes a circuit, and gets a yes after it is moved
-use Rattle.std.proofs.Common.{◌≡◌, ℕ, zero, suc, ◌+◌, ◌≤◌, ◌&&◌, ◌||◌, Bool, true, false, List, [], ◌∷◌, leb, ltb}
-use Rattle.std.proofs.Common.{refl, sym, ap, ap₂, subst, ◌∙◌, arith, inl, inr}
-use Rattle.std.specs.Prelude.{ℤ, pos, negsuc, ◌+ℤ◌, ◌-ℤ◌, IsTrue, None, codes, option_map, unwrap_or}
+use Rattle.std.proofs.Common.{◌≡◌, ℕ, zero, suc, ◌+◌, ◌≤◌, ◌&&◌, ◌||◌, Bool, true, false, List, [], ◌∷◌, leb, ltb, refl}
+use Rattle.std.proofs.Common.{sym, ap, ap₂, subst, ◌∙◌, arith, inl, inr, ℤ, pos, negsuc, ◌+ℤ◌, ◌-ℤ◌, IsTrue, None}
+use Rattle.std.proofs.Common.{codes, option_map, unwrap_or}
 use Rattle.std.proofs.lemmas.Bool.{and_parts}
 use Rattle.std.proofs.lemmas.Bool.Decides.{nat_tests}
 use Rattle.std.proofs.lemmas.Int.{ints}
@@ -9,10 +9,10 @@ use Rattle.std.proofs.lemmas.List.Elements.{All-cons, All-nil}
 use Rattle.section_text.specs.Words.{is_name}
 use Rattle.bbm_rule.specs.Plane.{State, partner, run, step, turned}
 use Rattle.bbm_rule.specs.Spans.{in_area, in_span}
-use Rattle.bbm_rule.proofs.Spans.{even_span, in_span-negsuc, in_span-pos, more_one_negative, partner_near}
-use Rattle.bbm_rule.proofs.Spans.{span_from, span_parts}
+use Rattle.bbm_rule.proofs.Spans.{even_span, in_span-negsuc, in_span-pos, more_one_negative, partner_near, span_from}
+use Rattle.bbm_rule.proofs.Spans.{span_parts}
 use Rattle.bbm_rule.proofs.Steps.{step_same}
-use Rattle.circuit.specs.Bridge.{AreGood, circuit_of, AreGoodAfter as AreGoodCircuit}
+use Rattle.circuit.specs.Bridge.{AreGoodCircuitLines, circuit_of, AreGoodAfter as AreGoodCircuit}
 use Rattle.circuit.specs.Rules.{add_fault}
 use Rattle.circuit.specs.Gates.{row}
 use Rattle.circuit.specs.Meaning.{Gate as Meant, HasRow, Satisfies, Valuation, number}
@@ -20,11 +20,9 @@ use Rattle.circuit.specs.declared.circuit_line.CircuitLine.{CircuitLine}
 use Rattle.circuit.specs.declared.circuit_line.GateKind.{GateKind}
 use Rattle.circuit.specs.declared.circuit_line.GateKind.TheVariants.{Delay, Source}
 use Rattle.circuit.specs.declared.circuit_line.Kind.TheVariants.{Gate, Spill}
-use Rattle.pattern.specs.Lines.{AreGoodAfter, begins, taken_at_start, cell_fault, cells_of, is_inside, is_taken}
-use Rattle.pattern.specs.Lines.{limit_fault}
-use Rattle.pattern.specs.Lines.{size_fault}
-use Rattle.pattern.specs.Layout.{Pattern, in_layout, parts_of, plane_at, rectangle_cells}
-use Rattle.pattern.specs.Layout.{start}
+use Rattle.pattern.specs.Lines.{AreGoodAfter, begins, cells_taken_at_start, cell_fault, cells_of, is_inside, is_taken}
+use Rattle.pattern.specs.Lines.{limit_fault, size_fault}
+use Rattle.pattern.specs.Layout.{Pattern, in_layout, parts_of, plane_at, rectangle_cells, start}
 use Rattle.module_box.specs.Boxes.{in_box, in_ring, some_neighbour}
 use Rattle.soundness.specs.PlainCertificates.{TouchesRim}
 use Rattle.answers.specs.CheckText.{IsReportOf}
@@ -211,7 +209,7 @@ mirror_correct = record {
 
 -- ---- its lines keep the rules
 
-constant_good : AreGood constant
+constant_good : AreGoodCircuitLines constant
 unfolding AreGoodCircuit add_fault
 constant_good = (
   record { adds = refl; fits = (refl, refl); inputs_first = λ e. refl },
@@ -223,7 +221,7 @@ unfolding size_fault
 mirror_size = refl
 
 mirror_good : AreGoodAfter rim_mirror.size [] (parts_of rim_mirror)
-unfolding begins taken_at_start cell_fault cells_of is_inside is_taken limit_fault rectangle_cells
+unfolding begins cells_taken_at_start cell_fault cells_of is_inside is_taken limit_fault rectangle_cells
 mirror_good = (refl, refl, tt)
 
 mirror_design : IsDesign constant rim_mirror

@@ -1,15 +1,14 @@
 -- Words make a line, lines make a section, and sections make a text, which have these words, lines and sections
 use Rattle.std.proofs.Common.{◌≡◌, ℕ, Bool, true, false, eqb, List, [], ◌∷◌, ◌++◌, map, Option, Some, refl, sym, ap}
-use Rattle.std.proofs.Common.{ap₂, ◌∙◌, inl, inr, arith}
-use Rattle.std.specs.Prelude.{◌&&◌, ◌||◌, ◌==◌, length, nat_lt}
-use Rattle.std.specs.List.{AllByRecursion, flat_map, list_all}
+use Rattle.std.proofs.Common.{ap₂, ◌∙◌, inl, inr, arith, ◌&&◌, ◌||◌, ◌==◌, length, nat_lt, flat_map}
+use Rattle.std.specs.List.{AllByRecursion, list_all}
 use Rattle.std.proofs.lemmas.Bool.{and_parts, cases_Bool, eqb-true, false≢true}
 use Rattle.std.proofs.lemmas.Bool.Decides.{nat_tests}
 use Rattle.std.proofs.lemmas.List.{append-nil}
 use Rattle.std.proofs.lemmas.List.Elements.{All-from_recursion}
 use Rattle.std.proofs.lemmas.List.Splits.{slice_split_at, slice_split_none}
 use Rattle.section_text.specs.SaidSection.{IsSection}
-use Rattle.section_text.specs.Spelling.{spaced}
+use Rattle.section_text.specs.Spelling.{space_and_word}
 use Rattle.section_text.specs.Words.{is_digit, is_lower, is_name, is_name_byte, is_space, words_of}
 use Rattle.section_text.specs.declared.section.Form.{Form}
 use Rattle.section_text.specs.declared.section.Form.TheVariants.{Header, Item, End}
@@ -37,11 +36,11 @@ without k low (b ∷ w) h =
     (other_byte b k both.0 low, without k low w both.1)
 
 words_again : (w : List ℕ) (ws : List (List ℕ)) → IsWord w → AllByRecursion IsWord ws →
-    words_of (w ++ flat_map spaced ws) ≡ w ∷ ws
+    words_of (w ++ flat_map space_and_word ws) ≡ w ∷ ws
 words_again w [] h k = ap words_of (append-nil w)
     ∙ slice_split_none is_space w (All-from_recursion (λ b. is_space b ≡ false) w (without 32 refl w h))
 words_again w (x ∷ xs) h k =
-    slice_split_at is_space w 32 (x ++ flat_map spaced xs)
+    slice_split_at is_space w 32 (x ++ flat_map space_and_word xs)
     (All-from_recursion (λ b. is_space b ≡ false) w (without 32 refl w h)) refl
     ∙ ap (λ l. w ∷ l) (words_again x xs k.0 k.1)
 
@@ -49,9 +48,10 @@ both_clean : (xs ys : List ℕ) → IsOneLine xs → IsOneLine ys → IsOneLine 
 both_clean [] ys h k = k
 both_clean (x ∷ xs) ys h k = (h.0, both_clean xs ys h.1 k)
 
-spaced_clean : (ws : List (List ℕ)) → AllByRecursion IsWord ws → IsOneLine (flat_map spaced ws)
+spaced_clean : (ws : List (List ℕ)) → AllByRecursion IsWord ws → IsOneLine (flat_map space_and_word ws)
 spaced_clean [] h = tt
-spaced_clean (w ∷ ws) h = (refl, both_clean w (flat_map spaced ws) (without 10 refl w h.0) (spaced_clean ws h.1))
+spaced_clean (w ∷ ws) h =
+    (refl, both_clean w (flat_map space_and_word ws) (without 10 refl w h.0) (spaced_clean ws h.1))
 
 -- names and digits make words
 all_more : (p q : ℕ → Bool) → ((b : ℕ) → p b ≡ true → q b ≡ true) → (w : List ℕ) → list_all p w ≡ true →
@@ -90,9 +90,9 @@ module _ {H I : Type 0} (form : List (List ℕ) → Option (Form H I)) where
   pub line_by : (f : Form H I) (w : List ℕ) (ws : List (List ℕ)) → IsWord w → AllByRecursion IsWord ws →
       form (w ∷ ws) ≡ Some f → HasLine f
   line_by f w ws h k e = record {
-    line = w ++ flat_map spaced ws;
+    line = w ++ flat_map space_and_word ws;
     is = ap form (words_again w ws h k) ∙ e;
-    clean = both_clean w (flat_map spaced ws) (without 10 refl w h) (spaced_clean ws k);
+    clean = both_clean w (flat_map space_and_word ws) (without 10 refl w h) (spaced_clean ws k);
   }
 
   -- ---- sections

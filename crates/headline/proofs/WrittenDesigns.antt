@@ -1,18 +1,16 @@
 -- Each small design has a plain text, and `check` decides the design by it
 use Rattle.std.proofs.Common.{◌≡◌, ℕ, zero, suc, ◌+◌, ◌<◌, ◌≤◌, ◌^◌, Bool, true, false, cond, List, [], ◌∷◌, ◌++◌, ◌&&◌}
-use Rattle.std.proofs.Common.{length, map, filter, Some, Ok, refl, sym, ap, ap₂, subst, ◌∙◌, arith}
-use Rattle.std.proofs.Common.{append-nil, append_assoc}
-use Rattle.std.specs.Prelude.{IsTrue, codes, slice_get}
+use Rattle.std.proofs.Common.{length, map, filter, Some, Ok, refl, sym, ap, ap₂, subst, ◌∙◌, arith, append-nil}
+use Rattle.std.proofs.Common.{append_assoc, IsTrue, codes, slice_get, All, flat_map}
 use Rattle.std.specs.Fmt.{decimal}
-use Rattle.std.specs.List.{All, AllByRecursion, flat_map, list_all, range_with_len}
+use Rattle.std.specs.List.{AllByRecursion, list_all, range_with_len}
 use Rattle.std.proofs.lemmas.Bool.{and_parts}
 use Rattle.std.proofs.lemmas.Grind.{flat_map-append}
 use Rattle.std.proofs.lemmas.List.Elements.{All-head, All-nil, All-tail}
 use Rattle.section_text.specs.Codes.{or_else}
 use Rattle.section_text.specs.SaidSection.{IsSection}
-use Rattle.section_text.specs.Section.{Grammar, ended_line, section_of}
-use Rattle.section_text.specs.Words.{◌>>=◌, is_name, is_word_at, lone, lone_name, lone_number, name_at}
-use Rattle.section_text.specs.Words.{number_at}
+use Rattle.section_text.specs.Section.{Grammar, with_line_feed, section_of}
+use Rattle.section_text.specs.Words.{◌>>=◌, is_name, is_word_at, lone, lone_name, lone_number, name_at, number_at}
 use Rattle.section_text.specs.declared.section.Form.TheVariants.{Header, Item, End}
 use Rattle.section_text.proofs.Again.{AreLines, lines_again}
 use Rattle.section_text.proofs.Good.{AreFaultless, IsFaultless}
@@ -21,7 +19,7 @@ use Rattle.section_text.proofs.Numbers.{number_written}
 use Rattle.circuit.specs.Bridge.{AreGoodAfter, circuit_of, input_names, netlist_of, output_names}
 use Rattle.circuit.specs.Entries.{defined}
 use Rattle.circuit.specs.Forms.{form_of as circuit_form}
-use Rattle.circuit.specs.Grammars.{circuit_grammar, missing_code}
+use Rattle.circuit.specs.Grammars.{circuit_grammar, unconsumed_wire_code}
 use Rattle.circuit.specs.Text.{circuit_text}
 use Rattle.circuit.specs.declared.circuit_line.CircuitLine.{CircuitLine}
 use Rattle.pattern.specs.Forms.{form_of as layout_form}
@@ -168,7 +166,7 @@ module _ (circuit : List CircuitLine) (p : Pattern) (design : IsDesign circuit p
   circuit_faultless = record {
     header = refl;
     each = circuit_on [] circuit design.in_order design.circuit_lines;
-    end = ap missing_code design.all_consumed;
+    end = ap unconsumed_wire_code design.all_consumed;
   }
 
   first : HasSection circuit_form tt circuit
@@ -207,7 +205,7 @@ module _ (circuit : List CircuitLine) (p : Pattern) (design : IsDesign circuit p
       IsSection g.form ls h items → IsFaultless g h items → section_of g 0 ls ≡ Ok (h, items)
   read_alone g ls h items is good = ap (section_of g 0) (sym (append-nil ls)) ∙ section_made g 0 ls [] h items is good
 
-  its_text : IsPlainText (flat_map ended_line lines) circuit p
+  its_text : IsPlainText (flat_map with_line_feed lines) circuit p
   its_text = record {
     first = first.lines;
     second = second.lines;
@@ -222,7 +220,7 @@ module _ (circuit : List CircuitLine) (p : Pattern) (design : IsDesign circuit p
     certificate_is = third.is;
   }
 
-  spelled : flat_map ended_line lines ≡ design_text circuit p
+  spelled : flat_map with_line_feed lines ≡ design_text circuit p
   unfolding bundle_text layout_lines certificate_lines layout_text certificate_text
   spelled =
       let b : Bundle = record {
@@ -232,7 +230,7 @@ module _ (circuit : List CircuitLine) (p : Pattern) (design : IsDesign circuit p
         version = 1;
         entries = plain_lines circuit p;
       } in
-      let sections : HasSections (flat_map ended_line lines) b = record {
+      let sections : HasSections (flat_map with_line_feed lines) b = record {
         first = first.lines;
         second = second.lines;
         third = third.lines;
@@ -242,7 +240,7 @@ module _ (circuit : List CircuitLine) (p : Pattern) (design : IsDesign circuit p
         layout_is = second.is;
         certificate_is = third.is;
       } in
-      text_is (flat_map ended_line lines) b sections
+      text_is (flat_map with_line_feed lines) b sections
       ∙ append_assoc (circuit_text circuit) (layout_text p) (certificate_text
       (record { circuit = circuit; layout = p; version = 1; entries = plain_lines circuit p }))
 

@@ -1,19 +1,18 @@
 -- The lines of a good layout can be written, if its ports have names, and no line has a fault after those before it
-use Rattle.std.proofs.Common.{◌≡◌, ℕ, suc, ◌+◌, ◌<◌, ◌≤◌, ◌^◌, Bool, true, false, not, List, [], ◌∷◌, ◌++◌, ◌&&◌}
-use Rattle.std.proofs.Common.{◌||◌, map, Option, Some, None, refl, sym, ap, ap₂, subst, ◌∙◌, arith}
-use Rattle.std.proofs.Common.{append-nil}
-use Rattle.std.specs.Prelude.{codes, nat_le, nat_lt, option_map, slice_get}
+use Rattle.std.proofs.Common.{◌≡◌, ℕ, suc, ◌+◌, ◌<◌, ◌≤◌, ◌^◌, Bool, true, false, not, List, [], ◌∷◌, ◌++◌, ◌&&◌, ◌||◌}
+use Rattle.std.proofs.Common.{map, Option, Some, None, refl, sym, ap, ap₂, subst, ◌∙◌, arith, append-nil, codes, nat_le}
+use Rattle.std.proofs.Common.{nat_lt, option_map, slice_get}
 use Rattle.std.specs.Fmt.{decimal}
 use Rattle.std.specs.List.{AllByRecursion, list_all, list_any}
 use Rattle.std.proofs.lemmas.Bool.{and_parts}
 use Rattle.std.proofs.lemmas.Bool.Decides.{nat_tests}
 use Rattle.std.proofs.lemmas.Option.{slice_get-map}
-use Rattle.section_text.specs.Codes.{code_where, or_else}
+use Rattle.section_text.specs.Codes.{code_if, or_else}
 use Rattle.section_text.specs.Ports.{Named}
 use Rattle.section_text.specs.Words.{◌>>=◌, has, is_name, is_word_at, lone, name_at, number_at}
 use Rattle.section_text.specs.declared.code.RefusalCode.{RefusalCode}
-use Rattle.section_text.specs.declared.code.RefusalCode.TheVariants.{OutOfOrder, PastLimit, SomethingMissing}
-use Rattle.section_text.specs.declared.code.RefusalCode.TheVariants.{TakenCell, UnknownName}
+use Rattle.section_text.specs.declared.code.RefusalCode.TheVariants.{OutOfOrder, PastLimit, SomethingMissing, TakenCell}
+use Rattle.section_text.specs.declared.code.RefusalCode.TheVariants.{UnknownName}
 use Rattle.section_text.specs.declared.section.Form.TheVariants.{Header, Item, End}
 use Rattle.section_text.proofs.Good.{AreFaultless, IsFaultless}
 use Rattle.section_text.proofs.Numbers.{number_written}
@@ -23,14 +22,13 @@ use Rattle.circuit.specs.declared.circuit_line.CircuitLine.{CircuitLine}
 use Rattle.circuit.proofs.Places.{bytes_same}
 use Rattle.module_box.specs.Boxes.{in_box}
 use Rattle.module_box.proofs.BoxCells.{in_box_nats}
-use Rattle.pattern.specs.Forms.{cell_from, corner_and_sides, form_of, lone_cell, named_cell, port_of, rectangle_of}
-use Rattle.pattern.specs.Forms.{sides_and_steps, size_of}
+use Rattle.pattern.specs.Forms.{cell_of_words_from, corner_and_sides, form_of, cell_after_keyword, port_after_keyword}
+use Rattle.pattern.specs.Forms.{port_of, rectangle_of, sides_and_steps, size_of}
 use Rattle.pattern.specs.Grammars.{layout_grammar}
 use Rattle.pattern.specs.Layout.{Pattern, cell, in_layout, parts_of}
-use Rattle.pattern.specs.Lines.{AreGoodAfter, cell_fault, is_in_line_named, is_inside, is_late, is_out_line_named}
-use Rattle.pattern.specs.Lines.{is_side}
-use Rattle.pattern.specs.Lines.{is_taken, limit_fault, line_fault, missing_fault, name_fault, order_fault, part_fault}
-use Rattle.pattern.specs.Lines.{rank_of, size_fault}
+use Rattle.pattern.specs.Lines.{AreGoodAfter, cell_fault, is_in_line_named, is_inside, has_later_kind_before}
+use Rattle.pattern.specs.Lines.{is_out_line_named, is_layout_side, is_taken, limit_fault, line_fault, missing_fault}
+use Rattle.pattern.specs.Lines.{name_fault, order_fault, layout_line_fault, rank_of, size_fault}
 use Rattle.pattern.specs.declared.layout_line.LayoutHeader.{LayoutHeader}
 use Rattle.pattern.specs.declared.layout_line.LayoutLine.{LayoutLine}
 use Rattle.pattern.specs.declared.layout_line.LayoutLine.TheVariants.{Mirror, Ball, In, Out, Waste}
@@ -54,15 +52,15 @@ pub record HasLimits (s : LayoutHeader) : Type 0 where
 below : (n k : ℕ) → nat_le n k ≡ true → n ≤ k
 below n k h = grind (arith, nat_tests, h)
 
-side_below : (n : ℕ) → is_side n ≡ true → n ≤ 512
+side_below : (n : ℕ) → is_layout_side n ≡ true → n ≤ 512
 side_below n h = grind (arith, nat_tests, h)
 
 pub has_limits : (s : LayoutHeader) → size_fault s ≡ None → HasLimits s
 unfolding size_fault
 has_limits s e =
-    let all = no_code (is_side s.w && is_side s.h && nat_le s.steps 65536) PastLimit e in
-    let both = and_parts (is_side s.w && is_side s.h) (nat_le s.steps 65536) all in
-    let sides = and_parts (is_side s.w) (is_side s.h) both.0 in
+    let all = no_code (is_layout_side s.w && is_layout_side s.h && nat_le s.steps 65536) PastLimit e in
+    let both = and_parts (is_layout_side s.w && is_layout_side s.h) (nat_le s.steps 65536) all in
+    let sides = and_parts (is_layout_side s.w) (is_layout_side s.h) both.0 in
     record {
       wide = side_below s.w sides.0;
       high = side_below s.h sides.1;
@@ -95,7 +93,7 @@ pub record IsNumbered (c : Cell) : Type 0 where
   pub y_small : y < 10 ^ 9
 
 pub ball_line : (c : Cell) → IsNumbered c → HasLine form_of (Item (Ball c))
-unfolding form_of is_word_at lone_cell cell_from number_at
+unfolding form_of is_word_at cell_after_keyword cell_of_words_from number_at
 ball_line c n =
     subst (λ (d : Cell). HasLine form_of (Item (Ball d))) (sym n.is)
     (line_by form_of (Item (Ball (cell n.x n.y))) (codes "ball") (decimal n.x ∷ decimal n.y ∷ []) refl
@@ -104,7 +102,7 @@ ball_line c n =
     Some (Item (Ball c))))
 
 pub waste_line : (c : Cell) → IsNumbered c → HasLine form_of (Item (Waste c))
-unfolding form_of is_word_at lone_cell cell_from number_at
+unfolding form_of is_word_at cell_after_keyword cell_of_words_from number_at
 waste_line c n =
     subst (λ (d : Cell). HasLine form_of (Item (Waste d))) (sym n.is)
     (line_by form_of (Item (Waste (cell n.x n.y))) (codes "waste") (decimal n.x ∷ decimal n.y ∷ []) refl
@@ -114,7 +112,7 @@ waste_line c n =
 
 pub in_line : (n : List ℕ) (c : Cell) → is_name n ≡ true → IsNumbered c →
     HasLine form_of (Item (In (record { name = n; cell = c })))
-unfolding form_of is_word_at port_of named_cell name_at cell_from number_at
+unfolding form_of is_word_at port_of port_after_keyword name_at cell_of_words_from number_at
 in_line n c e k =
     subst (λ (d : Cell). HasLine form_of (Item (In (record { name = n; cell = d })))) (sym k.is)
     (line_by form_of (Item (In (record { name = n; cell = cell k.x k.y }))) (codes "in")
@@ -125,7 +123,7 @@ in_line n c e k =
 
 pub out_line : (n : List ℕ) (c : Cell) → is_name n ≡ true → IsNumbered c →
     HasLine form_of (Item (Out (record { name = n; cell = c })))
-unfolding form_of is_word_at port_of named_cell name_at cell_from number_at
+unfolding form_of is_word_at port_of port_after_keyword name_at cell_of_words_from number_at
 out_line n c e k =
     subst (λ (d : Cell). HasLine form_of (Item (Out (record { name = n; cell = d })))) (sym k.is)
     (line_by form_of (Item (Out (record { name = n; cell = cell k.x k.y }))) (codes "out")
@@ -192,7 +190,7 @@ module _ (s : LayoutHeader) (l : HasLimits s) where
   IsPortName names (Out q) = (is_name q.name ≡ true) × (has names.outs q.name ≡ true)
   IsPortName names _ = Unit {0}
 
-  first_holds : (a b : Bool) → code_where (not a || b) TakenCell ≡ None → a ≡ true
+  first_holds : (a b : Bool) → code_if (not a || b) TakenCell ≡ None → a ≡ true
   first_holds true b e = refl
   first_holds false b e = absurd cc
 
@@ -228,8 +226,8 @@ abbrev AreUpTo : ℕ → List LayoutLine → Type 0
 AreUpTo k parts = AllByRecursion (λ b. rank_of b ≤ k) parts
 
 none_late : (k : ℕ) (part : LayoutLine) (before : List LayoutLine) → rank_of part ≡ k → AreUpTo k before →
-    is_late before part ≡ false
-unfolding is_late
+    has_later_kind_before before part ≡ false
+unfolding has_later_kind_before
 none_late k part [] e h = refl
 none_late k part (b ∷ before) e h = ap₂ (λ x y. x || y) (not_less (rank_of part) (rank_of b) (omega (arith, e, h.0)))
     (none_late k part before e h.1)
@@ -252,7 +250,7 @@ run_of : {X : Type 0} (mk : X → LayoutLine) (k : ℕ) → ((x : X) → rank_of
 unfolding order_fault
 run_of mk k rank [] before rest h next = next before h
 run_of mk k rank (x ∷ xs) before rest h next = (
-  ap (λ b. code_where b OutOfOrder) (none_late k (mk x) before (rank x) h),
+  ap (λ b. code_if b OutOfOrder) (none_late k (mk x) before (rank x) h),
   run_of mk k rank xs (before ++ mk x ∷ []) rest
       (up_more k before (mk x) (let e = rank x in omega (arith, e)) h) next,
 )
@@ -278,8 +276,8 @@ name_ok : (s : LayoutHeader) (l : HasLimits s) (names : Named) (part : LayoutLin
 unfolding name_fault
 name_ok s l names (Mirror r) n = refl
 name_ok s l names (Ball c) n = refl
-name_ok s l names (In q) n = ap (λ b. code_where (not b) UnknownName) n.1
-name_ok s l names (Out q) n = ap (λ b. code_where (not b) UnknownName) n.1
+name_ok s l names (In q) n = ap (λ b. code_if (not b) UnknownName) n.1
+name_ok s l names (Out q) n = ap (λ b. code_if (not b) UnknownName) n.1
 name_ok s l names (Waste c) n = refl
 
 all_none : (a b c d : Option RefusalCode) → a ≡ None → b ≡ None → c ≡ None → d ≡ None →
@@ -289,7 +287,7 @@ all_none a b c d e f g h = ap₂ or_else (ap₂ or_else e (ap₂ or_else f g)) h
 faultless_on : (s : LayoutHeader) (l : HasLimits s) (names : Named) (before parts : List LayoutLine) →
     InOrder before parts → AreGoodAfter s before parts → AllByRecursion (IsPortName s l names) parts →
     AreFaultless (layout_grammar (Some names)) s before parts
-unfolding part_fault line_fault
+unfolding layout_line_fault line_fault
 faultless_on s l names before [] order good n = tt
 faultless_on s l names before (part ∷ parts) order good n = (
   all_none (order_fault before part) (limit_fault part) (name_fault (Some names) part) (cell_fault s before part)
@@ -363,7 +361,7 @@ module _ (circuit : List CircuitLine) (p : Pattern) (limits : size_fault p.size 
   layout_faultless = record {
     header = limits;
     each = faultless_on s l names [] (parts_of p) (in_order p) good ports_named;
-    end = ap₂ (λ a b. code_where (not (a && b)) SomethingMissing)
+    end = ap₂ (λ a b. code_if (not (a && b)) SomethingMissing)
         (all_have (λ n. list_any (is_in_line_named n) (parts_of p)) names.ins (λ k n at.
         in_lines p n ∙ each_port names.ins p.ins are.ins k n at))
         (all_have (λ n. list_any (is_out_line_named n) (parts_of p)) names.outs (λ k n at.

@@ -1,15 +1,13 @@
 -- The inputs and the outputs of a good circuit have names, if its wires do
-use Rattle.std.proofs.Common.{Bool, true, false, cond, List, [], ◌∷◌, ◌++◌, ℕ, refl, sym, subst}
-use Rattle.std.specs.Prelude.{if◌then◌else◌}
+use Rattle.std.proofs.Common.{Bool, true, false, cond, List, [], ◌∷◌, ◌++◌, ℕ, refl, sym, subst, if◌then◌else◌}
 use Rattle.std.proofs.lemmas.Grind.{flat_map-append}
 use Rattle.circuit.specs.Bridge.{AreGoodAfter, input_names, is_input, is_output, output_names}
 use Rattle.circuit.specs.Entries.{defined}
 use Rattle.circuit.specs.Rules.{consumed}
 use Rattle.circuit.specs.declared.circuit_line.CircuitLine.{CircuitLine}
-use Rattle.circuit.proofs.Bridging.{names_pass}
+use Rattle.circuit.proofs.Bridging.{names_pass, push_cons}
 use Rattle.circuit.proofs.Places.{Have, consume_have, have_left}
 use Rattle.headline.proofs.WrittenCircuits.{AreNames, have_names, names_both, names_left, names_right}
-use Rattle.circuit.proofs.Bridging.{push_cons}
 
 if_names : (b : Bool) (ns : List (List ℕ)) → AreNames ns → AreNames (cond b ns [])
 if_names true ns h = h

@@ -1,8 +1,7 @@
 -- A text that is not refused begins with the design that it says, and one that is reported with a yes is right.
 use Rattle.std.proofs.Common.{◌≡◌, ℕ, ℤ, pos, ◌<◌, ◌^◌, true, List, [], ◌∷◌, ◌++◌, map, refl, sym, ap₂, subst, ◌∙◌}
-use Rattle.std.proofs.Common.{arith}
-use Rattle.std.specs.Prelude.{IsTrue, codes}
-use Rattle.std.specs.List.{All, AllByRecursion, list_all}
+use Rattle.std.proofs.Common.{arith, IsTrue, codes, All}
+use Rattle.std.specs.List.{AllByRecursion, list_all}
 use Rattle.std.proofs.lemmas.Bool.{and_parts}
 use Rattle.std.proofs.lemmas.List.Elements.{All-cons, All-from_recursion, All-nil, All-tail}
 use Rattle.section_text.specs.Ports.{Named}
@@ -32,8 +31,7 @@ use Rattle.headline.proofs.ReadDesigns.{designs_are_read}
 use Rattle.headline.proofs.WrittenCircuits.{AreNames, defined_more, have_names, is_short, names_both, names_left}
 use Rattle.headline.proofs.WrittenCircuits.{names_right, right_delay}
 use Rattle.headline.proofs.WrittenLayouts.{HasLimits, IsNumbered, IsPortName, has_limits, inside, number, numbered}
-use Rattle.headline.proofs.WrittenLayouts.{ports_named}
-use Rattle.headline.proofs.WrittenLayouts.{small_mirror}
+use Rattle.headline.proofs.WrittenLayouts.{ports_named, small_mirror}
 use Rattle.headline.proofs.WrittenNames.{input_named, outs_named}
 use Rattle.headline.proofs.YesIsRight.{good_designs, yes_is_right_as_read}
 

@@ -1,25 +1,24 @@
 -- A text that is reported with a yes is right.
-use Rattle.std.proofs.Common.{◌≡◌, ◌≤◌, ℕ, ◌+◌, cond, eqb, List, [], ◌∷◌, ◌++◌, length, take, drop}
-use Rattle.std.proofs.Common.{Option, Some, None, Result, Ok, Err, refl, sym, ap, ap₂, subst, ◌∙◌, append_assoc}
-use Rattle.std.proofs.Common.{take-append-drop, arith}
-use Rattle.std.specs.Prelude.{nat_lt, ◌≢◌}
-use Rattle.std.specs.List.{All, flat_map}
+use Rattle.std.proofs.Common.{◌≡◌, ◌≤◌, ℕ, ◌+◌, cond, eqb, List, [], ◌∷◌, ◌++◌, length, take, drop, Option, Some, None}
+use Rattle.std.proofs.Common.{Result, Ok, Err, refl, sym, ap, ap₂, subst, ◌∙◌, append_assoc, take-append-drop, arith}
+use Rattle.std.proofs.Common.{nat_lt, ◌≢◌, All, flat_map}
 use Rattle.std.proofs.lemmas.Grind.{flat_map-append}
 use Rattle.std.proofs.lemmas.List.{append-nil}
 use Rattle.std.proofs.lemmas.Bool.{ltb-false}
 use Rattle.section_text.specs.Codes.{or_else}
-use Rattle.section_text.specs.Words.{lines_of, bytes_after_lines, words_of}
-use Rattle.section_text.specs.Section.{ended_line, unless, result_after_line, header_line, section_of, body_of}
+use Rattle.section_text.specs.Words.{lines_of, bytes_after_last_line_feed, words_of}
+use Rattle.section_text.specs.Section.{with_line_feed, unless, result_after_line, header_line, section_of}
+use Rattle.section_text.specs.Section.{section_body_of}
 use Rattle.section_text.proofs.Lines.{whole_text as no_byte_lost}
 use Rattle.circuit.specs.Text.{Line, circuit_text}
 use Rattle.circuit.proofs.RoundTrip.{prints_what_is_read as circuit_printed}
 use Rattle.pattern.specs.Text.{layout_text}
 use Rattle.pattern.proofs.RoundTrip.{prints_what_is_read as layout_printed}
-use Rattle.section_text.specs.Sections.{go_on, value_at_end}
+use Rattle.section_text.specs.Sections.{continue_after_section, value_if_at_end}
 use Rattle.section_text.specs.declared.fault.Refusal.{Refusal}
 use Rattle.section_text.specs.declared.section.Form.TheVariants.{Header, Item, End}
 use Rattle.section_text.proofs.Good.{AreFaultless, IsFaultless, read_faultless}
-use Rattle.circuit.specs.Bridge.{AreGoodAfter, AreGood, circuit_of, netlist_of}
+use Rattle.circuit.specs.Bridge.{AreGoodAfter, AreGoodCircuitLines, circuit_of, netlist_of}
 use Rattle.circuit.specs.Entries.{rank_of}
 use Rattle.circuit.specs.Forms.{form_of}
 use Rattle.circuit.specs.Grammars.{circuit_grammar}
@@ -110,17 +109,19 @@ unless_ok n (Some code) r y e = absurd cc
 
 line_good : (words : List (List ℕ)) (ls : List (List ℕ)) (before : List CircuitLine) (n : ℕ) (rows : List CircuitLine)
     (o : Option Line) → form_of words ≡ o → HasNoGateYet before
-    → result_after_line circuit_grammar tt before n (λ i. body_of circuit_grammar tt (before ++ i ∷ []) (n + 1) ls) o
+    → result_after_line circuit_grammar tt before n
+    (λ i. section_body_of circuit_grammar tt (before ++ i ∷ []) (n + 1) ls) o
     ≡ Ok (tt, rows)
     → ((i : CircuitLine) → HasNoGateYet (before ++ i ∷ []) →
-    body_of circuit_grammar tt (before ++ i ∷ []) (n + 1) ls ≡ Ok (tt, rows) → MoreGood (before ++ i ∷ []) rows) →
+    section_body_of circuit_grammar tt (before ++ i ∷ []) (n + 1) ls ≡ Ok (tt, rows) → MoreGood (before ++ i ∷ []) rows)
+    →
     MoreGood before rows
 unfolding AreGoodAfter
 line_good words ls before n rows None f none e rec = absurd cc
 line_good words ls before n rows (Some (Header k)) f none e rec = absurd cc
 line_good words ls before n rows (Some (Item r)) f none e rec =
     let passed = unless_ok n (or_else (order_fault before r) (add_fault before r))
-    (body_of circuit_grammar tt (before ++ r ∷ []) (n + 1) ls) (tt, rows) e in
+    (section_body_of circuit_grammar tt (before ++ r ∷ []) (n + 1) ls) (tt, rows) e in
     let codes = first_none (order_fault before r) (add_fault before r) passed.0 in
     let h : last_rank before ≤ rank_of r.kind =
     ltb-false (rank_of r.kind) (last_rank before)
@@ -148,25 +149,26 @@ line_good words ls before n rows (Some End) f none e rec =
     }
 
 body_good : (ls : List (List ℕ)) (before : List CircuitLine) (n : ℕ) (rows : List CircuitLine) → HasNoGateYet before →
-    body_of circuit_grammar tt before n ls ≡ Ok (tt, rows) → MoreGood before rows
-unfolding body_of
+    section_body_of circuit_grammar tt before n ls ≡ Ok (tt, rows) → MoreGood before rows
+unfolding section_body_of
 body_good [] before n rows none e = absurd cc
 body_good (l ∷ ls) before n rows none e =
     line_good (words_of l) ls before n rows (form_of (words_of l)) refl none e
     (λ i still e. body_good ls (before ++ i ∷ []) (n + 1) rows still e)
 
 header_good : (ls : List (List ℕ)) (n : ℕ) (rows : List CircuitLine) (o : Option Line) →
-    header_line circuit_grammar n (λ k. body_of circuit_grammar k [] (n + 1) ls) o ≡ Ok (tt, rows) → AreGood rows
+    header_line circuit_grammar n (λ k. section_body_of circuit_grammar k [] (n + 1) ls) o ≡ Ok (tt, rows) →
+    AreGoodCircuitLines rows
 header_good ls n rows None e = absurd cc
 header_good ls n rows (Some (Item i)) e = absurd cc
 header_good ls n rows (Some End) e = absurd cc
 header_good ls n rows (Some (Header k)) e =
     let t = body_good ls [] (n + 1) rows refl
-    (unless_ok n None (body_of circuit_grammar tt [] (n + 1) ls) (tt, rows) e).1 in
+    (unless_ok n None (section_body_of circuit_grammar tt [] (n + 1) ls) (tt, rows) e).1 in
     subst (AreGoodAfter []) (sym t.rows_are) t.good
 
 pub circuit_good : (n : ℕ) (ls : List (List ℕ)) (h : Unit {0}) (rows : List CircuitLine) →
-    section_of circuit_grammar n ls ≡ Ok (h, rows) → AreGood rows
+    section_of circuit_grammar n ls ≡ Ok (h, rows) → AreGoodCircuitLines rows
 unfolding section_of
 circuit_good n [] h rows e = absurd cc
 circuit_good n (l ∷ ls) h rows e = header_good ls n rows (form_of (words_of l)) e
@@ -175,7 +177,7 @@ circuit_good n (l ∷ ls) h rows e = header_good ls n rows (form_of (words_of l)
 
 pub laid_out : (ports : Option Named) (s : LayoutHeader) (before parts : List LayoutLine) →
     AreFaultless (layout_grammar ports) s before parts → lines.AreGoodAfter s before parts
-unfolding lines.part_fault lines.line_fault
+unfolding lines.layout_line_fault lines.line_fault
 laid_out ports s before [] good = tt
 laid_out ports s before (part ∷ parts) good =
     let codes = first_none (lines.line_fault ports before part) (lines.cell_fault s before part) good.0 in
@@ -201,23 +203,23 @@ spelled text circuit ports n p first second =
     let k = length circuit + 2 in
     let later = drop k (lines_of text) in
     let m = length (parts_of p) + 2 in
-    let after : List ℕ = flat_map ended_line (drop m later) in
-    let split : flat_map ended_line (lines_of text) ≡ circuit_text circuit ++ (layout_text p ++ after) =
-    ap (flat_map ended_line) (sym (take-append-drop k (lines_of text)))
-    ∙ flat_map-append ended_line (take k (lines_of text)) later
+    let after : List ℕ = flat_map with_line_feed (drop m later) in
+    let split : flat_map with_line_feed (lines_of text) ≡ circuit_text circuit ++ (layout_text p ++ after) =
+    ap (flat_map with_line_feed) (sym (take-append-drop k (lines_of text)))
+    ∙ flat_map-append with_line_feed (take k (lines_of text)) later
     ∙ ap₂ (λ a b. a ++ b) (circuit_printed 0 (lines_of text) circuit first)
-    (ap (flat_map ended_line) (sym (take-append-drop m later))
-    ∙ flat_map-append ended_line (take m later) (drop m later)
+    (ap (flat_map with_line_feed) (sym (take-append-drop m later))
+    ∙ flat_map-append with_line_feed (take m later) (drop m later)
     ∙ ap (λ a. a ++ after) (layout_printed ports n later p second)) in
     record {
-      rest = after ++ bytes_after_lines text;
-      begins = sym (no_byte_lost text) ∙ ap (λ a. a ++ bytes_after_lines text) split
-          ∙ append_assoc (circuit_text circuit) (layout_text p ++ after) (bytes_after_lines text)
-          ∙ ap (λ a. circuit_text circuit ++ a) (append_assoc (layout_text p) after (bytes_after_lines text));
+      rest = after ++ bytes_after_last_line_feed text;
+      begins = sym (no_byte_lost text) ∙ ap (λ a. a ++ bytes_after_last_line_feed text) split
+          ∙ append_assoc (circuit_text circuit) (layout_text p ++ after) (bytes_after_last_line_feed text)
+          ∙ ap (λ a. circuit_text circuit ++ a) (append_assoc (layout_text p) after (bytes_after_last_line_feed text));
     }
 
 pub record IsReadBundle (text : List ℕ) (b : Bundle) : Type 0 where
-  pub circuit : AreGood b.circuit
+  pub circuit : AreGoodCircuitLines b.circuit
   pub layout : IsFaultless (layout_grammar (Some (port_names_of b.circuit))) b.size b.parts
   pub says : (p : Pattern) → layout_section p ≡ (b.size, b.parts) → SaysDesign text b.circuit p
   pub begins : (p : Pattern) → layout_section p ≡ (b.size, b.parts) → BeginsWith text b.circuit p
@@ -232,12 +234,12 @@ pub record WentOn {H I : Type 0} {B : Type 0} (read : Result (H × List I) Refus
   pub then : next header items ≡ Ok b
 
 pub went_on : {H I : Type 0} {B : Type 0} (read : Result (H × List I) Refusal) (next : H → List I → Result B Refusal)
-    (b : B) → go_on read next ≡ Ok b → WentOn read next b
+    (b : B) → continue_after_section read next ≡ Ok b → WentOn read next b
 went_on (Ok read) next b e = record { header = read.0; items = read.1; was = refl; then = e }
 went_on (Err refusal) next b e = absurd cc
 
 is_over : {B : Type 0} (n : ℕ) (ls : List (List ℕ)) (rest : List ℕ) (value b : B) →
-    value_at_end n ls rest value ≡ Ok b →
+    value_if_at_end n ls rest value ≡ Ok b →
     (ls ≡ []) × (rest ≡ []) × (value ≡ b)
 is_over n [] [] value b e = (refl, refl, cc)
 is_over n [] (c ∷ rest) value b e = absurd cc
@@ -257,7 +259,7 @@ pub record AreSections (text : List ℕ) (b : Bundle) : Type 0 where
   pub certificate : section_of (certificate_grammar (setting_of b.circuit (layout_of b.size b.parts)))
       (0 + (length b.circuit + 2) + (length b.parts + 2)) (past_layout text b) ≡ Ok (b.version, b.entries)
   pub nothing_more : drop (length b.entries + 2) (past_layout text b) ≡ []
-  pub ended : bytes_after_lines text ≡ []
+  pub ended : bytes_after_last_line_feed text ≡ []
 
 pub in_sections : (text : List ℕ) (b : Bundle) → bundle_of text ≡ Ok b → AreSections text b
 unfolding bundle_of
@@ -348,7 +350,7 @@ known text b output outcome reads says =
     let good = bundle_good text b reads in
     let c : CertView = says.certificate in
     let same = says.its_own in
-    let circuit : AreGood c.circuit = subst AreGood (sym same.circuit) good.circuit in
+    let circuit : AreGoodCircuitLines c.circuit = subst AreGoodCircuitLines (sym same.circuit) good.circuit in
     let whole : IsFaultless (layout_grammar (Some (port_names_of c.circuit))) c.layout.size (parts_of c.layout) =
     subst (λ (q : LayoutHeader × List LayoutLine).
     IsFaultless (layout_grammar (Some (port_names_of c.circuit))) q.0 q.1)

@@ -1,6 +1,6 @@
 -- A text that is reported with a yes is right in full.
 use Rattle.std.proofs.Common.{◌≡◌, ℕ, List, Option, Some, sym, ◌∙◌}
-use Rattle.circuit.specs.Bridge.{AreGood}
+use Rattle.circuit.specs.Bridge.{AreGoodCircuitLines}
 use Rattle.circuit.specs.declared.circuit_line.CircuitLine.{CircuitLine}
 use Rattle.circuit.proofs.Naming.{inputs_are_first, names_are_own}
 use Rattle.answers.specs.CheckText.{IsReportOf}
@@ -19,7 +19,7 @@ not_refused : Yes ≡ Refused → ⊥
 not_refused e = cc
 
 -- a name is that of one wire
-distinct : (circuit : List CircuitLine) → AreGood circuit → HasDistinctNames circuit
+distinct : (circuit : List CircuitLine) → AreGoodCircuitLines circuit → HasDistinctNames circuit
 distinct circuit good u w name at at' =
     let same : ◌≡◌ {A = Option ℕ} (Some u) (Some w) =
     sym (names_are_own circuit u name good at) ∙ names_are_own circuit w name good at' in

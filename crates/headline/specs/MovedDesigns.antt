@@ -24,12 +24,12 @@ abbrev pub moved_by_two : Cell → Cell
 moved_by_two c = moved_cell (pos 2) (pos 2) c
 
 -- the port of the same wire at the moved cell
-abbrev pub moved_port : Port → Port
-moved_port q = record { name = q.name; cell = moved_by_two q.cell }
+abbrev pub port_moved_by_two : Port → Port
+port_moved_by_two q = record { name = q.name; cell = moved_by_two q.cell }
 
 -- the rectangle of the moved cells
-abbrev pub moved_rectangle : Rectangle → Rectangle
-moved_rectangle r = record { x = r.x + 2; y = r.y + 2; w = r.w; h = r.h }
+abbrev pub rectangle_moved_by_two : Rectangle → Rectangle
+rectangle_moved_by_two r = record { x = r.x + 2; y = r.y + 2; w = r.w; h = r.h }
 
 -- the same number of steps in a rectangle that is 4 cells wider and 4 cells higher
 abbrev pub enlarged : LayoutHeader → LayoutHeader
@@ -40,10 +40,10 @@ enlarged s = record { w = s.w + 4; h = s.h + 4; steps = s.steps }
 abbrev pub moved : Pattern → Pattern
 moved p = record {
   size = enlarged p.size;
-  mirrors = map moved_rectangle p.mirrors;
+  mirrors = map rectangle_moved_by_two p.mirrors;
   balls = map moved_by_two p.balls;
-  ins = map moved_port p.ins;
-  outs = map moved_port p.outs;
+  ins = map port_moved_by_two p.ins;
+  outs = map port_moved_by_two p.outs;
   wastes = map moved_by_two p.wastes;
 }
 

@@ -12,7 +12,7 @@ use Rattle.meaning.specs.Implements.{IsCorrect}
 use Rattle.headline.specs.Stops.{HasRightStops, SaysBundle}
 use Rattle.headline.specs.ThereAndBack.{there_and_back}
 use Rattle.headline.specs.Plain.{SaysPlain, HasRimTouch, IsWrongIfPlain}
-use Rattle.headline.specs.SmallDesigns.{plain_lines, design_text, HasNoDelay, IsDesign, IsNoSmallDesign}
+use Rattle.headline.specs.SmallDesigns.{plain_lines, design_text, HasNoDelay, IsDesign, IsNoSmallDesignText}
 use Rattle.headline.specs.SmallDesigns.{IsPlainText, IsSmallDesign}
 use Rattle.headline.specs.ReportLines.{LinesHaveMeaning}
 
@@ -44,7 +44,7 @@ SmallDesignIsDecided = (text output : List ℕ) (outcome : Outcome) (circuit : L
 
 -- So no such text is refused.
 abbrev pub RefusedIsNoSmallDesign : Type 0
-RefusedIsNoSmallDesign = (text output : List ℕ) → IsReportOf text output Refused → IsNoSmallDesign text
+RefusedIsNoSmallDesign = (text output : List ℕ) → IsReportOf text output Refused → IsNoSmallDesignText text
 
 -- Each small design has a plain text: its lines and the plain lines, each in its one spelling.
 abbrev pub EachSmallDesignHasPlainText : Type 0

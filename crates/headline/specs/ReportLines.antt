@@ -1,6 +1,6 @@
 -- The meaning of the lines of a report that says no, of texts and bytes.
 --
--- Read before: Plain.antt; report/specs/ReportText.antt up to `opening_lines` (how a line is spelled);
+-- Read before: Plain.antt; report/specs/ReportText.antt up to `lines_before_verdict` (how a line is spelled);
 -- soundness/specs/FirstFaults.antt from `IsAsCertified` on, without the laws; soundness/specs/PlainCertificates.antt
 -- from `Shows` to `LineMeans`.
 use Rattle.std.specs.Prelude.{◌≡◌, ℕ, List, [], ◌∷◌, ◌++◌, slice_get, Some, Option, codes}
@@ -15,16 +15,16 @@ use Rattle.headline.specs.Stops.{SaysBundle}
 use Rattle.section_text.specs.Spelling.{line_text}
 use Rattle.circuit.specs.Meaning.{Satisfies, Valuation}
 use Rattle.local_run.specs.declared.fault.Fault.{Fault}
-use Rattle.soundness.specs.FirstFaults.{HasAssignment, IsEarliestLine, IsReal}
+use Rattle.soundness.specs.FirstFaults.{GivesModuleAssignment, IsEarliestLine, IsReal}
 use Rattle.core_book.specs.declared.verdict.ReportLine.{ReportLine}
-use Rattle.report.specs.ReportText.{report_line_text, opening_lines}
+use Rattle.report.specs.ReportText.{report_line_text, lines_before_verdict}
 use Rattle.headline.specs.Plain.{SaysPlain}
 
 -- the output is three opening lines, then `verdict no`, and then these lines as `report_line_text` spells them
 pub record SaysNoWith (output : List ℕ) (lines : List ReportLine) : Type 0 where
   pub digest : List ℕ
   pub modules : ℕ
-  pub spelled : output ≡ opening_lines digest modules
+  pub spelled : output ≡ lines_before_verdict digest modules
       ++ (line_text (codes "verdict") (codes "no" ∷ []) ++ flat_map report_line_text lines)
 
 -- The text says a circuit, a layout and a certificate. Then the earliest of these lines is real, whatever the inputs
@@ -35,7 +35,7 @@ EarliestIsReal text lines = (circuit : List CircuitLine) (layout : Pattern) (cer
     SaysBundle text circuit layout certificate →
     (i : ℕ) (m : ModuleLines) (f : Fault) (inputs v : Valuation) → IsEarliestLine lines i f →
     slice_get (modules_of certificate) i ≡ Some m → Satisfies (netlist_of circuit) inputs v →
-    HasAssignment (circuit_of circuit) m v f.assignment → IsReal circuit layout m inputs v f
+    GivesModuleAssignment (circuit_of circuit) m v f.assignment → IsReal circuit layout m inputs v f
 
 -- if the text is plain, each of these lines means what `LineMeans` says
 abbrev pub LinesMeanIfPlain : List ℕ → List ReportLine → Type 0

@@ -1,10 +1,10 @@
 -- The whole meaning of a yes of `check`, of texts and bytes alone.
 --
 -- Read before: all that meaning/specs/Headline.antt and Stops.antt name; soundness/specs/PlainCertificates.antt from
--- `IsLiveOnRim` to `TouchesRim`; circuit/specs/Bridge.antt up to `AreGood` and Rules.antt up to `add_fault` (the rules
--- of a circuit); pattern/specs/Lines.antt (those of a layout).
+-- `IsLiveOnRim` to `TouchesRim`; circuit/specs/Bridge.antt up to `AreGoodCircuitLines` and Rules.antt up to `add_fault`
+-- (the rules of a circuit); pattern/specs/Lines.antt (those of a layout).
 use Rattle.std.specs.Prelude.{◌≡◌, ◌<◌, ℕ, List, [], ◌++◌, None, Some, slice_get, take}
-use Rattle.circuit.specs.Bridge.{AreGood, input_count, input_names, netlist_of}
+use Rattle.circuit.specs.Bridge.{AreGoodCircuitLines, input_count, input_names, netlist_of}
 use Rattle.circuit.specs.Entries.{defined}
 use Rattle.circuit.specs.Meaning.{Satisfies, Valuation, wires}
 use Rattle.circuit.specs.Text.{circuit_text}
@@ -21,7 +21,7 @@ use Rattle.headline.specs.Stops.{HasRightStops}
 -- The design of a text that is not refused is good: each of its lines is good after those before it, by names, limits
 -- and cells. The text begins with the lines of both sections in their one spelling.
 pub record IsGoodDesign (text : List ℕ) (circuit : List CircuitLine) (layout : Pattern) : Type 0 where
-  pub circuit_lines : AreGood circuit
+  pub circuit_lines : AreGoodCircuitLines circuit
   pub size : size_fault layout.size ≡ None
   pub layout_lines : AreGoodAfter layout.size [] (parts_of layout)
   pub rest : List ℕ

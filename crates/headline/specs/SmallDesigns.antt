@@ -8,8 +8,8 @@ use Rattle.std.specs.Prelude.{IsTrue}
 use Rattle.std.specs.List.{All, range_with_len}
 use Rattle.section_text.specs.SaidSection.{IsSection}
 use Rattle.section_text.specs.Section.{section_of}
-use Rattle.section_text.specs.Words.{is_name, lines_of, bytes_after_lines}
-use Rattle.circuit.specs.Bridge.{AreGood, circuit_of, input_names, netlist_of}
+use Rattle.section_text.specs.Words.{is_name, lines_of, bytes_after_last_line_feed}
+use Rattle.circuit.specs.Bridge.{AreGoodCircuitLines, circuit_of, input_names, netlist_of}
 use Rattle.circuit.specs.Entries.{defined}
 use Rattle.circuit.specs.Forms.{form_of as circuit_form}
 use Rattle.circuit.specs.Grammars.{circuit_grammar}
@@ -20,7 +20,7 @@ use Rattle.pattern.specs.Grammars.{layout_grammar, layout_section}
 use Rattle.pattern.specs.Lines.{AreGoodAfter, size_fault}
 use Rattle.pattern.specs.Text.{layout_text}
 use Rattle.certificate_lines.specs.Forms.{form_of as certificate_form}
-use Rattle.certificate.specs.Arrivals.{IsDelay}
+use Rattle.certificate.specs.Arrivals.{IsDelayBetweenWires}
 use Rattle.certificate.specs.Text.{certificate_text}
 use Rattle.meaning.specs.Implements.{IsNamed}
 use Rattle.core_book.specs.Concluding.{port_names_of}
@@ -51,7 +51,7 @@ pub record IsPlainText (text : List ℕ) (circuit : List CircuitLine) (layout : 
   pub second : List (List ℕ)
   pub third : List (List ℕ)
   pub lines : lines_of text ≡ first ++ (second ++ third)
-  pub ended : bytes_after_lines text ≡ []
+  pub ended : bytes_after_last_line_feed text ≡ []
   pub circuit_is : IsSection circuit_form first tt circuit
   pub circuit_read : section_of circuit_grammar 0 first ≡ Ok (tt, circuit)
   pub layout_is : IsSection layout_form second layout.size (parts_of layout)
@@ -76,7 +76,7 @@ AreInOrder before (r ∷ rest) = (order_fault before r ≡ None) × AreInOrder (
 -- and of no earlier kind. Each wire's name is a name, and some line consumes the wire. The size of the layout is within
 -- its limits, and each line is good after those before it. The ports are named as the inputs and the outputs.
 pub record IsDesign (circuit : List CircuitLine) (layout : Pattern) : Type 0 where
-  pub circuit_lines : AreGood circuit
+  pub circuit_lines : AreGoodCircuitLines circuit
   pub in_order : AreInOrder [] circuit
   pub names : All (λ n. IsTrue (is_name n)) (defined circuit)
   pub all_consumed : first_unconsumed (consumed circuit) (defined circuit) ≡ None
@@ -92,11 +92,11 @@ design_text circuit layout = circuit_text circuit ++ (layout_text layout ++ cert
 
 -- no gate of the circuit is a delay
 abbrev pub HasNoDelay : List CircuitLine → Type 0
-HasNoDelay circuit = (k steps a b : ℕ) → ¬ IsDelay (circuit_of circuit) k steps a b
+HasNoDelay circuit = (k steps a b : ℕ) → ¬ IsDelayBetweenWires (circuit_of circuit) k steps a b
 
 -- ---- other texts
 
 -- the text is not the plain text of a small design
-abbrev pub IsNoSmallDesign : List ℕ → Type 0
-IsNoSmallDesign text = (circuit : List CircuitLine) (layout : Pattern) → IsPlainText text circuit layout →
+abbrev pub IsNoSmallDesignText : List ℕ → Type 0
+IsNoSmallDesignText text = (circuit : List CircuitLine) (layout : Pattern) → IsPlainText text circuit layout →
     ¬ IsSmallDesign circuit layout

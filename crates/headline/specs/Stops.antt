@@ -2,8 +2,8 @@
 -- do not need this file.
 --
 -- Read before: all that meaning/specs/Headline.antt names; certificate_lines/specs/Entries.antt up to `stop_in` and
--- Forms.antt (what a line of a certificate says); certificate/specs/Times.antt up to `times_of` and Arrivals.antt up
--- to `AreOnTime` (delays and meetings); soundness/specs/OnTime.antt (`StopHolds`).
+-- Forms.antt (what a line of a certificate says); certificate/specs/Times.antt up to `stop_times_of_wire` and
+-- Arrivals.antt up to `AreOnTime` (delays and meetings); soundness/specs/OnTime.antt (`StopHolds`).
 use Rattle.std.specs.Prelude.{◌≡◌, ℕ, List, ◌++◌}
 use Rattle.std.specs.List.{All, flat_map}
 use Rattle.section_text.specs.SaidSection.{IsSection}

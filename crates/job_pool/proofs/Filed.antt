@@ -1,8 +1,6 @@
 -- The findings that are due from the draws of all workers.
 use Rattle.std.proofs.Common.{◌≡◌, ℕ, suc, ◌+◌, ◌<◌, ◌≤◌, Bool, true, false, List, [], ◌∷◌, ◌++◌, length, map, get_or}
-use Rattle.std.proofs.Common.{All, refl, ap, ◌∙◌, subst, arith}
-use Rattle.std.specs.Prelude.{nat_lt, if◌then◌else◌}
-use Rattle.std.proofs.Common.{take, drop}
+use Rattle.std.proofs.Common.{All, refl, ap, ◌∙◌, subst, arith, take, drop, nat_lt, if◌then◌else◌}
 use Rattle.std.proofs.lemmas.Bool.Decides.{nat_tests}
 use Rattle.std.proofs.lemmas.List.{append-nil, drop_all, take_all}
 use Rattle.std.proofs.lemmas.List.Elements.{All-map}
@@ -10,12 +8,12 @@ use Rattle.std.proofs.lemmas.List.Sums.{sum_by-cons}
 use mathlib.Core.Option.{some}
 use lib.ListN.{get_elem?}
 use Rattle.core_book.specs.declared.claim.Claim.TheVariants.{Number, Empty}
-use Rattle.core_book.specs.Claims.{claim_answer, claim_draws, has_ended}
+use Rattle.core_book.specs.Claims.{claim_answer, draws_after_claim, has_ended}
 use Rattle.core_book.specs.Draws.{past_last, total, IsDrawn}
 use Rattle.job_pool.specs.declared.desk.Desk.{Desk}
 use Rattle.job_pool.specs.declared.worker.Worker.{Worker}
 use Rattle.job_pool.specs.Seats.{IsSeatOf, drawn_by}
-use Rattle.job_pool.specs.Work.{HasWorked, due, filed_by, shares_of, seats_of}
+use Rattle.job_pool.specs.Work.{HasWorked, due, sum_of_filed, shares_of, seats_of}
 use Rattle.job_pool.proofs.Ends.{end_counted}
 use Rattle.job_pool.proofs.Members.{due_in_all, due_more, none_beyond}
 
@@ -32,7 +30,7 @@ by_cases false false groups n next before below t e =
 
 -- for a claim that is answered Empty nothing more is due
 pub empty_adds_none : (groups : List ℕ) (n next : ℕ) (before after : List ℕ) → All (λ g. g < n) groups →
-    Empty ≡ claim_answer n before next → after ≡ claim_draws n before next → due groups after ≡ due groups before
+    Empty ≡ claim_answer n before next → after ≡ draws_after_claim n before next → due groups after ≡ due groups before
 empty_adds_none groups n next before after below e is =
     ap (due groups) is ∙ by_cases (has_ended n before) (nat_lt next n) groups n next before below refl e
 
@@ -56,7 +54,8 @@ module _ {F A : Type 0} (desk : Desk) (groups : List ℕ) where
   all_filed : (before after : List (Worker F A)) → length after ≡ length before
       → ((i : ℕ) (d : Worker F A) → i < length before →
       (get_or after i d).share.filed ≡ (get_or before i d).share.filed + due groups (drawn_by (get_or after i d).seat))
-      → filed_by (shares_of after) ≡ filed_by (shares_of before) + total (due groups) (map drawn_by (seats_of after))
+      → sum_of_filed (shares_of after)
+      ≡ sum_of_filed (shares_of before) + total (due groups) (map drawn_by (seats_of after))
   all_filed [] [] len each = refl
   all_filed [] (y ∷ ys) len each = absurd (omega arith)
   all_filed (x ∷ xs) [] len each = absurd (omega arith)
@@ -86,7 +85,7 @@ module _ {F A : Type 0} (desk : Desk) (groups : List ℕ) where
     pub every_number_was_filed : (counter : ℕ) (lists : List (List ℕ)) → 0 < length before →
         All (λ (w : Worker F A). w.starved ≡ false) after → lists ≡ map drawn_by (seats_of after) →
         IsDrawn counter lists → All (λ g. g < desk.numbers) groups
-        → filed_by (shares_of after) ≡ filed_by (shares_of before) + length groups
+        → sum_of_filed (shares_of after) ≡ sum_of_filed (shares_of before) + length groups
     every_number_was_filed counter lists some_worker fed is r below =
         let sum = all_filed before after len (λ i d below. (each i d below).filed (fed i d (omega arith))) in
         let first = first_of after (omega arith) in

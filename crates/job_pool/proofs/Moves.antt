@@ -12,21 +12,19 @@ use Rattle.atomic_table.proofs.Lists.{at_set, at_snoc, at_map, set_else, set_aga
 use Rattle.job_pool.specs.declared.rule.View.{View}
 use Rattle.job_pool.specs.declared.rule.DeskSize.{DeskSize}
 use Rattle.core_book.specs.Draws.{total, times, IsDrawn}
-use Rattle.job_pool.specs.Lists.{draw_count_from}
+use Rattle.job_pool.specs.Lists.{count_at_least}
 use Rattle.job_pool.specs.Rule.{Fits, IsDealt, MeetsRule, lists_of, view, drew, saw, IsAfterClaim, IsAfterLook, fewer}
-use Rattle.job_pool.specs.Rule.{one_place, both}
-use Rattle.job_pool.specs.Rule.{spent, IsWhole}
-use Rattle.job_pool.proofs.Sums.{total_set, total_snoc, total-map, total_le, at_le, draw_count_from-append}
-use Rattle.job_pool.proofs.Sums.{past_greatest-append, front-snoc}
-use Rattle.job_pool.proofs.Sums.{late_in_all, draw_keeps, merge_keeps, empty_keeps}
+use Rattle.job_pool.specs.Rule.{one_place, both, spent, IsWhole}
+use Rattle.job_pool.proofs.Sums.{total_set, total_snoc, total-map, total_le, at_le, count_at_least-append}
+use Rattle.job_pool.proofs.Sums.{past_greatest-append, front-snoc, late_in_all, draw_keeps, merge_keeps, empty_keeps}
 
 -- the word is at most the numbers and the seats together
 pub bound : (n seats word : ℕ) (views : List View) → IsDealt n seats word views → word ≤ n + seats
 bound n seats word views r =
-    let a = total_le (λ (v : View). draw_count_from n v.draws) (λ v. v.places) views
+    let a = total_le (λ (v : View). count_at_least n v.draws) (λ v. v.places) views
     (λ i v at. (r.each i v at).late_within) in
     let b = late_in_all word (lists_of views) r.drawn n in
-    let c = total-map (draw_count_from n) (λ (v : View). v.draws) views in
+    let c = total-map (count_at_least n) (λ (v : View). v.draws) views in
     let p = r.places in
     omega arith
 
@@ -46,11 +44,11 @@ fits_set n word now id views w le others mine j v at =
     })
     (at_set views id j w v at)
 
-fits_drew : (n word : ℕ) (v : View) → v.places ≡ 1 → draw_count_from n v.draws ≡ 0 → Fits n word v →
+fits_drew : (n word : ℕ) (v : View) → v.places ≡ 1 → count_at_least n v.draws ≡ 0 → Fits n word v →
     Fits n (suc word) (drew v word)
 fits_drew n word v one clear f = record {
-  late_within = let a = draw_count_from-append n v.draws (word ∷ []) in grind (arith, nat_tests);
-  only_last = λ _. ap (draw_count_from n) (front-snoc v.draws word) ∙ clear;
+  late_within = let a = count_at_least-append n v.draws (word ∷ []) in grind (arith, nat_tests);
+  only_last = λ _. ap (count_at_least n) (front-snoc v.draws word) ∙ clear;
   seen_within = omega arith;
   seen_above = let a = past_greatest-append v.draws (word ∷ []) in let s = f.seen_within in let t = f.seen_above in
       omega arith;
@@ -73,7 +71,7 @@ same_lists views id v w at same =
     ∙ set_again (lists_of views) id v.draws (at_lists views id v at))
 
 pub claim_keeps : (n seats word id : ℕ) (views : List View) (v : View) → get_elem? views id ≡ some v → v.places ≡ 1 →
-    draw_count_from n v.draws ≡ 0 → IsDealt n seats word views → IsDealt n seats (suc word) (set views id (drew v word))
+    count_at_least n v.draws ≡ 0 → IsDealt n seats word views → IsDealt n seats (suc word) (set views id (drew v word))
 claim_keeps n seats word id views v at one clear r = let w = drew v word in record {
   drawn = subst (IsDrawn (suc word)) (sym (lists_set views id w))
       (draw_keeps word (lists_of views) id v.draws (at_lists views id v at) r.drawn);
@@ -84,7 +82,7 @@ claim_keeps n seats word id views v at one clear r = let w = drew v word in reco
 module _ {S : Type 0} where
   pub claims : (size : DeskSize) (slots id : ℕ) (me : Me S View) → size.numbers + size.seats < 2 ^ 63 →
       me.0.places ≡ 1 →
-      draw_count_from size.numbers me.0.draws ≡ 0
+      count_at_least size.numbers me.0.draws ≡ 0
       → Allows {S = S} (MeetsRule size) slots id me 0 (λ n. (n + 1) % 2 ^ 64) (IsAfterClaim (step slots 0 1 0 none) me)
   claims size slots id me small one clear s r wide at fits =
       let word : ℕ = get_or s.words 0 0 in
@@ -182,7 +180,7 @@ split_keeps n seats word id p views at some_place r =
 fits_both : (n word : ℕ) (v w : View) → 0 < v.places → 0 < w.places → Fits n word v → Fits n word w →
     Fits n word (both v w)
 fits_both n word v w some_place other_place f g = record {
-  late_within = let a = draw_count_from-append n v.draws w.draws in let x = f.late_within in let y = g.late_within in
+  late_within = let a = count_at_least-append n v.draws w.draws in let x = f.late_within in let y = g.late_within in
       omega arith;
   only_last = λ one. absurd (omega arith);
   seen_within = let x = f.seen_within in let y = g.seen_within in omega arith;

@@ -2,7 +2,7 @@
 use Rattle.std.proofs.Common.{◌≡◌, ℕ, zero, suc, ◌<◌, ◌≤◌, ◌++◌, List, [], ◌∷◌, length, take, drop, get_or, ap, sym}
 use Rattle.std.proofs.Common.{◌∙◌, subst, arith}
 use Rattle.std.proofs.lemmas.List.{length-map}
-use Rattle.core_book.specs.Book.{count_after}
+use Rattle.core_book.specs.Book.{accepted_count_after}
 use Rattle.core_book.specs.declared.reply.Reply.{Reply}
 use Rattle.core_book.specs.declared.reply.Reply.TheVariants.{Closed, Stranger, Double, Accepted}
 use Rattle.verdict_book.specs.Counts.{Counts, counted}
@@ -11,7 +11,7 @@ use Rattle.job_pool.specs.declared.worker.Worker.{Worker}
 use Rattle.job_pool.specs.Work.{HasRisen, HasWorked, HaveRisen, shares_of}
 use Rattle.job_pool.proofs.Filed.{whole}
 
-not_lower : (count : ℕ) (r : Reply) → count ≤ count_after count r
+not_lower : (count : ℕ) (r : Reply) → count ≤ accepted_count_after count r
 not_lower count Accepted = omega arith
 not_lower count Closed = omega arith
 not_lower count (Stranger mismatch) = omega arith

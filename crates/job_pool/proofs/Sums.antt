@@ -6,7 +6,7 @@ use mathlib.Core.Option.{some, some-injective, some-ne-none}
 use lib.ListN.{get_elem?}
 use Rattle.std.proofs.lemmas.Bool.Decides.{nat_tests}
 use Rattle.core_book.specs.Draws.{total, times, past_last, IsDrawn}
-use Rattle.job_pool.specs.Lists.{draw_count_from, draw_count_below, past_greatest, front, joined}
+use Rattle.job_pool.specs.Lists.{count_at_least, count_less_than, past_greatest, front, joined}
 
 module _ {X : Type 0} where
   pub total_set : (f : X → ℕ) (xs : List X) (i : ℕ) (v w : X) → get_elem? xs i ≡ some v →
@@ -46,10 +46,10 @@ pub times-append : (x : ℕ) (xs ys : List ℕ) → times x (xs ++ ys) ≡ times
 times-append x [] ys = omega arith
 times-append x (y ∷ xs) ys = let h = times-append x xs ys in omega arith
 
-pub draw_count_from-append : (n : ℕ) (xs ys : List ℕ) →
-    draw_count_from n (xs ++ ys) ≡ draw_count_from n xs + draw_count_from n ys
-draw_count_from-append n [] ys = omega arith
-draw_count_from-append n (y ∷ xs) ys = let h = draw_count_from-append n xs ys in omega arith
+pub count_at_least-append : (n : ℕ) (xs ys : List ℕ) →
+    count_at_least n (xs ++ ys) ≡ count_at_least n xs + count_at_least n ys
+count_at_least-append n [] ys = omega arith
+count_at_least-append n (y ∷ xs) ys = let h = count_at_least-append n xs ys in omega arith
 
 pub past_greatest-append : (xs ys : List ℕ) → past_greatest (xs ++ ys) ≡ max (past_greatest xs) (past_greatest ys)
 past_greatest-append [] ys = omega arith
@@ -86,19 +86,19 @@ pushed xs ys x n is above rising below =
     × (past_greatest zs ≡ past_last zs) × (past_greatest (front zs) ≤ n))
     (sym is) (t, omega arith, omega arith, omega arith)
 
-pub none_late : (n : ℕ) (xs : List ℕ) → past_greatest xs ≤ n → draw_count_from n xs ≡ 0
+pub none_late : (n : ℕ) (xs : List ℕ) → past_greatest xs ≤ n → count_at_least n xs ≡ 0
 none_late n [] h = refl
 none_late n (y ∷ ys) h = let l = none_late n ys (omega arith) in grind (arith, nat_tests)
 
-pub early_or_late : (n : ℕ) (xs : List ℕ) → draw_count_below n xs + draw_count_from n xs ≡ length xs
+pub early_or_late : (n : ℕ) (xs : List ℕ) → count_less_than n xs + count_at_least n xs ≡ length xs
 early_or_late n [] = refl
 early_or_late n (y ∷ ys) = let h = early_or_late n ys in grind (arith, nat_tests)
 
-pub early_suc : (k : ℕ) (xs : List ℕ) → draw_count_below (suc k) xs ≡ draw_count_below k xs + times k xs
+pub early_suc : (k : ℕ) (xs : List ℕ) → count_less_than (suc k) xs ≡ count_less_than k xs + times k xs
 early_suc k [] = refl
 early_suc k (y ∷ ys) = let h = early_suc k ys in grind (arith, nat_tests)
 
-pub early_zero : (xs : List ℕ) → draw_count_below 0 xs ≡ 0
+pub early_zero : (xs : List ℕ) → count_less_than 0 xs ≡ 0
 early_zero [] = refl
 early_zero (y ∷ ys) = let h = early_zero ys in grind (arith, nat_tests)
 
@@ -108,22 +108,22 @@ nothing (y ∷ ys) = let h = nothing ys in omega arith
 
 -- as many numbers below n were drawn as n and the counter allow
 pub early_in_all : (counter : ℕ) (lists : List (List ℕ)) → IsDrawn counter lists → (n : ℕ) →
-    total (draw_count_below n) lists ≡ min n counter
+    total (count_less_than n) lists ≡ min n counter
 early_in_all counter lists r zero =
-    total_same (draw_count_below 0) (λ _. 0) lists early_zero ∙ (nothing lists ∙ omega arith)
+    total_same (count_less_than 0) (λ _. 0) lists early_zero ∙ (nothing lists ∙ omega arith)
 early_in_all counter lists r (suc k) =
     let h = early_in_all counter lists r k in
-    let s = total_same (draw_count_below (suc k)) (λ xs. draw_count_below k xs + times k xs) lists (early_suc k) in
-    let a = total-add (draw_count_below k) (times k) lists in
+    let s = total_same (count_less_than (suc k)) (λ xs. count_less_than k xs + times k xs) lists (early_suc k) in
+    let a = total-add (count_less_than k) (times k) lists in
     let o = r.once k in
     grind (arith, nat_tests)
 
 pub late_in_all : (counter : ℕ) (lists : List (List ℕ)) → IsDrawn counter lists → (n : ℕ) →
-    total (draw_count_from n) lists ≡ counter - n
+    total (count_at_least n) lists ≡ counter - n
 late_in_all counter lists r n =
     let e = early_in_all counter lists r n in
-    let s = total_same (λ xs. draw_count_below n xs + draw_count_from n xs) length lists (early_or_late n) in
-    let a = total-add (draw_count_below n) (draw_count_from n) lists in
+    let s = total_same (λ xs. count_less_than n xs + count_at_least n xs) length lists (early_or_late n) in
+    let a = total-add (count_less_than n) (count_at_least n) lists in
     let w = r.whole in
     omega arith
 
@@ -179,12 +179,12 @@ joined_drawn counter lists r = record {
   once = λ x. let o = r.once x in let t = times-joined x lists in omega arith;
 }
 
-pub draw_count_below-append : (n : ℕ) (xs ys : List ℕ) →
-    draw_count_below n (xs ++ ys) ≡ draw_count_below n xs + draw_count_below n ys
-draw_count_below-append n [] ys = omega arith
-draw_count_below-append n (y ∷ xs) ys = let h = draw_count_below-append n xs ys in omega arith
+pub count_less_than-append : (n : ℕ) (xs ys : List ℕ) →
+    count_less_than n (xs ++ ys) ≡ count_less_than n xs + count_less_than n ys
+count_less_than-append n [] ys = omega arith
+count_less_than-append n (y ∷ xs) ys = let h = count_less_than-append n xs ys in omega arith
 
 pub early_more : (n i : ℕ) (xs ys : List ℕ) → ys ≡ xs ++ i ∷ [] → i < n →
-    draw_count_below n ys ≡ draw_count_below n xs + 1
-early_more n i xs ys is below = let e = ap (draw_count_below n) is in let a = draw_count_below-append n xs (i ∷ []) in
+    count_less_than n ys ≡ count_less_than n xs + 1
+early_more n i xs ys is below = let e = ap (count_less_than n) is in let a = count_less_than-append n xs (i ∷ []) in
     grind (arith, nat_tests)

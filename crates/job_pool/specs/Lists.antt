@@ -3,14 +3,14 @@ use Rattle.std.specs.Prelude.{◌≡◌, ℕ, ◌+◌, ◌≤◌, max, nat_lt, i
 use Rattle.core_book.specs.Draws.{IsDrawn}
 
 -- how many of a list are n or more
-abbrev pub draw_count_from : ℕ → List ℕ → ℕ
-draw_count_from n [] = 0
-draw_count_from n (y ∷ ys) = (if nat_lt y n then 0 else 1) + draw_count_from n ys
+abbrev pub count_at_least : ℕ → List ℕ → ℕ
+count_at_least n [] = 0
+count_at_least n (y ∷ ys) = (if nat_lt y n then 0 else 1) + count_at_least n ys
 
 -- how many of a list are below n
-abbrev pub draw_count_below : ℕ → List ℕ → ℕ
-draw_count_below n [] = 0
-draw_count_below n (y ∷ ys) = (if nat_lt y n then 1 else 0) + draw_count_below n ys
+abbrev pub count_less_than : ℕ → List ℕ → ℕ
+count_less_than n [] = 0
+count_less_than n (y ∷ ys) = (if nat_lt y n then 1 else 0) + count_less_than n ys
 
 -- one more than the greatest of a list, and 0 for the empty list
 abbrev pub past_greatest : List ℕ → ℕ

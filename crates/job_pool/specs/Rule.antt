@@ -5,7 +5,7 @@ use mathlib.Core.Option.{some}
 use lib.ListN.{get_elem?}
 use Rattle.atomic_table.specs.Table.{State, Me, Step}
 use Rattle.core_book.specs.Draws.{total, IsDrawn}
-use Rattle.job_pool.specs.Lists.{draw_count_from, past_greatest, front}
+use Rattle.job_pool.specs.Lists.{count_at_least, past_greatest, front}
 use Rattle.job_pool.specs.declared.rule.DeskSize.{DeskSize}
 use Rattle.job_pool.specs.declared.rule.View.{View}
 
@@ -15,8 +15,8 @@ use Rattle.job_pool.specs.declared.rule.View.{View}
 -- as it has places. In a view with one place only the last draw is such a draw. The count that it has seen is above
 -- each of its draws and at most the word. A view with no place has nothing
 pub record Fits (n word : ℕ) (v : View) : Type 0 where
-  pub late_within : draw_count_from n v.draws ≤ v.places
-  pub only_last : v.places ≡ 1 → draw_count_from n (front v.draws) ≡ 0
+  pub late_within : count_at_least n v.draws ≤ v.places
+  pub only_last : v.places ≡ 1 → count_at_least n (front v.draws) ≡ 0
   pub seen_within : v.seen ≤ word
   pub seen_above : past_greatest v.draws ≤ v.seen
   pub spent : v.places ≡ 0 → (v.draws ≡ []) × (v.seen ≡ 0)

@@ -1,6 +1,6 @@
 -- A desk and its seats
 use Rattle.std.specs.Prelude.{◌≡◌, ℕ, ◌<◌, ◌≤◌, ◌++◌, List, [], ◌∷◌}
-use Rattle.core_book.specs.Claims.{claim_answer, claim_draws}
+use Rattle.core_book.specs.Claims.{claim_answer, draws_after_claim}
 use Rattle.core_book.specs.Draws.{past_last}
 use Rattle.core_book.specs.declared.claim.Claim.{Claim}
 use Rattle.core_book.specs.declared.claim.Claim.TheVariants.{Number, Empty}
@@ -36,7 +36,7 @@ pub record IsClaim (n : ℕ) (before after : DeskSeat) (answer : Claim) : Type 0
   pub next : ℕ
   pub unseen : seen_by before ≤ next
   pub answers : answer ≡ claim_answer n (drawn_by before) next
-  pub draws : drawn_by after ≡ claim_draws n (drawn_by before) next
+  pub draws : drawn_by after ≡ draws_after_claim n (drawn_by before) next
 
 -- A number is below n, it is none that the seat had seen to be drawn, and it is the draw that the seat got by the
 -- claim. If the answer has no number, the seat's draws end with one of n or more, and it has seen that all numbers were

@@ -9,8 +9,8 @@ use Rattle.job_pool.specs.declared.desk.DeskSeat.{DeskSeat}
 use Rattle.job_pool.specs.declared.worker.Worker.{Worker}
 
 -- the filings of some shares, in sum
-abbrev pub filed_by : List Counts → ℕ
-filed_by shares = sum_by (λ (s : Counts). s.filed) shares
+abbrev pub sum_of_filed : List Counts → ℕ
+sum_of_filed shares = sum_by (λ (s : Counts). s.filed) shares
 
 -- a share counted this, and then more
 pub record HasRisen (before after : Counts) : Type 0 where

@@ -84,13 +84,17 @@ impl Desk {
             numbers,
             seats,
         };
-        let opened = desk.cut(alloc, whole)?;
+        let opened = desk.cut_into_seats(alloc, whole)?;
         Ok((desk, opened))
     }
 
     // Cuts one place off for each seat, which has room for all numbers and for the draw that tells it that there are no
     // more.
-    fn cut(&self, alloc: Global, mut rest: Seat<(), View>) -> Result<Vec<DeskSeat>, AllocError>
+    fn cut_into_seats(
+        &self,
+        alloc: Global,
+        mut rest: Seat<(), View>,
+    ) -> Result<Vec<DeskSeat>, AllocError>
         requires { (rest.table_id ≡ self.now.table.shared.table_id)
             × (rest.me.0 ≡ view [] 0 (seat_count_of self.now)) }
         ensures count { IfOk result (λ v. vec_len v ≡ seat_count_of self.now) }

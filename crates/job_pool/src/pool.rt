@@ -4,7 +4,7 @@ ghost use Rattle.std.specs.Arc.{arc_value};
 ghost use Rattle.module_job.specs.Groups.{AreGroups};
 ghost use Rattle.job_pool.specs.Seats.{IsNewSeatOf, number_count_of, seat_count_of};
 ghost use Rattle.core_book.specs.Filling.{shapes_of};
-ghost use Rattle.job_pool.specs.Work.{HasWorked, HaveRisen, IsReadyWorker, filed_by, seats_of, shares_of};
+ghost use Rattle.job_pool.specs.Work.{HasWorked, HaveRisen, IsReadyWorker, sum_of_filed, seats_of, shares_of};
 
 use crate::desk::{Desk, DeskSeat};
 use crate::gate::Gate;
@@ -60,9 +60,9 @@ pub fn work<F: Filings + Sync, A: Ledger + Sync, G: Gate + Sync, R: Threads + Wa
     requires shares { (0 < vec_len shares) × (vec_len shares ≤ 64) }
     ensures shares { HaveRisen shares.items result.shares.items }
     ensures filed { result.memory ≡ false →
-        filed_by result.shares.items ≡ filed_by shares.items + length jobs.now }
+        sum_of_filed result.shares.items ≡ sum_of_filed shares.items + length jobs.now }
 {
-    let Ok((desk, seats, rooms)) = prepare(alloc, jobs.len(), shares.len()) else {
+    let Ok((desk, seats, rooms)) = open_desk_and_reserve(alloc, jobs.len(), shares.len()) else {
         return WorkEnd {
             shares,
             memory: true,
@@ -74,7 +74,7 @@ pub fn work<F: Filings + Sync, A: Ledger + Sync, G: Gate + Sync, R: Threads + Wa
         seats: ended,
         shares: returned,
     } = rooms;
-    let mut workers = hire(seats, shares, workers, &desk);
+    let mut workers = make_workers(seats, shares, workers, &desk);
     let shared_work = SharedWork {
         gate,
         jobs,
@@ -83,7 +83,7 @@ pub fn work<F: Filings + Sync, A: Ledger + Sync, G: Gate + Sync, R: Threads + Wa
         book,
     };
     run_all(rt, alloc, &shared_work, workers.as_mut_slice());
-    let (seats, shares, starved, runs) = dismiss(workers, ended, returned);
+    let (seats, shares, starved, runs) = take_workers_apart(workers, ended, returned);
     let Ok(_closed) = desk.close(alloc, seats) else {
         return WorkEnd {
             shares,
@@ -99,7 +99,7 @@ pub fn work<F: Filings + Sync, A: Ledger + Sync, G: Gate + Sync, R: Threads + Wa
 }
 
 // A desk, and room for its workers.
-fn prepare<F: Filings, A: Ledger>(
+fn open_desk_and_reserve<F: Filings, A: Ledger>(
     alloc: Global,
     numbers: usize,
     count: usize,
@@ -126,7 +126,7 @@ fn prepare<F: Filings, A: Ledger>(
 }
 
 // One worker for each share.
-fn hire<F: Filings, A: Ledger>(
+fn make_workers<F: Filings, A: Ledger>(
     mut seats: Vec<DeskSeat>,
     shares: Vec<Share<F, A>>,
     mut workers: Vec<Worker<F, A>>,
@@ -180,7 +180,7 @@ fn run_all<F: Filings + Sync, A: Ledger + Sync, G: Gate + Sync, R: Threads + Wai
 }
 
 // The seats and the shares, whether a worker stopped out of memory, and how many jobs were run.
-fn dismiss<F: Filings, A: Ledger>(
+fn take_workers_apart<F: Filings, A: Ledger>(
     workers: Vec<Worker<F, A>>,
     mut seats: Vec<DeskSeat>,
     mut shares: Vec<Share<F, A>>,

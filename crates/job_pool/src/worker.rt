@@ -62,7 +62,7 @@ impl<F: Filings, A: Ledger> Worker<F, A> {
             shared_work.gate.before(number);
             let share = &mut self.share;
             let runs = &mut self.runs;
-            match run_group(rt, alloc, shared_work, number, share, runs) {
+            match run_group_if_first(rt, alloc, shared_work, number, share, runs) {
                 Ok(()) => shared_work.gate.after(number),
                 Err(_) => {
                     self.starved = true;
@@ -75,7 +75,7 @@ impl<F: Filings, A: Ledger> Worker<F, A> {
 
 // Runs the job of a number that is the first of its group, and files the findings of all members of the group under the
 // book's digest. For another number there is nothing to do.
-fn run_group<F: Filings, A: Ledger, G, R: Wait>(
+fn run_group_if_first<F: Filings, A: Ledger, G, R: Wait>(
     rt: &R,
     alloc: Global,
     shared_work: &SharedWork<'_, F, A, G>,

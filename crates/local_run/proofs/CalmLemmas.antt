@@ -1,6 +1,5 @@
 -- Which blocks are still known to stay, after cells or marks changed
-use Rattle.std.proofs.Common.{◌≡◌, ◌≢◌, ℕ, Bool, true, false, ◌<◌, ◌≤◌, ◌+◌, ◌*◌, ◌%◌, arith}
-use Rattle.std.proofs.Common.{List, get_or}
+use Rattle.std.proofs.Common.{◌≡◌, ◌≢◌, ℕ, Bool, true, false, ◌<◌, ◌≤◌, ◌+◌, ◌*◌, ◌%◌, arith, List, get_or}
 use Rattle.std.proofs.lemmas.Bool.{cases_Bool}
 use Rattle.std.proofs.Math.Nat.{mul-le-mul_left}
 use Rattle.std.proofs.lemmas.Grind.{common_steps}
@@ -9,8 +8,8 @@ use Rattle.bbm_rule.proofs.BitLemmas.{by_lt_or_le, by_eq_or_not}
 use Rattle.bbm_rule.specs.Marks.{IsUnmarked, MarksOne}
 use Rattle.local_run.specs.Turns.{AntiStays, IsStableBlock, MainStays, MarksEvenNeighbours, MarksOddNeighbours}
 use Rattle.local_run.specs.Turns.{SameBeside, TurnsPart}
-use Rattle.local_run.specs.Calm.{AreOddBlocksStable, AreEvenBlocksStable, ChangesCells}
-use Rattle.local_run.specs.Lanes.{HasSize}
+use Rattle.local_run.specs.Calm.{AreUnmarkedOddBlocksStable, AreUnmarkedEvenBlocksStable, ChangesCells}
+use Rattle.local_run.specs.Lanes.{HasWordsStrideRows}
 use Rattle.local_run.specs.declared.planes.Planes.{Planes}
 use Rattle.local_run.proofs.TurnLemmas.{anti_words, main_words}
 
@@ -69,9 +68,10 @@ abbrev pub AreOthers : Bool → Bool → ℕ → ℕ → ℕ → ℕ → List �
 AreOthers main anti a b c d m m' =
     (u : ℕ) → IsUnmarked m' u → IsUnmarked m u × (main ≡ true → (u ≢ a) × (u ≢ d)) × (anti ≡ true → (u ≢ b) × (u ≢ c))
 
-odd_kept : (main anti : Bool) (a b c d : ℕ) (m m' : List ℕ) (p q : Planes) → HasSize p.words p.stride p.rows q →
-    ChangesCells main anti a b c d p q → AreOthers main anti a b c d m m' → AreOddBlocksStable m p →
-    AreOddBlocksStable m' q
+odd_kept : (main anti : Bool) (a b c d : ℕ) (m m' : List ℕ) (p q : Planes) →
+    HasWordsStrideRows p.words p.stride p.rows q →
+    ChangesCells main anti a b c d p q → AreOthers main anti a b c d m m' → AreUnmarkedOddBlocksStable m p →
+    AreUnmarkedOddBlocksStable m' q
 odd_kept main anti a b c d m m' p q size ch marks calm = rw (size.0, size.1, size.2) (λ u l free.
     let f = marks u free in
     let h = calm u l f.0 in (
@@ -89,10 +89,12 @@ odd_kept main anti a b c d m m' p q size ch marks calm = rw (size.0, size.1, siz
       ) (h.1 k i),
     ))
 
-even_kept : (main anti : Bool) (a b c d : ℕ) (m m' : List ℕ) (p q : Planes) → HasSize p.words p.stride p.rows q →
+even_kept : (main anti : Bool) (a b c d : ℕ) (m m' : List ℕ) (p q : Planes) →
+    HasWordsStrideRows p.words p.stride p.rows q →
     ChangesCells main anti a b c d p q →
     ((u : ℕ) → IsUnmarked m' u → IsUnmarked m u × (main ≡ true → (u ≢ d) × (u + p.stride + 1 ≢ a))
-    × (anti ≡ true → (u + 1 ≢ c) × (u + p.stride ≢ b))) → AreEvenBlocksStable m p → AreEvenBlocksStable m' q
+    × (anti ≡ true → (u + 1 ≢ c) × (u + p.stride ≢ b))) → AreUnmarkedEvenBlocksStable m p →
+    AreUnmarkedEvenBlocksStable m' q
 even_kept main anti a b c d m m' p q size ch marks calm = rw (size.0, size.1, size.2) (λ u l inside free.
     let f = marks u free in
     let h = calm u l inside f.0 in (
@@ -118,42 +120,49 @@ others_by_even : (main anti : Bool) (s u : ℕ) (m m' : List ℕ) → MarksOddNe
 others_by_even main anti s u m m' marks v free = let f = marks v free in
     (f.0, (λ e. ((f.1 e).1, (f.1 e).0)), (λ e. ((f.2 e).1, (f.2 e).0)))
 
-pub odd_kept_by_odd : (main anti : Bool) (u : ℕ) (m m' : List ℕ) (p q : Planes) → HasSize p.words p.stride p.rows q →
-    ChangesCells main anti u u u u p q → MarksOne u m m' → AreOddBlocksStable m p → AreOddBlocksStable m' q
+pub odd_kept_by_odd : (main anti : Bool) (u : ℕ) (m m' : List ℕ) (p q : Planes) →
+    HasWordsStrideRows p.words p.stride p.rows q →
+    ChangesCells main anti u u u u p q → MarksOne u m m' → AreUnmarkedOddBlocksStable m p →
+    AreUnmarkedOddBlocksStable m' q
 odd_kept_by_odd main anti u m m' p q size ch marks calm =
     odd_kept main anti u u u u m m' p q size ch (others_by_odd main anti u m m' marks) calm
 
-pub even_kept_by_odd : (main anti : Bool) (u : ℕ) (m m' : List ℕ) (p q : Planes) → HasSize p.words p.stride p.rows q →
-    ChangesCells main anti u u u u p q → MarksEvenNeighbours main anti p.stride u m m' → AreEvenBlocksStable m p →
-    AreEvenBlocksStable m' q
+pub even_kept_by_odd : (main anti : Bool) (u : ℕ) (m m' : List ℕ) (p q : Planes) →
+    HasWordsStrideRows p.words p.stride p.rows q →
+    ChangesCells main anti u u u u p q → MarksEvenNeighbours main anti p.stride u m m' →
+    AreUnmarkedEvenBlocksStable m p →
+    AreUnmarkedEvenBlocksStable m' q
 even_kept_by_odd main anti u m m' p q size ch marks calm = even_kept main anti u u u u m m' p q size ch marks calm
 
-pub odd_kept_by_even : (main anti : Bool) (u : ℕ) (m m' : List ℕ) (p q : Planes) → HasSize p.words p.stride p.rows q →
+pub odd_kept_by_even : (main anti : Bool) (u : ℕ) (m m' : List ℕ) (p q : Planes) →
+    HasWordsStrideRows p.words p.stride p.rows q →
     ChangesCells main anti (u + p.stride + 1) (u + p.stride) (u + 1) u p q →
     MarksOddNeighbours main anti p.stride u m m' →
-    AreOddBlocksStable m p → AreOddBlocksStable m' q
+    AreUnmarkedOddBlocksStable m p → AreUnmarkedOddBlocksStable m' q
 odd_kept_by_even main anti u m m' p q size ch marks calm = grind (arith, common_steps, odd_kept, others_by_even)
 
-pub even_kept_by_even : (main anti : Bool) (u : ℕ) (m m' : List ℕ) (p q : Planes) → HasSize p.words p.stride p.rows q →
-    ChangesCells main anti (u + p.stride + 1) (u + p.stride) (u + 1) u p q → MarksOne u m m' → AreEvenBlocksStable m p →
-    AreEvenBlocksStable m' q
+pub even_kept_by_even : (main anti : Bool) (u : ℕ) (m m' : List ℕ) (p q : Planes) →
+    HasWordsStrideRows p.words p.stride p.rows q →
+    ChangesCells main anti (u + p.stride + 1) (u + p.stride) (u + 1) u p q → MarksOne u m m' →
+    AreUnmarkedEvenBlocksStable m p →
+    AreUnmarkedEvenBlocksStable m' q
 even_kept_by_even main anti u m m' p q size ch marks calm = grind (arith, common_steps, even_kept)
 
 -- ---- after a mark was taken off a block that stays
 pub odd_unmarked : (c : ℕ) (m m' : List ℕ) (p : Planes) → SetsPlace c false m m' →
-    IsStableBlock p.words c c c c p.odd.items p.right.items p.down.items p.even.items → AreOddBlocksStable m p →
-    AreOddBlocksStable m' p
+    IsStableBlock p.words c c c c p.odd.items p.right.items p.down.items p.even.items → AreUnmarkedOddBlocksStable m p →
+    AreUnmarkedOddBlocksStable m' p
 odd_unmarked c m m' p sets block calm u l free = grind (arith, common_steps, by_eq_or_not)
 
 pub even_unmarked : (c : ℕ) (m m' : List ℕ) (p : Planes) → SetsPlace c false m m' →
     IsStableBlock p.words c (c + 1) (c + p.stride)
-    (c + p.stride + 1) p.even.items p.down.items p.right.items p.odd.items → AreEvenBlocksStable m p →
-    AreEvenBlocksStable m' p
+    (c + p.stride + 1) p.even.items p.down.items p.right.items p.odd.items → AreUnmarkedEvenBlocksStable m p →
+    AreUnmarkedEvenBlocksStable m' p
 even_unmarked c m m' p sets block calm u l inside free = grind (arith, common_steps, by_eq_or_not)
 
 -- or off the last one of a row, of which nothing is known
 pub last_unmarked : (c : ℕ) (m m' : List ℕ) (p : Planes) → SetsPlace c false m m' → (c + 1) % p.stride ≡ 0 →
-    AreEvenBlocksStable m p → AreEvenBlocksStable m' p
+    AreUnmarkedEvenBlocksStable m p → AreUnmarkedEvenBlocksStable m' p
 last_unmarked c m m' p sets last calm u l inside free = grind (arith, common_steps, by_eq_or_not)
 
 -- ---- cells that change one after another

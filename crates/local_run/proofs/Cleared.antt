@@ -1,7 +1,6 @@
 -- Values that are cleared under the assignments under which some used gate lacks a row
-use Rattle.std.proofs.Common.{◌≡◌, ℕ, true, ◌<◌, ◌≤◌, ◌*◌, ◌%◌, arith, sym, ◌∙◌, ap, subst}
-use Rattle.std.proofs.Common.{List, length, bit_and}
-use Rattle.std.specs.Prelude.{slice_index}
+use Rattle.std.proofs.Common.{◌≡◌, ℕ, true, ◌<◌, ◌≤◌, ◌*◌, ◌%◌, arith, sym, ◌∙◌, ap, subst, List, length, bit_and}
+use Rattle.std.proofs.Common.{slice_index}
 use Rattle.std.proofs.Math.Nat.{mul_comm}
 use Rattle.std.proofs.lemmas.Nat.{mod-mul-add}
 use Rattle.std.proofs.Math.Bool.{and-true}

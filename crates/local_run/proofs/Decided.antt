@@ -1,7 +1,6 @@
 -- Whether a job has a fault does not depend on the local valuation that is taken
-use Rattle.std.proofs.Common.{◌≡◌, ◌≢◌, ℕ, zero, suc, ◌<◌, Bool, true, false, List, [], ◌∷◌, refl, sym, ap, subst}
-use Rattle.std.proofs.Common.{◌∙◌, arith, eq-eqb, ◌⊎◌, inl, inr}
-use Rattle.std.specs.Prelude.{ℤ, Contains}
+use Rattle.std.proofs.Common.{◌≡◌, ◌≢◌, ℕ, zero, suc, ◌<◌, Bool, true, false, List, [], ◌∷◌, refl, sym, ap, subst, ◌∙◌}
+use Rattle.std.proofs.Common.{arith, eq-eqb, ◌⊎◌, inl, inr, ℤ, Contains}
 use Rattle.std.proofs.Props.{props}
 use Rattle.std.proofs.lemmas.Bool.{and_from, and_parts, cases_Bool, eqb-true, true≢false}
 use Rattle.std.proofs.lemmas.Option.{same_Some, slice_get-get_or}
@@ -15,7 +14,7 @@ use Rattle.module_box.specs.declared.schedules.Moment.{Moment}
 use Rattle.module_box.proofs.Rising.{is_first, moment_total}
 use Rattle.bbm_rule.proofs.SameCells.{cell_same, cell_itself}
 use Rattle.module_job.specs.Jobs.{JobView, IsJob, NamesOwnWires, job_demand}
-use Rattle.module_job.specs.Signals.{Meets, IsDemandBelow}
+use Rattle.module_job.specs.Signals.{MeetsDemand, IsDemandWireBelow}
 use Rattle.module_job.specs.declared.job.Demand.{Demand}
 use Rattle.module_job.specs.declared.job.Demand.TheVariants as Demanded
 use Rattle.module_job.specs.declared.job.Stop as listed
@@ -30,8 +29,9 @@ use Rattle.local_run.proofs.OwnWires.{edge_below, demand_below}
 use Rattle.local_run.proofs.Numbers.{three_ways}
 
 -- ---- the same fault under valuations that agree
-meets_same : (n : ℕ) (u u' : Valuation) (d : Demand) (b : Bool) → AgreeBelow n u u' → IsDemandBelow n d → Meets u d b →
-    Meets u' d b
+meets_same : (n : ℕ) (u u' : Valuation) (d : Demand) (b : Bool) → AgreeBelow n u u' → IsDemandWireBelow n d →
+    MeetsDemand u d b →
+    MeetsDemand u' d b
 meets_same n u u' Demanded.Dead b same below h = h
 meets_same n u u' Demanded.Live b same below h = h
 meets_same n u u' (Demanded.Wire w) b same below h = h ∙ same w below
@@ -64,7 +64,7 @@ fault_same j u u' t End x y own same f = record {
   inside = f.inside;
   differs = λ m. f.differs (meets_same (wires j.locals.netlist) u' u (job_demand j x y) _ (λ w l. sym (same w l))
       (demand_below j x y own)
-      (subst (Meets u' (job_demand j x y)) (sym (run_same j u u' t own same x y)) m));
+      (subst (MeetsDemand u' (job_demand j x y)) (sym (run_same j u u' t own same x y)) m));
 }
 
 -- ---- so any local valuation tells

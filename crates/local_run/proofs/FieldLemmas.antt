@@ -1,7 +1,6 @@
 -- Steps that pass over the blocks that stay
 use Rattle.std.proofs.Common.{◌≡◌, ◌≢◌, ℕ, true, false, ◌<◌, ◌≤◌, ◌+◌, ◌*◌, ◌/◌, ◌%◌, ◌⊎◌, inl, inr, refl, arith, sym}
-use Rattle.std.proofs.Common.{◌∙◌, ap, ltb}
-use Rattle.std.proofs.Common.{List, get_or, subst}
+use Rattle.std.proofs.Common.{◌∙◌, ap, ltb, List, get_or, subst}
 use Rattle.std.proofs.lemmas.Bool.{false≢true}
 use Rattle.std.proofs.Math.Nat.{div-add-mod, mod-lt, mul-le-mul_left}
 use Rattle.std.proofs.lemmas.Grind.{common_steps}
@@ -11,15 +10,14 @@ use Rattle.bbm_rule.proofs.BitLemmas.{bit-zero, by_eq_or_not, by_lt_or_le}
 use Rattle.bbm_rule.specs.Plane.{turned}
 use Rattle.bbm_rule.specs.Rows.{mate}
 use Rattle.bbm_rule.specs.Marks.{IsUnmarked}
-use Rattle.local_run.specs.Sweeps.{IsNumberNotInRest, IsInnerNumberNotInRest, TurnsEven, TurnsEvenBlocksWhere}
-use Rattle.local_run.specs.Sweeps.{TurnsNamed, TurnsOdd}
-use Rattle.local_run.specs.Sweeps.{TurnsOddBlocksWhere}
+use Rattle.local_run.specs.Sweeps.{IsInRangeNotInWord, IsInRangeNotInWordNorRowEnd, TurnsEvenBlocksBetween}
+use Rattle.local_run.specs.Sweeps.{TurnsEvenBlocksWhere, TurnsNamed, TurnsOddBlocksBetween, TurnsOddBlocksWhere}
 use Rattle.local_run.specs.Turns.{IsStableBlock, TurnsPart}
-use Rattle.local_run.specs.Calm.{AreOddBlocksStable, AreEvenBlocksStable}
-use Rattle.local_run.specs.Live.{AllUnmarkedDead, AreUnmarked}
+use Rattle.local_run.specs.Calm.{AreUnmarkedOddBlocksStable, AreUnmarkedEvenBlocksStable}
+use Rattle.local_run.specs.Live.{AllUnmarkedDead, AreBlockCellsUnmarked}
 use Rattle.local_run.specs.declared.live.LiveMarks.{LiveMarks}
 use Rattle.local_run.proofs.LiveLemmas.{dead_at, dead_calm}
-use Rattle.local_run.specs.Lanes.{HasSize, lane}
+use Rattle.local_run.specs.Lanes.{HasWordsStrideRows, lane}
 use Rattle.local_run.specs.declared.planes.Planes.{Planes}
 use Rattle.local_run.proofs.TurnLemmas.{calm_turned}
 use Rattle.local_run.proofs.CalmLemmas.{other_cell}
@@ -125,10 +123,10 @@ named_join w a b c d P Q R ul ur ll lr ul' ur' ll' lr' ul'' ur'' ll'' lr'' apart
 -- ---- blocks whose marks are in one word, and those whose marks are not among the rest of the word
 -- where the mark of block u is cleared, this block is one of them too
 pub record OnePast (first end rest rest' u : ℕ) : Type 0 where
-  pub free : IsNumberNotInRest first end rest u → ⊥
-  pub here : IsNumberNotInRest first end rest' u
-  pub from : (n : ℕ) → n ≢ u → IsNumberNotInRest first end rest' n → IsNumberNotInRest first end rest n
-  pub to : (n : ℕ) → n ≢ u → IsNumberNotInRest first end rest n → IsNumberNotInRest first end rest' n
+  pub free : IsInRangeNotInWord first end rest u → ⊥
+  pub here : IsInRangeNotInWord first end rest' u
+  pub from : (n : ℕ) → n ≢ u → IsInRangeNotInWord first end rest' n → IsInRangeNotInWord first end rest n
+  pub to : (n : ℕ) → n ≢ u → IsInRangeNotInWord first end rest n → IsInRangeNotInWord first end rest' n
 
 pub one_past : (first end rest rest' t : ℕ) → first % 64 ≡ 0 → end ≤ first + 64 → t < 64 → first + t < end →
     bit rest t ≡ true → bit rest' t ≡ false → ((j : ℕ) → j ≢ t → bit rest' j ≡ bit rest j) →
@@ -145,11 +143,11 @@ one_past first end rest rest' t aligned short small le set cleared same = record
 
 -- before the first mark of the rest all are
 pub past_before : (first end rest t n : ℕ) → first % 64 ≡ 0 → end ≤ first + 64 → end ≤ first + t →
-    ((j : ℕ) → j < t → bit rest j ≡ false) → first ≤ n → n < end → IsNumberNotInRest first end rest n
+    ((j : ℕ) → j < t → bit rest j ≡ false) → first ≤ n → n < end → IsInRangeNotInWord first end rest n
 past_before first end rest t n aligned short le none l h = (l, h, none (n % 64) (omega arith))
 
 -- and so are all if there is no rest
-pub past_all : (first end rest n : ℕ) → rest ≡ 0 → first ≤ n → n < end → IsNumberNotInRest first end rest n
+pub past_all : (first end rest n : ℕ) → rest ≡ 0 → first ≤ n → n < end → IsInRangeNotInWord first end rest n
 past_all first end rest n e l h = (l, h, ap (λ (m : ℕ). bit m (n % 64)) e ∙ bit-zero (n % 64))
 
 -- no block was turned, where their count is not more than none
@@ -161,8 +159,9 @@ self : IsInjective (λ n. n)
 self n m e = e
 
 -- a block without a mark stays, and one of which no cell has a mark
-odd_stays : (p : Planes) (marks : List ℕ) (l : LiveMarks) (n : ℕ) → AreOddBlocksStable marks p → AllUnmarkedDead l p →
-    IsUnmarked marks n ⊎ AreUnmarked l n n n n → n < p.stride * p.rows →
+odd_stays : (p : Planes) (marks : List ℕ) (l : LiveMarks) (n : ℕ) → AreUnmarkedOddBlocksStable marks p →
+    AllUnmarkedDead l p →
+    IsUnmarked marks n ⊎ AreBlockCellsUnmarked l n n n n → n < p.stride * p.rows →
     IsStableBlock p.words n n n n p.odd.items p.right.items p.down.items p.even.items
 odd_stays p marks l n calm dead (inl free) h = calm n h free
 odd_stays p marks l n calm dead (inr free) h =
@@ -171,14 +170,15 @@ odd_stays p marks l n calm dead (inr free) h =
     (λ k i. (d k i).1) (λ k i. (d k i).2) (λ k i. (d k i).3)
 
 -- the named blocks have no mark
-pub odd_none : (p : Planes) (marks : List ℕ) (l : LiveMarks) (P : ℕ → Type 0) → AreOddBlocksStable marks p →
+pub odd_none : (p : Planes) (marks : List ℕ) (l : LiveMarks) (P : ℕ → Type 0) → AreUnmarkedOddBlocksStable marks p →
     AllUnmarkedDead l p →
-    ((n : ℕ) → P n → (n < p.stride * p.rows) × (IsUnmarked marks n ⊎ AreUnmarked l n n n n)) → TurnsOddBlocksWhere P p p
+    ((n : ℕ) → P n → (n < p.stride * p.rows) × (IsUnmarked marks n ⊎ AreBlockCellsUnmarked l n n n n)) →
+    TurnsOddBlocksWhere P p p
 odd_none p marks l P calm dead free =
     named_stay p.words (λ n. n) (λ n. n) (λ n. n) (λ n. n) P p.odd.items p.right.items p.down.items p.even.items
     (λ n is. let f = free n is in odd_stays p marks l n calm dead f.1 f.0)
 
-pub odd_next : (p q r : Planes) (u : ℕ) (P Q : ℕ → Type 0) → HasSize p.words p.stride p.rows q →
+pub odd_next : (p q r : Planes) (u : ℕ) (P Q : ℕ → Type 0) → HasWordsStrideRows p.words p.stride p.rows q →
     TurnsOddBlocksWhere P p q → TurnsPart (q.words * u) (q.words * u) (q.words * u) (q.words * u) q.words q.odd.items
     q.right.items q.down.items q.even.items r.odd.items r.right.items r.down.items r.even.items →
     (P u → ⊥) → Q u → ((n : ℕ) → n ≢ u → Q n → P n) → ((n : ℕ) → n ≢ u → P n → Q n) → TurnsOddBlocksWhere Q p r
@@ -192,8 +192,8 @@ pub odd_renamed : (p q : Planes) (P Q : ℕ → Type 0) → ((n : ℕ) → Q n �
 odd_renamed p q P Q from to t =
     renamed p.words (λ n. n) (λ n. n) (λ n. n) (λ n. n) P Q _ _ _ _ _ _ _ _ from to t
 
-pub odd_join : (p q r : Planes) (at end : ℕ) → HasSize p.words p.stride p.rows q → at ≤ end →
-    TurnsOdd 0 at p q → TurnsOdd at end q r → TurnsOdd 0 end p r
+pub odd_join : (p q r : Planes) (at end : ℕ) → HasWordsStrideRows p.words p.stride p.rows q → at ≤ end →
+    TurnsOddBlocksBetween 0 at p q → TurnsOddBlocksBetween at end q r → TurnsOddBlocksBetween 0 end p r
 odd_join p q r at end size le s t = grind (arith, common_steps, named_join, by_lt_or_le)
 
 -- the blocks below a number are turned, as far as there are some
@@ -205,9 +205,10 @@ below_end k end cells n (inl l) below inside = omega arith
 below_end k end cells n (inr l) below inside = omega arith
 
 -- so are those of one more word of marks
-pub odd_more : (p q r : Planes) (k end cells : ℕ) → HasSize p.words p.stride p.rows q → 64 * k < end → end ≤ cells →
+pub odd_more : (p q r : Planes) (k end cells : ℕ) → HasWordsStrideRows p.words p.stride p.rows q → 64 * k < end →
+    end ≤ cells →
     end ≤ 64 * k + 64 → (64 * k + 64 ≤ end) ⊎ (cells ≤ end) → TurnsOddBelow (64 * k) cells p q →
-    TurnsOdd (64 * k) end q r → TurnsOddBelow (64 * (k + 1)) cells p r
+    TurnsOddBlocksBetween (64 * k) end q r → TurnsOddBelow (64 * (k + 1)) cells p r
 odd_more p q r k end cells size some within short whole s t =
     odd_renamed p r (λ n. (0 ≤ n) × (n < end)) (λ n. (n < 64 * (k + 1)) × (n < cells))
     (λ n is. (omega arith, below_end k end cells n whole is.0 is.1))
@@ -217,8 +218,9 @@ odd_more p q r k end cells size some within short whole s t =
     (λ n is. (is.1, omega (arith, is.1))) (λ n is. (omega arith, is.0)) s) t)
 
 -- and those of a word without marks
-pub odd_more_none : (p q : Planes) (k cells rest : ℕ) → HasSize p.words p.stride p.rows q → 64 * k < cells → rest ≡ 0 →
-    ((end : ℕ) → end ≤ 64 * k + 64 → end ≤ cells → TurnsOddBlocksWhere (IsNumberNotInRest (64 * k) end rest) q q) →
+pub odd_more_none : (p q : Planes) (k cells rest : ℕ) → HasWordsStrideRows p.words p.stride p.rows q → 64 * k < cells →
+    rest ≡ 0 →
+    ((end : ℕ) → end ≤ 64 * k + 64 → end ≤ cells → TurnsOddBlocksWhere (IsInRangeNotInWord (64 * k) end rest) q q) →
     TurnsOddBelow (64 * k) cells p q → TurnsOddBelow (64 * (k + 1)) cells p q
 odd_more_none p q k cells rest size some none calm s = by_lt_or_le (64 * k + 64) cells
     (λ l. odd_more p q q k (64 * k + 64) cells size (omega arith) (omega arith) (omega arith) (inl (omega arith)) s
@@ -226,16 +228,18 @@ odd_more_none p q k cells rest size some none calm s = by_lt_or_le (64 * k + 64)
     (λ l. odd_more p q q k cells cells size some (omega arith) l (inr (omega arith)) s
     (turned cells l (omega arith)))
   where
-    turned : (end : ℕ) → end ≤ 64 * k + 64 → end ≤ cells → TurnsOdd (64 * k) end q q
-    turned end short within = odd_renamed q q (IsNumberNotInRest (64 * k) end rest) (λ n. (64 * k ≤ n) × (n < end))
+    turned : (end : ℕ) → end ≤ 64 * k + 64 → end ≤ cells → TurnsOddBlocksBetween (64 * k) end q q
+    turned end short within = odd_renamed q q (IsInRangeNotInWord (64 * k) end rest) (λ n. (64 * k ≤ n) × (n < end))
         (λ n l. past_all (64 * k) end rest n none l.0 l.1) (λ n is. (is.0, is.1)) (calm end short within)
 
 -- in the end all are
-pub odd_below_all : (p q : Planes) (at cells : ℕ) → cells ≤ at → TurnsOddBelow at cells p q → TurnsOdd 0 cells p q
+pub odd_below_all : (p q : Planes) (at cells : ℕ) → cells ≤ at → TurnsOddBelow at cells p q →
+    TurnsOddBlocksBetween 0 cells p q
 odd_below_all p q at cells l t = odd_renamed p q (λ n. (n < at) × (n < cells)) (λ n. (0 ≤ n) × (n < cells))
     (λ n is. (omega (arith, is.1), is.1)) (λ n is. (omega arith, is.1)) t
 
-pub odd_all : (p q : Planes) (u : ℕ) → HasSize p.words p.stride p.rows q → u ≡ p.stride * p.rows → TurnsOdd 0 u p q →
+pub odd_all : (p q : Planes) (u : ℕ) → HasWordsStrideRows p.words p.stride p.rows q → u ≡ p.stride * p.rows →
+    TurnsOddBlocksBetween 0 u p q →
     (a x y : ℕ) → a < 64 * p.words → x < 2 * p.stride → y < 2 * p.rows →
     lane q a x y ≡ turned (lane p a x y) (lane p a (mate x) (mate y)) (lane p a (mate x) y) (lane p a x (mate y))
 odd_all p q u size e t = odd_lane p q size (λ k l.
@@ -253,12 +257,12 @@ after_next : (s : ℕ) → IsInjective (λ n. n + s + 1)
 after_next s n m e = omega (arith, e)
 
 -- the named blocks have no mark
-pub even_none : (p : Planes) (marks : List ℕ) (P : ℕ → Type 0) → AreEvenBlocksStable marks p →
+pub even_none : (p : Planes) (marks : List ℕ) (P : ℕ → Type 0) → AreUnmarkedEvenBlocksStable marks p →
     ((n : ℕ) → P n → (n + p.stride + 1 < p.stride * p.rows) × ((n + 1) % p.stride ≢ 0) × IsUnmarked marks n) →
     TurnsEvenBlocksWhere P p p
 even_none p marks P calm free = grind (arith, common_steps, named_stay)
 
-even_next : (p q r : Planes) (u : ℕ) (P Q : ℕ → Type 0) → HasSize p.words p.stride p.rows q →
+even_next : (p q r : Planes) (u : ℕ) (P Q : ℕ → Type 0) → HasWordsStrideRows p.words p.stride p.rows q →
     TurnsEvenBlocksWhere P p q → TurnsPart (q.words * u) (q.words * (u + 1)) (q.words * (u + q.stride))
     (q.words * (u + q.stride + 1)) q.words q.even.items
     q.down.items q.right.items q.odd.items r.even.items r.down.items r.right.items r.odd.items →
@@ -275,27 +279,29 @@ even_renamed p q P Q from to t =
 
 -- one more mark is cleared: its block is turned, or is the last one of its row
 pub even_past : (p q r : Planes) (u first end rest rest' : ℕ) → OnePast first end rest rest' u →
-    HasSize p.words p.stride p.rows q → TurnsEvenBlocksWhere (IsInnerNumberNotInRest p.stride first end rest) p q →
+    HasWordsStrideRows p.words p.stride p.rows q →
+    TurnsEvenBlocksWhere (IsInRangeNotInWordNorRowEnd p.stride first end rest) p q →
     ((u + 1) % q.stride ≢ 0 → TurnsPart (q.words * u) (q.words * (u + 1)) (q.words * (u + q.stride))
     (q.words * (u + q.stride + 1)) q.words q.even.items q.down.items q.right.items q.odd.items r.even.items r.down.items
     r.right.items r.odd.items) → ((u + 1) % q.stride ≡ 0 → r ≡ q) →
-    TurnsEvenBlocksWhere (IsInnerNumberNotInRest p.stride first end rest') p r
+    TurnsEvenBlocksWhere (IsInRangeNotInWordNorRowEnd p.stride first end rest') p r
 even_past p q r u first end rest rest' one size before part last = by_eq_or_not ((u + 1) % p.stride) 0
-    (λ e. subst (λ (o : Planes). TurnsEvenBlocksWhere (IsInnerNumberNotInRest p.stride first end rest') p o)
+    (λ e. subst (λ (o : Planes). TurnsEvenBlocksWhere (IsInRangeNotInWordNorRowEnd p.stride first end rest') p o)
     (sym (last (stride ∙ e)))
-    (even_renamed p q (IsInnerNumberNotInRest p.stride first end rest) (IsInnerNumberNotInRest p.stride first end rest')
+    (even_renamed p q (IsInRangeNotInWordNorRowEnd p.stride first end rest)
+    (IsInRangeNotInWordNorRowEnd p.stride first end rest')
     (λ n is. (one.from n (λ same. is.1 (ap (λ (m : ℕ). (m + 1) % p.stride) same ∙ e)) is.0, is.1))
     (λ n is. (one.to n (λ same. is.1 (ap (λ (m : ℕ). (m + 1) % p.stride) same ∙ e)) is.0, is.1)) before))
-    (λ ne. even_next p q r u (IsInnerNumberNotInRest p.stride first end rest)
-    (IsInnerNumberNotInRest p.stride first end rest') size before
+    (λ ne. even_next p q r u (IsInRangeNotInWordNorRowEnd p.stride first end rest)
+    (IsInRangeNotInWordNorRowEnd p.stride first end rest') size before
     (part (λ e. ne (sym stride ∙ e))) (λ is. one.free is.0) (one.here, ne) (λ n other is. (one.from n other is.0, is.1))
     (λ n other is. (one.to n other is.0, is.1)))
   where
     stride : (u + 1) % q.stride ≡ (u + 1) % p.stride
     stride = ap (λ (s : ℕ). (u + 1) % s) size.1
 
-pub even_join : (p q r : Planes) (at end : ℕ) → HasSize p.words p.stride p.rows q → at ≤ end →
-    TurnsEven 0 at p q → TurnsEven at end q r → TurnsEven 0 end p r
+pub even_join : (p q r : Planes) (at end : ℕ) → HasWordsStrideRows p.words p.stride p.rows q → at ≤ end →
+    TurnsEvenBlocksBetween 0 at p q → TurnsEvenBlocksBetween at end q r → TurnsEvenBlocksBetween 0 end p r
 even_join p q r at end size le s t =
     let t = rw (size.0, size.1) at t in
     named_join p.words (λ n. n) (λ n. n + 1) (λ n. n + p.stride) (λ n. n + p.stride + 1)
@@ -310,9 +316,10 @@ abbrev pub TurnsEvenBelow : ℕ → ℕ → Planes → Planes → Type 0
 TurnsEvenBelow at cells p q = TurnsEvenBlocksWhere (λ n. (n < at) × (n < cells) × ((n + 1) % p.stride ≢ 0)) p q
 
 -- so are those of one more word of marks
-pub even_more : (p q r : Planes) (k end cells : ℕ) → HasSize p.words p.stride p.rows q → 64 * k < end → end ≤ cells →
+pub even_more : (p q r : Planes) (k end cells : ℕ) → HasWordsStrideRows p.words p.stride p.rows q → 64 * k < end →
+    end ≤ cells →
     end ≤ 64 * k + 64 → (64 * k + 64 ≤ end) ⊎ (cells ≤ end) → TurnsEvenBelow (64 * k) cells p q →
-    TurnsEven (64 * k) end q r → TurnsEvenBelow (64 * (k + 1)) cells p r
+    TurnsEvenBlocksBetween (64 * k) end q r → TurnsEvenBelow (64 * (k + 1)) cells p r
 even_more p q r k end cells size some within short whole s t =
     even_renamed p r (λ n. (0 ≤ n) × (n < end) × ((n + 1) % p.stride ≢ 0))
     (λ n. (n < 64 * (k + 1)) × (n < cells) × ((n + 1) % p.stride ≢ 0))
@@ -324,9 +331,9 @@ even_more p q r k end cells size some within short whole s t =
     (λ n is. (is.1, omega (arith, is.1), is.2)) (λ n is. (omega arith, is.0, is.2)) s) t)
 
 -- and those of a word without marks
-pub even_more_none : (p q : Planes) (k cells rest : ℕ) → HasSize p.words p.stride p.rows q → 64 * k < cells →
+pub even_more_none : (p q : Planes) (k cells rest : ℕ) → HasWordsStrideRows p.words p.stride p.rows q → 64 * k < cells →
     rest ≡ 0 → ((end : ℕ) → end ≤ 64 * k + 64 → end ≤ cells →
-    TurnsEvenBlocksWhere (IsInnerNumberNotInRest q.stride (64 * k) end rest) q q) →
+    TurnsEvenBlocksWhere (IsInRangeNotInWordNorRowEnd q.stride (64 * k) end rest) q q) →
     TurnsEvenBelow (64 * k) cells p q → TurnsEvenBelow (64 * (k + 1)) cells p q
 even_more_none p q k cells rest size some none calm s = by_lt_or_le (64 * k + 64) cells
     (λ l. even_more p q q k (64 * k + 64) cells size (omega arith) (omega arith) (omega arith) (inl (omega arith)) s
@@ -334,18 +341,20 @@ even_more_none p q k cells rest size some none calm s = by_lt_or_le (64 * k + 64
     (λ l. even_more p q q k cells cells size some (omega arith) l (inr (omega arith)) s
     (turned cells l (omega arith)))
   where
-    turned : (end : ℕ) → end ≤ 64 * k + 64 → end ≤ cells → TurnsEven (64 * k) end q q
-    turned end short within = even_renamed q q (IsInnerNumberNotInRest q.stride (64 * k) end rest)
+    turned : (end : ℕ) → end ≤ 64 * k + 64 → end ≤ cells → TurnsEvenBlocksBetween (64 * k) end q q
+    turned end short within = even_renamed q q (IsInRangeNotInWordNorRowEnd q.stride (64 * k) end rest)
         (λ n. (64 * k ≤ n) × (n < end) × ((n + 1) % q.stride ≢ 0))
         (λ n l. (past_all (64 * k) end rest n none l.0 l.1, l.2)) (λ n is. (is.0.0, is.0.1, is.1))
         (calm end short within)
 
 -- in the end all are
-pub even_below_all : (p q : Planes) (at cells : ℕ) → cells ≤ at → TurnsEvenBelow at cells p q → TurnsEven 0 cells p q
+pub even_below_all : (p q : Planes) (at cells : ℕ) → cells ≤ at → TurnsEvenBelow at cells p q →
+    TurnsEvenBlocksBetween 0 cells p q
 even_below_all p q at cells l t = grind (arith, common_steps, even_renamed)
 
-pub even_all : (p q : Planes) (u : ℕ) → HasSize p.words p.stride p.rows q → u + p.stride + 1 ≡ p.stride * p.rows →
-    TurnsEven 0 u p q →
+pub even_all : (p q : Planes) (u : ℕ) → HasWordsStrideRows p.words p.stride p.rows q →
+    u + p.stride + 1 ≡ p.stride * p.rows →
+    TurnsEvenBlocksBetween 0 u p q →
     (a x y : ℕ) → a < 64 * p.words → x + 2 < 2 * p.stride → y + 2 < 2 * p.rows →
     lane q a (1 + x) (1 + y) ≡ turned (lane p a (1 + x) (1 + y)) (lane p a (1 + mate x) (1 + mate y))
     (lane p a (1 + mate x) (1 + y)) (lane p a (1 + x) (1 + mate y))

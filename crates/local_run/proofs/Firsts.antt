@@ -1,7 +1,6 @@
 -- From the cells that were looked at, in order, to the first fault
 use Rattle.std.proofs.Common.{◌≡◌, ◌≢◌, ℕ, Bool, true, false, not, ◌&&◌, ◌⊎◌, inl, inr, ◌<◌, ◌≤◌, ◌+◌, ◌-◌, refl, arith}
-use Rattle.std.proofs.Common.{sym, ◌∙◌, ap, subst, Option, Some, None}
-use Rattle.std.specs.Prelude.{ℤ, pos, negsuc, ◌+ℤ◌, ◌-ℤ◌, ◌<ℤ◌}
+use Rattle.std.proofs.Common.{sym, ◌∙◌, ap, subst, Option, Some, None, ℤ, pos, negsuc, ◌+ℤ◌, ◌-ℤ◌, ◌<ℤ◌}
 use Rattle.std.proofs.lemmas.Bool.{and_parts, and_from, false≢true}
 use Rattle.std.proofs.lemmas.Int.{ints}
 use Rattle.std.proofs.lemmas.Grind.{common_steps}
@@ -10,7 +9,7 @@ use Rattle.module_box.specs.Boxes.{in_box, in_ring}
 use Rattle.module_box.specs.declared.boxes.Box2.{Box2}
 use Rattle.bbm_rule.proofs.Spans.{span_parts, span_from, in_span-negsuc}
 use Rattle.circuit.specs.Meaning.{Valuation}
-use Rattle.module_job.specs.Signals.{is_live, Meets}
+use Rattle.module_job.specs.Signals.{is_live, MeetsDemand}
 use Rattle.module_job.specs.Jobs.{JobView, job_demand}
 use Rattle.local_run.specs.Runs.{local_run}
 use Rattle.local_run.specs.Faults.{IsFaultUnder, assignments}
@@ -20,8 +19,8 @@ use Rattle.local_run.specs.declared.fault.Kind.{Kind}
 use Rattle.local_run.specs.declared.fault.Kind.TheVariants.{Edge, Stop, End}
 use Rattle.local_run.specs.Places.{box_coord}
 use Rattle.module_box.proofs.RingTests.{ring_read}
-use Rattle.local_run.specs.Scans.{IsLeastBelow, IsScanStride, IsSought, IsFirst, IsDefinedFault, HasNoFaultOfKind}
-use Rattle.local_run.specs.Scans.{is_defined, valuation}
+use Rattle.local_run.specs.Scans.{IsLeastBelow, IsScanStride, IsKindSoughtAt, IsFirst, IsFaultWhereDefined}
+use Rattle.local_run.specs.Scans.{HasNoFaultOfKind, is_defined_under, valuation}
 use Rattle.local_run.specs.declared.values.Values.{Values}
 
 -- ---- numbers of columns and rows
@@ -62,21 +61,22 @@ pub edge_none : (j : JobView) (n : ℕ) (u : ℕ → Valuation) (t : ℕ) (k : K
 edge_none j n u t k x y e out a l f = grind (arith, common_steps, false≢true)
 
 pub end_least : (j : JobView) (vs : Values) (n : ℕ) (f : ℕ → Bool) (s : Signal) (d : Demand) (t : ℕ) (k : Kind)
-    (x y : ℤ) (r : Option ℕ) → End ≡ k → IsSought j t k →
-    in_box j.area x y ≡ true → job_demand j x y ≡ d → ((v : Valuation) (b : Bool) → Meets v d b → b ≡ is_live v s) →
-    ((v : Valuation) (b : Bool) → b ≡ is_live v s → Meets v d b) →
+    (x y : ℤ) (r : Option ℕ) → End ≡ k → IsKindSoughtAt j t k →
+    in_box j.area x y ≡ true → job_demand j x y ≡ d →
+    ((v : Valuation) (b : Bool) → MeetsDemand v d b → b ≡ is_live v s) →
+    ((v : Valuation) (b : Bool) → b ≡ is_live v s → MeetsDemand v d b) →
     ((a : ℕ) → a < n → f a ≡ local_run j (valuation vs a) t x y) →
-    IsLeastBelow n (λ a. (is_defined vs a ≡ true) × (f a ≢ is_live (valuation vs a) s)) r →
-    IsLeastBelow n (λ a. IsDefinedFault j vs a t k x y) r
+    IsLeastBelow n (λ a. (is_defined_under vs a ≡ true) × (f a ≢ is_live (valuation vs a) s)) r →
+    IsLeastBelow n (λ a. IsFaultWhereDefined j vs a t k x y) r
 end_least j vs n f s d t k x y r e sought inside ed to from same h = grind (arith, common_steps, least_map)
 
 -- no cell but those of the ring is found
 pub edge_not_found : (j : JobView) (vs : Values) (n t : ℕ) (k : Kind) (x y : ℤ) → Edge ≡ k →
-    in_ring j.area x y ≡ false → IsLeastBelow n (λ a. IsDefinedFault j vs a t k x y) None
+    in_ring j.area x y ≡ false → IsLeastBelow n (λ a. IsFaultWhereDefined j vs a t k x y) None
 edge_not_found j vs n t k x y e out a l f = edge_none j n (λ a. valuation vs a) t k x y e out a l f.1
 
 -- ---- cells in order
-fault_in_box : (j : JobView) (v : Valuation) (t : ℕ) (kind : Kind) (x y : ℤ) → IsSought j t kind →
+fault_in_box : (j : JobView) (v : Valuation) (t : ℕ) (kind : Kind) (x y : ℤ) → IsKindSoughtAt j t kind →
     IsFaultUnder j v t kind x y → in_box j.area x y ≡ true
 unfolding in_ring
 fault_in_box j v t Edge x y s f = (and_parts _ _ f.ring).0
@@ -84,9 +84,9 @@ fault_in_box j v t Stop x y s f = absurd s
 fault_in_box j v t End x y s f = f.inside
 
 abbrev pub FreeAt : JobView → Values → ℕ → Kind → ℕ → ℕ → ℕ → Type 0
-FreeAt j vs t kind x y a = ¬ IsDefinedFault j vs a t kind (box_coord j.area.x x) (box_coord j.area.y y)
+FreeAt j vs t kind x y a = ¬ IsFaultWhereDefined j vs a t kind (box_coord j.area.x x) (box_coord j.area.y y)
 
-pub free_from : (j : JobView) (vs : Values) (t : ℕ) (kind : Kind) → IsSought j t kind →
+pub free_from : (j : JobView) (vs : Values) (t : ℕ) (kind : Kind) → IsKindSoughtAt j t kind →
     ((x y a : ℕ) → x < j.area.w → y < j.area.h → a < assignments j → FreeAt j vs t kind x y a) →
     HasNoFaultOfKind j vs t kind
 unfolding in_box
@@ -95,15 +95,16 @@ free_from j vs t kind s free x y a l f =
     let px = span_at j.area.x j.area.w x h.0 in
     let py = span_at j.area.y j.area.h y h.1 in
     free px.number py.number a px.below py.below l
-    (subst (λ (z : ℤ). IsDefinedFault j vs a t kind z (box_coord j.area.y py.number)) px.is
-    (subst (λ (z : ℤ). IsDefinedFault j vs a t kind x z) py.is f))
+    (subst (λ (z : ℤ). IsFaultWhereDefined j vs a t kind z (box_coord j.area.y py.number)) px.is
+    (subst (λ (z : ℤ). IsFaultWhereDefined j vs a t kind x z) py.is f))
 
-pub first_from : (j : JobView) (vs : Values) (t : ℕ) (kind : Kind) (x y a : ℕ) (cx cy : ℤ) → IsSought j t kind →
+pub first_from : (j : JobView) (vs : Values) (t : ℕ) (kind : Kind) (x y a : ℕ) (cx cy : ℤ) → IsKindSoughtAt j t kind →
     cx ≡ box_coord j.area.x x → cy ≡ box_coord j.area.y y →
     x < j.area.w → y < j.area.h →
     ((x' y' a' : ℕ) → x' < j.area.w → y' < y → a' < assignments j → FreeAt j vs t kind x' y' a') →
     ((x' a' : ℕ) → x' < x → a' < assignments j → FreeAt j vs t kind x' y a') →
-    IsLeastBelow (assignments j) (λ a'. IsDefinedFault j vs a' t kind (box_coord j.area.x x) (box_coord j.area.y y))
+    IsLeastBelow (assignments j) (λ a'.
+    IsFaultWhereDefined j vs a' t kind (box_coord j.area.x x) (box_coord j.area.y y))
     (Some a) →
     IsFirst j vs t kind (record { time = t; kind = kind; cell = record { x = cx; y = cy }; assignment = a })
 unfolding in_box
@@ -118,13 +119,13 @@ first_from j vs t kind x y a cx cy s ex ey lx ly rows cells least = rw (ex, ey) 
       let py = span_at j.area.y j.area.h y' h.1 in
       rows px.number py.number a' px.below
       (inner_less j.area.y py.number y (subst (λ (z : ℤ). z <ℤ box_coord j.area.y y) py.is less)) l
-      (subst (λ (z : ℤ). IsDefinedFault j vs a' t kind z (box_coord j.area.y py.number)) px.is
-      (subst (λ (z : ℤ). IsDefinedFault j vs a' t kind x' z) py.is f));
+      (subst (λ (z : ℤ). IsFaultWhereDefined j vs a' t kind z (box_coord j.area.y py.number)) px.is
+      (subst (λ (z : ℤ). IsFaultWhereDefined j vs a' t kind x' z) py.is f));
   column = λ x' a' l less f.
       let h = and_parts _ _ (fault_in_box j _ t kind x' (box_coord j.area.y y) s f.1) in
       let px = span_at j.area.x j.area.w x' h.0 in
       cells px.number a' (inner_less j.area.x px.number x (subst (λ (z : ℤ). z <ℤ box_coord j.area.x x) px.is less)) l
-      (subst (λ (z : ℤ). IsDefinedFault j vs a' t kind z (box_coord j.area.y y)) px.is f);
+      (subst (λ (z : ℤ). IsFaultWhereDefined j vs a' t kind z (box_coord j.area.y y)) px.is f);
   assignment = least.2;
 })
 

@@ -9,14 +9,13 @@ use Rattle.bbm_rule.specs.Marks.{IsUnmarked}
 use Rattle.bbm_rule.specs.Rows.{cell_at}
 use Rattle.bbm_rule.specs.Words.{AreTurned}
 use Rattle.bbm_rule.proofs.BitLemmas.{by_eq_or_not, by_lt_or_le}
-use Rattle.local_run.specs.Calm.{ChangesCells, AreEvenBlocksStable, AreOddBlocksStable}
+use Rattle.local_run.specs.Calm.{ChangesCells, AreUnmarkedEvenBlocksStable, AreUnmarkedOddBlocksStable}
 use Rattle.local_run.specs.Frozen.{AreWords, AreFrozenIfFound, HasRoomForMarks, AreMarkedEvenBlocksStable, IsFrozen}
-use Rattle.local_run.specs.Frozen.{IsNumberBeforeMarked}
-use Rattle.local_run.specs.Frozen.{AreMarkedOddBlocksStable, KeepsFirst}
-use Rattle.local_run.specs.Held.{HasValueUnderAll, bits_of}
-use Rattle.local_run.specs.Lanes.{HasSize}
-use Rattle.local_run.specs.Live.{AllUnmarkedDead, AllUnmarkedDead-prop, AreMarkedUnlessInBoth, IsDeadCell}
-use Rattle.local_run.specs.Sweeps.{TurnsEven, TurnsOdd}
+use Rattle.local_run.specs.Frozen.{IsNumberBeforeMarked, AreMarkedOddBlocksStable, KeepsFirst}
+use Rattle.local_run.specs.Held.{HasValueUnderAll, cell_word_bit}
+use Rattle.local_run.specs.Lanes.{HasWordsStrideRows}
+use Rattle.local_run.specs.Live.{AllUnmarkedDead, AllUnmarkedDead-prop, AreCellsMarkedUnlessInBoth, IsDeadCell}
+use Rattle.local_run.specs.Sweeps.{TurnsEvenBlocksBetween, TurnsOddBlocksBetween}
 use Rattle.local_run.specs.Turns.{TurnsPart}
 use Rattle.local_run.specs.declared.frozen.FrozenBlocks.{FrozenBlocks}
 use Rattle.local_run.specs.declared.live.LiveMarks.{LiveMarks}
@@ -31,9 +30,10 @@ use Rattle.local_run.proofs.RunLemmas.{first_part}
 -- each block of the odd partition is turned or stays
 abbrev pub MayTurnOdd : Planes → Planes → Type 0
 MayTurnOdd p q = (u : ℕ) →
-    MayTurn p.words (bits_of p.words p.odd.items u) (bits_of p.words p.right.items u) (bits_of p.words p.down.items u)
-    (bits_of p.words p.even.items u) (bits_of p.words q.odd.items u) (bits_of p.words q.right.items u)
-    (bits_of p.words q.down.items u) (bits_of p.words q.even.items u)
+    MayTurn p.words (cell_word_bit p.words p.odd.items u) (cell_word_bit p.words p.right.items u)
+    (cell_word_bit p.words p.down.items u)
+    (cell_word_bit p.words p.even.items u) (cell_word_bit p.words q.odd.items u) (cell_word_bit p.words q.right.items u)
+    (cell_word_bit p.words q.down.items u) (cell_word_bit p.words q.even.items u)
 
 -- whether block n of the even partition is in the box
 abbrev IsInBox : Planes → ℕ → Type 0
@@ -41,17 +41,17 @@ IsInBox p n = (n + p.stride + 1 < p.stride * p.rows) × ((n + 1) % p.stride ≢ 
 
 abbrev EvenTurns : Planes → Planes → ℕ → Type 0
 EvenTurns p q n =
-    TurnsBits p.words (bits_of p.words p.even.items n) (bits_of p.words p.down.items (n + 1))
-    (bits_of p.words p.right.items (n + p.stride)) (bits_of p.words p.odd.items (n + p.stride + 1))
-    (bits_of p.words q.even.items n) (bits_of p.words q.down.items (n + 1))
-    (bits_of p.words q.right.items (n + p.stride)) (bits_of p.words q.odd.items (n + p.stride + 1))
+    TurnsBits p.words (cell_word_bit p.words p.even.items n) (cell_word_bit p.words p.down.items (n + 1))
+    (cell_word_bit p.words p.right.items (n + p.stride)) (cell_word_bit p.words p.odd.items (n + p.stride + 1))
+    (cell_word_bit p.words q.even.items n) (cell_word_bit p.words q.down.items (n + 1))
+    (cell_word_bit p.words q.right.items (n + p.stride)) (cell_word_bit p.words q.odd.items (n + p.stride + 1))
 
 abbrev EvenStays : Planes → Planes → ℕ → Type 0
 EvenStays p q n =
-    BlockStays p.words (bits_of p.words p.even.items n) (bits_of p.words p.down.items (n + 1))
-    (bits_of p.words p.right.items (n + p.stride)) (bits_of p.words p.odd.items (n + p.stride + 1))
-    (bits_of p.words q.even.items n) (bits_of p.words q.down.items (n + 1))
-    (bits_of p.words q.right.items (n + p.stride)) (bits_of p.words q.odd.items (n + p.stride + 1))
+    BlockStays p.words (cell_word_bit p.words p.even.items n) (cell_word_bit p.words p.down.items (n + 1))
+    (cell_word_bit p.words p.right.items (n + p.stride)) (cell_word_bit p.words p.odd.items (n + p.stride + 1))
+    (cell_word_bit p.words q.even.items n) (cell_word_bit p.words q.down.items (n + 1))
+    (cell_word_bit p.words q.right.items (n + p.stride)) (cell_word_bit p.words q.odd.items (n + p.stride + 1))
 
 -- each block of the even partition is turned or stays; those that are not in the box stay, and the cells that are in
 -- none
@@ -63,8 +63,9 @@ turned_bits : (w a b c d : ℕ) (ul ur ll lr ul' ur' ll' lr' : List ℕ) →
     ((k : ℕ) → k < w → AreTurned (get_or ul (w * a + k) 0) (get_or ur (w * b + k) 0) (get_or ll (w * c + k) 0)
     (get_or lr (w * d + k) 0) (get_or ul' (w * a + k) 0) (get_or ur' (w * b + k) 0) (get_or ll' (w * c + k) 0)
     (get_or lr' (w * d + k) 0)) →
-    TurnsBits w (bits_of w ul a) (bits_of w ur b) (bits_of w ll c) (bits_of w lr d) (bits_of w ul' a) (bits_of w ur' b)
-    (bits_of w ll' c) (bits_of w lr' d)
+    TurnsBits w (cell_word_bit w ul a) (cell_word_bit w ur b) (cell_word_bit w ll c) (cell_word_bit w lr d)
+    (cell_word_bit w ul' a) (cell_word_bit w ur' b)
+    (cell_word_bit w ll' c) (cell_word_bit w lr' d)
 turned_bits w a b c d ul ur ll lr ul' ur' ll' lr' t = record {
   upper_left = λ k j lk lj. (t k lk).upper_left j;
   upper_right = λ k j lk lj. (t k lk).upper_right j;
@@ -73,7 +74,7 @@ turned_bits w a b c d ul ur ll lr ul' ur' ll' lr' t = record {
 }
 
 same_bits : (w a : ℕ) (xs ys : List ℕ) → ((k : ℕ) → k < w → get_or ys (w * a + k) 0 ≡ get_or xs (w * a + k) 0) →
-    StaysBits w (bits_of w xs a) (bits_of w ys a)
+    StaysBits w (cell_word_bit w xs a) (cell_word_bit w ys a)
 same_bits w a xs ys same k j lk lj = ap (λ (n : ℕ). bit n j) (same k lk)
 
 -- where one block is turned
@@ -81,9 +82,11 @@ pub odd_part_may : (p q : Planes) (u : ℕ) →
     TurnsPart (p.words * u) (p.words * u) (p.words * u) (p.words * u) p.words p.odd.items p.right.items p.down.items
     p.even.items q.odd.items q.right.items q.down.items q.even.items → MayTurnOdd p q
 odd_part_may p q u part n = by_eq_or_not n u
-    (λ e. subst (λ (v : ℕ). MayTurn p.words (bits_of p.words p.odd.items v) (bits_of p.words p.right.items v)
-    (bits_of p.words p.down.items v) (bits_of p.words p.even.items v) (bits_of p.words q.odd.items v)
-    (bits_of p.words q.right.items v) (bits_of p.words q.down.items v) (bits_of p.words q.even.items v)) (sym e)
+    (λ e. subst (λ (v : ℕ). MayTurn p.words (cell_word_bit p.words p.odd.items v)
+    (cell_word_bit p.words p.right.items v)
+    (cell_word_bit p.words p.down.items v) (cell_word_bit p.words p.even.items v) (cell_word_bit p.words q.odd.items v)
+    (cell_word_bit p.words q.right.items v) (cell_word_bit p.words q.down.items v)
+    (cell_word_bit p.words q.even.items v)) (sym e)
     (inl (turned_bits p.words u u u u _ _ _ _ _ _ _ _ part.turned)))
     (λ ne. inr (record {
       upper_left = same_bits p.words n _ _ (λ k l. other_cell p.words u n k _ _ part.upper_left l ne);
@@ -93,7 +96,7 @@ odd_part_may p q u part n = by_eq_or_not n u
     }))
 
 -- where all are
-pub odd_all_may : (p q : Planes) (end : ℕ) → TurnsOdd 0 end p q → MayTurnOdd p q
+pub odd_all_may : (p q : Planes) (end : ℕ) → TurnsOddBlocksBetween 0 end p q → MayTurnOdd p q
 odd_all_may p q end t n = by_lt_or_le n end
     (λ h. inl (turned_bits p.words n n n n _ _ _ _ _ _ _ _ (λ k l. t.turned n k (omega arith, h) l)))
     (λ g. inr (record {
@@ -134,7 +137,8 @@ even_part_may p q u room inside part = record {
 }
 
 -- where all are
-pub even_all_may : (p q : Planes) (end : ℕ) → end + p.stride + 1 ≡ p.stride * p.rows → TurnsEven 0 end p q →
+pub even_all_may : (p q : Planes) (end : ℕ) → end + p.stride + 1 ≡ p.stride * p.rows →
+    TurnsEvenBlocksBetween 0 end p q →
     KeepsFirst p q → MayTurnEven p q
 even_all_may p q end total t first = record {
   blocks = λ n. by_lt_or_le n end
@@ -158,7 +162,7 @@ even_all_may p q end total t first = record {
     }
 
 -- ---- frozen blocks after a step
-same_room : (b : FrozenBlocks) (p q : Planes) → HasSize p.words p.stride p.rows q → HasRoomForMarks b p →
+same_room : (b : FrozenBlocks) (p q : Planes) → HasWordsStrideRows p.words p.stride p.rows q → HasRoomForMarks b p →
     HasRoomForMarks b q
 same_room b p q size room = record {
   odd = rw (size.1, size.2) room.odd;
@@ -166,7 +170,7 @@ same_room b p q size room = record {
   empty = rw (size.1, size.2) room.empty;
 }
 
-pub frozen_odd : (b : FrozenBlocks) (p q : Planes) → HasSize p.words p.stride p.rows q → MayTurnOdd p q →
+pub frozen_odd : (b : FrozenBlocks) (p q : Planes) → HasWordsStrideRows p.words p.stride p.rows q → MayTurnOdd p q →
     IsFrozen b p → IsFrozen b q
 frozen_odd b p q size may f = record {
   room = same_room b p q size f.room;
@@ -187,9 +191,11 @@ frozen_odd b p q size may f = record {
 }
   where
     stays : (u : ℕ) → u < p.stride * p.rows → cell_at b.odd.items u ≡ true →
-        BlockStays p.words (bits_of p.words p.odd.items u) (bits_of p.words p.right.items u)
-        (bits_of p.words p.down.items u) (bits_of p.words p.even.items u) (bits_of p.words q.odd.items u)
-        (bits_of p.words q.right.items u) (bits_of p.words q.down.items u) (bits_of p.words q.even.items u)
+        BlockStays p.words (cell_word_bit p.words p.odd.items u) (cell_word_bit p.words p.right.items u)
+        (cell_word_bit p.words p.down.items u) (cell_word_bit p.words p.even.items u)
+        (cell_word_bit p.words q.odd.items u)
+        (cell_word_bit p.words q.right.items u) (cell_word_bit p.words q.down.items u)
+        (cell_word_bit p.words q.even.items u)
     stays u l m = held_stays p.words _ _ _ _ _ _ _ _ _ _ _ _ (f.odd u l m) (may u)
 
 -- after blocks of the even partition were turned
@@ -203,37 +209,38 @@ even_stays b p q may f n m = elim (may.blocks n) [
 -- the cells of a block of the odd partition that meet their conditions
 upper_left_stays : (b : FrozenBlocks) (p q : Planes) → MayTurnEven p q → IsFrozen b p → (u : ℕ) →
     IsNumberBeforeMarked b.even.items (p.stride + 1) u →
-    StaysBits p.words (bits_of p.words p.odd.items u) (bits_of p.words q.odd.items u)
+    StaysBits p.words (cell_word_bit p.words p.odd.items u) (cell_word_bit p.words q.odd.items u)
 upper_left_stays b p q may f u marked = by_lt_or_le u (p.stride + 1)
     (λ h. same_bits p.words u _ _ (λ k l. may.first.odd u k h l))
     (λ g. let e : u - (p.stride + 1) + p.stride + 1 ≡ u = omega (arith, g) in
-    subst (λ (v : ℕ). StaysBits p.words (bits_of p.words p.odd.items v) (bits_of p.words q.odd.items v)) e
+    subst (λ (v : ℕ). StaysBits p.words (cell_word_bit p.words p.odd.items v) (cell_word_bit p.words q.odd.items v)) e
     (even_stays b p q may f (u - (p.stride + 1)) (marked (u - (p.stride + 1)) (omega (arith, g)))).lower_right)
 
 upper_right_stays : (b : FrozenBlocks) (p q : Planes) → MayTurnEven p q → IsFrozen b p → (u : ℕ) →
     IsNumberBeforeMarked b.even.items p.stride u →
-    StaysBits p.words (bits_of p.words p.right.items u) (bits_of p.words q.right.items u)
+    StaysBits p.words (cell_word_bit p.words p.right.items u) (cell_word_bit p.words q.right.items u)
 upper_right_stays b p q may f u marked = by_lt_or_le u p.stride
     (λ h. same_bits p.words u _ _ (λ k l. may.first.right u k h l))
     (λ g. let e : u - p.stride + p.stride ≡ u = omega (arith, g) in
-    subst (λ (v : ℕ). StaysBits p.words (bits_of p.words p.right.items v) (bits_of p.words q.right.items v)) e
+    subst (λ (v : ℕ). StaysBits p.words (cell_word_bit p.words p.right.items v) (cell_word_bit p.words q.right.items v))
+    e
     (even_stays b p q may f (u - p.stride) (marked (u - p.stride) e)).lower_left)
 
 lower_left_stays : (b : FrozenBlocks) (p q : Planes) → MayTurnEven p q → IsFrozen b p → (u : ℕ) →
     IsNumberBeforeMarked b.even.items 1 u →
-    StaysBits p.words (bits_of p.words p.down.items u) (bits_of p.words q.down.items u)
+    StaysBits p.words (cell_word_bit p.words p.down.items u) (cell_word_bit p.words q.down.items u)
 lower_left_stays b p q may f u marked = by_lt_or_le u 1
     (λ h. same_bits p.words u _ _ (λ k l. may.first.down u k h l))
     (λ g. let e : u - 1 + 1 ≡ u = omega (arith, g) in
-    subst (λ (v : ℕ). StaysBits p.words (bits_of p.words p.down.items v) (bits_of p.words q.down.items v)) e
+    subst (λ (v : ℕ). StaysBits p.words (cell_word_bit p.words p.down.items v) (cell_word_bit p.words q.down.items v)) e
     (even_stays b p q may f (u - 1) (marked (u - 1) e)).upper_right)
 
 lower_right_stays : (b : FrozenBlocks) (p q : Planes) → MayTurnEven p q → IsFrozen b p → (u : ℕ) →
     IsNumberBeforeMarked b.even.items 0 u →
-    StaysBits p.words (bits_of p.words p.even.items u) (bits_of p.words q.even.items u)
+    StaysBits p.words (cell_word_bit p.words p.even.items u) (cell_word_bit p.words q.even.items u)
 lower_right_stays b p q may f u marked = (even_stays b p q may f u (marked u (omega arith))).upper_left
 
-pub frozen_even : (b : FrozenBlocks) (p q : Planes) → HasSize p.words p.stride p.rows q → MayTurnEven p q →
+pub frozen_even : (b : FrozenBlocks) (p q : Planes) → HasWordsStrideRows p.words p.stride p.rows q → MayTurnEven p q →
     IsFrozen b p → IsFrozen b q
 frozen_even b p q size may f = record {
   room = same_room b p q size f.room;
@@ -264,11 +271,11 @@ even_calm_at b p words f = record {
 }
 
 -- ---- frozen blocks, if they were found
-pub freezes_odd : (b : FrozenBlocks) (p q : Planes) → HasSize p.words p.stride p.rows q → MayTurnOdd p q →
+pub freezes_odd : (b : FrozenBlocks) (p q : Planes) → HasWordsStrideRows p.words p.stride p.rows q → MayTurnOdd p q →
     AreFrozenIfFound b p → AreFrozenIfFound b q
 freezes_odd b p q size may f = ∥∥₁_map f (λ h e. frozen_odd b p q size may (h e))
 
-pub freezes_even : (b : FrozenBlocks) (p q : Planes) → HasSize p.words p.stride p.rows q → MayTurnEven p q →
+pub freezes_even : (b : FrozenBlocks) (p q : Planes) → HasWordsStrideRows p.words p.stride p.rows q → MayTurnEven p q →
     AreFrozenIfFound b p → AreFrozenIfFound b q
 freezes_even b p q size may f = ∥∥₁_map f (λ h e. frozen_even b p q size may (h e))
 
@@ -304,7 +311,8 @@ found_again b v p f = record {
 }
 
 -- ---- a cell of a block of the odd partition that is not frozen changes
-pub freezes_put : (main anti : Bool) (u : ℕ) (b : FrozenBlocks) (p q : Planes) → HasSize p.words p.stride p.rows q →
+pub freezes_put : (main anti : Bool) (u : ℕ) (b : FrozenBlocks) (p q : Planes) →
+    HasWordsStrideRows p.words p.stride p.rows q →
     ChangesCells main anti u u u u p q → (b.is_found ≡ true → IsUnmarked b.odd.items u) → AreFrozenIfFound b p →
     AreFrozenIfFound b q
 freezes_put main anti u b p q size ch free f = ∥∥₁_map f (λ h e. put_kept (free e) (h e))
@@ -313,19 +321,19 @@ freezes_put main anti u b p q size ch free f = ∥∥₁_map f (λ h e. put_kept
     others unmarked v m e = false≢true (sym unmarked ∙ ap (cell_at b.odd.items) (sym e) ∙ m)
 
     odd_same : IsUnmarked b.odd.items u → (v : ℕ) → cell_at b.odd.items v ≡ true →
-        StaysBits p.words (bits_of p.words p.odd.items v) (bits_of p.words q.odd.items v)
+        StaysBits p.words (cell_word_bit p.words p.odd.items v) (cell_word_bit p.words q.odd.items v)
     odd_same unmarked v m = same_bits p.words v _ _ (λ k l. ch.odd_same v k l (λ t. others unmarked v m))
 
     right_same : IsUnmarked b.odd.items u → (v : ℕ) → cell_at b.odd.items v ≡ true →
-        StaysBits p.words (bits_of p.words p.right.items v) (bits_of p.words q.right.items v)
+        StaysBits p.words (cell_word_bit p.words p.right.items v) (cell_word_bit p.words q.right.items v)
     right_same unmarked v m = same_bits p.words v _ _ (λ k l. ch.right_same v k l (λ t. others unmarked v m))
 
     down_same : IsUnmarked b.odd.items u → (v : ℕ) → cell_at b.odd.items v ≡ true →
-        StaysBits p.words (bits_of p.words p.down.items v) (bits_of p.words q.down.items v)
+        StaysBits p.words (cell_word_bit p.words p.down.items v) (cell_word_bit p.words q.down.items v)
     down_same unmarked v m = same_bits p.words v _ _ (λ k l. ch.down_same v k l (λ t. others unmarked v m))
 
     even_same : IsUnmarked b.odd.items u → (v : ℕ) → cell_at b.odd.items v ≡ true →
-        StaysBits p.words (bits_of p.words p.even.items v) (bits_of p.words q.even.items v)
+        StaysBits p.words (cell_word_bit p.words p.even.items v) (cell_word_bit p.words q.even.items v)
     even_same unmarked v m = same_bits p.words v _ _ (λ k l. ch.even_same v k l (λ t. others unmarked v m))
 
     put_kept : IsUnmarked b.odd.items u → IsFrozen b p → IsFrozen b q
@@ -352,21 +360,21 @@ given_up b b' u p kept f = ∥∥₁_map f (λ h e. let k = kept e in
 -- ---- marks on all blocks but the frozen ones, and on all cells but those of the frozen and empty ones
 pub odd_calm_but : (b : FrozenBlocks) (marks : List ℕ) (p : Planes) → AreWords p → AreFrozenIfFound b p →
     b.is_found ≡ true → ((u : ℕ) → u < p.stride * p.rows → IsUnmarked marks u → cell_at b.odd.items u ≡ true) →
-    AreOddBlocksStable marks p
+    AreUnmarkedOddBlocksStable marks p
 odd_calm_but b marks p words f e but u l free = odd_calm_found b p words f e u l (but u l free)
 
 pub even_calm_but : (b : FrozenBlocks) (marks : List ℕ) (p : Planes) → AreWords p → AreFrozenIfFound b p →
     b.is_found ≡ true → ((u : ℕ) → u < p.stride * p.rows → IsUnmarked marks u → cell_at b.even.items u ≡ true) →
-    AreEvenBlocksStable marks p
+    AreUnmarkedEvenBlocksStable marks p
 even_calm_but b marks p words f e but u l inside free =
     (even_calm_found b p words f e).calm u l inside (but u (omega (arith, l)) free)
 
 dead_cell : (w u : ℕ) (cells : List ℕ) → ((k : ℕ) → get_or cells k 0 < 2 ^ 64) →
-    HasValueUnderAll false w (bits_of w cells u) → IsDeadCell w u cells
+    HasValueUnderAll false w (cell_word_bit w cells u) → IsDeadCell w u cells
 dead_cell w u cells small dead k l = zero_word (get_or cells (w * u + k) 0) (small (w * u + k)) (λ j h. dead k j l h)
 
 dead_but : (b : FrozenBlocks) (l : LiveMarks) (p : Planes) → AreWords p → IsFrozen b p →
-    AreMarkedUnlessInBoth (p.stride * p.rows) b.odd.items b.empty.items l → AllUnmarkedDead l p
+    AreCellsMarkedUnlessInBoth (p.stride * p.rows) b.odd.items b.empty.items l → AllUnmarkedDead l p
 dead_but b l p words f but = (
   λ u h free. let m = (but u h).0 free in dead_cell p.words u p.odd.items words.odd (f.empty u h m.0 m.1).upper_left,
   λ u h free. let m = (but u h).1 free in
@@ -379,6 +387,7 @@ dead_but b l p words f but = (
 
 pub dead_found : (b : FrozenBlocks) (l : LiveMarks) (p : Planes) → AreWords p → AreFrozenIfFound b p →
     b.is_found ≡ true →
-    (HasRoomForMarks b p → AreMarkedUnlessInBoth (p.stride * p.rows) b.odd.items b.empty.items l) → AllUnmarkedDead l p
+    (HasRoomForMarks b p → AreCellsMarkedUnlessInBoth (p.stride * p.rows) b.odd.items b.empty.items l) →
+    AllUnmarkedDead l p
 dead_found b l p words f e but =
     ∥∥₁_elim f (AllUnmarkedDead-prop l p) (λ h. dead_but b l p words (h e) (but (h e).room))

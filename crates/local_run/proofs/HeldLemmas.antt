@@ -1,7 +1,6 @@
 -- Blocks that some of their cells hold
 use Rattle.std.proofs.Common.{◌≡◌, ℕ, Bool, true, false, ◌<◌, ◌≤◌, ◌+◌, ◌-◌, ◌*◌, ◌^◌, ◌⊎◌, inl, inr, refl, arith, ◌∙◌}
-use Rattle.std.proofs.Common.{ap}
-use Rattle.std.proofs.Common.{List, get_or, ◌||◌}
+use Rattle.std.proofs.Common.{ap, List, get_or, ◌||◌}
 use Rattle.std.proofs.lemmas.Bool.{false≢true}
 use Rattle.std.proofs.Math.Nat.{mul-le-mul_left}
 use Rattle.std.proofs.lemmas.Grind.{common_steps}
@@ -10,7 +9,7 @@ use Rattle.bbm_rule.specs.Plane.{turned}
 use Rattle.bbm_rule.proofs.BitLemmas.{bit_above, bit-zero, by_lt_or_le}
 use Rattle.bbm_rule.proofs.MarkLemmas.{bit_ones}
 use Rattle.local_run.specs.Turns.{IsStableBlock}
-use Rattle.local_run.specs.Held.{HasValueUnderAll, IsEmptyBlock, IsHeldBlock, bits_of}
+use Rattle.local_run.specs.Held.{HasValueUnderAll, IsEmptyBlock, IsBlockHeldByCorners, cell_word_bit}
 
 -- ---- cells whose words are the same
 pub room_of : (w u n long : ℕ) → u < n → long ≡ w * n → w * u + w ≤ long
@@ -21,11 +20,11 @@ run_room w first end n long l h e = grind (arith, common_steps, mul-le-mul_left)
 
 pub all_live : (w at : ℕ) (cells : List ℕ) →
     ((k : ℕ) → k < w → get_or cells (w * at + k) 0 ≡ 18446744073709551615) →
-    HasValueUnderAll true w (bits_of w cells at)
+    HasValueUnderAll true w (cell_word_bit w cells at)
 all_live w at cells same k j lk lj = ap (λ (n : ℕ). bit n j) (same k lk) ∙ bit_ones j lj
 
 pub all_dead : (w at : ℕ) (cells : List ℕ) → ((k : ℕ) → k < w → get_or cells (w * at + k) 0 ≡ 0) →
-    HasValueUnderAll false w (bits_of w cells at)
+    HasValueUnderAll false w (cell_word_bit w cells at)
 all_dead w at cells same k j lk lj = ap (λ (n : ℕ). bit n j) (same k lk) ∙ bit-zero j
 
 -- ---- the rule on blocks whose diagonals both have a live cell, or none
@@ -109,7 +108,8 @@ one_live : (w : ℕ) (A D : Type 0) (a d : ℕ → ℕ → Bool) →
 one_live w A D a d (inl h) k j lk lj = first_live_assignment (a k j) (d k j) (h.1 k j lk lj)
 one_live w A D a d (inr h) k j lk lj = second_live (a k j) (d k j) (h.1 k j lk lj)
 
-held_calm : (w : ℕ) (A B C D : Type 0) (a b c d : ℕ → ℕ → Bool) → IsHeldBlock w A B C D a b c d → (k j : ℕ) → k < w →
+held_calm : (w : ℕ) (A B C D : Type 0) (a b c d : ℕ → ℕ → Bool) → IsBlockHeldByCorners w A B C D a b c d → (k j : ℕ) →
+    k < w →
     j < 64 → IsCalmAt (a k j) (b k j) (c k j) (d k j)
 held_calm w A B C D a b c d (inl h) k j lk lj =
     calm_live _ _ _ _ (one_live w A D a d h.main k j lk lj) (one_live w B C b c h.anti k j lk lj)
@@ -119,7 +119,8 @@ held_calm w A B C D a b c d (inr h) k j lk lj =
 
 -- a block of words that is held
 pub held_block : (w a b c d : ℕ) (ul ur ll lr : List ℕ) (A B C D : Type 0) →
-    IsHeldBlock w A B C D (bits_of w ul a) (bits_of w ur b) (bits_of w ll c) (bits_of w lr d) →
+    IsBlockHeldByCorners w A B C D (cell_word_bit w ul a) (cell_word_bit w ur b) (cell_word_bit w ll c)
+    (cell_word_bit w lr d) →
     ((k : ℕ) → get_or ul k 0 < 2 ^ 64) → ((k : ℕ) → get_or ur k 0 < 2 ^ 64) → ((k : ℕ) → get_or ll k 0 < 2 ^ 64) →
     ((k : ℕ) → get_or lr k 0 < 2 ^ 64) → IsStableBlock w a b c d ul ur ll lr
 held_block w a b c d ul ur ll lr A B C D held fa fb fc fd = (
@@ -131,12 +132,14 @@ held_block w a b c d ul ur ll lr A B C D held fa fb fc fd = (
         IsCalmAt (bit (get_or ul (w * a + k) 0) j) (bit (get_or ur (w * b + k) 0) j) (bit (get_or ll (w * c + k) 0) j)
         (bit (get_or lr (w * d + k) 0) j)
     calm k j l = by_lt_or_le j 64
-        (λ h. held_calm w A B C D (bits_of w ul a) (bits_of w ur b) (bits_of w ll c) (bits_of w lr d) held k j l h)
+        (λ h. held_calm w A B C D (cell_word_bit w ul a) (cell_word_bit w ur b) (cell_word_bit w ll c)
+        (cell_word_bit w lr d) held k j l h)
         (λ g. calm_dead _ _ _ _ (bit_above _ 64 j (fa (w * a + k)) g) (bit_above _ 64 j (fb (w * b + k)) g)
         (bit_above _ 64 j (fc (w * c + k)) g) (bit_above _ 64 j (fd (w * d + k)) g))
 
 -- a block that is held stays
-pub held_stays : (w : ℕ) (A B C D : Type 0) (a b c d a' b' c' d' : ℕ → ℕ → Bool) → IsHeldBlock w A B C D a b c d →
+pub held_stays : (w : ℕ) (A B C D : Type 0) (a b c d a' b' c' d' : ℕ → ℕ → Bool) →
+    IsBlockHeldByCorners w A B C D a b c d →
     MayTurn w a b c d a' b' c' d' → BlockStays w a b c d a' b' c' d'
 held_stays w A B C D a b c d a' b' c' d' h (inl t) = record {
   upper_left = λ k j lk lj. t.upper_left k j lk lj ∙ (held_calm w A B C D a b c d h k j lk lj).upper_left;
@@ -170,8 +173,8 @@ still_empty w A B C D a b c d a' b' c' d' sa sb sc sd h = record {
 
 -- and a block that is held is held still
 pub still_held : (w : ℕ) (A B C D : Type 0) (a b c d a' b' c' d' : ℕ → ℕ → Bool) → (A → StaysBits w a a') →
-    (B → StaysBits w b b') → (C → StaysBits w c c') → (D → StaysBits w d d') → IsHeldBlock w A B C D a b c d →
-    IsHeldBlock w A B C D a' b' c' d'
+    (B → StaysBits w b b') → (C → StaysBits w c c') → (D → StaysBits w d d') → IsBlockHeldByCorners w A B C D a b c d →
+    IsBlockHeldByCorners w A B C D a' b' c' d'
 still_held w A B C D a b c d a' b' c' d' sa sb sc sd (inl h) = inl (record {
   main = one_still w A D a d a' d' sa sd h.main;
   anti = one_still w B C b c b' c' sb sc h.anti;

@@ -13,7 +13,7 @@ use Rattle.bbm_rule.specs.Rows.{mate}
 use Rattle.bbm_rule.proofs.BitLemmas.{by_eq_or_not}
 use Rattle.bbm_rule.proofs.PairLemmas.{mate_even, mate_odd}
 use Rattle.local_run.specs.declared.planes.Planes.{Planes}
-use Rattle.local_run.specs.Lanes.{HasSize, lane, plane_of}
+use Rattle.local_run.specs.Lanes.{HasWordsStrideRows, lane, plane_of}
 
 abbrev pub place : Planes → ℕ → ℕ → ℕ → ℕ
 place p i j k = p.words * (p.stride * j + i) + k
@@ -43,7 +43,7 @@ pub place_below : (w s r i j k : ℕ) → i < s → j < r → k < w → w * (s *
 place_below w s r i j k li lj lk = grind (arith, common_steps, mul-le-mul_left)
 
 -- where the four planes are turned at each place, each cell is turned in its block
-pub odd_lane : (p q : Planes) → HasSize p.words p.stride p.rows q →
+pub odd_lane : (p q : Planes) → HasWordsStrideRows p.words p.stride p.rows q →
     ((k : ℕ) → k < p.words * (p.stride * p.rows) →
     AreTurnedAt k p.odd.items p.right.items p.down.items p.even.items q.odd.items q.right.items q.down.items
     q.even.items) → (a x y : ℕ) → a < 64 * p.words → x < 2 * p.stride → y < 2 * p.rows →
@@ -171,7 +171,7 @@ across_turned across below n n0 n1 n2 n3 ul ur dl dr a b c d e0 e1 e2 e3 total l
 }
 
 -- the same for the blocks between the cells of four planes, where the ring is left out
-pub inner_lane : (p q : Planes) → HasSize p.words p.stride p.rows q →
+pub inner_lane : (p q : Planes) → HasWordsStrideRows p.words p.stride p.rows q →
     ((i j k : ℕ) → 1 + i < p.stride → 1 + j < p.rows → k < p.words →
     AreTurned (get_or p.even.items (place p i j k) 0) (get_or p.down.items (place p (1 + i) j k) 0)
     (get_or p.right.items (place p i (1 + j) k) 0) (get_or p.odd.items (place p (1 + i) (1 + j) k) 0)
@@ -275,7 +275,7 @@ inner_lane p q size turns a x y la lx ly =
     ) ((turned_at i j li lj).lower_right (a % 64))
 
 -- where the words of all blocks are turned, one after another
-pub even_lane : (p q : Planes) → HasSize p.words p.stride p.rows q →
+pub even_lane : (p q : Planes) → HasWordsStrideRows p.words p.stride p.rows q →
     p.words * (p.stride * p.rows) ≡ length p.even.items →
     TurnsAcross p.words (p.words * p.stride) p.even.items p.down.items p.right.items p.odd.items q.even.items
     q.down.items q.right.items q.odd.items → (a x y : ℕ) → a < 64 * p.words → x + 2 < 2 * p.stride →

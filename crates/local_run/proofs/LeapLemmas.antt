@@ -1,11 +1,9 @@
 -- Runs that stay as they are, and times that can be leapt over
-use Rattle.std.proofs.Common.{◌≡◌, ◌≢◌, ℕ, zero, suc, ◌<◌, ◌≤◌, ◌+◌, ◌-◌, ◌%◌, ◌&&◌, ◌||◌, List, length, Option}
-use Rattle.std.proofs.Common.{Some}
-use Rattle.std.proofs.Common.{None, Less, Greater, refl, arith, sym, ◌∙◌, ap, ap₂, inl, inr, subst}
-use Rattle.std.specs.Prelude.{ℤ, ◌+ℤ◌, slice_get, unwrap_or}
+use Rattle.std.proofs.Common.{◌≡◌, ◌≢◌, ℕ, zero, suc, ◌<◌, ◌≤◌, ◌+◌, ◌-◌, ◌%◌, ◌&&◌, ◌||◌, List, length, Option, Some}
+use Rattle.std.proofs.Common.{None, Less, Greater, refl, arith, sym, ◌∙◌, ap, ap₂, inl, inr, subst, rules, true, false}
+use Rattle.std.proofs.Common.{ℤ, ◌+ℤ◌, slice_get, unwrap_or, int_eq, nat_cmp}
 use Rattle.std.proofs.lemmas.Option.{slice_get_within}
-use Rattle.std.specs.Ordering.{int_eq, nat_cmp, ordering_then}
-use Rattle.std.proofs.Common.{rules, true, false}
+use Rattle.std.specs.Ordering.{ordering_then}
 use Rattle.std.proofs.lemmas.Bool.{and_parts, false≢true}
 use Rattle.std.proofs.lemmas.Grind.{common_steps}
 use Rattle.bbm_rule.specs.Plane.{State, is_at, partner, turned, step}
@@ -26,7 +24,8 @@ use Rattle.module_box.proofs.Rising.{all_times_found, all_times_none, event_foun
 use Rattle.module_job.specs.Jobs.{JobView}
 use Rattle.module_job.specs.Signals.{is_live}
 use Rattle.local_run.specs.Laws.{QuietRunStaysUnchanged, QuietRunAddsNoEdgeFault}
-use Rattle.local_run.specs.Leaps.{HasNoEvents, IsOddOf, HasSameSignalsAtOddTimes, IsTimeBetween, IsRunUnchangedUntil}
+use Rattle.local_run.specs.Leaps.{HasNoEventsBetween, IsOddOf, HasSameSignalsAtOddTimes, IsTimeBetween}
+use Rattle.local_run.specs.Leaps.{IsRunUnchangedUntil}
 use Rattle.local_run.specs.Runs.{with_halo, local_run}
 use Rattle.local_run.proofs.LocalRuns.{even_or_odd, local_even, local_odd, step_all_same}
 
@@ -227,11 +226,11 @@ drop_time es t low high m a rising b at le = record {
 
 -- the bounds have met at an event: there is none between t and its time
 pub none_until : (es : List TimedSignal) (t low high n : ℕ) (a : TimedSignal) → IsRising moment_cmp moment_of es →
-    IsTimeBetween es t low high → high ≤ low → slice_get es low ≡ Some a → n ≤ a.at.time → HasNoEvents es t n
+    IsTimeBetween es t low high → high ≤ low → slice_get es low ≡ Some a → n ≤ a.at.time → HasNoEventsBetween es t n
 none_until es t low high n a rising b met at le i e ei from to = grind (arith, common_steps, by_lt_or_le, later)
 
 pub none_before : (es : List TimedSignal) (t low high : ℕ) (a : TimedSignal) → IsRising moment_cmp moment_of es →
-    IsTimeBetween es t low high → high ≤ low → slice_get es low ≡ Some a → HasNoEvents es t a.at.time
+    IsTimeBetween es t low high → high ≤ low → slice_get es low ≡ Some a → HasNoEventsBetween es t a.at.time
 none_before es t low high a rising b met at = none_until es t low high a.at.time a rising b met at (omega arith)
 
 -- that time is not before t
@@ -241,11 +240,11 @@ above_at es t low high a b met at = b.above low a met at
 
 -- or at the end
 pub none_at_all : (es : List TimedSignal) (t low high n : ℕ) → IsTimeBetween es t low high → length es ≤ low →
-    HasNoEvents es t n
+    HasNoEventsBetween es t n
 none_at_all es t low high n b met i e ei from to = grind (arith, common_steps, by_lt_or_le, slice_get_within)
 
 -- ---- where there are no events, signals stay
-pub steady : (s : Signals) (t n : ℕ) → HasNoEvents s.events t n → HasSameSignalsAtOddTimes s t n
+pub steady : (s : Signals) (t n : ℕ) → HasNoEventsBetween s.events t n → HasSameSignalsAtOddTimes s t n
 unfolding signal_at
 steady s t n none k x y from to odd =
     let at : (m : ℕ) → t ≤ m → m < n → event_at s.events m x y ≡ None =

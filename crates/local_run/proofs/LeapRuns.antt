@@ -1,7 +1,6 @@
 -- Runs under all assignments that leap over times
-use Rattle.std.proofs.Common.{◌≡◌, ℕ, Bool, true, false, ◌||◌, ◌<◌, ◌≤◌, ◌+◌, ◌-◌, ◌%◌, refl, arith, sym, ◌∙◌}
-use Rattle.std.proofs.Common.{subst, inl, inr, ◌⊎◌}
-use Rattle.std.specs.Prelude.{ℤ}
+use Rattle.std.proofs.Common.{◌≡◌, ℕ, Bool, true, false, ◌||◌, ◌<◌, ◌≤◌, ◌+◌, ◌-◌, ◌%◌, refl, arith, sym, ◌∙◌, subst}
+use Rattle.std.proofs.Common.{inl, inr, ◌⊎◌, ℤ}
 use Rattle.std.proofs.lemmas.Bool.{and_parts, cases_Bool, false≢true}
 use Rattle.std.proofs.lemmas.Grind.{common_steps}
 use Rattle.bbm_rule.specs.Spans.{in_span}

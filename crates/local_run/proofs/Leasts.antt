@@ -1,7 +1,7 @@
 -- From the first fault of a time and a kind to the least fault of the job
 use Rattle.std.proofs.Common.{◌≡◌, ◌≢◌, ℕ, ◌+◌, true, false, length, ◌<◌, ◌≤◌, ◌%◌, refl, arith, sym, ◌∙◌, subst}
-use Rattle.std.proofs.Common.{Option, Some, None, Ordering, Less, Equal, Greater, ◌⊎◌, inl, inr}
-use Rattle.std.specs.Prelude.{ℤ, ◌<ℤ◌, ◌↔◌, MatchOption, IsTrue}
+use Rattle.std.proofs.Common.{Option, Some, None, Ordering, Less, Equal, Greater, ◌⊎◌, inl, inr, ℤ, ◌<ℤ◌, ◌↔◌}
+use Rattle.std.proofs.Common.{MatchOption, IsTrue, All, nat_cmp, int_cmp}
 use Rattle.std.proofs.Props.{props}
 use Rattle.std.proofs.lemmas.Option.{slice_get_within}
 use Rattle.std.proofs.lemmas.Grind.{common_steps}
@@ -11,9 +11,8 @@ use Rattle.std.proofs.Math.Logic.{∥∥₁_elim}
 use Rattle.bbm_rule.specs.Bits.{bit}
 use Rattle.circuit.proofs.Undefined.{undefined_has_none}
 use Rattle.module_box.specs.LocalValues.{AreRowsAt, value_of}
-use Rattle.std.specs.List.{All}
 use Rattle.bbm_rule.proofs.BitLemmas.{by_lt_or_le}
-use Rattle.std.specs.Ordering.{nat_cmp, int_cmp, ordering_then}
+use Rattle.std.specs.Ordering.{ordering_then}
 use Rattle.module_box.specs.Moments.{cell_cmp}
 use Rattle.circuit.specs.Meaning.{IsUndefined}
 use Rattle.module_job.specs.Jobs.{JobView}
@@ -26,9 +25,8 @@ use Rattle.local_run.specs.declared.fault.Kind.{Kind}
 use Rattle.local_run.specs.declared.fault.Kind.TheVariants.{Edge, Stop, End}
 use Rattle.local_run.proofs.Decided.{decided}
 use Rattle.local_run.specs.Laws.{NoFaultWhereUndefined}
-use Rattle.local_run.specs.Scans.{HasNoEdgeFault, IsReady, IsFirst, IsFirstAt, IsDefinedFault, HasNoFaultOfKind}
-use Rattle.local_run.specs.Scans.{IsLeastBelow}
-use Rattle.local_run.specs.Scans.{is_defined, valuation}
+use Rattle.local_run.specs.Scans.{HasNoEdgeFaultAtOddTime, IsReady, IsFirst, IsFirstFaultAt, IsFaultWhereDefined}
+use Rattle.local_run.specs.Scans.{HasNoFaultOfKind, IsLeastBelow, is_defined_under, valuation}
 use Rattle.local_run.specs.declared.values.Values.{Values}
 
 nat_greater : (a b : ℕ) → nat_cmp a b ≡ Greater → b < a
@@ -101,17 +99,17 @@ rows_at j vs a ready small = ready.rows.each a
 
 -- what a fault is under the values that are given
 pub under : (j : JobView) (vs : Values) (f : Fault) → IsReady j vs → IsFault j f →
-    IsDefinedFault j vs f.assignment f.time f.kind f.cell.x f.cell.y
+    IsFaultWhereDefined j vs f.assignment f.time f.kind f.cell.x f.cell.y
 under j vs f ready h =
     let rows = rows_at j vs f.assignment ready h.in_range in
-    elim (cases_Bool (is_defined vs f.assignment)) [
+    elim (cases_Bool (is_defined_under vs f.assignment)) [
       | inl e ↦ (e, (decided j f (valuation vs f.assignment) ready.job ready.ordered h.in_range (rows.local e)).0 h)
       | inr e ↦ let gap = rows.none e in absurd (undefined_no_fault j f gap.0 ready.ordered gap.1 h)
     ]
 
 -- and from them
 shown : (j : JobView) (vs : Values) (f : Fault) → IsReady j vs → f.assignment < assignments j →
-    IsDefinedFault j vs f.assignment f.time f.kind f.cell.x f.cell.y → IsFault j f
+    IsFaultWhereDefined j vs f.assignment f.time f.kind f.cell.x f.cell.y → IsFault j f
 shown j vs f ready small h = (decided j f (valuation vs f.assignment) ready.job ready.ordered small
     ((rows_at j vs f.assignment ready small).local h.0)).1 h.1
 
@@ -124,17 +122,17 @@ first_least j vs f ready first earlier lower = (
   (λ g h. not_greater f g (earlier g h) (lower g h)
       (λ et ek l. first.row g.cell.x g.cell.y g.assignment h.in_range l (moved g h et ek))
       (λ et ek ey l. first.column g.cell.x g.assignment h.in_range l
-      (subst (λ (z : ℤ). IsDefinedFault j vs g.assignment f.time f.kind g.cell.x z) (sym ey) (moved g h et ek)))
+      (subst (λ (z : ℤ). IsFaultWhereDefined j vs g.assignment f.time f.kind g.cell.x z) (sym ey) (moved g h et ek)))
       (λ et ek ey ex l. first.assignment g.assignment l
-      (subst (λ (z : ℤ). IsDefinedFault j vs g.assignment f.time f.kind z f.cell.y) (sym ex)
-      (subst (λ (z : ℤ). IsDefinedFault j vs g.assignment f.time f.kind g.cell.x z) (sym ey) (moved g h et ek))))),
+      (subst (λ (z : ℤ). IsFaultWhereDefined j vs g.assignment f.time f.kind z f.cell.y) (sym ex)
+      (subst (λ (z : ℤ). IsFaultWhereDefined j vs g.assignment f.time f.kind g.cell.x z) (sym ey) (moved g h et ek))))),
 )
   where
     moved : (g : Fault) → IsFault j g → f.time ≡ g.time → kind_number f.kind ≡ kind_number g.kind →
-        IsDefinedFault j vs g.assignment f.time f.kind g.cell.x g.cell.y
+        IsFaultWhereDefined j vs g.assignment f.time f.kind g.cell.x g.cell.y
     moved g h et ek =
-        subst (λ (t : ℕ). IsDefinedFault j vs g.assignment t f.kind g.cell.x g.cell.y) (sym et)
-        (subst (λ (k : Kind). IsDefinedFault j vs g.assignment g.time k g.cell.x g.cell.y) (sym (kind_same _ _ ek))
+        subst (λ (t : ℕ). IsFaultWhereDefined j vs g.assignment t f.kind g.cell.x g.cell.y) (sym et)
+        (subst (λ (k : Kind). IsFaultWhereDefined j vs g.assignment g.time k g.cell.x g.cell.y) (sym (kind_same _ _ ek))
         (under j vs g ready h))
 
 -- no time before t has a fault of an edge or of a stop
@@ -142,7 +140,7 @@ pub record AreFreeBefore (j : JobView) (vs : Values) (t : ℕ) : Type 0 where
   pub edges : (s : ℕ) → s < t → s % 2 ≡ 1 → HasNoFaultOfKind j vs s Edge
   pub stops : (s : ℕ) → s < t → HasNoFaultOfKind j vs s Stop
 
-pub free_more : (j : JobView) (vs : Values) (t : ℕ) → AreFreeBefore j vs t → HasNoEdgeFault j vs t →
+pub free_more : (j : JobView) (vs : Values) (t : ℕ) → AreFreeBefore j vs t → HasNoEdgeFaultAtOddTime j vs t →
     HasNoFaultOfKind j vs t Stop → AreFreeBefore j vs (t + 1)
 free_more j vs t free edges stops = record {
   edges = λ s l odd. by_lt_or_le s t (λ h. free.edges s h odd)
@@ -154,7 +152,7 @@ free_more j vs t free edges stops = record {
 
 -- then there is no fault before t, where the last time is not before
 before_free : (j : JobView) (vs : Values) (t : ℕ) → t ≤ j.steps → AreFreeBefore j vs t →
-    (s : ℕ) (k : Kind) (x y : ℤ) (a : ℕ) → a < assignments j → IsDefinedFault j vs a s k x y → ¬ (s < t)
+    (s : ℕ) (k : Kind) (x y : ℤ) (a : ℕ) → a < assignments j → IsFaultWhereDefined j vs a s k x y → ¬ (s < t)
 before_free j vs t early free s Edge x y a small d l = free.edges s l d.1.odd x y a small d
 before_free j vs t early free s Stop x y a small d l = free.stops s l x y a small d
 before_free j vs t early free s End x y a small d l = let e = d.1.last in omega arith
@@ -171,39 +169,39 @@ is_first j vs t k f first = grind (arith, common_steps)
 -- from the first fault of a kind at a time, where the kinds before it have no fault at the time
 least_at : (j : JobView) (vs : Values) (t : ℕ) (k : Kind) (f : Fault) → IsReady j vs → t ≤ j.steps →
     AreFreeBefore j vs t → IsFirst j vs t k f →
-    ((l : Kind) (x y : ℤ) (a : ℕ) → a < assignments j → IsDefinedFault j vs a t l x y →
+    ((l : Kind) (x y : ℤ) (a : ℕ) → a < assignments j → IsFaultWhereDefined j vs a t l x y →
     ¬ (kind_number l < kind_number k)) →
     IsLeastFault j (Some f)
 least_at j vs t k f ready early free first lower = first_least j vs f ready (is_first j vs t k f first)
     (λ g h l. none_before j vs t ready early free g h (subst (λ (n : ℕ). g.time < n) first.at_time l))
     (λ g h e l. lower g.kind g.cell.x g.cell.y g.assignment h.in_range
-    (subst (λ (n : ℕ). IsDefinedFault j vs g.assignment n g.kind g.cell.x g.cell.y) (sym e ∙ first.at_time)
+    (subst (λ (n : ℕ). IsFaultWhereDefined j vs g.assignment n g.kind g.cell.x g.cell.y) (sym e ∙ first.at_time)
     (under j vs g ready h))
     (subst (λ (q : Kind). kind_number g.kind < kind_number q) first.same_kind l))
 
 none_below_edge : (j : JobView) (vs : Values) (t : ℕ) (l : Kind) (x y : ℤ) (a : ℕ) → a < assignments j →
-    IsDefinedFault j vs a t l x y → ¬ (kind_number l < 0)
+    IsFaultWhereDefined j vs a t l x y → ¬ (kind_number l < 0)
 none_below_edge j vs t l x y a small d h = omega (arith, h)
 
-none_below_stop : (j : JobView) (vs : Values) (t : ℕ) → HasNoEdgeFault j vs t → (l : Kind) (x y : ℤ) (a : ℕ) →
-    a < assignments j → IsDefinedFault j vs a t l x y → ¬ (kind_number l < 1)
+none_below_stop : (j : JobView) (vs : Values) (t : ℕ) → HasNoEdgeFaultAtOddTime j vs t → (l : Kind) (x y : ℤ) (a : ℕ) →
+    a < assignments j → IsFaultWhereDefined j vs a t l x y → ¬ (kind_number l < 1)
 none_below_stop j vs t edges Edge x y a small d h = edges d.1.odd x y a small d
 none_below_stop j vs t edges Stop x y a small d h = omega (arith, h)
 none_below_stop j vs t edges End x y a small d h = omega (arith, h)
 
 -- at the last time no edge is looked at
-no_last_edge : (j : JobView) (vs : Values) → HasNoEdgeFault j vs j.steps
+no_last_edge : (j : JobView) (vs : Values) → HasNoEdgeFaultAtOddTime j vs j.steps
 no_last_edge j vs odd x y a small d = let e = d.1.early in omega (arith, e)
 
 none_below_end : (j : JobView) (vs : Values) → HasNoFaultOfKind j vs j.steps Stop → (l : Kind) (x y : ℤ) (a : ℕ) →
-    a < assignments j → IsDefinedFault j vs a j.steps l x y → ¬ (kind_number l < 2)
+    a < assignments j → IsFaultWhereDefined j vs a j.steps l x y → ¬ (kind_number l < 2)
 none_below_end j vs stops Edge x y a small d h = no_last_edge j vs d.1.odd x y a small d
 none_below_end j vs stops Stop x y a small d h = stops x y a small d
 none_below_end j vs stops End x y a small d h = omega (arith, h)
 
 -- the first fault at a time before the last
 pub early_least : (j : JobView) (vs : Values) (t : ℕ) (f : Fault) → IsReady j vs → t < j.steps → AreFreeBefore j vs t →
-    IsFirstAt j vs t f → IsLeastFault j (Some f)
+    IsFirstFaultAt j vs t f → IsLeastFault j (Some f)
 early_least j vs t f ready early free (inl edge) =
     least_at j vs t Edge f ready (omega (arith, early)) free edge.1 (none_below_edge j vs t)
 early_least j vs t f ready early free (inr stop) =
@@ -218,7 +216,7 @@ last_stop_least j vs f ready free first =
 -- no fault at all
 none_left : (j : JobView) (vs : Values) → AreFreeBefore j vs j.steps → HasNoFaultOfKind j vs j.steps Stop →
     HasNoFaultOfKind j vs j.steps End → All (λ s. s.at.time ≤ j.steps) j.stops →
-    (t : ℕ) (k : Kind) (x y : ℤ) (a : ℕ) → a < assignments j → ¬ IsDefinedFault j vs a t k x y
+    (t : ℕ) (k : Kind) (x y : ℤ) (a : ℕ) → a < assignments j → ¬ IsFaultWhereDefined j vs a t k x y
 none_left j vs free stops ends timed t Edge x y a small d = free.edges t d.1.early d.1.odd x y a small d
 none_left j vs free stops ends timed t Stop x y a small d =
     by_lt_or_le t j.steps (λ h. free.stops t h x y a small d)
@@ -227,9 +225,9 @@ none_left j vs free stops ends timed t Stop x y a small d =
     subst (λ (s : listed.Stop). s.at.time ≤ j.steps) d.1.is_listed.2 (timed d.1.is_listed.0 d.1.stop d.1.is_listed.1) in
     let time = d.1.time in
     let e : t ≡ j.steps = omega (arith, here, time, h) in
-    stops x y a small (subst (λ (n : ℕ). IsDefinedFault j vs a n Stop x y) e d))
+    stops x y a small (subst (λ (n : ℕ). IsFaultWhereDefined j vs a n Stop x y) e d))
 none_left j vs free stops ends timed t End x y a small d =
-    ends x y a small (subst (λ (n : ℕ). IsDefinedFault j vs a n End x y) d.1.last d)
+    ends x y a small (subst (λ (n : ℕ). IsFaultWhereDefined j vs a n End x y) d.1.last d)
 
 -- the first fault of a demand, or none
 pub end_least_fault : (j : JobView) (vs : Values) (o : Option Fault) → IsReady j vs → AreFreeBefore j vs j.steps →
@@ -243,7 +241,8 @@ end_least_fault j vs None ready free stops ends = λ g h.
     (under j vs g ready h)
 
 -- where each assignment lacks the row of a used gate, there is no fault
-pub none_undefined : (j : JobView) (vs : Values) → IsReady j vs → ((a : ℕ) → a < vs.count → is_defined vs a ≡ false) →
+pub none_undefined : (j : JobView) (vs : Values) → IsReady j vs →
+    ((a : ℕ) → a < vs.count → is_defined_under vs a ≡ false) →
     IsLeastFault j None
 none_undefined j vs ready none f h =
     true≢false (sym (under j vs f ready h).0

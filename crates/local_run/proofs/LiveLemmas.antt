@@ -1,16 +1,16 @@
 -- Cells that are known to be dead, and blocks of which one cell at most is live
 use Rattle.std.proofs.Common.{◌≡◌, ◌≢◌, ℕ, Bool, true, false, ◌<◌, ◌≤◌, ◌+◌, ◌-◌, ◌*◌, ◌⊎◌, arith, refl, sym, ◌∙◌, ap}
-use Rattle.std.proofs.Common.{subst}
-use Rattle.std.proofs.Common.{List, get_or, set, length, inl, inr}
+use Rattle.std.proofs.Common.{subst, List, get_or, set, length, inl, inr}
 use Rattle.std.proofs.lemmas.List.{get_or-set_other, get_or-set_same}
 use Rattle.bbm_rule.specs.Bits.{bit}
 use Rattle.bbm_rule.specs.Plane.{turned}
 use Rattle.bbm_rule.specs.Words.{AreTurned}
 use Rattle.bbm_rule.proofs.BitLemmas.{bit-zero, by_lt_or_le}
-use Rattle.local_run.specs.Calm.{AreDead, ChangesCells, AreEvenBlocksStable, IsDeadAt, AreOddBlocksStable}
-use Rattle.local_run.specs.Lanes.{HasSize}
-use Rattle.local_run.specs.Live.{AllUnmarkedDead, AreMarked, AreUnmarked, AreUnmarkedCellsDead, UnmarksIfDead}
-use Rattle.local_run.specs.Live.{IsDeadCell, MarksCell, TakesMark}
+use Rattle.local_run.specs.Calm.{AreAllCellsDead, ChangesCells, AreUnmarkedEvenBlocksStable, AreFourCellsDead}
+use Rattle.local_run.specs.Calm.{AreUnmarkedOddBlocksStable}
+use Rattle.local_run.specs.Lanes.{HasWordsStrideRows}
+use Rattle.local_run.specs.Live.{AllUnmarkedDead, AreFirstCellsMarked, AreBlockCellsUnmarked, AreUnmarkedCellsDead}
+use Rattle.local_run.specs.Live.{UnmarksIfDead, IsDeadCell, MarksCellIf, TakesMarkOfOther}
 use Rattle.local_run.specs.Turns.{DiagonalStays, IsStableBlock, SameBeside, SwapsPart, TurnsPart}
 use Rattle.local_run.specs.declared.live.LiveMarks.{LiveMarks}
 use Rattle.local_run.specs.declared.planes.Planes.{Planes}
@@ -161,19 +161,19 @@ anti_cells odd right down even p q s eo ee = record {
 -- those whose marks and words changed places
 swap_dead : (w n a b : ℕ) (m o m' xs ys xs' : List ℕ) → b < n → AreUnmarkedCellsDead w n m xs →
     AreUnmarkedCellsDead w n o ys →
-    TakesMark a b m o m' → SameBeside (w * a) w xs xs' →
+    TakesMarkOfOther a b m o m' → SameBeside (w * a) w xs xs' →
     ((k : ℕ) → k < w → get_or xs' (w * a + k) 0 ≡ get_or ys (w * b + k) 0) → AreUnmarkedCellsDead w n m' xs'
 swap_dead w n a b m o m' xs ys xs' lb dead others takes beside moved v l free k h = elim (takes v free) [
   | inl kept ↦ other_cell w a v k xs xs' beside h kept.0 ∙ dead v l kept.1 k h
   | inr taken ↦ subst (λ (z : ℕ). get_or xs' (w * z + k) 0 ≡ 0) (sym taken.0) (moved k h ∙ others b lb taken.1 k h)
 ]
 
-pub main_dead : (odd even : ℕ) (l l' : LiveMarks) (p q : Planes) → HasSize p.words p.stride p.rows q →
+pub main_dead : (odd even : ℕ) (l l' : LiveMarks) (p q : Planes) → HasWordsStrideRows p.words p.stride p.rows q →
     odd < p.stride * p.rows → even < p.stride * p.rows →
     SwapsPart (p.words * odd) (p.words * even) p.words p.odd.items p.even.items q.odd.items q.even.items →
     q.right ≡ p.right → q.down ≡ p.down →
-    TakesMark odd even l.odd.items l.even.items l'.odd.items →
-    TakesMark even odd l.even.items l.odd.items l'.even.items → l'.right ≡ l.right → l'.down ≡ l.down →
+    TakesMarkOfOther odd even l.odd.items l.even.items l'.odd.items →
+    TakesMarkOfOther even odd l.even.items l.odd.items l'.even.items → l'.right ≡ l.right → l'.down ≡ l.down →
     AllUnmarkedDead l p →
     AllUnmarkedDead l' q
 main_dead odd even l l' p q size lo le s er ed to te mr md dead = rw (size.0, size.1, size.2, er, ed, mr, md) (
@@ -185,12 +185,12 @@ main_dead odd even l l' p q size lo le s er ed to te mr md dead = rw (size.0, si
       q.even.items lo dead.3 dead.0 te s.second_beside s.second,
 )
 
-pub anti_dead : (right down : ℕ) (l l' : LiveMarks) (p q : Planes) → HasSize p.words p.stride p.rows q →
+pub anti_dead : (right down : ℕ) (l l' : LiveMarks) (p q : Planes) → HasWordsStrideRows p.words p.stride p.rows q →
     right < p.stride * p.rows → down < p.stride * p.rows →
     SwapsPart (p.words * right) (p.words * down) p.words p.right.items p.down.items q.right.items q.down.items →
     q.odd ≡ p.odd → q.even ≡ p.even →
-    TakesMark right down l.right.items l.down.items l'.right.items →
-    TakesMark down right l.down.items l.right.items l'.down.items → l'.odd ≡ l.odd → l'.even ≡ l.even →
+    TakesMarkOfOther right down l.right.items l.down.items l'.right.items →
+    TakesMarkOfOther down right l.down.items l.right.items l'.down.items → l'.odd ≡ l.odd → l'.even ≡ l.even →
     AllUnmarkedDead l p →
     AllUnmarkedDead l' q
 anti_dead right down l l' p q size lr ld s eo ee tr td mo me dead = rw (size.0, size.1, size.2, eo, ee, mo, me) (
@@ -203,16 +203,16 @@ anti_dead right down l l' p q size lr ld s eo ee tr td mo me dead = rw (size.0, 
 )
 
 -- those of a block that was turned, where the cells that may have changed have marks
-kept_dead : (changes : Bool) (w n c : ℕ) (m m' xs ys : List ℕ) → MarksCell changes c m m' →
+kept_dead : (changes : Bool) (w n c : ℕ) (m m' xs ys : List ℕ) → MarksCellIf changes c m m' →
     ((u k : ℕ) → k < w → (changes ≡ true → u ≢ c) → get_or ys (w * u + k) 0 ≡ get_or xs (w * u + k) 0) →
     AreUnmarkedCellsDead w n m xs → AreUnmarkedCellsDead w n m' ys
 kept_dead changes w n c m m' xs ys marks same dead u l free k h = let f = marks u free in
     same u k h f.1 ∙ dead u l f.0 k h
 
 pub cells_dead : (main anti : Bool) (odd right down even : ℕ) (l l' : LiveMarks) (p q : Planes) →
-    HasSize p.words p.stride p.rows q → ChangesCells main anti odd right down even p q →
-    MarksCell main odd l.odd.items l'.odd.items → MarksCell anti right l.right.items l'.right.items →
-    MarksCell anti down l.down.items l'.down.items → MarksCell main even l.even.items l'.even.items →
+    HasWordsStrideRows p.words p.stride p.rows q → ChangesCells main anti odd right down even p q →
+    MarksCellIf main odd l.odd.items l'.odd.items → MarksCellIf anti right l.right.items l'.right.items →
+    MarksCellIf anti down l.down.items l'.down.items → MarksCellIf main even l.even.items l'.even.items →
     AllUnmarkedDead l p →
     AllUnmarkedDead l' q
 cells_dead main anti odd right down even l l' p q size ch mo mr md me dead = rw (size.0, size.1, size.2) (
@@ -246,7 +246,8 @@ drops_dead odd right down even l l' p od rd dd ed dead = (
 )
 
 -- none, where all have marks
-pub marked_dead : (n : ℕ) (l : LiveMarks) (p : Planes) → p.stride * p.rows ≤ n → AreMarked n l → AllUnmarkedDead l p
+pub marked_dead : (n : ℕ) (l : LiveMarks) (p : Planes) → p.stride * p.rows ≤ n → AreFirstCellsMarked n l →
+    AllUnmarkedDead l p
 marked_dead n l p room all = (
   λ u h free. absurd ((all u (omega (arith, room, h))).0 free),
   λ u h free. absurd ((all u (omega (arith, room, h))).1 free),
@@ -255,7 +256,7 @@ marked_dead n l p room all = (
 )
 
 -- and whichever have marks, where all cells are dead
-pub dead_all : (l : LiveMarks) (p : Planes) → AreDead p → AllUnmarkedDead l p
+pub dead_all : (l : LiveMarks) (p : Planes) → AreAllCellsDead p → AllUnmarkedDead l p
 dead_all l p dead = (
   (λ u h free k i. (dead u k i).0),
   (λ u h free k i. (dead u k i).1),
@@ -265,14 +266,14 @@ dead_all l p dead = (
 
 -- the four cells with a number, where none has a mark
 pub dead_at : (u : ℕ) (l : LiveMarks) (p : Planes) → u < p.stride * p.rows → AllUnmarkedDead l p →
-    AreUnmarked l u u u u →
-    IsDeadAt u p
+    AreBlockCellsUnmarked l u u u u →
+    AreFourCellsDead u p
 dead_at u l p h dead free k i =
     (dead.0 u h free.0 k i, dead.1 u h free.1 k i, dead.2 u h free.2 k i, dead.3 u h free.3 k i)
 
 -- a block of the even partition of which no cell has a mark
 pub dead_block : (u : ℕ) (l : LiveMarks) (p : Planes) → u + p.stride + 1 < p.stride * p.rows → AllUnmarkedDead l p →
-    AreUnmarked l (u + p.stride + 1) (u + p.stride) (u + 1) u →
+    AreBlockCellsUnmarked l (u + p.stride + 1) (u + p.stride) (u + 1) u →
     IsStableBlock p.words u (u + 1) (u + p.stride)
     (u + p.stride + 1) p.even.items p.down.items p.right.items p.odd.items
 dead_block u l p room dead free =
@@ -281,11 +282,11 @@ dead_block u l p room dead free =
     (dead.0 (u + p.stride + 1) (omega arith) free.0)
 
 -- each block stays, where all cells are dead
-pub dead_odd : (marks : List ℕ) (p : Planes) → AreDead p → AreOddBlocksStable marks p
+pub dead_odd : (marks : List ℕ) (p : Planes) → AreAllCellsDead p → AreUnmarkedOddBlocksStable marks p
 dead_odd marks p dead u l free = dead_calm p.words u u u u p.odd.items p.right.items p.down.items p.even.items
     (λ k h. (dead u k h).0) (λ k h. (dead u k h).1) (λ k h. (dead u k h).2) (λ k h. (dead u k h).3)
 
-pub dead_even : (marks : List ℕ) (p : Planes) → AreDead p → AreEvenBlocksStable marks p
+pub dead_even : (marks : List ℕ) (p : Planes) → AreAllCellsDead p → AreUnmarkedEvenBlocksStable marks p
 dead_even marks p dead u l inside free = dead_calm p.words u (u + 1) (u + p.stride) (u + p.stride + 1) p.even.items
     p.down.items p.right.items p.odd.items (λ k h. (dead u k h).3) (λ k h. (dead (u + 1) k h).2)
     (λ k h. (dead (u + p.stride) k h).1) (λ k h. (dead (u + p.stride + 1) k h).0)

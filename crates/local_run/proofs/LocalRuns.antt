@@ -1,7 +1,6 @@
 -- The run of a module: its two steps, that it stays in its box, and which wires it reads
 use Rattle.std.proofs.Common.{◌≡◌, ℕ, zero, suc, ◌<◌, ◌%◌, ◌&&◌, ◌||◌, refl, sym, ap, ap₂, ◌∙◌, inl, inr, ◌⊎◌, arith}
-use Rattle.std.proofs.Common.{eq-eqb, ne_eqb}
-use Rattle.std.specs.Prelude.{ℤ}
+use Rattle.std.proofs.Common.{eq-eqb, ne_eqb, ℤ}
 use Rattle.std.proofs.lemmas.Bool.{cases_eq, cond-true, cond-false}
 use Rattle.bbm_rule.specs.Plane.{State, step}
 use Rattle.bbm_rule.proofs.Steps.{step_same}
@@ -12,7 +11,7 @@ use Rattle.module_box.specs.declared.schedules.Signal.{Signal}
 use Rattle.module_box.specs.declared.schedules.Signal.TheVariants.{Zero, One, Wire}
 use Rattle.module_box.proofs.BoxSteps.{even_stays}
 use Rattle.module_job.specs.Jobs.{JobView, NamesOwnWires}
-use Rattle.module_job.specs.Signals.{is_live, IsBelow}
+use Rattle.module_job.specs.Signals.{is_live, IsSignalWireBelow}
 use Rattle.local_run.specs.Runs.{with_halo, local_step, local_run}
 use Rattle.local_run.specs.Laws.{LocalRunStaysInBox}
 use Rattle.local_run.proofs.OwnWires.{start_below, halo_below, start_outside}
@@ -45,7 +44,8 @@ stays j u (suc t) is x y out = elim (even_or_odd t) [
 abbrev pub AgreeBelow : ℕ → Valuation → Valuation → Type 0
 AgreeBelow n u u' = (w : ℕ) → w < n → u w ≡ u' w
 
-pub live_same : (n : ℕ) (u u' : Valuation) (s : Signal) → AgreeBelow n u u' → IsBelow n s → is_live u s ≡ is_live u' s
+pub live_same : (n : ℕ) (u u' : Valuation) (s : Signal) → AgreeBelow n u u' → IsSignalWireBelow n s →
+    is_live u s ≡ is_live u' s
 live_same n u u' Zero same b = refl
 live_same n u u' One same b = refl
 live_same n u u' (Wire w) same b = same w b
@@ -54,7 +54,7 @@ pub step_all_same : (t : ℕ) (s s' : State) (x y : ℤ) → ((x' y' : ℤ) → 
 step_all_same t s s' x y same = step_same t s s' x y (same _ _) (same _ _) (same _ _) (same _ _)
 
 with_halo_same : (j : JobView) (n : ℕ) (u u' : Valuation) (t : ℕ) (s s' : State) (x y : ℤ) → AgreeBelow n u u' →
-    IsBelow n (signal_at j.halos t x y) →
+    IsSignalWireBelow n (signal_at j.halos t x y) →
     s x y ≡ s' x y → with_halo j u t s x y ≡ with_halo j u' t s' x y
 unfolding with_halo
 with_halo_same j n u u' t s s' x y same b e = ap₂ (λ p q. p || (in_halo j.area x y && q)) e (live_same n u u' _ same b)

@@ -1,10 +1,9 @@
 -- Marks that are flipped or change places
 use Rattle.std.proofs.Common.{◌≡◌, ◌≢◌, ℕ, Bool, true, false, not, ◌<◌, ◌*◌, ◌/◌, ◌^◌, ◌%◌, refl, arith, sym, ◌∙◌, ap}
-use Rattle.std.proofs.Common.{List, length, get_or, set, bit_and, bit_or, w64, ◌&&◌}
+use Rattle.std.proofs.Common.{List, length, get_or, set, bit_and, bit_or, w64, ◌&&◌, bit_xor}
 use Rattle.std.specs.Bool.{beq}
 use Rattle.std.specs.Int.{bit_at, trailing_zeros}
 use Rattle.std.specs.Int.Count.{trailing_of_zero}
-use Rattle.std.specs.Prelude.{bit_xor}
 use Rattle.std.specs.Int.Bits.{or_zero_l}
 use Rattle.std.proofs.lemmas.Bool.{false≢true}
 use Rattle.std.proofs.lemmas.List.{get_or-set_same, get_or-set_other}
@@ -17,7 +16,7 @@ use Rattle.bbm_rule.specs.Rows.{cell_at}
 use Rattle.bbm_rule.specs.Marks.{IsUnmarked}
 use Rattle.bbm_rule.proofs.BitLemmas.{by_eq_or_not, by_lt_or_le, bit-and, bit-is, bit-xor, bit-zero, xor}
 use Rattle.bbm_rule.proofs.MarkLemmas.{bit_ones}
-use Rattle.local_run.specs.Live.{IsInBoth, TakesMark}
+use Rattle.local_run.specs.Live.{IsInBoth, TakesMarkOfOther}
 
 -- the word with one bit
 abbrev one_at : ℕ → ℕ
@@ -125,7 +124,7 @@ flipped_elsewhere marks at u room ne = by_eq_or_not (u / 64) (at / 64)
 
 -- the mark of a becomes what that of b was
 pub took : (a b : ℕ) (m o m' : List ℕ) → cell_at m' a ≡ cell_at o b →
-    ((u : ℕ) → u ≢ a → cell_at m' u ≡ cell_at m u) → TakesMark a b m o m'
+    ((u : ℕ) → u ≢ a → cell_at m' u ≡ cell_at m u) → TakesMarkOfOther a b m o m'
 took a b m o m' there elsewhere u free = grind (arith, common_steps, by_eq_or_not)
 
 -- of two marks that differ, each is the other one flipped

@@ -1,7 +1,7 @@
 -- Jobs of the same shape have the same faults but for where they lie
-use Rattle.std.proofs.Common.{◌≡◌, ℕ, zero, suc, ◌+◌, ◌-◌, ◌<◌, ◌≤◌, ◌%◌, ◌^◌, ◌&&◌, ◌||◌, Bool, true, false, List}
-use Rattle.std.proofs.Common.{[], ◌∷◌, map, Some, None, refl, sym, ap, ap₂, subst, ◌∙◌, arith, inl, inr}
-use Rattle.std.specs.Prelude.{ℤ, pos, ◌+ℤ◌, ◌-ℤ◌, Contains, if◌then◌else◌, slice_get, unwrap_or}
+use Rattle.std.proofs.Common.{◌≡◌, ℕ, zero, suc, ◌+◌, ◌-◌, ◌<◌, ◌≤◌, ◌%◌, ◌^◌, ◌&&◌, ◌||◌, Bool, true, false, List, []}
+use Rattle.std.proofs.Common.{◌∷◌, map, Some, None, refl, sym, ap, ap₂, subst, ◌∙◌, arith, inl, inr, ℤ, pos, ◌+ℤ◌, ◌-ℤ◌}
+use Rattle.std.proofs.Common.{Contains, if◌then◌else◌, slice_get, unwrap_or}
 use Rattle.std.proofs.Props.{props}
 use Rattle.std.proofs.Math.Logic.{∥∥₁_map, ∥∥₁_elim}
 use Rattle.std.proofs.lemmas.Bool.{cases_Bool, and_parts}
@@ -22,14 +22,13 @@ use Rattle.module_box.proofs.MovedBoxes.{boxes_moved, cell_back, cell_cmp_moved,
 use Rattle.module_job.specs.Jobs.{JobView, IsJob, job_demand, job_start}
 use Rattle.module_box.specs.Places.{place_in}
 use Rattle.module_job.specs.Shapes.{ShapeView, shift_to_origin, moved_stop, shape_of}
-use Rattle.module_job.specs.Signals.{Meets, is_live}
+use Rattle.module_job.specs.Signals.{MeetsDemand, is_live}
 use Rattle.module_job.specs.declared.job.Demand.TheVariants as Demanded
 use Rattle.module_job.specs.declared.job.Stop as listed
 use Rattle.module_job.proofs.ShapeParts.{back_forth, stops_back}
 use Rattle.local_run.specs.Faults.{HasFault, IsFault, IsFaultUnder, IsKeepFault}
 use Rattle.local_run.specs.Moves.{FaultsMoveWithJob, LeastFaultMovesWithJob, SameShapeSameLeastKeepFault}
-use Rattle.local_run.specs.Moves.{columns_between, fault_moved_to_job}
-use Rattle.local_run.specs.Moves.{rows_between}
+use Rattle.local_run.specs.Moves.{columns_between, fault_moved_to_job, rows_between}
 use Rattle.local_run.specs.Order.{fault_cmp}
 use Rattle.local_run.specs.Runs.{local_run, with_halo}
 use Rattle.local_run.specs.declared.fault.Fault.{Fault}
@@ -94,8 +93,8 @@ under_alike dx dy j k a u t Stop x y f = record {
 under_alike dx dy j k a u t End x y f = record {
   last = f.last ∙ a.steps;
   inside = a.area.box x y ∙ f.inside;
-  differs = λ m. f.differs (subst (λ d. Meets u d (local_run j u t x y)) (a.demand x y)
-      (subst (Meets u (job_demand k (x +ℤ dx) (y +ℤ dy))) (run_alike dx dy j k a u t x y) m));
+  differs = λ m. f.differs (subst (λ d. MeetsDemand u d (local_run j u t x y)) (a.demand x y)
+      (subst (MeetsDemand u (job_demand k (x +ℤ dx) (y +ℤ dy))) (run_alike dx dy j k a u t x y) m));
 }
 
 moved_fault : ℤ → ℤ → Fault → Fault

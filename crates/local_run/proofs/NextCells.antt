@@ -1,8 +1,6 @@
 -- Cells of a row that are known to be dead
-use Rattle.std.proofs.Common.{◌≡◌, ◌+◌, ◌*◌, ◌<◌, ◌≤◌, ℕ, Bool, true, false, if◌then◌else◌, refl, sym, ap}
-use Rattle.std.proofs.Common.{◌∙◌}
-use Rattle.std.proofs.Common.{arith}
-use Rattle.std.specs.Prelude.{ℤ, slice_get, unwrap_or}
+use Rattle.std.proofs.Common.{◌≡◌, ◌+◌, ◌*◌, ◌<◌, ◌≤◌, ℕ, Bool, true, false, if◌then◌else◌, refl, sym, ap, ◌∙◌, arith}
+use Rattle.std.proofs.Common.{ℤ, slice_get, unwrap_or}
 use Rattle.std.proofs.lemmas.Grind.{common_steps}
 use Rattle.circuit.specs.Meaning.{Valuation}
 use Rattle.module_box.specs.Places.{place_in}
@@ -15,7 +13,7 @@ use Rattle.local_run.specs.Faults.{assignments}
 use Rattle.local_run.specs.Lanes.{lane}
 use Rattle.local_run.specs.Places.{box_coord}
 use Rattle.local_run.specs.Runs.{local_run}
-use Rattle.local_run.specs.Scans.{IsReady, IsSought, IsScanStride, Shows}
+use Rattle.local_run.specs.Scans.{IsReady, IsKindSoughtAt, IsScanStride, Shows}
 use Rattle.local_run.specs.declared.fault.Kind.{Kind}
 use Rattle.local_run.specs.declared.fault.Kind.TheVariants.{End}
 use Rattle.local_run.specs.declared.planes.Planes.{Planes}
@@ -54,7 +52,7 @@ dead_start j u x y none = sym (ap (is_live u) none) ∙ run_start j u x y
 
 -- a dead cell that must be dead has no fault
 end_free : (j : JobView) (vs : Values) (t : ℕ) (kind : Kind) (x y : ℕ) (p : Planes) → IsReady j vs →
-    IsSought j t kind → Shows j vs t p → x < j.area.w → y < j.area.h → kind ≡ End →
+    IsKindSoughtAt j t kind → Shows j vs t p → x < j.area.w → y < j.area.h → kind ≡ End →
     job_demand j (box_coord j.area.x x) (box_coord j.area.y y) ≡ Demanded.Dead →
     ((a : ℕ) → a < 64 * p.words → lane p a (1 + x) (1 + y) ≡ false) →
     (a : ℕ) → a < assignments j → FreeAt j vs t kind x y a
@@ -62,7 +60,7 @@ end_free j vs t kind x y p ready sought shows lx ly end must dead = grind (arith
 
 -- nor do cells that are passed over
 pub free_to : (j : JobView) (vs : Values) (t : ℕ) (kind : Kind) (x next y : ℕ) (p : Planes) → IsReady j vs →
-    IsSought j t kind → Shows j vs t p → y < j.area.h →
+    IsKindSoughtAt j t kind → Shows j vs t p → y < j.area.h →
     ((k a : ℕ) → k < x → k < j.area.w → a < assignments j → FreeAt j vs t kind k y a) → (x < next → kind ≡ End) →
     ((k : ℕ) → x ≤ k → k < next → job_demand j (box_coord j.area.x k) (box_coord j.area.y y) ≡ Demanded.Dead) →
     ((a k : ℕ) → a < 64 * p.words → x ≤ k → k < next → lane p a (1 + k) (1 + y) ≡ false) →

@@ -1,7 +1,6 @@
 -- Each wire that a job names is one of its own, at each cell and time
-use Rattle.std.proofs.Common.{◌≡◌, ℕ, zero, suc, Bool, true, false, List, [], ◌∷◌, arith, inl, inr}
-use Rattle.std.specs.Prelude.{ℤ, slice_get, unwrap_or, if◌then◌else◌}
-use Rattle.std.specs.List.{All}
+use Rattle.std.proofs.Common.{◌≡◌, ℕ, zero, suc, Bool, true, false, List, [], ◌∷◌, arith, inl, inr, ℤ, slice_get}
+use Rattle.std.proofs.Common.{unwrap_or, if◌then◌else◌, All}
 use Rattle.std.proofs.lemmas.Bool.{cases_Bool, cond-false}
 use Rattle.bbm_rule.specs.Plane.{is_at}
 use Rattle.circuit.specs.Meaning.{wires}
@@ -13,7 +12,7 @@ use Rattle.module_box.specs.declared.schedules.Signal.{Signal}
 use Rattle.module_box.specs.declared.schedules.Signal.TheVariants.{Zero}
 use Rattle.module_job.specs.Jobs.{JobView, NamesOwnWires, job_start, job_demand}
 use Rattle.module_box.specs.Places.{place_in}
-use Rattle.module_job.specs.Signals.{IsBelow, IsDemandBelow}
+use Rattle.module_job.specs.Signals.{IsSignalWireBelow, IsDemandWireBelow}
 use Rattle.module_job.specs.declared.job.Demand.TheVariants as Demanded
 
 all_tail : {A : Type 0} (P : A → Type 0) (x : A) (xs : List A) → All P (x ∷ xs) → All P xs
@@ -33,48 +32,50 @@ chosen : {A : Type 0} (P : A → Type 0) (b : Bool) (x y : A) → P x → P y �
 chosen P true x y h k = h
 chosen P false x y h k = k
 
-all_times : (n : ℕ) (hs : List AllTimes) (x y : ℤ) (d : Signal) → All (λ h. IsBelow n h.signal) hs → IsBelow n d →
-    IsBelow n (unwrap_or (all_times_at hs x y) d)
+all_times : (n : ℕ) (hs : List AllTimes) (x y : ℤ) (d : Signal) → All (λ h. IsSignalWireBelow n h.signal) hs →
+    IsSignalWireBelow n d →
+    IsSignalWireBelow n (unwrap_or (all_times_at hs x y) d)
 unfolding all_times_at
 all_times n [] x y d all b = b
 all_times n (h ∷ hs) x y d all b = elim (cases_Bool (is_at h.cell x y)) [
-  | inl e ↦ rw e (all_head (λ (g : AllTimes). IsBelow n g.signal) h hs all)
-  | inr e ↦ rw e (all_times n hs x y d (all_tail (λ (g : AllTimes). IsBelow n g.signal) h hs all) b)
+  | inl e ↦ rw e (all_head (λ (g : AllTimes). IsSignalWireBelow n g.signal) h hs all)
+  | inr e ↦ rw e (all_times n hs x y d (all_tail (λ (g : AllTimes). IsSignalWireBelow n g.signal) h hs all) b)
 ]
 
-event : (n : ℕ) (es : List TimedSignal) (t : ℕ) (x y : ℤ) (d : Signal) → All (λ e. IsBelow n e.signal) es →
-    IsBelow n d →
-    IsBelow n (unwrap_or (event_at es t x y) d)
+event : (n : ℕ) (es : List TimedSignal) (t : ℕ) (x y : ℤ) (d : Signal) → All (λ e. IsSignalWireBelow n e.signal) es →
+    IsSignalWireBelow n d →
+    IsSignalWireBelow n (unwrap_or (event_at es t x y) d)
 unfolding event_at
 event n [] t x y d all b = b
 event n (e ∷ es) t x y d all b = elim (cases_Bool (is_moment_at e.at t x y)) [
-  | inl h ↦ rw h (all_head (λ (g : TimedSignal). IsBelow n g.signal) e es all)
-  | inr h ↦ rw h (event n es t x y d (all_tail (λ (g : TimedSignal). IsBelow n g.signal) e es all) b)
+  | inl h ↦ rw h (all_head (λ (g : TimedSignal). IsSignalWireBelow n g.signal) e es all)
+  | inr h ↦ rw h (event n es t x y d (all_tail (λ (g : TimedSignal). IsSignalWireBelow n g.signal) e es all) b)
 ]
 
-scheduled : (n : ℕ) (s : Signals) (t : ℕ) (x y : ℤ) → All (λ h. IsBelow n h.signal) s.all_times →
-    All (λ e. IsBelow n e.signal) s.events → IsBelow n (signal_at s t x y)
+scheduled : (n : ℕ) (s : Signals) (t : ℕ) (x y : ℤ) → All (λ h. IsSignalWireBelow n h.signal) s.all_times →
+    All (λ e. IsSignalWireBelow n e.signal) s.events → IsSignalWireBelow n (signal_at s t x y)
 unfolding signal_at
 scheduled n s t x y hs es = all_times n s.all_times x y (unwrap_or (event_at s.events t x y) Zero) hs
     (event n s.events t x y Zero es tt)
 
-pub start_below : (j : JobView) (x y : ℤ) → NamesOwnWires j → IsBelow (wires j.locals.netlist) (job_start j x y)
+pub start_below : (j : JobView) (x y : ℤ) → NamesOwnWires j →
+    IsSignalWireBelow (wires j.locals.netlist) (job_start j x y)
 unfolding job_start
-start_below j x y own = chosen (IsBelow (wires j.locals.netlist)) (in_box j.area x y) _ Zero
-    (item (IsBelow (wires j.locals.netlist)) j.starts (place_in j.area x y) Zero own.starts tt) tt
+start_below j x y own = chosen (IsSignalWireBelow (wires j.locals.netlist)) (in_box j.area x y) _ Zero
+    (item (IsSignalWireBelow (wires j.locals.netlist)) j.starts (place_in j.area x y) Zero own.starts tt) tt
 
 pub demand_below : (j : JobView) (x y : ℤ) → NamesOwnWires j →
-    IsDemandBelow (wires j.locals.netlist) (job_demand j x y)
+    IsDemandWireBelow (wires j.locals.netlist) (job_demand j x y)
 unfolding job_demand
-demand_below j x y own = chosen (IsDemandBelow (wires j.locals.netlist)) (in_box j.area x y) _ Demanded.Dead
-    (item (IsDemandBelow (wires j.locals.netlist)) j.demands (place_in j.area x y) Demanded.Dead own.demands tt) tt
+demand_below j x y own = chosen (IsDemandWireBelow (wires j.locals.netlist)) (in_box j.area x y) _ Demanded.Dead
+    (item (IsDemandWireBelow (wires j.locals.netlist)) j.demands (place_in j.area x y) Demanded.Dead own.demands tt) tt
 
 pub edge_below : (j : JobView) (t : ℕ) (x y : ℤ) → NamesOwnWires j →
-    IsBelow (wires j.locals.netlist) (signal_at j.edges t x y)
+    IsSignalWireBelow (wires j.locals.netlist) (signal_at j.edges t x y)
 edge_below j t x y own = scheduled (wires j.locals.netlist) j.edges t x y own.edge_all_times own.edge_events
 
 pub halo_below : (j : JobView) (t : ℕ) (x y : ℤ) → NamesOwnWires j →
-    IsBelow (wires j.locals.netlist) (signal_at j.halos t x y)
+    IsSignalWireBelow (wires j.locals.netlist) (signal_at j.halos t x y)
 halo_below j t x y own = scheduled (wires j.locals.netlist) j.halos t x y own.halo_all_times own.halo_events
 
 -- a cell outside the box is dead at time 0

@@ -1,7 +1,6 @@
 -- Cells of which no line of a module says anything
 use Rattle.std.proofs.Common.{◌≡◌, ℕ, ◌<◌, ◌+◌, ◌*◌, ◌/◌, ◌%◌, ◌≤◌, arith, sym, ◌∙◌, ap, ap₂, List, slice_get, Some}
-use Rattle.std.proofs.Common.{inl, inr}
-use Rattle.std.specs.Prelude.{ℤ, pos, ◌+ℤ◌, ◌-ℤ◌}
+use Rattle.std.proofs.Common.{inl, inr, ℤ, pos, ◌+ℤ◌, ◌-ℤ◌}
 use Rattle.std.proofs.lemmas.Int.{ints}
 use Rattle.std.proofs.lemmas.Grind.{common_steps}
 use Rattle.bbm_rule.specs.declared.block.Cell.{Cell}
@@ -18,7 +17,7 @@ use Rattle.local_run.specs.Places.{box_coord, halo_coord}
 use Rattle.bbm_rule.specs.Marks.{MarksOne}
 use Rattle.local_run.specs.Leaps.{IsTimeBetween}
 use Rattle.local_run.specs.Quiet.{AreAllTimesCellsMarked, IsCellMarked, IsZeroAtUnmarked, KeepsMarks, LacksCellMark}
-use Rattle.local_run.specs.Quiet.{cell_mark_number_at, number_at}
+use Rattle.local_run.specs.Quiet.{own_mark_number_at, number_at}
 use Rattle.bbm_rule.proofs.BitLemmas.{by_lt_or_le}
 use Rattle.local_run.proofs.LaneLemmas.{place_below}
 
@@ -32,13 +31,13 @@ number_below b x y ew eh lx ly = grind (arith, common_steps, place_below)
 
 pub cell_marked : (b : Box2) (c : Cell) (x y : ℕ) (old middle new : List ℕ) → c.x ≡ halo_coord b.x x →
     c.y ≡ halo_coord b.y y →
-    MarksOne (number_at b x y) old middle → MarksOne (cell_mark_number_at b x y) middle new → IsCellMarked b c new
+    MarksOne (number_at b x y) old middle → MarksOne (own_mark_number_at b x y) middle new → IsCellMarked b c new
 cell_marked b c x y old middle new ex ey one own x' y' lx ly ex' ey' free = grind (arith, common_steps, outer_same)
 
 lacks_line : (b : Box2) (x y : ℕ) (old new : List ℕ) → KeepsMarks old new → LacksCellMark b x y new →
     LacksCellMark b x y old
 lacks_line b x y old new keeps (inl free) = inl (keeps (number_at b x y) free)
-lacks_line b x y old new keeps (inr free) = inr (keeps (cell_mark_number_at b x y) free)
+lacks_line b x y old new keeps (inr free) = inr (keeps (own_mark_number_at b x y) free)
 
 pub still_marked : (b : Box2) (c : Cell) (old new : List ℕ) → KeepsMarks old new → IsCellMarked b c old →
     IsCellMarked b c new

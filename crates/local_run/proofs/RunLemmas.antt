@@ -1,13 +1,12 @@
 -- Steps that turn runs of blocks, and pass over the blocks between them
-use Rattle.std.proofs.Common.{◌≡◌, ◌≢◌, ℕ, true, ◌<◌, ◌≤◌, ◌+◌, ◌-◌, ◌*◌, ◌%◌, refl, arith, ◌∙◌}
-use Rattle.std.proofs.Common.{List, ap, get_or}
+use Rattle.std.proofs.Common.{◌≡◌, ◌≢◌, ℕ, true, ◌<◌, ◌≤◌, ◌+◌, ◌-◌, ◌*◌, ◌%◌, refl, arith, ◌∙◌, List, ap, get_or}
 use Rattle.std.proofs.Math.Nat.{mul-le-mul_left}
 use Rattle.bbm_rule.specs.Rows.{cell_at}
 use Rattle.bbm_rule.specs.Words.{AreTurned}
 use Rattle.bbm_rule.proofs.BitLemmas.{by_lt_or_le}
 use Rattle.local_run.specs.Frozen.{AreMarkedEvenBlocksStable, AreMarkedOddBlocksStable, KeepsFirst}
-use Rattle.local_run.specs.Lanes.{HasSize}
-use Rattle.local_run.specs.Sweeps.{TurnsEven, TurnsOdd}
+use Rattle.local_run.specs.Lanes.{HasWordsStrideRows}
+use Rattle.local_run.specs.Sweeps.{TurnsEvenBlocksBetween, TurnsOddBlocksBetween}
 use Rattle.local_run.specs.Turns.{SameBeside, TurnsPart}
 use Rattle.local_run.specs.declared.planes.Planes.{Planes}
 use Rattle.local_run.proofs.TurnLemmas.{calm_turned}
@@ -38,7 +37,7 @@ unmoved a b c d e f g h ee ef eg eh t = rw (ee, ef, eg, eh) t
 pub odd_part : (p q : Planes) (first len end : ℕ) → first + len ≡ end →
     TurnsPart (p.words * first) (p.words * first) (p.words * first) (p.words * first) (p.words * len) p.odd.items
     p.right.items p.down.items p.even.items q.odd.items q.right.items q.down.items q.even.items →
-    TurnsOdd first end p q
+    TurnsOddBlocksBetween first end p q
 odd_part p q first len end e part = record {
   turned = λ n k is l.
       let m : p.words * first + (p.words * (n - first) + k) ≡ p.words * n + k =
@@ -57,7 +56,8 @@ odd_part p q first len end e part = record {
 -- the blocks up to a place are turned, and those from it on to another stay
 pub odd_skip : (p q : Planes) (marks : List ℕ) (at end : ℕ) → AreMarkedOddBlocksStable marks p →
     end ≤ p.stride * p.rows →
-    ((n : ℕ) → at ≤ n → n < end → cell_at marks n ≡ true) → TurnsOdd 0 at p q → at ≤ end → TurnsOdd 0 end p q
+    ((n : ℕ) → at ≤ n → n < end → cell_at marks n ≡ true) → TurnsOddBlocksBetween 0 at p q → at ≤ end →
+    TurnsOddBlocksBetween 0 end p q
 odd_skip p q marks at end calm room marked t le = record {
   turned = λ n k is l. by_lt_or_le n at (λ h. t.turned n k (is.0, h) l) (λ g.
       let stay = calm n (omega (arith, is.1)) (marked n g is.1) in
@@ -73,7 +73,7 @@ odd_skip p q marks at end calm room marked t le = record {
     out : (n : ℕ) → at ≤ n → ((0 ≤ n) × (n < at) → ⊥)
     out n g is = absurd (omega (arith, is.1))
 
-pub odd_nothing : (p : Planes) → TurnsOdd 0 0 p p
+pub odd_nothing : (p : Planes) → TurnsOddBlocksBetween 0 0 p p
 odd_nothing p = record {
   turned = λ n k is l. absurd (omega (arith, is.1));
   upper_left = λ n k miss l. refl;
@@ -87,7 +87,7 @@ pub even_part : (p q : Planes) (first len end : ℕ) → first + len ≡ end →
     ((n : ℕ) → first ≤ n → n < end → (n + 1) % p.stride ≢ 0) →
     TurnsPart (p.words * first) (p.words * (first + 1)) (p.words * (first + p.stride))
     (p.words * (first + p.stride + 1)) (p.words * len) p.even.items p.down.items p.right.items p.odd.items q.even.items
-    q.down.items q.right.items q.odd.items → TurnsEven first end p q
+    q.down.items q.right.items q.odd.items → TurnsEvenBlocksBetween first end p q
 even_part p q first len end e inside part = record {
   turned = λ n k is l.
       let s : first + (n - first) ≡ n = omega (arith, is.0) in
@@ -115,7 +115,7 @@ even_part p q first len end e inside part = record {
 
 pub even_skip : (p q : Planes) (marks : List ℕ) (at end : ℕ) → AreMarkedEvenBlocksStable marks p →
     end + p.stride + 1 ≤ p.stride * p.rows → ((n : ℕ) → at ≤ n → n < end → cell_at marks n ≡ true) →
-    TurnsEven 0 at p q → at ≤ end → TurnsEven 0 end p q
+    TurnsEvenBlocksBetween 0 at p q → at ≤ end → TurnsEvenBlocksBetween 0 end p q
 even_skip p q marks at end calm room marked t le = record {
   turned = λ n k is l. by_lt_or_le n at (λ h. t.turned n k (is.0, h, is.2) l) (λ g.
       let stay = calm.calm n (omega (arith, is.1)) is.2 (marked n g is.1) in
@@ -131,7 +131,7 @@ even_skip p q marks at end calm room marked t le = record {
     out : (n : ℕ) → at ≤ n → ((0 ≤ n) × (n < at) × ((n + 1) % p.stride ≢ 0) → ⊥)
     out n g is = absurd (omega (arith, is.1))
 
-pub even_nothing : (p : Planes) → TurnsEven 0 0 p p
+pub even_nothing : (p : Planes) → TurnsEvenBlocksBetween 0 0 p p
 even_nothing p = record {
   turned = λ n k is l. absurd (omega (arith, is.1));
   upper_left = λ n k miss l. refl;
@@ -160,7 +160,7 @@ first_part p q first long part = record {
       part.upper_right.below (p.words * u + k) (omega (arith, m));
 }
 
-pub first_join : (p q r : Planes) → HasSize p.words p.stride p.rows q → KeepsFirst p q → KeepsFirst q r →
+pub first_join : (p q r : Planes) → HasWordsStrideRows p.words p.stride p.rows q → KeepsFirst p q → KeepsFirst q r →
     KeepsFirst p r
 first_join p q r size s t = record {
   odd = λ u k h l. let f = t.odd in let f = rw (size.0, size.1) at f in f u k h l ∙ s.odd u k h l;

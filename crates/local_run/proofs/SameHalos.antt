@@ -1,8 +1,6 @@
 -- Jobs whose halos say the same at each odd time have the same faults
 use Rattle.std.proofs.Common.{◌≡◌, ℕ, zero, suc, ◌<◌, ◌≤◌, ◌%◌, ◌&&◌, ◌||◌, List, refl, sym, ap, ap₂, subst, ◌∙◌, arith}
-use Rattle.std.proofs.Common.{inl, inr}
-use Rattle.std.specs.Prelude.{ℤ, Contains}
-use Rattle.std.specs.List.{All}
+use Rattle.std.proofs.Common.{inl, inr, ℤ, Contains, All}
 use Rattle.std.proofs.lemmas.Bool.{cases_Bool}
 use Rattle.std.proofs.Math.Logic.{∥∥₁_map}
 use Rattle.bbm_rule.specs.Plane.{State}
@@ -10,7 +8,7 @@ use Rattle.circuit.specs.Meaning.{Valuation}
 use Rattle.module_box.specs.Boxes.{in_box, in_halo}
 use Rattle.module_box.specs.Schedules.{Signals, signal_at}
 use Rattle.module_job.specs.Jobs.{JobView, job_demand, job_start}
-use Rattle.module_job.specs.Signals.{Meets, is_live}
+use Rattle.module_job.specs.Signals.{MeetsDemand, is_live}
 use Rattle.module_job.specs.declared.job.Stop as listed
 use Rattle.local_run.specs.Faults.{HasFault, IsFaultUnder}
 use Rattle.local_run.specs.Laws.{JobsWithSameHalosAgree, HasSameHaloSignals}
@@ -78,7 +76,8 @@ module _ (j : JobView) (halos : Signals) (same : HasSameHaloSignals j halos) whe
   under_same u t End x y early f = record {
     last = f.last;
     inside = f.inside;
-    differs = λ m. f.differs (subst (Meets u (job_demand j x y)) (sym (run_same u t (last_is t j.steps f.last) x y)) m);
+    differs = λ m. f.differs (subst (MeetsDemand u (job_demand j x y))
+        (sym (run_same u t (last_is t j.steps f.last) x y)) m);
   }
 
 pub same_halos_agree : JobsWithSameHalosAgree

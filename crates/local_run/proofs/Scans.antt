@@ -1,8 +1,7 @@
 -- Words of assignments, and the first that differs
 use Rattle.std.proofs.Common.{◌≡◌, ◌≢◌, ℕ, Bool, true, false, ◌<◌, ◌≤◌, ◌+◌, ◌*◌, ◌/◌, ◌%◌, ◌^◌, refl, arith, sym, ◌∙◌}
 use Rattle.std.proofs.Common.{ap, ap₂, subst, List, [], ◌∷◌, ◌&&◌, zero, suc, length, get_or, set, get_or-set_same}
-use Rattle.std.proofs.Common.{get_or-set_other, w64, bit_and}
-use Rattle.std.specs.Prelude.{bit_xor}
+use Rattle.std.proofs.Common.{get_or-set_other, w64, bit_and, bit_xor}
 use Rattle.std.specs.Int.{bit_at, trailing_zeros}
 use Rattle.std.proofs.lemmas.Nat.Bits.{bit_at-trailing_zeros}
 use Rattle.std.proofs.lemmas.Bool.{and_parts}
@@ -11,13 +10,13 @@ use Rattle.std.specs.Int.Bits.{and_lt}
 use Rattle.std.proofs.lemmas.Grind.{common_steps}
 use Rattle.bbm_rule.specs.Bits.{bit}
 use Rattle.bbm_rule.proofs.BitLemmas.{by_lt_or_le, by_eq_or_not, xor, bit-and, bit-xor, bit-zero}
-use Rattle.module_job.specs.Signals.{IsBelow, is_live}
+use Rattle.module_job.specs.Signals.{IsSignalWireBelow, is_live}
 use Rattle.module_box.specs.declared.schedules.Signal.{Signal}
 use Rattle.module_box.specs.declared.schedules.Signal.TheVariants.{Zero, One, Wire}
 use Rattle.std.proofs.Math.Nat.{mul-le-mul_left}
 use Rattle.std.proofs.Math.Bool.{and-true}
 use Rattle.module_box.specs.LocalValues.{bit_of_row, value_of}
-use Rattle.local_run.specs.Scans.{HasValueRow, IsCellAsSignal, is_defined, valuation}
+use Rattle.local_run.specs.Scans.{HasValueRow, IsCellAsSignalUnderWords, is_defined_under, valuation}
 use Rattle.local_run.specs.Lanes.{lane, plane_of, SetsWord}
 use Rattle.local_run.specs.declared.planes.Planes.{Planes}
 use Rattle.local_run.specs.declared.values.Values.{Values}
@@ -117,7 +116,7 @@ block_first f k w small fw before e =
 
 -- a cell is not as its signal says, where each used gate has a row
 abbrev pub differs : Values → Planes → ℕ → ℕ → Signal → ℕ → Bool
-differs vs p x y s a = xor (lane p a x y) (is_live (valuation vs a) s) && is_defined vs a
+differs vs p x y s a = xor (lane p a x y) (is_live (valuation vs a) s) && is_defined_under vs a
 
 pub differs_bits : (vs : Values) (p : Planes) (x y k : ℕ) (s : Signal) (cells wanted defined d : ℕ) →
     ((b : ℕ) → b < 64 → bit cells b ≡ lane p (64 * k + b) x y) →
@@ -126,7 +125,7 @@ pub differs_bits : (vs : Values) (p : Planes) (x y k : ℕ) (s : Signal) (cells 
     bit (bit_and (bit_xor cells wanted) defined) b ≡ differs vs p x y s (64 * k + b)
 unfolding bit_of_row
 differs_bits vs p x y k s cells wanted defined d are should room is b l =
-    let whole : bit defined b ≡ is_defined vs (64 * k + b) =
+    let whole : bit defined b ≡ is_defined_under vs (64 * k + b) =
     ap (λ n. bit n b) (is ∙ get_or_any vs.rows.defined.items k d 0 room)
     ∙ ap₂ (λ i j. bit (get_or vs.rows.defined.items i 0) j) (sym (quotient k b l)) (sym (remainder k b l)) in
     bit-and (bit_xor cells wanted) defined b
@@ -135,14 +134,14 @@ differs_bits vs p x y k s cells wanted defined d are should room is b l =
 -- a cell is as the signal says, where each of its words is
 pub shown_all : (vs : Values) (p : Planes) (x y : ℕ) (s : Signal) (n : ℕ) →
     ((k b : ℕ) → k < n → b < 64 → lane p (64 * k + b) x y ≡ is_live (valuation vs (64 * k + b)) s) →
-    IsCellAsSignal vs p x y s n
+    IsCellAsSignalUnderWords vs p x y s n
 shown_all vs p x y s n same a l =
     let e : 64 * (a / 64) + a % 64 ≡ a = omega arith in
     subst (λ (m : ℕ). lane p m x y ≡ is_live (valuation vs m) s) e (same (a / 64) (a % 64) (omega arith) (omega arith))
 
 -- bit b of word k of the defined row
 pub defined_in_word : (vs : Values) (k b v d : ℕ) → b < 64 → k < length vs.rows.defined.items →
-    v ≡ get_or vs.rows.defined.items k d → bit v b ≡ is_defined vs (64 * k + b)
+    v ≡ get_or vs.rows.defined.items k d → bit v b ≡ is_defined_under vs (64 * k + b)
 unfolding bit_of_row
 defined_in_word vs k b v d l room is = grind (arith, common_steps, get_or_any, quotient, remainder)
 
@@ -150,15 +149,15 @@ pub difference_small : (v w d : ℕ) → v < 2 ^ 64 → w < 2 ^ 64 → d < 2 ^ 6
 difference_small v w d sv sw sd = and_lt 64 (bit_xor v w) d (xor_lt 64 v w sv sw) sd
 
 pub differs_is : (vs : Values) (p : Planes) (x y : ℕ) (s : Signal) (a : ℕ) → differs vs p x y s a ≡ true →
-    (is_defined vs a ≡ true) × (lane p a x y ≢ is_live (valuation vs a) s)
+    (is_defined_under vs a ≡ true) × (lane p a x y ≢ is_live (valuation vs a) s)
 differs_is vs p x y s a e = let parts = and_parts _ _ e in (parts.1, xor_differ _ _ parts.0)
 
 pub differs_not : (vs : Values) (p : Planes) (x y : ℕ) (s : Signal) (a : ℕ) → differs vs p x y s a ≡ false →
-    ¬ ((is_defined vs a ≡ true) × (lane p a x y ≢ is_live (valuation vs a) s))
+    ¬ ((is_defined_under vs a ≡ true) × (lane p a x y ≢ is_live (valuation vs a) s))
 differs_not vs p x y s a e h = grind (arith, common_steps, xor_same, and-true, xor)
 
 -- ---- the row of a signal
-pub row_from : (vs : Values) (n : ℕ) (s : Signal) → IsBelow n s → vs.words * n ≤ length vs.rows.values.items →
+pub row_from : (vs : Values) (n : ℕ) (s : Signal) → IsSignalWireBelow n s → vs.words * n ≤ length vs.rows.values.items →
     HasValueRow vs s
 row_from vs n Zero b l = tt
 row_from vs n One b l = tt

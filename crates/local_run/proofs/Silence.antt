@@ -1,8 +1,6 @@
 -- Cells that are known to be dead and have no line
 use Rattle.std.proofs.Common.{◌≡◌, ◌≢◌, ℕ, true, false, ◌<◌, ◌≤◌, ◌+◌, ◌-◌, ◌*◌, ◌/◌, ◌%◌, arith, sym, ◌∙◌, ap, ap₂}
-use Rattle.std.proofs.Common.{subst}
-use Rattle.std.proofs.Common.{refl, inl, inr, List, None}
-use Rattle.std.specs.Prelude.{ℤ}
+use Rattle.std.proofs.Common.{subst, refl, inl, inr, List, None, ℤ}
 use Rattle.std.proofs.lemmas.Bool.{and_parts, false≢true}
 use Rattle.std.proofs.lemmas.Grind.{common_steps}
 use Rattle.bbm_rule.specs.Spans.{in_span}
@@ -14,17 +12,17 @@ use Rattle.std.proofs.Math.Nat.{mul-le-mul_left}
 use Rattle.bbm_rule.proofs.BitLemmas.{by_eq_or_not, by_lt_or_le, bit-zero}
 use Rattle.module_job.specs.Jobs.{JobView}
 use Rattle.module_job.specs.Signals.{is_live}
-use Rattle.local_run.specs.Borders.{AreSkippable}
-use Rattle.local_run.specs.Calm.{IsDeadAt}
+use Rattle.local_run.specs.Borders.{AreSkippableBetween}
+use Rattle.local_run.specs.Calm.{AreFourCellsDead}
 use Rattle.local_run.specs.Faults.{assignments}
 use Rattle.local_run.specs.Runs.{local_run}
 use Rattle.local_run.specs.Lanes.{lane}
 use Rattle.local_run.specs.Places.{box_coord, halo_coord}
 use Rattle.bbm_rule.specs.Marks.{IsUnmarked}
 use Rattle.local_run.specs.Quiet.{AreLines, number_at}
-use Rattle.local_run.specs.Scans.{IsEdgeCorrectAt, AreEdgesCorrectIn, IsHaloSetAt, IsHaloSetIn, IsDefinedFault}
-use Rattle.local_run.specs.Scans.{IsLeastBelow, IsOutsideBox, IsReady}
-use Rattle.local_run.specs.Scans.{IsSilent, Shows, is_defined, valuation}
+use Rattle.local_run.specs.Scans.{IsEdgeCorrectAt, AreEdgesCorrectAtPlace, IsHaloCellSet, AreHaloCellsSetAtPlace}
+use Rattle.local_run.specs.Scans.{IsFaultWhereDefined, IsLeastBelow, IsHaloCountOutsideBox, IsReady, IsSilent, Shows}
+use Rattle.local_run.specs.Scans.{is_defined_under, valuation}
 use Rattle.local_run.specs.declared.fault.Kind.TheVariants.{Edge}
 use Rattle.local_run.specs.Live.{AllUnmarkedDead}
 use Rattle.local_run.specs.declared.live.LiveMarks.{LiveMarks}
@@ -36,7 +34,7 @@ use Rattle.local_run.proofs.InsideLemmas.{in_row}
 use Rattle.local_run.proofs.QuietLemmas.{outer_same}
 use Rattle.local_run.proofs.Stepping.{box_out, outer_inner}
 
-pub dead_lane : (p : Planes) (x y a : ℕ) → IsDeadAt (p.stride * (y / 2) + x / 2) p → a < 64 * p.words →
+pub dead_lane : (p : Planes) (x y a : ℕ) → AreFourCellsDead (p.stride * (y / 2) + x / 2) p → a < 64 * p.words →
     lane p a x y ≡ false
 unfolding lane
 dead_lane p x y a dead l =
@@ -75,7 +73,7 @@ ring_in_box b x y h = (and_parts _ _ h).0
 
 -- silent cells have no edge fault
 pub silent_edges : (j : JobView) (vs : Values) (p : Planes) (t column row : ℕ) → IsReady j vs → Shows j vs t p →
-    column < p.stride → IsSilent j t p (p.stride * row + column) → AreEdgesCorrectIn j vs t column row
+    column < p.stride → IsSilent j t p (p.stride * row + column) → AreEdgesCorrectAtPlace j vs t column row
 silent_edges j vs p t column row ready shows lc silent x y lx ly ex ey a l f =
     let room = ready.room in
     let count = ready.count in
@@ -88,33 +86,34 @@ silent_edges j vs p t column row ready shows lc silent x y lx ly ex ey a l f =
 
 -- and what their signals say comes to those of them in the halo
 pub silent_halo : (j : JobView) (vs : Values) (p : Planes) (t column row : ℕ) → IsReady j vs → Shows j vs t p →
-    IsSilent j t p (p.stride * row + column) → IsHaloSetIn j vs t p column row
+    IsSilent j t p (p.stride * row + column) → AreHaloCellsSetAtPlace j vs t p column row
 silent_halo j vs p t column row ready shows silent x y lx ly ex ey a l outside = grind (arith, common_steps)
 
-pub silent_from : (j : JobView) (p : Planes) (t u : ℕ) (marks : List ℕ) → p.stride ≡ j.area.w / 2 + 1 → IsDeadAt u p →
+pub silent_from : (j : JobView) (p : Planes) (t u : ℕ) (marks : List ℕ) → p.stride ≡ j.area.w / 2 + 1 →
+    AreFourCellsDead u p →
     AreLines j t marks → IsUnmarked marks u → IsSilent j t p u
 silent_from j p t u marks es dead lines free = record {
   dead = λ a x y l lx ly e. dead_lane p x y a
-      (subst (λ n. IsDeadAt n p) (sym e ∙ ap (λ s. s * (y / 2) + x / 2) (sym es)) dead) l;
+      (subst (λ n. AreFourCellsDead n p) (sym e ∙ ap (λ s. s * (y / 2) + x / 2) (sym es)) dead) l;
   edge = λ x y lx ly e. lines.edges x y lx ly (inl (subst (IsUnmarked marks) (sym e) free));
   halo = λ x y lx ly e. lines.halos x y lx ly (inl (subst (IsUnmarked marks) (sym e) free));
 }
 
 -- ---- cells outside the box have no edge fault
-pub outer_edge : (j : JobView) (vs : Values) (t x y : ℕ) → IsOutsideBox j.area x y → IsEdgeCorrectAt j vs t x y
+pub outer_edge : (j : JobView) (vs : Values) (t x y : ℕ) → IsHaloCountOutsideBox j.area x y → IsEdgeCorrectAt j vs t x y
 outer_edge j vs t x y out a l f = false≢true (sym (box_out j.area x y out) ∙ ring_in_box j.area _ _ f.1.ring)
 
 pub inner_edge : (j : JobView) (vs : Values) (t x y : ℕ) → 1 ≤ x → 1 ≤ y →
     IsLeastBelow (assignments j) (λ a.
-    IsDefinedFault j vs a t Edge (box_coord j.area.x (x - 1)) (box_coord j.area.y (y - 1))) None →
+    IsFaultWhereDefined j vs a t Edge (box_coord j.area.x (x - 1)) (box_coord j.area.y (y - 1))) None →
     IsEdgeCorrectAt j vs t x y
 inner_edge j vs t x y lx ly none a l f =
     let ex : halo_coord j.area.x x ≡ box_coord j.area.x (x - 1) =
     ap (halo_coord j.area.x) (next x lx) ∙ outer_inner j.area.x (x - 1) in
     let ey : halo_coord j.area.y y ≡ box_coord j.area.y (y - 1) =
     ap (halo_coord j.area.y) (next y ly) ∙ outer_inner j.area.y (y - 1) in
-    none a l (subst (λ (z : ℤ). IsDefinedFault j vs a t Edge z (box_coord j.area.y (y - 1))) ex
-    (subst (λ (z : ℤ). IsDefinedFault j vs a t Edge (halo_coord j.area.x x) z) ey f))
+    none a l (subst (λ (z : ℤ). IsFaultWhereDefined j vs a t Edge z (box_coord j.area.y (y - 1))) ex
+    (subst (λ (z : ℤ). IsFaultWhereDefined j vs a t Edge (halo_coord j.area.x x) z) ey f))
   where
     next : (k : ℕ) → 1 ≤ k → k ≡ 1 + (k - 1)
     next k l = omega arith
@@ -122,7 +121,8 @@ inner_edge j vs t x y lx ly none a l f =
 -- nor does a cell that is as its signal says
 pub right_edge : (j : JobView) (vs : Values) (p : Planes) (t x y : ℕ) (s : Signal) → Shows j vs t p →
     s ≡ signal_at j.edges t (halo_coord j.area.x x) (halo_coord j.area.y y) →
-    IsLeastBelow (assignments j) (λ a. (is_defined vs a ≡ true) × (lane p a x y ≢ is_live (valuation vs a) s)) None →
+    IsLeastBelow (assignments j) (λ a. (is_defined_under vs a ≡ true) × (lane p a x y ≢ is_live (valuation vs a) s))
+    None →
     IsEdgeCorrectAt j vs t x y
 right_edge j vs p t x y s shows es none a l f = grind (arith, common_steps, ring_in_box, shown_at)
 
@@ -151,7 +151,7 @@ unsaid_edge j vs p t x y marks ready shows lines lx ly free dead a l f =
 pub unsaid_halo : (j : JobView) (vs : Values) (p : Planes) (t x y : ℕ) (marks : List ℕ) → IsReady j vs →
     Shows j vs t p → AreLines j t marks → x < j.area.w + 2 → y < j.area.h + 2 →
     IsUnmarked marks (p.stride * (y / 2) + x / 2 + 1152 * (1 + 2 * (y % 2) + x % 2)) →
-    ((a : ℕ) → a < 64 * p.words → lane p a x y ≡ false) → IsHaloSetAt j vs t p x y
+    ((a : ℕ) → a < 64 * p.words → lane p a x y ≡ false) → IsHaloCellSet j vs t p x y
 unsaid_halo j vs p t x y marks ready shows lines lx ly free dead a l out = grind (arith, common_steps)
 
 -- ---- cells that are known to be dead by their mark
@@ -204,7 +204,7 @@ number_in : (j : JobView) (vs : Values) (t : ℕ) (p : Planes) (x y : ℕ) → S
 number_in j vs t p x y shows = ap (λ s. s * (y / 2) + x / 2) (sym shows.size.1)
 
 pub passed_edges : (j : JobView) (vs : Values) (p : Planes) (t from to x y : ℕ) (marks : List ℕ) → IsReady j vs →
-    Shows j vs t p → AreLines j t marks → AreSkippable from to marks p →
+    Shows j vs t p → AreLines j t marks → AreSkippableBetween from to marks p →
     x < j.area.w + 2 → y < j.area.h + 2 → from ≤ number_at j.area x y → number_at j.area x y < to →
     IsEdgeCorrectAt j vs t x y
 passed_edges j vs p t from to x y marks ready shows lines passed lx ly after before =
@@ -221,9 +221,9 @@ passed_edges j vs p t from to x y marks ready shows lines passed lx ly after bef
     ]
 
 pub passed_halo : (j : JobView) (vs : Values) (p : Planes) (t from to x y : ℕ) (marks : List ℕ) → IsReady j vs →
-    Shows j vs t p → AreLines j t marks → AreSkippable from to marks p →
+    Shows j vs t p → AreLines j t marks → AreSkippableBetween from to marks p →
     x < j.area.w + 2 → y < j.area.h + 2 → from ≤ number_at j.area x y → number_at j.area x y < to →
-    IsHaloSetAt j vs t p x y
+    IsHaloCellSet j vs t p x y
 passed_halo j vs p t from to x y marks ready shows lines passed lx ly after before =
     grind (arith, common_steps, number_in, silent_halo, silent_from)
 

@@ -20,9 +20,9 @@ use Rattle.module_box.specs.Schedules.{signal_at}
 use Rattle.module_job.specs.Jobs.{JobView, job_start}
 use Rattle.local_run.specs.Runs.{with_halo, local_run}
 use Rattle.local_run.specs.Places.{box_coord, halo_coord}
-use Rattle.local_run.specs.Lanes.{lane, HasSize, AreSameInBox}
+use Rattle.local_run.specs.Lanes.{lane, HasWordsStrideRows, AreSameInBox}
 use Rattle.local_run.specs.Faults.{assignments}
-use Rattle.local_run.specs.Scans.{IsReady, Shows, IsHaloSet, IsOutsideBox, valuation}
+use Rattle.local_run.specs.Scans.{IsReady, Shows, IsHaloSet, IsHaloCountOutsideBox, valuation}
 use Rattle.local_run.specs.declared.values.Values.{Values}
 use Rattle.local_run.proofs.LocalRuns.{local_even, local_odd, stays}
 use Rattle.local_run.specs.declared.planes.Planes.{Planes}
@@ -105,7 +105,7 @@ run_odd j u t x y e h = ap (λ n. local_run j u n x y) (add-one t) ∙ local_odd
 
 -- ---- an even step
 pub even_shows : (j : JobView) (vs : Values) (t : ℕ) (p q : Planes) → IsReady j vs → t % 2 ≡ 0 → Shows j vs t p →
-    HasSize p.words p.stride p.rows q →
+    HasWordsStrideRows p.words p.stride p.rows q →
     ((a x y : ℕ) → a < 64 * p.words → x + 2 < 2 * p.stride → y + 2 < 2 * p.rows →
     lane q a (1 + x) (1 + y) ≡ turned (lane p a (1 + x) (1 + y)) (lane p a (1 + mate x) (1 + mate y))
     (lane p a (1 + mate x) (1 + y)) (lane p a (1 + x) (1 + mate y))) →
@@ -134,7 +134,7 @@ even_shows j vs t p q ready even shows size turns = record {
 
 -- the cells of the box stayed
 pub inside_shows : (j : JobView) (vs : Values) (t : ℕ) (p q : Planes) → IsReady j vs → Shows j vs t p →
-    HasSize p.words p.stride p.rows q → AreSameInBox p q → Shows j vs t q
+    HasWordsStrideRows p.words p.stride p.rows q → AreSameInBox p q → Shows j vs t q
 inside_shows j vs t p q ready shows size same = record {
   size = (size.0 ∙ shows.size.0, size.1 ∙ shows.size.1, size.2 ∙ shows.size.2);
   cells = λ a x y la lx ly.
@@ -150,11 +150,11 @@ inside_shows j vs t p q ready shows size same = record {
 
 -- ---- an odd step
 pub odd_shows : (j : JobView) (vs : Values) (t : ℕ) (p q : Planes) → IsReady j vs → t % 2 ≡ 1 →
-    HasSize vs.words (j.area.w / 2 + 1) (j.area.h / 2 + 1) p →
+    HasWordsStrideRows vs.words (j.area.w / 2 + 1) (j.area.h / 2 + 1) p →
     ((a x y : ℕ) → a < assignments j → x < j.area.w + 2 → y < j.area.h + 2 →
     lane p a x y ≡ with_halo j (valuation vs a) t (local_run j (valuation vs a) t) (halo_coord j.area.x x)
     (halo_coord j.area.y y)) →
-    HasSize p.words p.stride p.rows q →
+    HasWordsStrideRows p.words p.stride p.rows q →
     ((a x y : ℕ) → a < 64 * p.words → x < 2 * p.stride → y < 2 * p.rows →
     lane q a x y ≡ turned (lane p a x y) (lane p a (mate x) (mate y)) (lane p a (mate x) y) (lane p a x (mate y))) →
     Shows j vs (t + 1) q
@@ -189,7 +189,8 @@ span_outer_parts : (c n x : ℕ) → in_span c n (halo_coord c x) ≡ true → (
 unfolding halo_coord
 span_outer_parts c n x h = grind (arith, common_steps, false≢true, less_none, in_span-negsuc, span_parts, less_one)
 
-pub box_out : (b : Box2) (x y : ℕ) → IsOutsideBox b x y → in_box b (halo_coord b.x x) (halo_coord b.y y) ≡ false
+pub box_out : (b : Box2) (x y : ℕ) → IsHaloCountOutsideBox b x y →
+    in_box b (halo_coord b.x x) (halo_coord b.y y) ≡ false
 unfolding in_box
 box_out b x y m = elim (cases_Bool (in_span b.x b.w (halo_coord b.x x) && in_span b.y b.h (halo_coord b.y y))) [
   | inr h ↦ h
@@ -235,7 +236,7 @@ near_span c n x l two = by_lt_or_le n x
     (ap (λ m. in_span c n (pos m -ℤ pos 1)) e ∙ ap (in_span c n) (less_plus (c + (x - 1)))
     ∙ span_from c n (c + (x - 1)) (omega arith) (omega arith))))
 
-margin_halo : (b : Box2) (x y : ℕ) → 2 ≤ b.w → 2 ≤ b.h → x < b.w + 2 → y < b.h + 2 → IsOutsideBox b x y →
+margin_halo : (b : Box2) (x y : ℕ) → 2 ≤ b.w → 2 ≤ b.h → x < b.w + 2 → y < b.h + 2 → IsHaloCountOutsideBox b x y →
     in_halo b (halo_coord b.x x) (halo_coord b.y y) ≡ true
 margin_halo b x y tw th lx ly m =
     sym (halo_read b (halo_coord b.x x) (halo_coord b.y y) _ _ _ refl refl refl)
@@ -281,7 +282,7 @@ halo_cells j vs t p ready shows halo a x y la lx ly =
     no_less : {m n : ℕ} → m < n → n ≤ m → ⊥
     no_less l h = omega arith
 
-    margin : IsOutsideBox j.area x y → lane p a x y ≡ s (halo_coord j.area.x x) (halo_coord j.area.y y)
+    margin : IsHaloCountOutsideBox j.area x y → lane p a x y ≡ s (halo_coord j.area.x x) (halo_coord j.area.y y)
     margin m = halo x y lx ly a la m
         ∙ sym (with_halo_outside j u t (local_run j u t) _ _ (stays j u t ready.job _ _ (box_out j.area x y m))
         (margin_halo j.area x y ready.job.width.0 ready.job.height.0 lx ly m))

@@ -14,7 +14,7 @@ use Rattle.module_job.specs.Jobs.{JobView, stop_moment}
 use Rattle.module_job.specs.declared.job.Stop as listed
 use Rattle.local_run.specs.Faults.{IsStopFault, assignments}
 use Rattle.local_run.specs.Runs.{local_run}
-use Rattle.local_run.specs.Scans.{IsFirst, HasNoFaultOfKind, IsLeastBelow, IsStopMissed, IsNextStop, is_defined}
+use Rattle.local_run.specs.Scans.{IsFirst, HasNoFaultOfKind, IsLeastBelow, IsStopMissed, IsNextStop, is_defined_under}
 use Rattle.local_run.specs.Scans.{valuation}
 use Rattle.local_run.specs.declared.fault.Kind.TheVariants.{Stop}
 use Rattle.local_run.specs.declared.values.Values.{Values}
@@ -98,7 +98,7 @@ stop_at j u t x y f = slice_get-get_or j.stops f.is_listed.0 f.stop f.is_listed.
 -- where no stop before this place has a fault, one that has stands at it or later, and then so does its cell
 where_it_is : (j : JobView) (vs : Values) (t place a : ℕ) (s : listed.Stop) (x y : ℤ) →
     IsRising moment_cmp stop_moment j.stops → AreTried j vs t place → slice_get j.stops place ≡ Some s →
-    s.at.time ≡ t → a < assignments j → is_defined vs a ≡ true → (f : IsStopFault j (valuation vs a) t x y) →
+    s.at.time ≡ t → a < assignments j → is_defined_under vs a ≡ true → (f : IsStopFault j (valuation vs a) t x y) →
     (f.stop ≡ s) ⊎ IsLater s.at.cell.x s.at.cell.y x y
 where_it_is j vs t place a s x y rising tried e at la whole f =
     let h : slice_get j.stops f.is_listed.0 ≡ Some f.stop = stop_at j (valuation vs a) t x y f in

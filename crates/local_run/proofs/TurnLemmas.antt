@@ -1,10 +1,9 @@
 -- Parts of lists whose blocks are turned, and blocks that stay
-use Rattle.std.proofs.Common.{◌≡◌, ℕ, false, ◌<◌, ◌≤◌, ◌+◌, ◌*◌, refl, arith, sym, ◌∙◌, ap}
-use Rattle.std.proofs.Common.{List, length, get_or, inl, inr, nat_eq, not, bit_and, bit_or, ◌↔◌}
+use Rattle.std.proofs.Common.{◌≡◌, ℕ, false, ◌<◌, ◌≤◌, ◌+◌, ◌*◌, refl, arith, sym, ◌∙◌, ap, List, length, get_or, inl}
+use Rattle.std.proofs.Common.{inr, nat_eq, not, bit_and, bit_or, ◌↔◌, bit_xor}
 use Rattle.std.proofs.lemmas.Nat.{and_or_self, or_comm}
 use Rattle.std.specs.Int.Bits.{and_zero_l, xor_assoc, xor_self, xor_zero_l, xor_zero_r}
 use Rattle.std.specs.Int.{bit_at}
-use Rattle.std.specs.Prelude.{bit_xor}
 use Rattle.std.proofs.lemmas.Bool.{eqb-true, false≢true, not-false}
 use Rattle.std.proofs.lemmas.Nat.Bits.{bit_at-lt, same_from_bits}
 use Rattle.std.proofs.lemmas.List.{get_or-take, get_or-drop}

@@ -2,7 +2,7 @@
 use Rattle.std.specs.Prelude.{ℕ, ◌+◌, ◌*◌, ◌<◌, ◌≤◌, ◌⊎◌, List}
 use Rattle.std.proofs.Props.{props}
 use Rattle.bbm_rule.specs.Marks.{IsUnmarked}
-use Rattle.local_run.specs.Calm.{IsDeadAt}
+use Rattle.local_run.specs.Calm.{AreFourCellsDead}
 use Rattle.local_run.specs.declared.planes.Planes.{Planes}
 
 -- the cells in this column and row of planes of this many columns and rows are neither in the ring nor in the halo
@@ -16,11 +16,12 @@ AreUnmarkedAwayFromBorder stride rows marks = (column row : ℕ) → column < st
 
 -- from one number to another, each has cells that are neither in the ring nor in the halo, or that are dead and have no
 -- mark
-abbrev pub AreSkippable : ℕ → ℕ → List ℕ → Planes → Type 0
-AreSkippable from to marks p = (column row : ℕ) → column < p.stride → row < p.rows → from ≤ p.stride * row + column →
+abbrev pub AreSkippableBetween : ℕ → ℕ → List ℕ → Planes → Type 0
+AreSkippableBetween from to marks p =
+    (column row : ℕ) → column < p.stride → row < p.rows → from ≤ p.stride * row + column →
     p.stride * row + column < to →
     IsAwayFromBorder p.stride p.rows column row
-    ⊎ (IsDeadAt (p.stride * row + column) p × IsUnmarked marks (p.stride * row + column))
+    ⊎ (AreFourCellsDead (p.stride * row + column) p × IsUnmarked marks (p.stride * row + column))
 
 -- any two proofs of `AreUnmarkedAwayFromBorder` are equal
 pub AreUnmarkedAwayFromBorder-prop : (stride rows : ℕ) (marks : List ℕ) →

@@ -8,7 +8,7 @@ use Rattle.module_box.specs.Locals.{is_among}
 use Rattle.module_box.specs.LocalValues.{IsLocalValuation, IsLocallyUndefined}
 use Rattle.module_box.specs.Schedules.{signal_at}
 use Rattle.module_job.specs.Jobs.{JobView, job_demand}
-use Rattle.module_job.specs.Signals.{is_live, Meets}
+use Rattle.module_job.specs.Signals.{is_live, MeetsDemand}
 use Rattle.module_job.specs.declared.job.Stop as listed
 use Rattle.local_run.specs.Order.{fault_cmp, keep_cmp}
 use Rattle.local_run.specs.Runs.{local_run}
@@ -37,7 +37,7 @@ pub record IsStopFault (j : JobView) (u : Valuation) (t : ℕ) (x y : ℤ) : Typ
 pub record IsEndFault (j : JobView) (u : Valuation) (t : ℕ) (x y : ℤ) : Type 0 where
   pub last : t ≡ j.steps
   pub inside : IsTrue (in_box j.area x y)
-  pub differs : ¬ Meets u (job_demand j x y) (local_run j u t x y)
+  pub differs : ¬ MeetsDemand u (job_demand j x y) (local_run j u t x y)
 
 -- the cell (x, y) has a fault of the kind at time t, if the wires have these values
 abbrev pub IsFaultUnder : JobView → Valuation → ℕ → Kind → ℤ → ℤ → Type 0

@@ -1,7 +1,7 @@
 -- Blocks that no step changes, whatever becomes of the other cells
 use Rattle.std.specs.Prelude.{◌≡◌, ◌≢◌, true, ℕ, ◌+◌, ◌*◌, ◌%◌, ◌^◌, ◌<◌, ◌≤◌, List, slice_index, vec_len}
 use Rattle.bbm_rule.specs.Rows.{cell_at}
-use Rattle.local_run.specs.Held.{IsEmptyBlock, IsHeldBlock, bits_of}
+use Rattle.local_run.specs.Held.{IsEmptyBlock, IsBlockHeldByCorners, cell_word_bit}
 use Rattle.local_run.specs.Turns.{IsStableBlock}
 use Rattle.local_run.specs.declared.frozen.FrozenBlocks.{FrozenBlocks}
 use Rattle.local_run.specs.declared.planes.Planes.{Planes}
@@ -13,24 +13,27 @@ IsNumberBeforeMarked marks distance u = (n : ℕ) → n + distance ≡ u → cel
 -- a block of the odd partition is held by cells whose blocks of the even partition have marks, where they have one
 abbrev pub IsOddBlockHeld : List ℕ → Planes → ℕ → Type 0
 IsOddBlockHeld marks p u =
-    IsHeldBlock p.words (IsNumberBeforeMarked marks (p.stride + 1) u) (IsNumberBeforeMarked marks p.stride u)
+    IsBlockHeldByCorners p.words (IsNumberBeforeMarked marks (p.stride + 1) u) (IsNumberBeforeMarked marks p.stride u)
     (IsNumberBeforeMarked marks 1 u)
-    (IsNumberBeforeMarked marks 0 u) (bits_of p.words p.odd.items u) (bits_of p.words p.right.items u)
-    (bits_of p.words p.down.items u) (bits_of p.words p.even.items u)
+    (IsNumberBeforeMarked marks 0 u) (cell_word_bit p.words p.odd.items u) (cell_word_bit p.words p.right.items u)
+    (cell_word_bit p.words p.down.items u) (cell_word_bit p.words p.even.items u)
 
 -- it is held, and empty
 abbrev pub IsOddBlockEmpty : List ℕ → Planes → ℕ → Type 0
 IsOddBlockEmpty marks p u =
     IsEmptyBlock p.words (IsNumberBeforeMarked marks (p.stride + 1) u) (IsNumberBeforeMarked marks p.stride u)
-    (IsNumberBeforeMarked marks 1 u) (IsNumberBeforeMarked marks 0 u) (bits_of p.words p.odd.items u)
-    (bits_of p.words p.right.items u) (bits_of p.words p.down.items u) (bits_of p.words p.even.items u)
+    (IsNumberBeforeMarked marks 1 u) (IsNumberBeforeMarked marks 0 u) (cell_word_bit p.words p.odd.items u)
+    (cell_word_bit p.words p.right.items u) (cell_word_bit p.words p.down.items u)
+    (cell_word_bit p.words p.even.items u)
 
 -- a block of the even partition is held by cells whose blocks of the odd partition have marks
 abbrev pub IsEvenBlockHeld : List ℕ → Planes → ℕ → Type 0
 IsEvenBlockHeld marks p n =
-    IsHeldBlock p.words (cell_at marks n ≡ true) (cell_at marks (n + 1) ≡ true) (cell_at marks (n + p.stride) ≡ true)
-    (cell_at marks (n + p.stride + 1) ≡ true) (bits_of p.words p.even.items n) (bits_of p.words p.down.items (n + 1))
-    (bits_of p.words p.right.items (n + p.stride)) (bits_of p.words p.odd.items (n + p.stride + 1))
+    IsBlockHeldByCorners p.words (cell_at marks n ≡ true) (cell_at marks (n + 1) ≡ true)
+    (cell_at marks (n + p.stride) ≡ true)
+    (cell_at marks (n + p.stride + 1) ≡ true) (cell_word_bit p.words p.even.items n)
+    (cell_word_bit p.words p.down.items (n + 1))
+    (cell_word_bit p.words p.right.items (n + p.stride)) (cell_word_bit p.words p.odd.items (n + p.stride + 1))
 
 -- there is room for the marks of all blocks
 pub record HasRoomForMarks (b : FrozenBlocks) (p : Planes) : Type 0 where

@@ -3,8 +3,8 @@ use Rattle.std.specs.Prelude.{◌≡◌, Bool, true, false, ℕ, ◌+◌, ◌*�
 use Rattle.bbm_rule.specs.Bits.{bit}
 
 -- a cell by its bits: bit j of word k. The cell has a number in a plane, with w words of each cell
-abbrev pub bits_of : ℕ → List ℕ → ℕ → ℕ → ℕ → Bool
-bits_of w cells at k j = bit (slice_index cells (w * at + k)) j
+abbrev pub cell_word_bit : ℕ → List ℕ → ℕ → ℕ → ℕ → Bool
+cell_word_bit w cells at k j = bit (slice_index cells (w * at + k)) j
 
 -- a cell, in w words, has the same value under each assignment
 abbrev pub HasValueUnderAll : Bool → ℕ → (ℕ → ℕ → Bool) → Type 0
@@ -25,5 +25,5 @@ pub record IsEmptyBlock (w : ℕ) (A B C D : Type 0) (a b c d : ℕ → ℕ → 
   pub lower_right : HasValueUnderAll false w d
 
 -- by the cells that meet their conditions a turn leaves the block as it is
-abbrev pub IsHeldBlock : ℕ → Type 0 → Type 0 → Type 0 → Type 0 → (a b c d : ℕ → ℕ → Bool) → Type 0
-IsHeldBlock w A B C D a b c d = HasLiveDiagonals w A B C D a b c d ⊎ IsEmptyBlock w A B C D a b c d
+abbrev pub IsBlockHeldByCorners : ℕ → Type 0 → Type 0 → Type 0 → Type 0 → (a b c d : ℕ → ℕ → Bool) → Type 0
+IsBlockHeldByCorners w A B C D a b c d = HasLiveDiagonals w A B C D a b c d ⊎ IsEmptyBlock w A B C D a b c d

@@ -4,8 +4,8 @@ use Rattle.bbm_rule.specs.Bits.{bit}
 use Rattle.local_run.specs.declared.planes.Planes.{Planes}
 
 -- how many words a cell has, and how many cells a row and rows a plane
-abbrev pub HasSize : ℕ → ℕ → ℕ → Planes → Type 0
-HasSize words stride rows p = (p.words ≡ words) × (p.stride ≡ stride) × (p.rows ≡ rows)
+abbrev pub HasWordsStrideRows : ℕ → ℕ → ℕ → Planes → Type 0
+HasWordsStrideRows words stride rows p = (p.words ≡ words) × (p.stride ≡ stride) × (p.rows ≡ rows)
 
 -- the plane of a cell, by the parities of its column and row
 unfoldable pub plane_of : Planes → ℕ → ℕ → List ℕ

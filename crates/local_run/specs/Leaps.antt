@@ -26,8 +26,9 @@ pub record IsTimeBetween (es : List TimedSignal) (t low high : ℕ) : Type 0 whe
   pub above : (i : ℕ) (e : TimedSignal) → high ≤ i → slice_get es i ≡ Some e → t ≤ e.at.time
 
 -- none of the events is at a time from t on, before n
-abbrev pub HasNoEvents : List TimedSignal → ℕ → ℕ → Type 0
-HasNoEvents events t n = (i : ℕ) (e : TimedSignal) → slice_get events i ≡ Some e → t ≤ e.at.time → e.at.time < n → ⊥
+abbrev pub HasNoEventsBetween : List TimedSignal → ℕ → ℕ → Type 0
+HasNoEventsBetween events t n =
+    (i : ℕ) (e : TimedSignal) → slice_get events i ≡ Some e → t ≤ e.at.time → e.at.time < n → ⊥
 
 -- Nothing changed at the even time t and at the odd one before. The signals of ring and halo stay as they were at the
 -- odd one until time n

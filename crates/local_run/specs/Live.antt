@@ -17,8 +17,8 @@ HasSameRoom l l' = (vec_len l'.odd ≡ vec_len l.odd) × (vec_len l'.right ≡ v
     × (vec_len l'.down ≡ vec_len l.down) × (vec_len l'.even ≡ vec_len l.even)
 
 -- the first n cells of each plane have marks
-abbrev pub AreMarked : ℕ → LiveMarks → Type 0
-AreMarked n l = (u : ℕ) → u < n →
+abbrev pub AreFirstCellsMarked : ℕ → LiveMarks → Type 0
+AreFirstCellsMarked n l = (u : ℕ) → u < n →
     (IsUnmarked l.odd.items u → ⊥) × (IsUnmarked l.right.items u → ⊥) × (IsUnmarked l.down.items u → ⊥)
     × (IsUnmarked l.even.items u → ⊥)
 
@@ -27,8 +27,8 @@ abbrev pub IsInBoth : List ℕ → List ℕ → ℕ → Type 0
 IsInBoth first second u = (cell_at first u ≡ true) × (cell_at second u ≡ true)
 
 -- the first n cells of each plane have marks, but for those whose number has a mark in both lists
-abbrev pub AreMarkedUnlessInBoth : ℕ → List ℕ → List ℕ → LiveMarks → Type 0
-AreMarkedUnlessInBoth n first second l = (u : ℕ) → u < n →
+abbrev pub AreCellsMarkedUnlessInBoth : ℕ → List ℕ → List ℕ → LiveMarks → Type 0
+AreCellsMarkedUnlessInBoth n first second l = (u : ℕ) → u < n →
     (IsUnmarked l.odd.items u → IsInBoth first second u) × (IsUnmarked l.right.items u → IsInBoth first second u)
     × (IsUnmarked l.down.items u → IsInBoth first second u) × (IsUnmarked l.even.items u → IsInBoth first second u)
 
@@ -37,8 +37,8 @@ abbrev pub IsDeadCell : ℕ → ℕ → List ℕ → Type 0
 IsDeadCell words u cells = (k : ℕ) → k < words → slice_index cells (words * u + k) ≡ 0
 
 -- in each plane the word at this place is zero
-abbrev pub AreZeroAt : ℕ → Planes → Type 0
-AreZeroAt at p = (slice_index p.odd.items at ≡ 0) × (slice_index p.right.items at ≡ 0)
+abbrev pub AreWordsZeroAt : ℕ → Planes → Type 0
+AreWordsZeroAt at p = (slice_index p.odd.items at ≡ 0) × (slice_index p.right.items at ≡ 0)
     × (slice_index p.down.items at ≡ 0) × (slice_index p.even.items at ≡ 0)
 
 -- the cells of a plane are dead, but for those with a mark
@@ -57,12 +57,12 @@ pub AllUnmarkedDead-prop : (l : LiveMarks) (p : Planes) → IsProp (AllUnmarkedD
 AllUnmarkedDead-prop l p = Prim.hlevel props
 
 -- one more cell is marked, if the diagonal that it is on changes
-abbrev pub MarksCell : Bool → ℕ → List ℕ → List ℕ → Type 0
-MarksCell changes at old new = (u : ℕ) → IsUnmarked new u → IsUnmarked old u × (changes ≡ true → u ≢ at)
+abbrev pub MarksCellIf : Bool → ℕ → List ℕ → List ℕ → Type 0
+MarksCellIf changes at old new = (u : ℕ) → IsUnmarked new u → IsUnmarked old u × (changes ≡ true → u ≢ at)
 
 -- the mark of one cell becomes what that of another was
-abbrev pub TakesMark : ℕ → ℕ → List ℕ → List ℕ → List ℕ → Type 0
-TakesMark at other old others new =
+abbrev pub TakesMarkOfOther : ℕ → ℕ → List ℕ → List ℕ → List ℕ → Type 0
+TakesMarkOfOther at other old others new =
     (u : ℕ) → IsUnmarked new u → ((u ≢ at) × IsUnmarked old u) ⊎ ((u ≡ at) × IsUnmarked others other)
 
 -- no mark is taken off, but that of a cell if it is dead
@@ -83,8 +83,8 @@ IsLoneAnti l odd right down even =
     × (IsUnmarked l.right.items right ⊎ IsUnmarked l.down.items down)
 
 -- none has a mark
-abbrev pub AreUnmarked : LiveMarks → ℕ → ℕ → ℕ → ℕ → Type 0
-AreUnmarked l odd right down even =
+abbrev pub AreBlockCellsUnmarked : LiveMarks → ℕ → ℕ → ℕ → ℕ → Type 0
+AreBlockCellsUnmarked l odd right down even =
     IsUnmarked l.odd.items odd × IsUnmarked l.right.items right × IsUnmarked l.down.items down
     × IsUnmarked l.even.items even
 

@@ -11,5 +11,5 @@ unfoldable pub halo_coord : ℕ → ℕ → ℤ
 halo_coord c k = pos (c + k) -ℤ pos 1
 
 -- the box is near the plane's corner, and so is the place
-abbrev pub IsNearCorner : Box2 → ℕ → ℕ → Type 0
-IsNearCorner b x y = (b.x ≤ 512) × (b.y ≤ 512) × (x ≤ 66) × (y ≤ 66)
+abbrev pub HasSmallCoordinates : Box2 → ℕ → ℕ → Type 0
+HasSmallCoordinates b x y = (b.x ≤ 512) × (b.y ≤ 512) × (x ≤ 66) × (y ≤ 66)

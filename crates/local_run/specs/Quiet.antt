@@ -17,16 +17,16 @@ number_at b x y = (b.w / 2 + 1) * (y / 2) + x / 2
 
 -- The number of a cell among the marks on lines. These begin with a mark for each number in the planes, and then have
 -- four parts of 1152 marks, one for each plane, by the parities of column and row: no plane has more cells
-abbrev pub cell_mark_number_at : Box2 → ℕ → ℕ → ℕ
-cell_mark_number_at b x y = number_at b x y + 1152 * (1 + 2 * (y % 2) + x % 2)
+abbrev pub own_mark_number_at : Box2 → ℕ → ℕ → ℕ
+own_mark_number_at b x y = number_at b x y + 1152 * (1 + 2 * (y % 2) + x % 2)
 
 -- one of the two marks of a cell is missing
 abbrev pub LacksCellMark : Box2 → ℕ → ℕ → List ℕ → Type 0
-LacksCellMark b x y marks = IsUnmarked marks (number_at b x y) ⊎ IsUnmarked marks (cell_mark_number_at b x y)
+LacksCellMark b x y marks = IsUnmarked marks (number_at b x y) ⊎ IsUnmarked marks (own_mark_number_at b x y)
 
 -- there is room for the numbers of all cells of a box and its halo
-abbrev pub HasRoom : Box2 → List ℕ → Type 0
-HasRoom b marks = (b.x ≤ 512) × (b.y ≤ 512) × (b.w ≤ 64) × (b.h ≤ 64) × (b.w % 2 ≡ 0) × (b.h % 2 ≡ 0)
+abbrev pub HasRoomForCellNumbers : Box2 → List ℕ → Type 0
+HasRoomForCellNumbers b marks = (b.x ≤ 512) × (b.y ≤ 512) × (b.w ≤ 64) × (b.h ≤ 64) × (b.w % 2 ≡ 0) × (b.h % 2 ≡ 0)
     × ((b.w / 2 + 1) * (b.h / 2 + 1) + 4608 ≤ 64 * length marks)
 
 -- the cell has both marks, where it is in the box or its halo
@@ -50,7 +50,7 @@ box_at_origin s = record { x = 0; y = 0; w = s.width; h = s.height }
 -- marks, a word for 64, that leave no cell out of which a line of a shape says something at all times
 pub record AreAllTimesMarks (s : ShapeView) (marks : List ℕ) : Type 0 where
   pub long : length marks ≡ div_ceil ((s.width / 2 + 1) * (s.height / 2 + 1)) 64 + 72
-  pub room : HasRoom (box_at_origin s) marks
+  pub room : HasRoomForCellNumbers (box_at_origin s) marks
   pub edges : AreAllTimesCellsMarked s.edges (box_at_origin s) marks
   pub halos : AreAllTimesCellsMarked s.halos (box_at_origin s) marks
 

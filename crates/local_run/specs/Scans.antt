@@ -12,7 +12,7 @@ use Rattle.module_job.specs.Shapes.{shape_of}
 use Rattle.module_job.specs.Signals.{is_live}
 use Rattle.module_job.specs.declared.job.Stop as listed
 use Rattle.local_run.specs.Faults.{IsFaultUnder, assignments}
-use Rattle.local_run.specs.Lanes.{HasSize, lane}
+use Rattle.local_run.specs.Lanes.{HasWordsStrideRows, lane}
 use Rattle.local_run.specs.Places.{box_coord, halo_coord}
 use Rattle.local_run.specs.Quiet.{AreAllTimesMarks, number_at}
 use Rattle.local_run.specs.Runs.{local_run}
@@ -32,8 +32,8 @@ abbrev pub valuation : Values → ℕ → Valuation
 valuation vs a = value_of vs.words vs.rows.values.items a
 
 -- whether each used gate has a row under assignment a
-abbrev pub is_defined : Values → ℕ → Bool
-is_defined vs a = bit_of_row vs.rows.defined.items a
+abbrev pub is_defined_under : Values → ℕ → Bool
+is_defined_under vs a = bit_of_row vs.rows.defined.items a
 
 -- if each used gate has a row, the values of the wires stay: in rows of words, with the row of the assignments that
 -- are so
@@ -43,12 +43,12 @@ KeepsDefinedValues defined old new =
     value_of (length defined) new a w ≡ value_of (length defined) old a w
 
 -- each used gate has a row under assignment a, and the job has the fault
-abbrev pub IsDefinedFault : JobView → Values → ℕ → ℕ → Kind → ℤ → ℤ → Type 0
-IsDefinedFault j vs a t kind x y = (is_defined vs a ≡ true) × IsFaultUnder j (valuation vs a) t kind x y
+abbrev pub IsFaultWhereDefined : JobView → Values → ℕ → ℕ → Kind → ℤ → ℤ → Type 0
+IsFaultWhereDefined j vs a t kind x y = (is_defined_under vs a ≡ true) × IsFaultUnder j (valuation vs a) t kind x y
 
 -- each used gate has a row under assignment a, and at the stop's time its cell is not as its wire
 abbrev pub IsStopMissed : JobView → Values → ℕ → listed.Stop → Type 0
-IsStopMissed j vs a s = (is_defined vs a ≡ true)
+IsStopMissed j vs a s = (is_defined_under vs a ≡ true)
     × (local_run j (valuation vs a) s.at.time s.at.cell.x s.at.cell.y ≢ valuation vs a s.wire)
 
 -- there is a row for the wire that it names
@@ -70,15 +70,15 @@ pub record IsReady (j : JobView) (vs : Values) : Type 0 where
 
 -- the cells of the box are those of the run at time t, under each assignment
 pub record Shows (j : JobView) (vs : Values) (t : ℕ) (p : Planes) : Type 0 where
-  pub size : HasSize vs.words (j.area.w / 2 + 1) (j.area.h / 2 + 1) p
+  pub size : HasWordsStrideRows vs.words (j.area.w / 2 + 1) (j.area.h / 2 + 1) p
   pub cells : (a x y : ℕ) → a < assignments j → x < j.area.w → y < j.area.h →
       lane p a (1 + x) (1 + y) ≡ local_run j (valuation vs a) t (box_coord j.area.x x) (box_coord j.area.y y)
 
 -- whether faults of the kind are sought at the time, cell by cell
-abbrev pub IsSought : JobView → ℕ → Kind → Type 0
-IsSought j t Edge = (t % 2 ≡ 1) × (t < j.steps)
-IsSought j t Stop = ⊥
-IsSought j t End = t ≡ j.steps
+abbrev pub IsKindSoughtAt : JobView → ℕ → Kind → Type 0
+IsKindSoughtAt j t Edge = (t % 2 ≡ 1) × (t < j.steps)
+IsKindSoughtAt j t Stop = ⊥
+IsKindSoughtAt j t End = t ≡ j.steps
 
 -- How far apart the cells of row y of a box are that can have a fault of the kind: next to each other, or the first and
 -- the last
@@ -96,42 +96,43 @@ pub record IsFirst (j : JobView) (vs : Values) (t : ℕ) (kind : Kind) (f : Faul
   pub at_time : f.time ≡ t
   pub same_kind : f.kind ≡ kind
   pub small : f.assignment < assignments j
-  pub fault : IsDefinedFault j vs f.assignment t kind f.cell.x f.cell.y
-  pub row : (x y : ℤ) (a : ℕ) → a < assignments j → y <ℤ f.cell.y → ¬ IsDefinedFault j vs a t kind x y
-  pub column : (x : ℤ) (a : ℕ) → a < assignments j → x <ℤ f.cell.x → ¬ IsDefinedFault j vs a t kind x f.cell.y
-  pub assignment : (a : ℕ) → a < f.assignment → ¬ IsDefinedFault j vs a t kind f.cell.x f.cell.y
+  pub fault : IsFaultWhereDefined j vs f.assignment t kind f.cell.x f.cell.y
+  pub row : (x y : ℤ) (a : ℕ) → a < assignments j → y <ℤ f.cell.y → ¬ IsFaultWhereDefined j vs a t kind x y
+  pub column : (x : ℤ) (a : ℕ) → a < assignments j → x <ℤ f.cell.x → ¬ IsFaultWhereDefined j vs a t kind x f.cell.y
+  pub assignment : (a : ℕ) → a < f.assignment → ¬ IsFaultWhereDefined j vs a t kind f.cell.x f.cell.y
 
 -- there is no fault of the kind at the time
 abbrev pub HasNoFaultOfKind : JobView → Values → ℕ → Kind → Type 0
-HasNoFaultOfKind j vs t kind = (x y : ℤ) (a : ℕ) → a < assignments j → ¬ IsDefinedFault j vs a t kind x y
+HasNoFaultOfKind j vs t kind = (x y : ℤ) (a : ℕ) → a < assignments j → ¬ IsFaultWhereDefined j vs a t kind x y
 
 -- a cell, counted from the halo, is what the signal says under the assignments of this many words
-abbrev pub IsCellAsSignal : Values → Planes → ℕ → ℕ → Signal → ℕ → Type 0
-IsCellAsSignal vs p x y signal words = (a : ℕ) → a < 64 * words → lane p a x y ≡ is_live (valuation vs a) signal
+abbrev pub IsCellAsSignalUnderWords : Values → Planes → ℕ → ℕ → Signal → ℕ → Type 0
+IsCellAsSignalUnderWords vs p x y signal words =
+    (a : ℕ) → a < 64 * words → lane p a x y ≡ is_live (valuation vs a) signal
 
 -- a cell, counted from the halo, becomes what the signal says, and no other changes
 pub record PutsCell (vs : Values) (x y : ℕ) (signal : Signal) (p q : Planes) : Type 0 where
-  pub size : HasSize p.words p.stride p.rows q
+  pub size : HasWordsStrideRows p.words p.stride p.rows q
   pub there : (a : ℕ) → a < 64 * vs.words → lane q a x y ≡ is_live (valuation vs a) signal
   pub rest : (a x' y' : ℕ) → a < 64 * vs.words → x' / 2 < p.stride → ((x' ≡ x) × (y' ≡ y) → ⊥) →
       lane q a x' y' ≡ lane p a x' y'
 
 -- whether a cell, counted from the halo, is outside the box
-abbrev pub IsOutsideBox : Box2 → ℕ → ℕ → Type 0
-IsOutsideBox b x y = (1 ≤ x) × (x ≤ b.w) × (1 ≤ y) × (y ≤ b.h) → ⊥
+abbrev pub IsHaloCountOutsideBox : Box2 → ℕ → ℕ → Type 0
+IsHaloCountOutsideBox b x y = (1 ≤ x) × (x ≤ b.w) × (1 ≤ y) × (y ≤ b.h) → ⊥
 
 -- the cell of the halo is what its signal says, under each assignment
-abbrev pub IsHaloSetAt : JobView → Values → ℕ → Planes → ℕ → ℕ → Type 0
-IsHaloSetAt j vs t p x y = (a : ℕ) → a < assignments j → IsOutsideBox j.area x y →
+abbrev pub IsHaloCellSet : JobView → Values → ℕ → Planes → ℕ → ℕ → Type 0
+IsHaloCellSet j vs t p x y = (a : ℕ) → a < assignments j → IsHaloCountOutsideBox j.area x y →
     lane p a x y ≡ is_live (valuation vs a) (signal_at j.halos t (halo_coord j.area.x x) (halo_coord j.area.y y))
 
 -- all cells of the halo are
 abbrev pub IsHaloSet : JobView → Values → ℕ → Planes → Type 0
-IsHaloSet j vs t p = (x y : ℕ) → x < j.area.w + 2 → y < j.area.h + 2 → IsHaloSetAt j vs t p x y
+IsHaloSet j vs t p = (x y : ℕ) → x < j.area.w + 2 → y < j.area.h + 2 → IsHaloCellSet j vs t p x y
 
 -- no cell changes but the one at (x, y), counted from the halo
-abbrev pub SameElsewhere : JobView → Planes → Planes → ℕ → ℕ → Type 0
-SameElsewhere j p q x y = (a x' y' : ℕ) → a < assignments j → x' < j.area.w + 2 → ((x' ≡ x) × (y' ≡ y) → ⊥) →
+abbrev pub IsSameButAtCell : JobView → Planes → Planes → ℕ → ℕ → Type 0
+IsSameButAtCell j p q x y = (a x' y' : ℕ) → a < assignments j → x' < j.area.w + 2 → ((x' ≡ x) × (y' ≡ y) → ⊥) →
     lane q a x' y' ≡ lane p a x' y'
 
 -- the stops before this place are at earlier times than t, and all others are not
@@ -141,17 +142,18 @@ pub record IsNextStop (j : JobView) (t place : ℕ) : Type 0 where
   pub from : (k : ℕ) (s : listed.Stop) → place ≤ k → slice_get j.stops k ≡ Some s → t ≤ s.at.time
 
 -- a cell has a fault of its edge at the time if that is odd; so it has none if the time is even
-abbrev pub HasNoEdgeFault : JobView → Values → ℕ → Type 0
-HasNoEdgeFault j vs t = t % 2 ≡ 1 → HasNoFaultOfKind j vs t Edge
+abbrev pub HasNoEdgeFaultAtOddTime : JobView → Values → ℕ → Type 0
+HasNoEdgeFaultAtOddTime j vs t = t % 2 ≡ 1 → HasNoFaultOfKind j vs t Edge
 
 -- f comes first among all faults at a time before the last
-abbrev pub IsFirstAt : JobView → Values → ℕ → Fault → Type 0
-IsFirstAt j vs t f = ((t % 2 ≡ 1) × IsFirst j vs t Edge f) ⊎ (HasNoEdgeFault j vs t × IsFirst j vs t Stop f)
+abbrev pub IsFirstFaultAt : JobView → Values → ℕ → Fault → Type 0
+IsFirstFaultAt j vs t f = ((t % 2 ≡ 1) × IsFirst j vs t Edge f)
+    ⊎ (HasNoEdgeFaultAtOddTime j vs t × IsFirst j vs t Stop f)
 
 -- a time before the last without a fault: the place is that of the next stop after it
 pub record IsPassed (j : JobView) (vs : Values) (t place : ℕ) : Type 0 where
   pub next : IsNextStop j (t + 1) place
-  pub edges : HasNoEdgeFault j vs t
+  pub edges : HasNoEdgeFaultAtOddTime j vs t
   pub stops : HasNoFaultOfKind j vs t Stop
 
 -- The cells of box and halo with this number, one in each plane, are dead under each assignment, and their signals at
@@ -165,36 +167,38 @@ pub record IsSilent (j : JobView) (t : ℕ) (p : Planes) (u : ℕ) : Type 0 wher
       signal_at j.halos t (halo_coord j.area.x x) (halo_coord j.area.y y) ≡ Zero
 
 -- the cells of the halo in this column and row of the planes are what their signals say
-abbrev pub IsHaloSetIn : JobView → Values → ℕ → Planes → ℕ → ℕ → Type 0
-IsHaloSetIn j vs t p column row =
-    (x y : ℕ) → x < j.area.w + 2 → y < j.area.h + 2 → x / 2 ≡ column → y / 2 ≡ row → IsHaloSetAt j vs t p x y
+abbrev pub AreHaloCellsSetAtPlace : JobView → Values → ℕ → Planes → ℕ → ℕ → Type 0
+AreHaloCellsSetAtPlace j vs t p column row =
+    (x y : ℕ) → x < j.area.w + 2 → y < j.area.h + 2 → x / 2 ≡ column → y / 2 ≡ row → IsHaloCellSet j vs t p x y
 
 -- no cell changes but those in this column and row of the planes
-abbrev pub SameButIn : JobView → Planes → Planes → ℕ → ℕ → Type 0
-SameButIn j p q column row = (a x y : ℕ) → a < assignments j → x < j.area.w + 2 →
+abbrev pub IsSameButAtPlace : JobView → Planes → Planes → ℕ → ℕ → Type 0
+IsSameButAtPlace j p q column row = (a x y : ℕ) → a < assignments j → x < j.area.w + 2 →
     ((x / 2 ≡ column) × (y / 2 ≡ row) → ⊥) → lane q a x y ≡ lane p a x y
 
 -- the cells of the halo with the numbers from one to another are what their signals say
-abbrev pub IsHaloSetBetween : JobView → Values → ℕ → ℕ → ℕ → Planes → Type 0
-IsHaloSetBetween j vs t from end p = (x y : ℕ) → x < j.area.w + 2 → y < j.area.h + 2 → from ≤ number_at j.area x y →
-    number_at j.area x y < end → IsHaloSetAt j vs t p x y
+abbrev pub AreHaloCellsSetBetween : JobView → Values → ℕ → ℕ → ℕ → Planes → Type 0
+AreHaloCellsSetBetween j vs t from end p =
+    (x y : ℕ) → x < j.area.w + 2 → y < j.area.h + 2 → from ≤ number_at j.area x y →
+    number_at j.area x y < end → IsHaloCellSet j vs t p x y
 
 -- no cell changes whose number is before this one
-abbrev pub SameBefore : JobView → Planes → Planes → ℕ → Type 0
-SameBefore j p q end = (a x y : ℕ) → a < assignments j → x < j.area.w + 2 → number_at j.area x y < end →
+abbrev pub IsSameBeforeNumber : JobView → Planes → Planes → ℕ → Type 0
+IsSameBeforeNumber j p q end = (a x y : ℕ) → a < assignments j → x < j.area.w + 2 → number_at j.area x y < end →
     lane q a x y ≡ lane p a x y
 
 -- a cell, counted from the halo, is outside the ring or carries what its signal says, wherever each used gate has a row
 abbrev pub IsEdgeCorrectAt : JobView → Values → ℕ → ℕ → ℕ → Type 0
 IsEdgeCorrectAt j vs t x y = (a : ℕ) → a < assignments j →
-    ¬ IsDefinedFault j vs a t Edge (halo_coord j.area.x x) (halo_coord j.area.y y)
+    ¬ IsFaultWhereDefined j vs a t Edge (halo_coord j.area.x x) (halo_coord j.area.y y)
 
 -- so do the cells with the numbers from one to another
-abbrev pub AreEdgesCorrectBetween : JobView → Values → ℕ → ℕ → ℕ → Type 0
-AreEdgesCorrectBetween j vs t from end = (x y : ℕ) → x < j.area.w + 2 → y < j.area.h + 2 → from ≤ number_at j.area x y →
+abbrev pub AreEdgesCorrectBetweenNumbers : JobView → Values → ℕ → ℕ → ℕ → Type 0
+AreEdgesCorrectBetweenNumbers j vs t from end =
+    (x y : ℕ) → x < j.area.w + 2 → y < j.area.h + 2 → from ≤ number_at j.area x y →
     number_at j.area x y < end → IsEdgeCorrectAt j vs t x y
 
 -- so do the cells in this column and row of the planes
-abbrev pub AreEdgesCorrectIn : JobView → Values → ℕ → ℕ → ℕ → Type 0
-AreEdgesCorrectIn j vs t column row =
+abbrev pub AreEdgesCorrectAtPlace : JobView → Values → ℕ → ℕ → ℕ → Type 0
+AreEdgesCorrectAtPlace j vs t column row =
     (x y : ℕ) → x < j.area.w + 2 → y < j.area.h + 2 → x / 2 ≡ column → y / 2 ≡ row → IsEdgeCorrectAt j vs t x y

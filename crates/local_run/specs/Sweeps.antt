@@ -30,17 +30,17 @@ TurnsEvenBlocksWhere IsNamed p q =
     p.down.items p.right.items p.odd.items q.even.items q.down.items q.right.items q.odd.items
 
 -- the blocks of the odd partition from one number to another are turned
-abbrev pub TurnsOdd : ℕ → ℕ → Planes → Planes → Type 0
-TurnsOdd from end p q = TurnsOddBlocksWhere (λ n. (from ≤ n) × (n < end)) p q
+abbrev pub TurnsOddBlocksBetween : ℕ → ℕ → Planes → Planes → Type 0
+TurnsOddBlocksBetween from end p q = TurnsOddBlocksWhere (λ n. (from ≤ n) × (n < end)) p q
 
 -- those of the even partition are turned, but for the last ones of the rows, which are not in the box
-abbrev pub TurnsEven : ℕ → ℕ → Planes → Planes → Type 0
-TurnsEven from end p q = TurnsEvenBlocksWhere (λ n. (from ≤ n) × (n < end) × ((n + 1) % p.stride ≢ 0)) p q
+abbrev pub TurnsEvenBlocksBetween : ℕ → ℕ → Planes → Planes → Type 0
+TurnsEvenBlocksBetween from end p q = TurnsEvenBlocksWhere (λ n. (from ≤ n) × (n < end) × ((n + 1) % p.stride ≢ 0)) p q
 
 -- the numbers from one to another whose marks, in one word, are not among the rest of that word
-abbrev pub IsNumberNotInRest : ℕ → ℕ → ℕ → ℕ → Type 0
-IsNumberNotInRest first end rest n = (first ≤ n) × (n < end) × (bit rest (n % 64) ≡ false)
+abbrev pub IsInRangeNotInWord : ℕ → ℕ → ℕ → ℕ → Type 0
+IsInRangeNotInWord first end rest n = (first ≤ n) × (n < end) × (bit rest (n % 64) ≡ false)
 
 -- the same, but for the last blocks of the rows
-abbrev pub IsInnerNumberNotInRest : ℕ → ℕ → ℕ → ℕ → ℕ → Type 0
-IsInnerNumberNotInRest s first end rest n = IsNumberNotInRest first end rest n × ((n + 1) % s ≢ 0)
+abbrev pub IsInRangeNotInWordNorRowEnd : ℕ → ℕ → ℕ → ℕ → ℕ → Type 0
+IsInRangeNotInWordNorRowEnd s first end rest n = IsInRangeNotInWord first end rest n × ((n + 1) % s ≢ 0)

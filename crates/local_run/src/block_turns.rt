@@ -9,10 +9,10 @@ use crate::planes::Planes;
 use crate::words::{Changes, Places, part_changes, swap_part, turn_part, turn_word, word_changes};
 
 impl Planes {
-    ghost use Rattle.local_run.specs.Lanes.{HasSize};
+    ghost use Rattle.local_run.specs.Lanes.{HasWordsStrideRows};
 
     /// Returns which diagonals of block u of the odd partition a turn may change under some assignment.
-    pub fn odd_changes(&self, u: usize) -> Changes
+    pub fn odd_block_changes(&self, u: usize) -> Changes
         requires { u < self.now.stride * self.now.rows }
         ensures main { result.main ≡ false →
             MainStays self.now.words u u u u self.now.odd.items self.now.right.items
@@ -42,12 +42,12 @@ impl Planes {
     }
 
     /// Turns block u of the odd partition.
-    pub fn turn_odd(&mut self, u: usize)
+    pub fn turn_odd_block(&mut self, u: usize)
         requires { u < self.old.stride * self.old.rows }
         ensures part { let at = self.old.words * u in TurnsPart at at at at self.old.words
             self.old.odd.items self.old.right.items self.old.down.items self.old.even.items
             self.new.odd.items self.new.right.items self.new.down.items self.new.even.items }
-        ensures size { HasSize self.old.words self.old.stride self.old.rows self.new }
+        ensures size { HasWordsStrideRows self.old.words self.old.stride self.old.rows self.new }
     {
         if self.words == 1 {
             turn_word(
@@ -83,7 +83,7 @@ impl Planes {
     /// Returns which diagonals of block u of the even partition a turn may change under some assignment.
     ///
     /// The block has the number of its upper left cell.
-    pub fn even_changes(&self, u: usize) -> Changes
+    pub fn even_block_changes(&self, u: usize) -> Changes
         requires { u + self.now.stride + 1 < self.now.stride * self.now.rows }
         ensures main { result.main ≡ false →
             MainStays self.now.words u (u + 1) (u + self.now.stride) (u + self.now.stride + 1)
@@ -118,13 +118,13 @@ impl Planes {
     }
 
     /// Turns block u of the even partition.
-    pub fn turn_even(&mut self, u: usize)
+    pub fn turn_even_block(&mut self, u: usize)
         requires { u + self.old.stride + 1 < self.old.stride * self.old.rows }
         ensures part { let w = self.old.words in TurnsPart (w * u) (w * (u + 1))
             (w * (u + self.old.stride)) (w * (u + self.old.stride + 1)) w self.old.even.items
             self.old.down.items self.old.right.items self.old.odd.items self.new.even.items
             self.new.down.items self.new.right.items self.new.odd.items }
-        ensures size { HasSize self.old.words self.old.stride self.old.rows self.new }
+        ensures size { HasWordsStrideRows self.old.words self.old.stride self.old.rows self.new }
     {
         let words = self.words;
         let stride = self.stride;
@@ -160,7 +160,7 @@ impl Planes {
 }
 
 impl Planes {
-    ghost use Rattle.local_run.specs.Lanes.{HasSize};
+    ghost use Rattle.local_run.specs.Lanes.{HasWordsStrideRows};
     ghost use Rattle.local_run.specs.Live.{UnmarksIfDead, HasRoomForBlockCells, HasSameRoom};
 
     /// Exchanges the cells with these numbers of the planes `odd` and `even`, which are on the main diagonal of a
@@ -172,7 +172,7 @@ impl Planes {
             self.old.odd.items self.old.even.items self.new.odd.items self.new.even.items }
         ensures right { self.new.right ≡ self.old.right }
         ensures down { self.new.down ≡ self.old.down }
-        ensures size { HasSize self.old.words self.old.stride self.old.rows self.new }
+        ensures size { HasWordsStrideRows self.old.words self.old.stride self.old.rows self.new }
     {
         let words = self.words;
         swap_part(
@@ -192,7 +192,7 @@ impl Planes {
             self.old.right.items self.old.down.items self.new.right.items self.new.down.items }
         ensures odd { self.new.odd ≡ self.old.odd }
         ensures even { self.new.even ≡ self.old.even }
-        ensures size { HasSize self.old.words self.old.stride self.old.rows self.new }
+        ensures size { HasWordsStrideRows self.old.words self.old.stride self.old.rows self.new }
     {
         let words = self.words;
         swap_part(

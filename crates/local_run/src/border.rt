@@ -1,14 +1,14 @@
 //! The cells of ring and halo at an odd time.
 ghost use Rattle.std.specs.Prelude.{ℕ, ◌≡◌, ◌+◌, ◌*◌, ◌/◌, ◌%◌, ◌<◌, ◌≤◌, true, false};
 ghost use Rattle.bbm_rule.specs.Bits.{bit};
-ghost use Rattle.local_run.specs.Borders.{AreSkippable};
+ghost use Rattle.local_run.specs.Borders.{AreSkippableBetween};
 ghost use Rattle.circuit.specs.Meaning.{wires};
 ghost use Rattle.module_box.specs.Schedules.{signal_at};
 ghost use Rattle.module_job.specs.Jobs.{IsJob};
-ghost use Rattle.module_job.specs.Signals.{IsBelow};
+ghost use Rattle.module_job.specs.Signals.{IsSignalWireBelow};
 ghost use Rattle.local_run.specs.Places.{halo_coord};
 ghost use Rattle.local_run.specs.Quiet.{AreLines};
-ghost use Rattle.local_run.specs.Scans.{IsEdgeCorrectAt, AreEdgesCorrectBetween, AreEdgesCorrectIn, IsHaloSet, IsHaloSetAt, IsHaloSetBetween, IsHaloSetIn, HasNoFaultOfKind, IsOutsideBox, IsReady, IsSought, SameBefore, SameButIn, SameElsewhere, Shows};
+ghost use Rattle.local_run.specs.Scans.{IsEdgeCorrectAt, AreEdgesCorrectBetweenNumbers, AreEdgesCorrectAtPlace, IsHaloSet, IsHaloCellSet, AreHaloCellsSetBetween, AreHaloCellsSetAtPlace, HasNoFaultOfKind, IsHaloCountOutsideBox, IsReady, IsKindSoughtAt, IsSameBeforeNumber, IsSameButAtPlace, IsSameButAtCell, Shows};
 
 use crate::fault::Kind;
 use crate::marked_planes::MarkedPlanes;
@@ -28,7 +28,7 @@ fn halo_signal(marked_planes: &MarkedPlanes, job: &Job, time: u32, x: usize, y: 
     requires place { (x < job.now.area.w + 2) × (y < job.now.area.h + 2) }
     ensures signal_is_exact { result
         ≡ signal_at job.now.halos time (halo_coord job.now.area.x x) (halo_coord job.now.area.y y) }
-    ensures below { IsBelow (wires job.now.locals.netlist) result }
+    ensures below { IsSignalWireBelow (wires job.now.locals.netlist) result }
 {
     if marked_planes.has_line(x, y) {
         halo_at(job, time, x, y, marked_planes.line_places().halos)
@@ -48,7 +48,7 @@ fn edge_signal(marked_planes: &MarkedPlanes, job: &Job, time: u32, x: usize, y: 
     requires row { (1 ≤ y) × (y ≤ job.now.area.h) }
     ensures signal_is_exact { result
         ≡ signal_at job.now.edges time (halo_coord job.now.area.x x) (halo_coord job.now.area.y y) }
-    ensures below { IsBelow (wires job.now.locals.netlist) result }
+    ensures below { IsSignalWireBelow (wires job.now.locals.netlist) result }
 {
     if marked_planes.has_line(x, y) {
         edge_at(job, time, x - 1, y - 1, marked_planes.line_places().edges)
@@ -99,11 +99,11 @@ fn set_halo_cell(
     requires shows { Shows job.now values.now time marked_planes.old.planes }
     requires lines { AreLines job.now time marked_planes.old.line_marks.items }
     requires place { (x < job.now.area.w + 2) × (y < job.now.area.h + 2) }
-    requires halo_coord { IsOutsideBox job.now.area x y }
+    requires halo_coord { IsHaloCountOutsideBox job.now.area x y }
     ensures shows { Shows job.now values.now time marked_planes.new.planes }
     ensures lines { marked_planes.new.line_marks ≡ marked_planes.old.line_marks }
-    ensures here { IsHaloSetAt job.now values.now time marked_planes.new.planes x y }
-    ensures rest { SameElsewhere job.now marked_planes.old.planes marked_planes.new.planes x y }
+    ensures here { IsHaloCellSet job.now values.now time marked_planes.new.planes x y }
+    ensures rest { IsSameButAtCell job.now marked_planes.old.planes marked_planes.new.planes x y }
 {
     let signal = halo_signal(marked_planes, job, time, x, y);
     if values.is_different(marked_planes.planes(), x, y, signal) {
@@ -114,7 +114,7 @@ fn set_halo_cell(
 // Sets a cell of box or halo, counted from the halo, to what its halo signal says, if it is in the halo. Returns
 // whether it carries what its edge signal says, if it is in the ring; only `true` is proved to be right.
 #[inline(always)]
-fn set_or_test_cell(
+fn set_halo_or_test_ring_cell(
     marked_planes: &mut MarkedPlanes,
     values: &Values,
     job: &Job,
@@ -125,13 +125,13 @@ fn set_or_test_cell(
     requires ready { IsReady job.now values.now }
     requires shows { Shows job.now values.now time marked_planes.old.planes }
     requires lines { AreLines job.now time marked_planes.old.line_marks.items }
-    requires sought { IsSought job.now time Kind.Edge }
+    requires sought { IsKindSoughtAt job.now time Kind.Edge }
     requires place { (x < job.now.area.w + 2) × (y < job.now.area.h + 2) }
     ensures shows { Shows job.now values.now time marked_planes.new.planes }
     ensures lines { marked_planes.new.line_marks ≡ marked_planes.old.line_marks }
     ensures edge { result ≡ true → IsEdgeCorrectAt job.now values.now time x y }
-    ensures halo { IsHaloSetAt job.now values.now time marked_planes.new.planes x y }
-    ensures rest { SameElsewhere job.now marked_planes.old.planes marked_planes.new.planes x y }
+    ensures halo { IsHaloCellSet job.now values.now time marked_planes.new.planes x y }
+    ensures rest { IsSameButAtCell job.now marked_planes.old.planes marked_planes.new.planes x y }
 {
     let area = job.area();
     // Most cells have no line and are dead.
@@ -146,7 +146,7 @@ fn set_or_test_cell(
 }
 
 // Does the same for the four cells in a column and row of the planes.
-fn set_or_test_cells(
+fn set_or_test_four_cells(
     marked_planes: &mut MarkedPlanes,
     values: &Values,
     job: &Job,
@@ -157,20 +157,22 @@ fn set_or_test_cells(
     requires ready { IsReady job.now values.now }
     requires shows { Shows job.now values.now time marked_planes.old.planes }
     requires lines { AreLines job.now time marked_planes.old.line_marks.items }
-    requires sought { IsSought job.now time Kind.Edge }
+    requires sought { IsKindSoughtAt job.now time Kind.Edge }
     requires place { (column < job.now.area.w / 2 + 1) × (row < job.now.area.h / 2 + 1) }
     ensures shows { Shows job.now values.now time marked_planes.new.planes }
     ensures lines { marked_planes.new.line_marks ≡ marked_planes.old.line_marks }
-    ensures edges { result ≡ true → AreEdgesCorrectIn job.now values.now time column row }
-    ensures halo { IsHaloSetIn job.now values.now time marked_planes.new.planes column row }
-    ensures rest { SameButIn job.now marked_planes.old.planes marked_planes.new.planes column row }
+    ensures edges { result ≡ true → AreEdgesCorrectAtPlace job.now values.now time column row }
+    ensures halo { AreHaloCellsSetAtPlace job.now values.now time marked_planes.new.planes column
+        row }
+    ensures rest { IsSameButAtPlace job.now marked_planes.old.planes marked_planes.new.planes column
+        row }
 {
     let x = 2 * column;
     let y = 2 * row;
-    let first = set_or_test_cell(marked_planes, values, job, time, x, y);
-    let second = set_or_test_cell(marked_planes, values, job, time, x + 1, y);
-    let third = set_or_test_cell(marked_planes, values, job, time, x, y + 1);
-    let fourth = set_or_test_cell(marked_planes, values, job, time, x + 1, y + 1);
+    let first = set_halo_or_test_ring_cell(marked_planes, values, job, time, x, y);
+    let second = set_halo_or_test_ring_cell(marked_planes, values, job, time, x + 1, y);
+    let third = set_halo_or_test_ring_cell(marked_planes, values, job, time, x, y + 1);
+    let fourth = set_halo_or_test_ring_cell(marked_planes, values, job, time, x + 1, y + 1);
     first & second & third & fourth
 }
 
@@ -179,7 +181,7 @@ fn set_or_test_cells(
 //
 // The numbers without a mark in the word need no look. It was read before: a cell that is set changes live marks of its
 // own number alone.
-fn set_or_test_word(
+fn set_halo_test_ring_in_word(
     marked_planes: &mut MarkedPlanes,
     values: &Values,
     job: &Job,
@@ -190,18 +192,19 @@ fn set_or_test_word(
     requires ready { IsReady job.now values.now }
     requires shows { Shows job.now values.now time marked_planes.old.planes }
     requires lines { AreLines job.now time marked_planes.old.line_marks.items }
-    requires sought { IsSought job.now time Kind.Edge }
+    requires sought { IsKindSoughtAt job.now time Kind.Edge }
     requires first { (first % 64 ≡ 0) × (first < marked_planes.old.planes.stride
         * marked_planes.old.planes.rows) }
     requires passed { (u : ℕ) → u / 64 ≡ first / 64 → bit word (u % 64) ≡ false →
-        AreSkippable u (u + 1) marked_planes.old.line_marks.items marked_planes.old.planes }
+        AreSkippableBetween u (u + 1) marked_planes.old.line_marks.items marked_planes.old.planes }
     ensures shows { Shows job.now values.now time marked_planes.new.planes }
     ensures lines { marked_planes.new.line_marks ≡ marked_planes.old.line_marks }
-    ensures halo { IsHaloSetBetween job.now values.now time first (first + 64)
+    ensures halo { AreHaloCellsSetBetween job.now values.now time first (first + 64)
         marked_planes.new.planes }
     ensures edges { result ≡ true →
-        AreEdgesCorrectBetween job.now values.now time first (first + 64) }
-    ensures rest { SameBefore job.now marked_planes.old.planes marked_planes.new.planes first }
+        AreEdgesCorrectBetweenNumbers job.now values.now time first (first + 64) }
+    ensures rest { IsSameBeforeNumber job.now marked_planes.old.planes marked_planes.new.planes
+        first }
 {
     let cells = marked_planes.planes().cells();
     let mut is_right = true;
@@ -214,7 +217,7 @@ fn set_or_test_word(
         }
         rest = others;
         let (column, row) = marked_planes.planes().place(u);
-        is_right &= set_or_test_cells(marked_planes, values, job, time, column, row);
+        is_right &= set_or_test_four_cells(marked_planes, values, job, time, column, row);
     }
     is_right
 }
@@ -230,7 +233,7 @@ pub fn set_halo_check_ring(
     requires ready { IsReady job.now values.now }
     requires shows { Shows job.now values.now time marked_planes.old.planes }
     requires lines { AreLines job.now time marked_planes.old.line_marks.items }
-    requires sought { IsSought job.now time Kind.Edge }
+    requires sought { IsKindSoughtAt job.now time Kind.Edge }
     ensures shows { Shows job.now values.now time marked_planes.new.planes }
     ensures halo { IsHaloSet job.now values.now time marked_planes.new.planes }
     ensures edges { result ≡ true → HasNoFaultOfKind job.now values.now time Kind.Edge }
@@ -243,7 +246,7 @@ pub fn set_halo_check_ring(
         if word == 0 {
             continue;
         }
-        is_right &= set_or_test_word(marked_planes, values, job, time, 64 * k, word);
+        is_right &= set_halo_test_ring_in_word(marked_planes, values, job, time, 64 * k, word);
     }
     is_right
 }

@@ -9,7 +9,7 @@ ghost use Rattle.bbm_rule.specs.Rows.{cell_at};
 ghost use Rattle.local_run.specs.Frozen.{AreFrozenIfFound, HasRoomForMarks, IsEvenBlockHeld, IsFrozen, IsNumberBeforeMarked, IsOddBlockEmpty, IsOddBlockHeld};
 ghost use Rattle.std.specs.Prelude.{ℕ, ◌≡◌, ◌≢◌, ◌+◌, ◌*◌, ◌/◌, ◌%◌, ◌<◌, ◌≤◌, length, vec_len, true, false};
 
-use crate::held_cells::Corners;
+use crate::held_cells::CornerConditions;
 use crate::marks::is_marked;
 use crate::planes::Planes;
 use bbm_rule::marks::{mark, mark_all, unmark};
@@ -52,7 +52,7 @@ fn is_number_before_marked(marks: &[u64], at: usize, distance: usize) -> bool
 
 impl FrozenBlocks {
     /// Returns marks of no set: it is not found yet.
-    pub fn unknown(alloc: Global) -> FrozenBlocks
+    pub fn not_found_yet(alloc: Global) -> FrozenBlocks
         ensures { result.is_found ≡ false }
     {
         FrozenBlocks {
@@ -85,18 +85,18 @@ impl FrozenBlocks {
     /// Returns about how many of that many columns and rows have cells of ring and halo that may be live.
     ///
     /// Frozen blocks are mostly those of walls, and of what lies beyond them.
-    pub fn active_rows(&self, columns_and_rows: usize) -> usize
-        ensures { result ≤ columns_and_rows }
+    pub fn active_columns_plus_rows(&self, columns_plus_rows: usize) -> usize
+        ensures { result ≤ columns_plus_rows }
     {
         if self.is_found {
-            columns_and_rows / 4
+            columns_plus_rows / 4
         } else {
-            columns_and_rows
+            columns_plus_rows
         }
     }
 
     /// Gives the set up, if block u of the odd partition is in it.
-    pub fn give_up_at(&mut self, u: usize)
+    pub fn give_up_if_frozen(&mut self, u: usize)
         requires room { self.old.is_found ≡ true → u / 64 < vec_len self.old.odd }
         ensures { self.new.is_found ≡ true →
             (self.new ≡ self.old) × IsUnmarked self.old.odd.items u }
@@ -136,7 +136,7 @@ impl FrozenBlocks {
     }
 
     // For each corner of block u of the odd partition, whether its block of the even partition has a mark.
-    fn odd_corners(&self, planes: &Planes, u: usize) -> Corners
+    fn odd_corners(&self, planes: &Planes, u: usize) -> CornerConditions
         requires room { HasRoomForMarks self.now planes.now }
         requires place { u < planes.now.stride * planes.now.rows }
         ensures upper_left { result.upper_left ≡ true →
@@ -149,7 +149,7 @@ impl FrozenBlocks {
             IsNumberBeforeMarked self.now.even.items 0 u }
     {
         let stride = planes.stride();
-        Corners {
+        CornerConditions {
             upper_left: is_number_before_marked(&self.even, u, stride + 1),
             upper_right: is_number_before_marked(&self.even, u, stride),
             lower_left: is_number_before_marked(&self.even, u, 1),
@@ -173,7 +173,7 @@ impl FrozenBlocks {
         ensures { result ≡ true → IsOddBlockHeld self.now.even.items planes.now u }
     {
         let corners = self.odd_corners(planes, u);
-        planes.has_live_odd_diagonals(u, corners) || planes.is_odd_block_empty(u, corners)
+        planes.has_always_live_odd_diagonals(u, corners) || planes.is_odd_block_empty(u, corners)
     }
 
     // Whether block n of the even partition stays if the blocks with marks stay.
@@ -183,13 +183,13 @@ impl FrozenBlocks {
         ensures { result ≡ true → IsEvenBlockHeld self.now.odd.items planes.now n }
     {
         let stride = planes.stride();
-        let corners = Corners {
+        let corners = CornerConditions {
             upper_left: is_marked(&self.odd, n),
             upper_right: is_marked(&self.odd, n + 1),
             lower_left: is_marked(&self.odd, n + stride),
             lower_right: is_marked(&self.odd, n + stride + 1),
         };
-        planes.has_live_even_diagonals(n, corners) || planes.is_even_block_empty(n, corners)
+        planes.has_always_live_even_diagonals(n, corners) || planes.is_even_block_empty(n, corners)
     }
 
     // Takes the marks off the blocks that are not held, and returns whether there were some.

@@ -2,15 +2,15 @@
 
 ghost use Rattle.bbm_rule.specs.Plane.{turned};
 ghost use Rattle.bbm_rule.specs.Rows.{mate};
-ghost use Rattle.local_run.specs.Calm.{AreEvenBlocksStable, AreOddBlocksStable};
+ghost use Rattle.local_run.specs.Calm.{AreUnmarkedEvenBlocksStable, AreUnmarkedOddBlocksStable};
 ghost use Rattle.local_run.specs.Frozen.{AreFrozenIfFound};
-ghost use Rattle.local_run.specs.Lanes.{HasSize, lane};
+ghost use Rattle.local_run.specs.Lanes.{HasWordsStrideRows, lane};
 ghost use Rattle.local_run.specs.Live.{AllUnmarkedDead, HasRoomForCellMarks, HasSameRoom};
 ghost use Rattle.std.specs.Prelude.{ℕ, ◌≡◌, ◌+◌, ◌*◌, ◌/◌, ◌<◌, ◌≤◌, length};
 
 use crate::frozen::FrozenBlocks;
 use crate::live::LiveMarks;
-use crate::marks::mark_unless_in_both;
+use crate::marks::set_marks_to_not_both;
 use crate::planes::Planes;
 use bbm_rule::marks::mark_all;
 
@@ -20,13 +20,13 @@ impl FrozenBlocks {
         requires frozen { AreFrozenIfFound self.now planes.now }
         requires odd_room { planes.now.stride * planes.now.rows ≤ 64 * length odd_marks.old }
         requires even_room { planes.now.stride * planes.now.rows ≤ 64 * length even_marks.old }
-        ensures odd { AreOddBlocksStable odd_marks.new planes.now }
-        ensures even { AreEvenBlocksStable even_marks.new planes.now }
+        ensures odd { AreUnmarkedOddBlocksStable odd_marks.new planes.now }
+        ensures even { AreUnmarkedEvenBlocksStable even_marks.new planes.now }
     {
         if self.is_found {
             planes.prove_planes_are_words();
-            mark_unless_in_both(odd_marks, &self.odd, &self.odd);
-            mark_unless_in_both(even_marks, &self.even, &self.even);
+            set_marks_to_not_both(odd_marks, &self.odd, &self.odd);
+            set_marks_to_not_both(even_marks, &self.even, &self.even);
         } else {
             mark_all(odd_marks);
             mark_all(even_marks);
@@ -42,7 +42,7 @@ impl FrozenBlocks {
     {
         if self.is_found {
             planes.prove_planes_are_words();
-            live.mark_unless_in_both(&self.odd, &self.empty);
+            live.set_marks_to_not_both(&self.odd, &self.empty);
         } else {
             live.mark_all();
         }
@@ -55,7 +55,8 @@ impl FrozenBlocks {
             y < 2 * planes.old.rows → lane planes.new a x y
             ≡ turned (lane planes.old a x y) (lane planes.old a (mate x) (mate y))
             (lane planes.old a (mate x) y) (lane planes.old a x (mate y)) }
-        ensures size { HasSize planes.old.words planes.old.stride planes.old.rows planes.new }
+        ensures size { HasWordsStrideRows planes.old.words planes.old.stride planes.old.rows
+            planes.new }
         ensures frozen { AreFrozenIfFound self.now planes.new }
     {
         if self.is_found {
@@ -74,7 +75,8 @@ impl FrozenBlocks {
             ≡ turned (lane planes.old a (1 + x) (1 + y))
             (lane planes.old a (1 + mate x) (1 + mate y))
             (lane planes.old a (1 + mate x) (1 + y)) (lane planes.old a (1 + x) (1 + mate y)) }
-        ensures size { HasSize planes.old.words planes.old.stride planes.old.rows planes.new }
+        ensures size { HasWordsStrideRows planes.old.words planes.old.stride planes.old.rows
+            planes.new }
         ensures frozen { AreFrozenIfFound self.now planes.new }
     {
         if self.is_found {

@@ -1,16 +1,16 @@
 //! Cells that are always the same, and runs of blocks between the blocks that they hold.
 
-ghost use Rattle.local_run.specs.Held.{HasValueUnderAll, HasLiveDiagonals, IsEmptyBlock, bits_of};
+ghost use Rattle.local_run.specs.Held.{HasValueUnderAll, HasLiveDiagonals, IsEmptyBlock, cell_word_bit};
 ghost use Rattle.local_run.specs.Turns.{TurnsPart};
 ghost use Rattle.std.specs.Prelude.{ℕ, ◌≡◌, ◌+◌, ◌-◌, ◌*◌, ◌/◌, ◌^◌, ◌<◌, ◌≤◌, length, slice_index, false, true};
 
 use crate::planes::Planes;
-use crate::words::{Places, has_other_word, turn_part};
+use crate::words::{Places, has_word_other_than, turn_part};
 use bbm_rule::marks::{next_marked, next_unmarked};
 
 /// For each corner of a block whether its cell meets a condition.
 #[derive(Clone, Copy)]
-pub struct Corners {
+pub struct CornerConditions {
     /// Whether the upper left cell meets it.
     pub upper_left: bool,
     /// Whether the upper right cell meets it.
@@ -34,9 +34,9 @@ fn prove_cells_are_words(cells: &[u64])
 fn is_always_live(is_met: bool, cells: &[u64], at: usize, words: usize) -> bool
     requires { words * at + words ≤ length cells.now }
     ensures { result ≡ true →
-        (is_met ≡ true) × HasValueUnderAll true words (bits_of words cells.now at) }
+        (is_met ≡ true) × HasValueUnderAll true words (cell_word_bit words cells.now at) }
 {
-    is_met && !has_other_word(cells, words * at, 0xFFFF_FFFF_FFFF_FFFF, words)
+    is_met && !has_word_other_than(cells, words * at, 0xFFFF_FFFF_FFFF_FFFF, words)
 }
 
 // Whether a cell meets its condition and is dead under each assignment.
@@ -44,26 +44,26 @@ fn is_always_live(is_met: bool, cells: &[u64], at: usize, words: usize) -> bool
 fn is_always_dead(is_met: bool, cells: &[u64], at: usize, words: usize) -> bool
     requires { words * at + words ≤ length cells.now }
     ensures { result ≡ true →
-        (is_met ≡ true) × HasValueUnderAll false words (bits_of words cells.now at) }
+        (is_met ≡ true) × HasValueUnderAll false words (cell_word_bit words cells.now at) }
 {
-    is_met && !has_other_word(cells, words * at, 0, words)
+    is_met && !has_word_other_than(cells, words * at, 0, words)
 }
 
 impl Planes {
     ghost use Rattle.local_run.specs.Frozen.{AreWords, AreMarkedEvenBlocksStable, AreMarkedOddBlocksStable, KeepsFirst};
-    ghost use Rattle.local_run.specs.Lanes.{HasSize};
-    ghost use Rattle.local_run.specs.Sweeps.{TurnsEven, TurnsOdd};
+    ghost use Rattle.local_run.specs.Lanes.{HasWordsStrideRows};
+    ghost use Rattle.local_run.specs.Sweeps.{TurnsEvenBlocksBetween, TurnsOddBlocksBetween};
 
     /// Returns whether each diagonal of block u of the odd partition has a cell that meets its condition and is live
     /// under each assignment.
-    pub fn has_live_odd_diagonals(&self, u: usize, met: Corners) -> bool
+    pub fn has_always_live_odd_diagonals(&self, u: usize, met: CornerConditions) -> bool
         requires { u < self.now.stride * self.now.rows }
         ensures { result ≡ true → HasLiveDiagonals self.now.words (met.upper_left ≡ true)
             (met.upper_right ≡ true) (met.lower_left ≡ true) (met.lower_right ≡ true)
-            (bits_of self.now.words self.now.odd.items u)
-            (bits_of self.now.words self.now.right.items u)
-            (bits_of self.now.words self.now.down.items u)
-            (bits_of self.now.words self.now.even.items u) }
+            (cell_word_bit self.now.words self.now.odd.items u)
+            (cell_word_bit self.now.words self.now.right.items u)
+            (cell_word_bit self.now.words self.now.down.items u)
+            (cell_word_bit self.now.words self.now.even.items u) }
     {
         let words = self.words;
         (is_always_live(met.upper_left, &self.odd, u, words)
@@ -74,14 +74,14 @@ impl Planes {
 
     /// Returns whether the cells of block u of the odd partition meet their conditions and are dead under each
     /// assignment.
-    pub fn is_odd_block_empty(&self, u: usize, met: Corners) -> bool
+    pub fn is_odd_block_empty(&self, u: usize, met: CornerConditions) -> bool
         requires { u < self.now.stride * self.now.rows }
         ensures { result ≡ true → IsEmptyBlock self.now.words (met.upper_left ≡ true)
             (met.upper_right ≡ true) (met.lower_left ≡ true) (met.lower_right ≡ true)
-            (bits_of self.now.words self.now.odd.items u)
-            (bits_of self.now.words self.now.right.items u)
-            (bits_of self.now.words self.now.down.items u)
-            (bits_of self.now.words self.now.even.items u) }
+            (cell_word_bit self.now.words self.now.odd.items u)
+            (cell_word_bit self.now.words self.now.right.items u)
+            (cell_word_bit self.now.words self.now.down.items u)
+            (cell_word_bit self.now.words self.now.even.items u) }
     {
         let words = self.words;
         is_always_dead(met.upper_left, &self.odd, u, words)
@@ -90,15 +90,15 @@ impl Planes {
             && is_always_dead(met.lower_right, &self.even, u, words)
     }
 
-    /// Returns the same as [`Planes::has_live_odd_diagonals`] of block n of the even partition.
-    pub fn has_live_even_diagonals(&self, n: usize, met: Corners) -> bool
+    /// Returns the same as [`Planes::has_always_live_odd_diagonals`] of block n of the even partition.
+    pub fn has_always_live_even_diagonals(&self, n: usize, met: CornerConditions) -> bool
         requires { n + self.now.stride + 1 < self.now.stride * self.now.rows }
         ensures { result ≡ true → HasLiveDiagonals self.now.words (met.upper_left ≡ true)
             (met.upper_right ≡ true) (met.lower_left ≡ true) (met.lower_right ≡ true)
-            (bits_of self.now.words self.now.even.items n)
-            (bits_of self.now.words self.now.down.items (n + 1))
-            (bits_of self.now.words self.now.right.items (n + self.now.stride))
-            (bits_of self.now.words self.now.odd.items (n + self.now.stride + 1)) }
+            (cell_word_bit self.now.words self.now.even.items n)
+            (cell_word_bit self.now.words self.now.down.items (n + 1))
+            (cell_word_bit self.now.words self.now.right.items (n + self.now.stride))
+            (cell_word_bit self.now.words self.now.odd.items (n + self.now.stride + 1)) }
     {
         let words = self.words;
         let stride = self.stride;
@@ -109,14 +109,14 @@ impl Planes {
     }
 
     /// Returns the same as [`Planes::is_odd_block_empty`] of block n of the even partition.
-    pub fn is_even_block_empty(&self, n: usize, met: Corners) -> bool
+    pub fn is_even_block_empty(&self, n: usize, met: CornerConditions) -> bool
         requires { n + self.now.stride + 1 < self.now.stride * self.now.rows }
         ensures { result ≡ true → IsEmptyBlock self.now.words (met.upper_left ≡ true)
             (met.upper_right ≡ true) (met.lower_left ≡ true) (met.lower_right ≡ true)
-            (bits_of self.now.words self.now.even.items n)
-            (bits_of self.now.words self.now.down.items (n + 1))
-            (bits_of self.now.words self.now.right.items (n + self.now.stride))
-            (bits_of self.now.words self.now.odd.items (n + self.now.stride + 1)) }
+            (cell_word_bit self.now.words self.now.even.items n)
+            (cell_word_bit self.now.words self.now.down.items (n + 1))
+            (cell_word_bit self.now.words self.now.right.items (n + self.now.stride))
+            (cell_word_bit self.now.words self.now.odd.items (n + self.now.stride + 1)) }
     {
         let words = self.words;
         let stride = self.stride;
@@ -144,7 +144,7 @@ impl Planes {
             TurnsPart at at at at (self.old.words * (end - first)) self.old.odd.items
             self.old.right.items self.old.down.items self.old.even.items self.new.odd.items
             self.new.right.items self.new.down.items self.new.even.items }
-        ensures size { HasSize self.old.words self.old.stride self.old.rows self.new }
+        ensures size { HasWordsStrideRows self.old.words self.old.stride self.old.rows self.new }
     {
         let at = self.words * first;
         turn_part(
@@ -169,7 +169,7 @@ impl Planes {
             (w * (first + self.old.stride)) (w * (first + self.old.stride + 1)) (w * (end - first))
             self.old.even.items self.old.down.items self.old.right.items self.old.odd.items
             self.new.even.items self.new.down.items self.new.right.items self.new.odd.items }
-        ensures size { HasSize self.old.words self.old.stride self.old.rows self.new }
+        ensures size { HasWordsStrideRows self.old.words self.old.stride self.old.rows self.new }
     {
         let words = self.words;
         let stride = self.stride;
@@ -192,8 +192,9 @@ impl Planes {
     pub fn odd_step_between_marks(&mut self, marks: &[u64])
         requires room { self.old.stride * self.old.rows ≤ 64 * length marks.now }
         requires calm { AreMarkedOddBlocksStable marks.now self.old }
-        ensures turned { TurnsOdd 0 (self.old.stride * self.old.rows) self.old self.new }
-        ensures size { HasSize self.old.words self.old.stride self.old.rows self.new }
+        ensures turned { TurnsOddBlocksBetween 0 (self.old.stride * self.old.rows) self.old
+            self.new }
+        ensures size { HasWordsStrideRows self.old.words self.old.stride self.old.rows self.new }
     {
         let cells = self.cells();
         let mut at = next_unmarked(marks, 0, cells);
@@ -209,9 +210,9 @@ impl Planes {
         requires room { self.old.stride * self.old.rows ≤ 64 * length marks.now }
         requires calm { AreMarkedEvenBlocksStable marks.now self.old }
         ensures turned { (n : ℕ) → n + self.old.stride + 1 ≡ self.old.stride * self.old.rows →
-            TurnsEven 0 n self.old self.new }
+            TurnsEvenBlocksBetween 0 n self.old self.new }
         ensures first { KeepsFirst self.old self.new }
-        ensures size { HasSize self.old.words self.old.stride self.old.rows self.new }
+        ensures size { HasWordsStrideRows self.old.words self.old.stride self.old.rows self.new }
     {
         let cells = self.cells() - self.stride() - 1;
         let mut at = next_unmarked(marks, 0, cells);

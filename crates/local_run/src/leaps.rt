@@ -3,14 +3,14 @@
 ghost use Rattle.std.specs.Prelude.{◌≡◌, ◌+◌, ◌<◌, ◌≤◌, ◌⊎◌, length};
 ghost use Rattle.module_box.specs.Moments.{moment_cmp};
 ghost use Rattle.module_box.specs.Schedules.{IsRising, moment_of};
-ghost use Rattle.local_run.specs.Leaps.{HasNoEvents, IsLeap, HasSameSignalsAtOddTimes, IsTimeBetween};
+ghost use Rattle.local_run.specs.Leaps.{HasNoEventsBetween, IsLeap, HasSameSignalsAtOddTimes, IsTimeBetween};
 ghost use Rattle.local_run.specs.Scans.{IsNextStop};
 
 use module_box::{Schedule, TimedSignal};
 use module_job::{Job, Shape};
 
 /// Returns the place of the first event at the time or after it, or how many events there are.
-pub fn first_event(events: &[TimedSignal], time: u32) -> usize
+pub fn first_event_place(events: &[TimedSignal], time: u32) -> usize
     requires rising { IsRising moment_cmp moment_of events.now }
     ensures range { result ≤ length events.now }
     ensures first { IsTimeBetween events.now time result result }
@@ -43,9 +43,9 @@ fn valid_start_place(events: &[TimedSignal], place: usize, time: u32) -> usize
     0
 }
 
-/// Returns the place of the first event at or after the time, as [`first_event`] does, by a search from a place on. If
-/// the event is near it, a few looks are enough.
-pub fn first_event_from(events: &[TimedSignal], place: usize, time: u32) -> usize
+/// Returns the place of the first event at or after the time, as [`first_event_place`] does, by a search from a place
+/// on. If the event is near it, a few looks are enough.
+pub fn first_event_place_from(events: &[TimedSignal], place: usize, time: u32) -> usize
     requires rising { IsRising moment_cmp moment_of events.now }
     ensures range { result ≤ length events.now }
     ensures first { IsTimeBetween events.now time result result }
@@ -67,9 +67,9 @@ fn next_event_time(events: &[TimedSignal], time: u32, end: u32) -> u32
     requires rising { IsRising moment_cmp moment_of events.now }
     requires range { time ≤ end }
     ensures range { (time ≤ result) × (result ≤ end) }
-    ensures none { HasNoEvents events.now time result }
+    ensures none { HasNoEventsBetween events.now time result }
 {
-    let first = first_event(events, time);
+    let first = first_event_place(events, time);
     if first < events.len() {
         let next = events[first].at.time;
         if next < end {
@@ -80,7 +80,7 @@ fn next_event_time(events: &[TimedSignal], time: u32, end: u32) -> u32
 }
 
 // A time, `end` at most, before which no event of the schedule stands from `time` on.
-fn same_signals_until(schedule: &Schedule, time: u32, end: u32) -> u32
+fn end_of_same_signals(schedule: &Schedule, time: u32, end: u32) -> u32
     requires { time ≤ end }
     ensures range { (time ≤ result) × (result ≤ end) }
     ensures steady { HasSameSignalsAtOddTimes schedule.now time result }
@@ -89,7 +89,7 @@ fn same_signals_until(schedule: &Schedule, time: u32, end: u32) -> u32
 }
 
 // A time, `end` at most, before which the signals of ring and halo at odd times from `time` on are those at `time`.
-fn quiet_until(job: &Job, time: u32, end: u32) -> u32
+fn end_of_quiet_times(job: &Job, time: u32, end: u32) -> u32
     requires { time ≤ end }
     ensures range { (time ≤ result) × (result ≤ end) }
     ensures edges { HasSameSignalsAtOddTimes job.now.edges time result }
@@ -97,12 +97,12 @@ fn quiet_until(job: &Job, time: u32, end: u32) -> u32
 {
     let _area = job.area();
     let shape: &Shape = job.shape();
-    let edges = same_signals_until(shape.edges(), time, end);
-    same_signals_until(shape.halos(), time, edges)
+    let edges = end_of_same_signals(shape.edges(), time, end);
+    end_of_same_signals(shape.halos(), time, edges)
 }
 
 // A time, `end` at most, before which there is no stop from `time` on, where `next` is the place of the first one.
-fn no_stop_until(job: &Job, next: usize, time: u32, end: u32) -> u32
+fn next_stop_time(job: &Job, next: usize, time: u32, end: u32) -> u32
     requires next { IsNextStop job.now time next }
     requires range { time ≤ end }
     ensures range { (time ≤ result) × (result ≤ end) }
@@ -133,9 +133,9 @@ pub fn next_time(job: &Job, time: u32, steps: u32, changed: bool, next: usize) -
     if changed || time % 2 == 1 || time == 0 {
         return time + 1;
     }
-    let quiet = quiet_until(job, time - 1, steps);
+    let quiet = end_of_quiet_times(job, time - 1, steps);
     if quiet <= time {
         return time + 1;
     }
-    no_stop_until(job, next, time + 1, quiet)
+    next_stop_time(job, next, time + 1, quiet)
 }

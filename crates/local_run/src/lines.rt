@@ -4,11 +4,11 @@ ghost use Rattle.module_job.specs.Jobs.{IsJob};
 ghost use Rattle.module_job.specs.Shapes.{shape_of};
 ghost use Rattle.module_box.specs.Moments.{moment_cmp};
 ghost use Rattle.module_box.specs.Schedules.{IsRising, all_times_at, event_at, moment_of, signal_at};
-ghost use Rattle.local_run.specs.Quiet.{AreAllTimesMarks, AreAllTimesCellsMarked, AreLines, box_at_origin, HasRoom, IsCellMarked, IsZeroAtUnmarked, KeepsMarks};
+ghost use Rattle.local_run.specs.Quiet.{AreAllTimesMarks, AreAllTimesCellsMarked, AreLines, box_at_origin, HasRoomForCellNumbers, IsCellMarked, IsZeroAtUnmarked, KeepsMarks};
 ghost use Rattle.local_run.specs.Places.{halo_coord};
 ghost use Rattle.std.specs.Prelude.{ℕ, ◌≢◌, MatchOption, ◌≡◌, ◌<◌, ◌+◌, ◌*◌, ◌/◌, ◌%◌, ◌^◌, ◌≤◌, length, slice_index, slice_get, Some, IfOk, IfSome};
 
-use crate::leaps::first_event_from;
+use crate::leaps::first_event_place_from;
 use bbm_rule::Cell;
 use bbm_rule::marks::mark;
 use module_box::{AllTimes, Box2, Moment, Schedule, Signal, TimedSignal};
@@ -34,7 +34,7 @@ pub const CELL_WORDS: usize = 72;
 
 /// Returns the number of a cell's own mark, where `number` is that of its cells in the planes.
 #[inline(always)]
-pub fn cell_mark_number(number: usize, x: usize, y: usize) -> usize
+pub fn own_mark_number(number: usize, x: usize, y: usize) -> usize
     requires { number < 2 ^ 32 }
     ensures { result ≡ number + 1152 * (1 + 2 * (y % 2) + x % 2) }
 {
@@ -43,7 +43,7 @@ pub fn cell_mark_number(number: usize, x: usize, y: usize) -> usize
 
 // Marks the cell, if it is in the box or its halo: a mark for its number in the planes, and one of its own.
 fn mark_cell(marks: &mut [u64], area: Box2, cell: Cell)
-    requires { HasRoom area marks.old }
+    requires { HasRoomForCellNumbers area marks.old }
     ensures keeps { KeepsMarks marks.old marks.new }
     ensures marked { IsCellMarked area cell marks.new }
 {
@@ -55,12 +55,12 @@ fn mark_cell(marks: &mut [u64], area: Box2, cell: Cell)
     };
     let number = (area.w as usize / 2 + 1) * (y / 2) + x / 2;
     mark(marks, number);
-    mark(marks, cell_mark_number(number, x, y));
+    mark(marks, own_mark_number(number, x, y));
 }
 
 // Marks the cells of signals at all times.
 fn mark_all_times_cells(marks: &mut [u64], area: Box2, list: &[AllTimes])
-    requires { HasRoom area marks.old }
+    requires { HasRoomForCellNumbers area marks.old }
     ensures keeps { KeepsMarks marks.old marks.new }
     ensures marked { (i : ℕ) (h : AllTimes) → slice_get list.now i ≡ Some h →
         IsCellMarked area h.cell marks.new }
@@ -72,7 +72,7 @@ fn mark_all_times_cells(marks: &mut [u64], area: Box2, list: &[AllTimes])
 
 // Marks the cells of the events from place `first` up to place `end`.
 fn mark_events(marks: &mut [u64], area: Box2, list: &[TimedSignal], first: usize, end: usize)
-    requires room_for_marks { HasRoom area marks.old }
+    requires room_for_marks { HasRoomForCellNumbers area marks.old }
     requires range { end ≤ length list.now }
     ensures keeps { KeepsMarks marks.old marks.new }
     ensures marked { (i : ℕ) (e : TimedSignal) → first ≤ i → i < end →
@@ -91,15 +91,15 @@ fn mark_events_at(
     place: usize,
     time: u32,
 ) -> EventPlaces
-    requires room_for_marks { HasRoom area marks.old }
+    requires room_for_marks { HasRoomForCellNumbers area marks.old }
     requires rising { IsRising moment_cmp moment_of list.now }
     requires range { time < 65536 }
     ensures keeps { KeepsMarks marks.old marks.new }
     ensures marked { (i : ℕ) (e : TimedSignal) → slice_get list.now i ≡ Some e → e.at.time ≡ time →
         IsCellMarked area e.at.cell marks.new }
 {
-    let first = first_event_from(list, place, time);
-    let end = first_event_from(list, first, time + 1);
+    let first = first_event_place_from(list, place, time);
+    let end = first_event_place_from(list, first, time + 1);
     mark_events(marks, area, list, first, end);
     EventPlaces { first, end }
 }
@@ -113,7 +113,7 @@ fn mark_schedule(
     place: usize,
     time: u32,
 ) -> EventPlaces
-    requires room_for_marks { HasRoom area marks.old }
+    requires room_for_marks { HasRoomForCellNumbers area marks.old }
     requires range { time < 65536 }
     requires all_times { AreAllTimesCellsMarked schedule.now area marks.old }
     ensures keeps { KeepsMarks marks.old marks.new }
@@ -123,7 +123,7 @@ fn mark_schedule(
 }
 
 // The box of a shape, with its corner at (0, 0).
-fn box_of(shape: &Shape) -> Box2
+fn box_at_origin_of(shape: &Shape) -> Box2
     ensures { result ≡ box_at_origin shape.now }
 {
     Box2 {
@@ -167,7 +167,7 @@ impl LinePlaces {
 const MOST_NEAR_LINES: usize = 8;
 
 // The signal of the event of a moment, if it is among the events at a few places.
-fn event_near(events: &[TimedSignal], moment: Moment, near: EventPlaces) -> Option<Signal>
+fn signal_of_event_near(events: &[TimedSignal], moment: Moment, near: EventPlaces) -> Option<Signal>
     requires { IsRising moment_cmp moment_of events.now }
     ensures { IfSome result
         (λ s. event_at events.now moment.time moment.cell.x moment.cell.y ≡ Some s) }
@@ -199,7 +199,7 @@ fn find_all_times_signal(all_times: &[AllTimes], cell: Cell) -> Option<Signal>
 
 /// Returns the signal of a cell at a time, as [`Schedule::at`] does. It looks first at the signals at all times, if
 /// they are few, and then at the events at a few places.
-pub fn signal_near(schedule: &Schedule, moment: Moment, near: EventPlaces) -> Signal
+pub fn signal_at_moment(schedule: &Schedule, moment: Moment, near: EventPlaces) -> Signal
     ensures { result ≡ signal_at schedule.now moment.time moment.cell.x moment.cell.y }
 {
     let all_times = schedule.all_times();
@@ -207,7 +207,7 @@ pub fn signal_near(schedule: &Schedule, moment: Moment, near: EventPlaces) -> Si
         if let Some(signal) = find_all_times_signal(all_times, moment.cell) {
             return signal;
         }
-        if let Some(signal) = event_near(schedule.events(), moment, near) {
+        if let Some(signal) = signal_of_event_near(schedule.events(), moment, near) {
             return signal;
         }
     }
@@ -223,25 +223,25 @@ pub fn mark_lines(marks: &mut [u64], places: &mut LinePlaces, job: &Job, time: u
     ensures { AreLines job.now time marks.new }
 {
     let shape: &Shape = job.shape();
-    let area = box_of(shape);
+    let area = box_at_origin_of(shape);
     places.edges = mark_schedule(marks, area, shape.edges(), places.edges.end, time);
     places.halos = mark_schedule(marks, area, shape.halos(), places.halos.end, time);
 }
 
 // Marks the cells of which an edge or halo line says something at all times.
 fn mark_all_times_of_shape(marks: &mut [u64], shape: &Shape)
-    requires { HasRoom (box_at_origin shape.now) marks.old }
+    requires { HasRoomForCellNumbers (box_at_origin shape.now) marks.old }
     ensures keeps { KeepsMarks marks.old marks.new }
     ensures edges { AreAllTimesCellsMarked shape.now.edges (box_at_origin shape.now) marks.new }
     ensures halos { AreAllTimesCellsMarked shape.now.halos (box_at_origin shape.now) marks.new }
 {
-    let area = box_of(shape);
+    let area = box_at_origin_of(shape);
     mark_all_times_cells(marks, area, shape.edges().all_times());
     mark_all_times_cells(marks, area, shape.halos().all_times());
 }
 
 /// Marks the cells of which an edge or halo line says something at all times, and their numbers in the planes.
-pub fn all_times_cells(alloc: Global, job: &Job) -> Result<Vec<u64>, AllocError>
+pub fn marks_of_all_times_cells(alloc: Global, job: &Job) -> Result<Vec<u64>, AllocError>
     requires { IsJob job.now }
     ensures { IfOk result (λ m. AreAllTimesMarks (shape_of job.now) m.items) }
 {

@@ -6,10 +6,10 @@
 
 ghost use Rattle.bbm_rule.specs.Bits.{bit};
 ghost use Rattle.bbm_rule.specs.Marks.{IsUnmarked};
-ghost use Rattle.local_run.specs.Live.{AreMarked, AreMarkedUnlessInBoth, AreUnmarked, HasRoomForBlockCells, HasRoomForCellMarks, HasSameRoom, IsLoneAnti, IsLoneMain, MarksCell, TakesMark};
+ghost use Rattle.local_run.specs.Live.{AreFirstCellsMarked, AreCellsMarkedUnlessInBoth, AreBlockCellsUnmarked, HasRoomForBlockCells, HasRoomForCellMarks, HasSameRoom, IsLoneAnti, IsLoneMain, MarksCellIf, TakesMarkOfOther};
 ghost use Rattle.std.specs.Prelude.{ℕ, ◌≡◌, ◌/◌, ◌<◌, ◌≤◌, ◌%◌, ◌+◌, ◌*◌, ◌^◌, ◌⊎◌, length, vec_len, IfOk, true, false};
 
-use crate::marks::{is_marked, mark_if, mark_unless_in_both, next_in_either, swap_marks};
+use crate::marks::{is_marked, mark_if, next_marked_in_either, set_marks_to_not_both, swap_marks};
 use crate::words::Changes;
 use bbm_rule::marks::mark_all;
 use std::alloc::{AllocError, Global};
@@ -32,7 +32,7 @@ impl LiveMarks {
     pub fn new(alloc: Global, long: usize) -> Result<LiveMarks, AllocError>
         requires { long ≤ 64 }
         ensures size { IfOk result (λ l. HasRoomForCellMarks (64 * long) l) }
-        ensures none { IfOk result (λ l. (u : ℕ) → AreUnmarked l u u u u) }
+        ensures none { IfOk result (λ l. (u : ℕ) → AreBlockCellsUnmarked l u u u u) }
     {
         Ok(LiveMarks {
             odd: vec![in alloc; 0u64; long]?,
@@ -45,7 +45,7 @@ impl LiveMarks {
     /// Marks all cells.
     pub fn mark_all(&mut self)
         ensures same_room { HasSameRoom self.old self.new }
-        ensures all { (n : ℕ) → HasRoomForCellMarks n self.old → AreMarked n self.new }
+        ensures all { (n : ℕ) → HasRoomForCellMarks n self.old → AreFirstCellsMarked n self.new }
     {
         mark_all(&mut self.odd);
         mark_all(&mut self.right);
@@ -54,15 +54,16 @@ impl LiveMarks {
     }
 
     /// Marks all cells but those whose number has a mark in both lists.
-    pub fn mark_unless_in_both(&mut self, first: &[u64], second: &[u64])
+    pub fn set_marks_to_not_both(&mut self, first: &[u64], second: &[u64])
         ensures same_room { HasSameRoom self.old self.new }
         ensures marked { (n : ℕ) → HasRoomForCellMarks n self.old → n ≤ 64 * length first.now →
-            n ≤ 64 * length second.now → AreMarkedUnlessInBoth n first.now second.now self.new }
+            n ≤ 64 * length second.now →
+            AreCellsMarkedUnlessInBoth n first.now second.now self.new }
     {
-        mark_unless_in_both(&mut self.odd, first, second);
-        mark_unless_in_both(&mut self.right, first, second);
-        mark_unless_in_both(&mut self.down, first, second);
-        mark_unless_in_both(&mut self.even, first, second);
+        set_marks_to_not_both(&mut self.odd, first, second);
+        set_marks_to_not_both(&mut self.right, first, second);
+        set_marks_to_not_both(&mut self.down, first, second);
+        set_marks_to_not_both(&mut self.even, first, second);
     }
 
     /// Returns a word of marks on the numbers of which a cell has a mark.
@@ -70,7 +71,7 @@ impl LiveMarks {
     pub fn word(&self, k: usize) -> u64
         requires { HasRoomForBlockCells self.now (64 * k) (64 * k) (64 * k) (64 * k) }
         ensures { (u : ℕ) → u / 64 ≡ k → bit result (u % 64) ≡ false →
-            AreUnmarked self.now u u u u }
+            AreBlockCellsUnmarked self.now u u u u }
     {
         (self.odd[k] | self.right[k]) | (self.down[k] | self.even[k])
     }
@@ -88,16 +89,22 @@ impl LiveMarks {
             IsUnmarked self.now.down.items u × IsUnmarked self.now.even.items u }
     {
         if y % 2 == 0 {
-            return next_in_either(&self.odd, &self.right, from, end);
+            return next_marked_in_either(&self.odd, &self.right, from, end);
         }
-        next_in_either(&self.down, &self.even, from, end)
+        next_marked_in_either(&self.down, &self.even, from, end)
     }
 
     /// Returns whether no cell of a block has a mark.
     #[inline(always)]
-    pub fn are_dead(&self, odd: usize, right: usize, down: usize, even: usize) -> bool
+    pub fn are_block_cells_unmarked(
+        &self,
+        odd: usize,
+        right: usize,
+        down: usize,
+        even: usize,
+    ) -> bool
         requires { HasRoomForBlockCells self.now odd right down even }
-        ensures { result ≡ true → AreUnmarked self.now odd right down even }
+        ensures { result ≡ true → AreBlockCellsUnmarked self.now odd right down even }
     {
         !is_marked(&self.odd, odd)
             && !is_marked(&self.right, right)
@@ -137,10 +144,10 @@ impl LiveMarks {
         changes: Changes,
     )
         requires { HasRoomForBlockCells self.old odd right down even }
-        ensures odd { MarksCell changes.main odd self.old.odd.items self.new.odd.items }
-        ensures right { MarksCell changes.anti right self.old.right.items self.new.right.items }
-        ensures down { MarksCell changes.anti down self.old.down.items self.new.down.items }
-        ensures even { MarksCell changes.main even self.old.even.items self.new.even.items }
+        ensures odd { MarksCellIf changes.main odd self.old.odd.items self.new.odd.items }
+        ensures right { MarksCellIf changes.anti right self.old.right.items self.new.right.items }
+        ensures down { MarksCellIf changes.anti down self.old.down.items self.new.down.items }
+        ensures even { MarksCellIf changes.main even self.old.even.items self.new.even.items }
         ensures same_room { HasSameRoom self.old self.new }
     {
         mark_if(&mut self.odd, odd, changes.main);
@@ -152,11 +159,11 @@ impl LiveMarks {
     /// Exchanges the marks of the cells of a block's main diagonal.
     pub fn swap_main(&mut self, odd: usize, even: usize)
         requires { (odd < 64 * vec_len self.old.odd) × (even < 64 * vec_len self.old.even) }
-        ensures odd { TakesMark odd even self.old.odd.items self.old.even.items
+        ensures odd { TakesMarkOfOther odd even self.old.odd.items self.old.even.items
             self.new.odd.items }
         ensures right { self.new.right ≡ self.old.right }
         ensures down { self.new.down ≡ self.old.down }
-        ensures even { TakesMark even odd self.old.even.items self.old.odd.items
+        ensures even { TakesMarkOfOther even odd self.old.even.items self.old.odd.items
             self.new.even.items }
         ensures same_room { HasSameRoom self.old self.new }
     {
@@ -167,9 +174,9 @@ impl LiveMarks {
     pub fn swap_anti(&mut self, right: usize, down: usize)
         requires { (right < 64 * vec_len self.old.right) × (down < 64 * vec_len self.old.down) }
         ensures odd { self.new.odd ≡ self.old.odd }
-        ensures right { TakesMark right down self.old.right.items self.old.down.items
+        ensures right { TakesMarkOfOther right down self.old.right.items self.old.down.items
             self.new.right.items }
-        ensures down { TakesMark down right self.old.down.items self.old.right.items
+        ensures down { TakesMarkOfOther down right self.old.down.items self.old.right.items
             self.new.down.items }
         ensures even { self.new.even ≡ self.old.even }
         ensures same_room { HasSameRoom self.old self.new }

@@ -14,9 +14,9 @@ const BUSY: u32 = 31;
 const CROWD: u32 = 64;
 
 impl MarkedPlanes {
-    ghost use Rattle.local_run.specs.Live.{AreUnmarked, IsLoneAnti, IsLoneMain};
+    ghost use Rattle.local_run.specs.Live.{AreBlockCellsUnmarked, IsLoneAnti, IsLoneMain};
     ghost use Rattle.local_run.specs.Turns.{TurnsPart};
-    ghost use Rattle.local_run.specs.Lanes.{HasSize};
+    ghost use Rattle.local_run.specs.Lanes.{HasWordsStrideRows};
 
     // Counts a block that may have two live cells, and three times if it was turned: all that are turned in a step are
     // taken off twice at its end.
@@ -44,15 +44,15 @@ impl MarkedPlanes {
     }
 
     // Turns block u of the odd partition, of which no cell is live but one of its main diagonal: they change places.
-    fn move_odd_main(&mut self, u: usize)
+    fn swap_lone_main_of_odd(&mut self, u: usize)
         requires place { u < self.old.planes.stride * self.old.planes.rows }
         requires lone { IsLoneMain self.old.live_marks u u u u }
         ensures part { let at = self.old.planes.words * u in TurnsPart at at at at
             self.old.planes.words self.old.planes.odd.items self.old.planes.right.items
             self.old.planes.down.items self.old.planes.even.items self.new.planes.odd.items
             self.new.planes.right.items self.new.planes.down.items self.new.planes.even.items }
-        ensures size { HasSize self.old.planes.words self.old.planes.stride self.old.planes.rows
-            self.new.planes }
+        ensures size { HasWordsStrideRows self.old.planes.words self.old.planes.stride
+            self.old.planes.rows self.new.planes }
     {
         let stride = self.planes.stride();
         mark(&mut self.odd_marks, u);
@@ -62,15 +62,15 @@ impl MarkedPlanes {
     }
 
     // Turns block u of the odd partition, of which no cell is live but one of its other diagonal: they change places.
-    fn move_odd_anti(&mut self, u: usize)
+    fn swap_lone_anti_of_odd(&mut self, u: usize)
         requires place { u < self.old.planes.stride * self.old.planes.rows }
         requires lone { IsLoneAnti self.old.live_marks u u u u }
         ensures part { let at = self.old.planes.words * u in TurnsPart at at at at
             self.old.planes.words self.old.planes.odd.items self.old.planes.right.items
             self.old.planes.down.items self.old.planes.even.items self.new.planes.odd.items
             self.new.planes.right.items self.new.planes.down.items self.new.planes.even.items }
-        ensures size { HasSize self.old.planes.words self.old.planes.stride self.old.planes.rows
-            self.new.planes }
+        ensures size { HasWordsStrideRows self.old.planes.words self.old.planes.stride
+            self.old.planes.rows self.new.planes }
     {
         let stride = self.planes.stride();
         mark(&mut self.odd_marks, u);
@@ -138,11 +138,11 @@ impl MarkedPlanes {
             self.old.planes.words self.old.planes.odd.items self.old.planes.right.items
             self.old.planes.down.items self.old.planes.even.items self.new.planes.odd.items
             self.new.planes.right.items self.new.planes.down.items self.new.planes.even.items }
-        ensures size { HasSize self.old.planes.words self.old.planes.stride self.old.planes.rows
-            self.new.planes }
+        ensures size { HasWordsStrideRows self.old.planes.words self.old.planes.stride
+            self.old.planes.rows self.new.planes }
         ensures stays { result ≡ false → self.new.planes ≡ self.old.planes }
     {
-        let changes = self.planes.odd_changes(u);
+        let changes = self.planes.odd_block_changes(u);
         if changes.is_none() {
             unmark(&mut self.odd_marks, u);
             return false;
@@ -151,7 +151,7 @@ impl MarkedPlanes {
         mark(&mut self.odd_marks, u);
         mark_even_neighbours(&mut self.even_marks, u, stride, changes);
         self.live_marks.mark_cells(u, u, u, u, changes);
-        self.planes.turn_odd(u);
+        self.planes.turn_odd_block(u);
         true
     }
 
@@ -171,23 +171,23 @@ impl MarkedPlanes {
     /// Turns block u of the odd partition, unless it stays, and returns whether it turned it.
     ///
     /// Its words are read only if two of its cells may be live.
-    pub(crate) fn turn_odd(&mut self, u: usize) -> bool
+    pub(crate) fn turn_odd_block(&mut self, u: usize) -> bool
         requires { u < self.old.planes.stride * self.old.planes.rows }
         ensures part { let at = self.old.planes.words * u in TurnsPart at at at at
             self.old.planes.words self.old.planes.odd.items self.old.planes.right.items
             self.old.planes.down.items self.old.planes.even.items self.new.planes.odd.items
             self.new.planes.right.items self.new.planes.down.items self.new.planes.even.items }
-        ensures size { HasSize self.old.planes.words self.old.planes.stride self.old.planes.rows
-            self.new.planes }
+        ensures size { HasWordsStrideRows self.old.planes.words self.old.planes.stride
+            self.old.planes.rows self.new.planes }
         ensures stays { result ≡ false → self.new.planes ≡ self.old.planes }
     {
         if self.is_exact && self.live_marks.is_lone_main(u, u, u, u) {
-            self.move_odd_main(u);
+            self.swap_lone_main_of_odd(u);
             self.unmark_block_left_by_main(u);
             return true;
         }
         if self.is_exact && self.live_marks.is_lone_anti(u, u, u, u) {
-            self.move_odd_anti(u);
+            self.swap_lone_anti_of_odd(u);
             self.unmark_block_left_by_anti(u);
             return true;
         }
@@ -197,7 +197,7 @@ impl MarkedPlanes {
     }
 
     // Turns block u of the even partition, of which no cell is live but one of its main diagonal: they change places.
-    fn move_even_main(&mut self, u: usize)
+    fn swap_lone_main_of_even(&mut self, u: usize)
         requires place { u + self.old.planes.stride + 1 < self.old.planes.stride
             * self.old.planes.rows }
         requires inside { (u + 1) % self.old.planes.stride ≢ 0 }
@@ -208,8 +208,8 @@ impl MarkedPlanes {
             self.old.planes.even.items self.old.planes.down.items self.old.planes.right.items
             self.old.planes.odd.items self.new.planes.even.items self.new.planes.down.items
             self.new.planes.right.items self.new.planes.odd.items }
-        ensures size { HasSize self.old.planes.words self.old.planes.stride self.old.planes.rows
-            self.new.planes }
+        ensures size { HasWordsStrideRows self.old.planes.words self.old.planes.stride
+            self.old.planes.rows self.new.planes }
     {
         let stride = self.planes.stride();
         mark(&mut self.even_marks, u);
@@ -219,7 +219,7 @@ impl MarkedPlanes {
     }
 
     // Turns block u of the even partition, of which no cell is live but one of its other diagonal: they change places.
-    fn move_even_anti(&mut self, u: usize)
+    fn swap_lone_anti_of_even(&mut self, u: usize)
         requires place { u + self.old.planes.stride + 1 < self.old.planes.stride
             * self.old.planes.rows }
         requires inside { (u + 1) % self.old.planes.stride ≢ 0 }
@@ -230,8 +230,8 @@ impl MarkedPlanes {
             self.old.planes.even.items self.old.planes.down.items self.old.planes.right.items
             self.old.planes.odd.items self.new.planes.even.items self.new.planes.down.items
             self.new.planes.right.items self.new.planes.odd.items }
-        ensures size { HasSize self.old.planes.words self.old.planes.stride self.old.planes.rows
-            self.new.planes }
+        ensures size { HasWordsStrideRows self.old.planes.words self.old.planes.stride
+            self.old.planes.rows self.new.planes }
     {
         let stride = self.planes.stride();
         mark(&mut self.even_marks, u);
@@ -250,11 +250,11 @@ impl MarkedPlanes {
             self.old.planes.even.items self.old.planes.down.items self.old.planes.right.items
             self.old.planes.odd.items self.new.planes.even.items self.new.planes.down.items
             self.new.planes.right.items self.new.planes.odd.items }
-        ensures size { HasSize self.old.planes.words self.old.planes.stride self.old.planes.rows
-            self.new.planes }
+        ensures size { HasWordsStrideRows self.old.planes.words self.old.planes.stride
+            self.old.planes.rows self.new.planes }
         ensures stays { result ≡ false → self.new.planes ≡ self.old.planes }
     {
-        let changes = self.planes.even_changes(u);
+        let changes = self.planes.even_block_changes(u);
         if changes.is_none() {
             unmark(&mut self.even_marks, u);
             return false;
@@ -264,7 +264,7 @@ impl MarkedPlanes {
         mark_odd_neighbours(&mut self.odd_marks, u, stride, changes);
         self.live_marks
             .mark_cells(u + stride + 1, u + stride, u + 1, u, changes);
-        self.planes.turn_even(u);
+        self.planes.turn_even_block(u);
         true
     }
 
@@ -279,8 +279,8 @@ impl MarkedPlanes {
             self.old.planes.even.items self.old.planes.down.items self.old.planes.right.items
             self.old.planes.odd.items self.new.planes.even.items self.new.planes.down.items
             self.new.planes.right.items self.new.planes.odd.items }
-        ensures size { HasSize self.old.planes.words self.old.planes.stride self.old.planes.rows
-            self.new.planes }
+        ensures size { HasWordsStrideRows self.old.planes.words self.old.planes.stride
+            self.old.planes.rows self.new.planes }
         ensures stays { result ≡ false → self.new.planes ≡ self.old.planes }
     {
         let stride = self.planes.stride();
@@ -290,11 +290,11 @@ impl MarkedPlanes {
                 unmark(&mut self.even_marks, u);
                 return false;
             }
-            self.move_even_main(u);
+            self.swap_lone_main_of_even(u);
             return true;
         }
         if self.is_exact && self.live_marks.is_lone_anti(odd, right, down, u) {
-            self.move_even_anti(u);
+            self.swap_lone_anti_of_even(u);
             return true;
         }
         let is_turned = self.turn_even_words(u);
@@ -321,18 +321,18 @@ impl MarkedPlanes {
     fn is_even_block_dead(&self, u: usize) -> bool
         requires { u + self.now.planes.stride + 1 < self.now.planes.stride * self.now.planes.rows }
         ensures { result ≡ true → let s = self.now.planes.stride in
-            AreUnmarked self.now.live_marks (u + s + 1) (u + s) (u + 1) u }
+            AreBlockCellsUnmarked self.now.live_marks (u + s + 1) (u + s) (u + 1) u }
     {
         let stride = self.planes.stride();
         self.live_marks
-            .are_dead(u + stride + 1, u + stride, u + 1, u)
+            .are_block_cells_unmarked(u + stride + 1, u + stride, u + 1, u)
     }
 
     /// Turns block u of the even partition, unless it stays, and returns whether it turned it.
     ///
     /// The last block of a row is not in the box and stays: its cells are in the halo, at the right end of two rows and
     /// at the left end of the next two.
-    pub(crate) fn turn_even(&mut self, u: usize) -> bool
+    pub(crate) fn turn_even_block(&mut self, u: usize) -> bool
         requires { u + self.old.planes.stride + 1 < self.old.planes.stride * self.old.planes.rows }
         ensures part { (u + 1) % self.old.planes.stride ≢ 0 →
             let w = self.old.planes.words in TurnsPart (w * u) (w * (u + 1))
@@ -340,8 +340,8 @@ impl MarkedPlanes {
             self.old.planes.even.items self.old.planes.down.items self.old.planes.right.items
             self.old.planes.odd.items self.new.planes.even.items self.new.planes.down.items
             self.new.planes.right.items self.new.planes.odd.items }
-        ensures size { HasSize self.old.planes.words self.old.planes.stride self.old.planes.rows
-            self.new.planes }
+        ensures size { HasWordsStrideRows self.old.planes.words self.old.planes.stride
+            self.old.planes.rows self.new.planes }
         ensures last { (u + 1) % self.old.planes.stride ≡ 0 → self.new.planes ≡ self.old.planes }
         ensures stays { result ≡ false → self.new.planes ≡ self.old.planes }
     {

@@ -5,18 +5,18 @@
 //! looks only at the blocks near cells that changed. It turns word by word only blocks in which two cells may be live.
 //! After a step in which many blocks change, some steps turn whole planes.
 
-ghost use Rattle.local_run.specs.Borders.{AreUnmarkedAwayFromBorder, AreUnmarkedAwayFromBorder-prop, AreSkippable};
-ghost use Rattle.local_run.specs.Calm.{AreOddBlocksStable, AreOddBlocksStable-prop, AreEvenBlocksStable, AreEvenBlocksStable-prop};
+ghost use Rattle.local_run.specs.Borders.{AreUnmarkedAwayFromBorder, AreUnmarkedAwayFromBorder-prop, AreSkippableBetween};
+ghost use Rattle.local_run.specs.Calm.{AreUnmarkedOddBlocksStable, AreUnmarkedOddBlocksStable-prop, AreUnmarkedEvenBlocksStable, AreUnmarkedEvenBlocksStable-prop};
 ghost use Rattle.local_run.specs.Frozen.{AreFrozenIfFound};
 ghost use Rattle.local_run.specs.Live.{AllUnmarkedDead, AllUnmarkedDead-prop, HasRoomForCellMarks};
 ghost use Rattle.std.specs.Int.{div_ceil};
 ghost use Rattle.std.specs.Prelude.{ℕ, ◌≡◌, ◌+◌, ◌*◌, ◌/◌, ◌%◌, ◌<◌, ◌≤◌, vec_len, IfOk, true, false};
 
 use crate::frozen::FrozenBlocks;
-use crate::lines::{CELL_WORDS, LinePlaces, cell_mark_number, mark_lines};
+use crate::lines::{CELL_WORDS, LinePlaces, mark_lines, own_mark_number};
 use crate::live::LiveMarks;
 use crate::marked_steps::STEPS_TO_SEARCH;
-use crate::marks::{is_marked, mark_border, mark_even_neighbours, word_marked_in};
+use crate::marks::{is_marked, mark_border, mark_even_neighbours, marked_in_first_and_other};
 use crate::phases::WholePlaneSteps;
 use crate::planes::Planes;
 use crate::values::Values;
@@ -59,8 +59,8 @@ pub struct MarkedPlanes {
     ghost live_room: { HasRoomForCellMarks (planes.stride * planes.rows) live_marks },
     ghost border_room: { planes.stride * planes.rows ≤ 64 * vec_len border_marks },
     ghost line_long: { vec_len line_marks ≡ div_ceil (planes.stride * planes.rows) 64 + 72 },
-    ghost odd_calm: { AreOddBlocksStable odd_marks.items planes } by { AreOddBlocksStable-prop odd_marks.items planes },
-    ghost even_calm: { AreEvenBlocksStable even_marks.items planes } by { AreEvenBlocksStable-prop even_marks.items planes },
+    ghost odd_calm: { AreUnmarkedOddBlocksStable odd_marks.items planes } by { AreUnmarkedOddBlocksStable-prop odd_marks.items planes },
+    ghost even_calm: { AreUnmarkedEvenBlocksStable even_marks.items planes } by { AreUnmarkedEvenBlocksStable-prop even_marks.items planes },
     ghost all_dead: { AllUnmarkedDead live_marks planes } by { AllUnmarkedDead-prop live_marks planes },
     ghost freezes: { AreFrozenIfFound frozen planes },
     ghost all_inner: { AreUnmarkedAwayFromBorder planes.stride planes.rows border_marks.items } by { AreUnmarkedAwayFromBorder-prop planes.stride planes.rows border_marks.items },
@@ -71,14 +71,14 @@ const SEARCHES: u32 = 4;
 impl MarkedPlanes {
     ghost use Rattle.bbm_rule.specs.Bits.{bit};
     ghost use Rattle.bbm_rule.specs.Marks.{IsUnmarked};
-    ghost use Rattle.local_run.specs.Calm.{AreDead};
+    ghost use Rattle.local_run.specs.Calm.{AreAllCellsDead};
     ghost use Rattle.local_run.specs.Quiet.{AreLines};
     ghost use Rattle.local_run.specs.Scans.{IsReady};
-    ghost use Rattle.local_run.specs.Lanes.{HasSize, lane};
+    ghost use Rattle.local_run.specs.Lanes.{HasWordsStrideRows, lane};
 
     /// Creates a field of planes whose cells are dead. No block has a mark, since each stays.
     pub fn new(alloc: Global, planes: Planes) -> Result<MarkedPlanes, AllocError>
-        requires { AreDead planes }
+        requires { AreAllCellsDead planes }
         ensures { IfOk result (λ f. f.planes ≡ planes) }
     {
         let long = planes.cells().div_ceil(64);
@@ -100,7 +100,7 @@ impl MarkedPlanes {
             line_marks,
             line_places: LinePlaces::first(),
             whole_plane_steps: WholePlaneSteps::NONE,
-            frozen: FrozenBlocks::unknown(alloc),
+            frozen: FrozenBlocks::not_found_yet(alloc),
             until_search: STEPS_TO_SEARCH,
             searches: SEARCHES,
         })
@@ -123,19 +123,19 @@ impl MarkedPlanes {
     /// Marks the cells of which an edge or halo line of the job says something at a time.
     pub fn mark_lines_at(&mut self, values: &Values, job: &Job, time: u32)
         requires ready { IsReady job.now values.now }
-        requires size { HasSize values.now.words (job.now.area.w / 2 + 1) (job.now.area.h / 2 + 1)
-            self.old.planes }
+        requires size { HasWordsStrideRows values.now.words (job.now.area.w / 2 + 1)
+            (job.now.area.h / 2 + 1) self.old.planes }
         requires range { time < 65536 }
         ensures planes { self.new.planes ≡ self.old.planes }
         ensures lines { AreLines job.now time self.new.line_marks.items }
     {
-        self.count_busy_time();
+        self.count_down_busy_times();
         self.line_marks.copy_from_slice(values.all_times_marks());
         mark_lines(&mut self.line_marks, &mut self.line_places, job, time);
     }
 
     // Counts the times at which the words of all blocks are read.
-    fn count_busy_time(&mut self)
+    fn count_down_busy_times(&mut self)
         ensures { self.new.planes ≡ self.old.planes }
     {
         if self.busy == 0 {
@@ -155,9 +155,9 @@ impl MarkedPlanes {
     pub fn border_word(&self, k: usize) -> u64
         requires { 64 * k < self.now.planes.stride * self.now.planes.rows }
         ensures passed { (u : ℕ) → u / 64 ≡ k → bit result (u % 64) ≡ false →
-            AreSkippable u (u + 1) self.now.line_marks.items self.now.planes }
+            AreSkippableBetween u (u + 1) self.now.line_marks.items self.now.planes }
     {
-        word_marked_in(&self.border_marks, &self.live_marks, &self.line_marks, k)
+        marked_in_first_and_other(&self.border_marks, &self.live_marks, &self.line_marks, k)
     }
 
     /// Returns whether an edge or halo line may say something of a cell, counted from the halo, at the time that was
@@ -171,7 +171,7 @@ impl MarkedPlanes {
     {
         is_marked(
             &self.line_marks,
-            cell_mark_number(self.planes.number(x, y), x, y),
+            own_mark_number(self.planes.number(x, y), x, y),
         )
     }
 
@@ -252,7 +252,7 @@ impl MarkedPlanes {
         let changes = Changes::of_cell(x, y);
         self.live_marks.mark_cells(u, u, u, u, changes);
         mark_even_neighbours(&mut self.even_marks, u, stride, changes);
-        self.frozen.give_up_at(u);
+        self.frozen.give_up_if_frozen(u);
         values.put(&mut self.planes, x, y, signal);
         self.unmark_dead_cells(u, u, u, u);
     }

@@ -17,8 +17,8 @@ pub(crate) const STEPS_TO_SEARCH: u32 = 128;
 const ALWAYS_FEW: usize = 4;
 
 impl MarkedPlanes {
-    ghost use Rattle.local_run.specs.Sweeps.{IsNumberNotInRest, IsInnerNumberNotInRest, TurnsEven, TurnsEvenBlocksWhere, TurnsOdd, TurnsOddBlocksWhere};
-    ghost use Rattle.local_run.specs.Lanes.{HasSize, AreSameInBox, lane};
+    ghost use Rattle.local_run.specs.Sweeps.{IsInRangeNotInWord, IsInRangeNotInWordNorRowEnd, TurnsEvenBlocksBetween, TurnsEvenBlocksWhere, TurnsOddBlocksBetween, TurnsOddBlocksWhere};
+    ghost use Rattle.local_run.specs.Lanes.{HasWordsStrideRows, AreSameInBox, lane};
 
     // Looks whether the next steps are to turn whole planes, after a step by marks in which `changed` blocks changed.
     // Where few did, they are not, even if most blocks are frozen.
@@ -33,17 +33,17 @@ impl MarkedPlanes {
                 changed,
                 self.planes.cells() / 4,
                 self.planes.words(),
-                self.planes.columns_and_rows() / 4,
+                self.planes.columns_plus_rows() / 4,
             )
         {
-            self.begin_phase(changed);
+            self.begin_phase_if_cheaper(changed);
         } else {
             self.whole_plane_steps = WholePlaneSteps::NONE;
         }
     }
 
     // Begins a phase of steps that turn whole planes, if it costs less than to go by marks.
-    fn begin_phase(&mut self, changed: usize)
+    fn begin_phase_if_cheaper(&mut self, changed: usize)
         requires { changed ≤ 4096 }
         ensures { self.new.planes ≡ self.old.planes }
     {
@@ -53,7 +53,8 @@ impl MarkedPlanes {
             changed,
             self.frozen.active_block_count(cells),
             self.planes.words(),
-            self.frozen.active_rows(self.planes.columns_and_rows()),
+            self.frozen
+                .active_columns_plus_rows(self.planes.columns_plus_rows()),
         ) {
             self.whole_plane_steps = self.whole_plane_steps.next_phase();
             self.count_dense_steps(self.whole_plane_steps.left);
@@ -84,7 +85,7 @@ impl MarkedPlanes {
         requires { 64 * k < self.now.planes.stride * self.now.planes.rows }
         ensures calm { (end : ℕ) → end ≤ 64 * k + 64 →
             end ≤ self.now.planes.stride * self.now.planes.rows →
-            TurnsOddBlocksWhere (IsNumberNotInRest (64 * k) end result) self.now.planes
+            TurnsOddBlocksWhere (IsInRangeNotInWord (64 * k) end result) self.now.planes
             self.now.planes }
     {
         self.odd_marks[k] & self.live_marks.word(k)
@@ -98,11 +99,11 @@ impl MarkedPlanes {
     fn turn_marked_odd_blocks(&mut self, word: u64, first: usize, end: usize) -> usize
         requires word { (first % 64 ≡ 0) × (first < end) × (end ≤ first + 64) }
         requires within { end ≤ self.old.planes.stride * self.old.planes.rows }
-        requires calm { TurnsOddBlocksWhere (IsNumberNotInRest first end word) self.old.planes
+        requires calm { TurnsOddBlocksWhere (IsInRangeNotInWord first end word) self.old.planes
             self.old.planes }
-        ensures turned { TurnsOdd first end self.old.planes self.new.planes }
-        ensures size { HasSize self.old.planes.words self.old.planes.stride self.old.planes.rows
-            self.new.planes }
+        ensures turned { TurnsOddBlocksBetween first end self.old.planes self.new.planes }
+        ensures size { HasWordsStrideRows self.old.planes.words self.old.planes.stride
+            self.old.planes.rows self.new.planes }
         ensures stays { result ≡ 0 → self.new.planes ≡ self.old.planes }
         ensures count { first + result ≤ end }
     {
@@ -115,7 +116,7 @@ impl MarkedPlanes {
                 return changed;
             }
             rest = others;
-            if self.turn_odd(u) {
+            if self.turn_odd_block(u) {
                 changed += 1;
             }
         }
@@ -129,8 +130,9 @@ impl MarkedPlanes {
             * self.now.planes.rows }
         ensures calm { (end : ℕ) → end ≤ 64 * k + 64 →
             end + self.now.planes.stride + 1 ≤ self.now.planes.stride * self.now.planes.rows →
-            TurnsEvenBlocksWhere (IsInnerNumberNotInRest self.now.planes.stride (64 * k) end result)
-            self.now.planes self.now.planes }
+            TurnsEvenBlocksWhere
+            (IsInRangeNotInWordNorRowEnd self.now.planes.stride (64 * k) end result) self.now.planes
+            self.now.planes }
     {
         self.even_marks[k]
     }
@@ -142,11 +144,11 @@ impl MarkedPlanes {
         requires within { end + self.old.planes.stride + 1 ≤ self.old.planes.stride
             * self.old.planes.rows }
         requires calm { TurnsEvenBlocksWhere
-            (IsInnerNumberNotInRest self.old.planes.stride first end word) self.old.planes
+            (IsInRangeNotInWordNorRowEnd self.old.planes.stride first end word) self.old.planes
             self.old.planes }
-        ensures turned { TurnsEven first end self.old.planes self.new.planes }
-        ensures size { HasSize self.old.planes.words self.old.planes.stride self.old.planes.rows
-            self.new.planes }
+        ensures turned { TurnsEvenBlocksBetween first end self.old.planes self.new.planes }
+        ensures size { HasWordsStrideRows self.old.planes.words self.old.planes.stride
+            self.old.planes.rows self.new.planes }
         ensures stays { result ≡ 0 → self.new.planes ≡ self.old.planes }
         ensures count { first + result ≤ end }
     {
@@ -159,7 +161,7 @@ impl MarkedPlanes {
                 return changed;
             }
             rest = others;
-            if self.turn_even(u) {
+            if self.turn_even_block(u) {
                 changed += 1;
             }
         }
@@ -174,8 +176,8 @@ impl MarkedPlanes {
             lane self.new.planes a x y
             ≡ turned (lane self.old.planes a x y) (lane self.old.planes a (mate x) (mate y))
             (lane self.old.planes a (mate x) y) (lane self.old.planes a x (mate y)) }
-        ensures size { HasSize self.old.planes.words self.old.planes.stride self.old.planes.rows
-            self.new.planes }
+        ensures size { HasWordsStrideRows self.old.planes.words self.old.planes.stride
+            self.old.planes.rows self.new.planes }
         ensures stays { result ≡ false → self.new.planes ≡ self.old.planes }
     {
         if self.whole_plane_steps.left > 0 {
@@ -214,8 +216,8 @@ impl MarkedPlanes {
             (lane self.old.planes a (1 + mate x) (1 + mate y))
             (lane self.old.planes a (1 + mate x) (1 + y))
             (lane self.old.planes a (1 + x) (1 + mate y)) }
-        ensures size { HasSize self.old.planes.words self.old.planes.stride self.old.planes.rows
-            self.new.planes }
+        ensures size { HasWordsStrideRows self.old.planes.words self.old.planes.stride
+            self.old.planes.rows self.new.planes }
         ensures stays { result ≡ false → AreSameInBox self.old.planes self.new.planes }
     {
         if self.whole_plane_steps.left > 0 {

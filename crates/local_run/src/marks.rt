@@ -4,7 +4,7 @@ ghost use Rattle.bbm_rule.specs.Bits.{bit};
 ghost use Rattle.bbm_rule.specs.Marks.{IsUnmarked};
 ghost use Rattle.bbm_rule.specs.Rows.{cell_at};
 ghost use Rattle.local_run.specs.Borders.{AreUnmarkedAwayFromBorder};
-ghost use Rattle.local_run.specs.Live.{AreUnmarked, UnmarksIfDead, HasRoomForCellMarks, HasRoomForBlockCells, IsDeadCell, MarksCell, TakesMark};
+ghost use Rattle.local_run.specs.Live.{AreBlockCellsUnmarked, UnmarksIfDead, HasRoomForCellMarks, HasRoomForBlockCells, IsDeadCell, MarksCellIf, TakesMarkOfOther};
 ghost use Rattle.local_run.specs.Turns.{MarksEvenNeighbours, MarksOddNeighbours};
 ghost use Rattle.std.specs.Int.{trailing_zeros, w64};
 ghost use Rattle.std.specs.Prelude.{ℕ, ◌≡◌, ◌≢◌, ◌+◌, ◌*◌, ◌/◌, ◌%◌, ◌^◌, ◌<◌, ◌≤◌, ◌⊎◌, ◌&&◌, length, not, true, false};
@@ -26,7 +26,7 @@ pub fn is_marked(marks: &[u64], at: usize) -> bool
 #[inline(always)]
 pub fn mark_if(marks: &mut [u64], at: usize, changes: bool)
     requires { at / 64 < length marks.old }
-    ensures { MarksCell changes at marks.old marks.new }
+    ensures { MarksCellIf changes at marks.old marks.new }
 {
     if changes {
         mark(marks, at);
@@ -34,7 +34,7 @@ pub fn mark_if(marks: &mut [u64], at: usize, changes: bool)
 }
 
 /// Marks the numbers that have no mark in one of two other lists, as far as both lists reach, and unmarks the others.
-pub fn mark_unless_in_both(marks: &mut [u64], first: &[u64], second: &[u64])
+pub fn set_marks_to_not_both(marks: &mut [u64], first: &[u64], second: &[u64])
     ensures { (u : ℕ) → u / 64 < length marks.old → u / 64 < length first.now →
         u / 64 < length second.now →
         cell_at marks.new u ≡ not (cell_at first.now u && cell_at second.now u) }
@@ -60,8 +60,8 @@ fn flip_mark(marks: &mut [u64], at: usize)
 #[inline(always)]
 pub fn swap_marks(first: &mut [u64], second: &mut [u64], a: usize, b: usize)
     requires { (a / 64 < length first.old) × (b / 64 < length second.old) }
-    ensures first { TakesMark a b first.old second.old first.new }
-    ensures second { TakesMark b a second.old first.old second.new }
+    ensures first { TakesMarkOfOther a b first.old second.old first.new }
+    ensures second { TakesMarkOfOther b a second.old first.old second.new }
 {
     let is_first = is_marked(first, a);
     let is_second = is_marked(second, b);
@@ -74,7 +74,7 @@ pub fn swap_marks(first: &mut [u64], second: &mut [u64], a: usize, b: usize)
 
 // Whether the words of a cell are zero.
 #[inline(always)]
-fn is_dead(cells: &[u64], at: usize, words: usize) -> bool
+fn are_cell_words_zero(cells: &[u64], at: usize, words: usize) -> bool
     requires { words * at + words ≤ length cells.now }
     ensures { result ≡ true → IsDeadCell words at cells.now }
 {
@@ -94,7 +94,7 @@ pub fn unmark_if_dead(marks: &mut [u64], at: usize, cells: &[u64], words: usize)
     requires cell { words * at + words ≤ length cells.now }
     ensures { UnmarksIfDead words at cells.now marks.old marks.new }
 {
-    if is_marked(marks, at) && is_dead(cells, at, words) {
+    if is_marked(marks, at) && are_cell_words_zero(cells, at, words) {
         unmark(marks, at);
     }
 }
@@ -148,11 +148,12 @@ pub fn mark_border(marks: &mut [u64], stride: usize, rows: usize)
 /// Returns a word of marks on the numbers that have a mark in the first list, and one among the others or among those
 /// of live cells.
 #[inline(always)]
-pub fn word_marked_in(first: &[u64], live: &LiveMarks, others: &[u64], k: usize) -> u64
+pub fn marked_in_first_and_other(first: &[u64], live: &LiveMarks, others: &[u64], k: usize) -> u64
     requires live { HasRoomForBlockCells live.now (64 * k) (64 * k) (64 * k) (64 * k) }
     requires room { (k < length first.now) × (k < length others.now) }
     ensures { (u : ℕ) → u / 64 ≡ k → bit result (u % 64) ≡ false →
-        IsUnmarked first.now u ⊎ (AreUnmarked live.now u u u u × IsUnmarked others.now u) }
+        IsUnmarked first.now u
+        ⊎ (AreBlockCellsUnmarked live.now u u u u × IsUnmarked others.now u) }
 {
     first[k] & (live.word(k) | others[k])
 }
@@ -173,7 +174,7 @@ pub fn take_first(word: u64) -> (usize, u64)
 }
 
 /// Returns the first number from `from` on that has a mark in one of the lists, or `end` if there is none below it.
-pub fn next_in_either(first: &[u64], second: &[u64], from: usize, end: usize) -> usize
+pub fn next_marked_in_either(first: &[u64], second: &[u64], from: usize, end: usize) -> usize
     requires within { (from ≤ end) × (end < 2 ^ 32) }
     requires room { (end ≤ 64 * length first.now) × (end ≤ 64 * length second.now) }
     ensures range { (from ≤ result) × (result ≤ end) }

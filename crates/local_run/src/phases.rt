@@ -51,10 +51,10 @@ pub(crate) fn is_turning_all_cheaper(
     changed: usize,
     cells: usize,
     words: usize,
-    columns_and_rows: usize,
+    columns_plus_rows: usize,
 ) -> bool
-    requires { (changed ≤ 4096) × (cells ≤ 4096) × (words ≤ 64) × (columns_and_rows ≤ 128) }
+    requires { (changed ≤ 4096) × (cells ≤ 4096) × (words ≤ 64) × (columns_plus_rows ≤ 128) }
 {
     changed * (MARKED_BLOCK_COST + MARKED_WORD_COST * words)
-        > cells * words + WHOLE_ROW_COST * columns_and_rows
+        > cells * words + WHOLE_ROW_COST * columns_plus_rows
 }

@@ -4,10 +4,10 @@ ghost use Rattle.circuit.specs.Meaning.{wires};
 ghost use Rattle.module_box.specs.Boxes.{in_box, in_ring};
 ghost use Rattle.module_box.specs.Schedules.{signal_at};
 ghost use Rattle.module_job.specs.Jobs.{job_demand, job_start};
-ghost use Rattle.module_job.specs.Signals.{IsBelow, IsDemandBelow};
-ghost use Rattle.local_run.specs.Places.{box_coord, halo_coord, IsNearCorner};
+ghost use Rattle.module_job.specs.Signals.{IsSignalWireBelow, IsDemandWireBelow};
+ghost use Rattle.local_run.specs.Places.{box_coord, halo_coord, HasSmallCoordinates};
 
-use crate::lines::{EventPlaces, signal_near};
+use crate::lines::{EventPlaces, signal_at_moment};
 use bbm_rule::Cell;
 use module_box::{Box2, Moment, Signal};
 use module_job::{Demand, Job, Shape};
@@ -16,8 +16,8 @@ use module_job::{Demand, Job, Shape};
 ///
 /// Columns and rows are below 67, and the box's corner has coordinates of at most 512.
 #[tactic(auto, unfolding(crate::specs::Places::box_coord))]
-pub fn inner_cell(area: Box2, x: usize, y: usize) -> Cell
-    requires { IsNearCorner area x y }
+pub fn box_cell_at(area: Box2, x: usize, y: usize) -> Cell
+    requires { HasSmallCoordinates area x y }
     ensures x { result.x ≡ box_coord area.x x }
     ensures y { result.y ≡ box_coord area.y y }
 {
@@ -56,9 +56,9 @@ pub fn start_signal_at(job: &Job, x: usize, y: usize) -> Signal
     requires { (x < job.now.area.w) × (y < job.now.area.h) }
     ensures start_is_exact { result
         ≡ job_start job.now (box_coord job.now.area.x x) (box_coord job.now.area.y y) }
-    ensures below { IsBelow (wires job.now.locals.netlist) result }
+    ensures below { IsSignalWireBelow (wires job.now.locals.netlist) result }
 {
-    job.start(inner_cell(job.area(), x, y))
+    job.start(box_cell_at(job.area(), x, y))
 }
 
 /// Returns a column from `x` on, at most the box width. All cells of row `y` from `x` to before it are dead at time 0.
@@ -81,9 +81,9 @@ pub fn demand_at(job: &Job, x: usize, y: usize) -> Demand
     requires { (x < job.now.area.w) × (y < job.now.area.h) }
     ensures demand_is_exact { result
         ≡ job_demand job.now (box_coord job.now.area.x x) (box_coord job.now.area.y y) }
-    ensures below { IsDemandBelow (wires job.now.locals.netlist) result }
+    ensures below { IsDemandWireBelow (wires job.now.locals.netlist) result }
 {
-    job.demand(inner_cell(job.area(), x, y))
+    job.demand(box_cell_at(job.area(), x, y))
 }
 
 /// Returns a column from `x` on, at most the box's width. All cells of row `y` from `x` to before it must be dead at
@@ -108,12 +108,12 @@ pub fn edge_at(job: &Job, time: u32, x: usize, y: usize, near: EventPlaces) -> S
     requires { (x < job.now.area.w) × (y < job.now.area.h) }
     ensures signal_is_exact { result
         ≡ signal_at job.now.edges time (box_coord job.now.area.x x) (box_coord job.now.area.y y) }
-    ensures below { IsBelow (wires job.now.locals.netlist) result }
+    ensures below { IsSignalWireBelow (wires job.now.locals.netlist) result }
 {
     let _area = job.area();
     let shape: &Shape = job.shape();
     let cell = box_cell(x, y);
-    signal_near(shape.edges(), Moment { time, cell }, near)
+    signal_at_moment(shape.edges(), Moment { time, cell }, near)
 }
 
 /// Returns what the cell at a column and row, counted from the halo, carries at an odd time, if it is in the halo. Its
@@ -122,12 +122,12 @@ pub fn halo_at(job: &Job, time: u32, x: usize, y: usize, near: EventPlaces) -> S
     requires { (x < job.now.area.w + 2) × (y < job.now.area.h + 2) }
     ensures signal_is_exact { result
         ≡ signal_at job.now.halos time (halo_coord job.now.area.x x) (halo_coord job.now.area.y y) }
-    ensures below { IsBelow (wires job.now.locals.netlist) result }
+    ensures below { IsSignalWireBelow (wires job.now.locals.netlist) result }
 {
     let _area = job.area();
     let shape: &Shape = job.shape();
     let cell = halo_cell(x, y);
-    signal_near(shape.halos(), Moment { time, cell }, near)
+    signal_at_moment(shape.halos(), Moment { time, cell }, near)
 }
 
 /// Returns whether the cell at a column and row of the box is in its ring.
@@ -137,11 +137,11 @@ pub fn is_ring(job: &Job, x: usize, y: usize) -> bool
         ≡ in_ring job.now.area (box_coord job.now.area.x x) (box_coord job.now.area.y y) }
 {
     let area = job.area();
-    area.in_ring(inner_cell(area, x, y))
+    area.in_ring(box_cell_at(area, x, y))
 }
 
 /// Returns the column and row of a cell of the box.
-pub fn place_of(job: &Job, cell: Cell) -> (usize, usize)
+pub fn column_and_row_of(job: &Job, cell: Cell) -> (usize, usize)
     requires { IsTrue (in_box job.now.area cell.x cell.y) }
     ensures column { (result.0 < job.now.area.w) × (cell.x ≡ box_coord job.now.area.x result.0) }
     ensures row { (result.1 < job.now.area.h) × (cell.y ≡ box_coord job.now.area.y result.1) }

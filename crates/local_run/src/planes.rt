@@ -9,7 +9,7 @@ ghost use Rattle.local_run.specs.Across.{TurnsAcross};
 ghost use Rattle.local_run.specs.Turns.{is_on_main_diagonal};
 ghost use Rattle.std.specs.Prelude.{ℕ, ◌≡◌, ◌+◌, ◌-◌, ◌*◌, ◌/◌, ◌%◌, ◌<◌, ◌≤◌, ◌↔◌, length, slice_index, vec_len, IfOk, false, not};
 
-use crate::words::{are_different, has_other_word};
+use crate::words::{are_words_different, has_word_other_than};
 use bbm_rule::turn_lanes;
 use std::alloc::{AllocError, Global};
 
@@ -38,8 +38,8 @@ pub struct Planes {
 }
 
 impl Planes {
-    ghost use Rattle.local_run.specs.Calm.{AreDead};
-    ghost use Rattle.local_run.specs.Lanes.{HasSize, lane};
+    ghost use Rattle.local_run.specs.Calm.{AreAllCellsDead};
+    ghost use Rattle.local_run.specs.Lanes.{HasWordsStrideRows, lane};
 
     /// Creates planes of dead cells, for a box of `width` by `height` cells.
     pub fn new(
@@ -51,8 +51,9 @@ impl Planes {
         requires width { (2 ≤ width) × (width ≤ 64) }
         requires height { (2 ≤ height) × (height ≤ 64) }
         requires words { (0 < words) × (words ≤ 64) }
-        ensures size { IfOk result (λ p. HasSize words (width / 2 + 1) (height / 2 + 1) p) }
-        ensures dead { IfOk result (λ p. AreDead p) }
+        ensures size { IfOk result (λ p. HasWordsStrideRows words (width / 2 + 1) (height / 2 + 1)
+            p) }
+        ensures dead { IfOk result (λ p. AreAllCellsDead p) }
     {
         let stride = width / 2 + 1;
         let rows = height / 2 + 1;
@@ -74,7 +75,7 @@ impl Planes {
             y < 2 * self.old.rows →
             lane self.new a x y ≡ turned (lane self.old a x y) (lane self.old a (mate x) (mate y))
             (lane self.old a (mate x) y) (lane self.old a x (mate y)) }
-        ensures size { HasSize self.old.words self.old.stride self.old.rows self.new }
+        ensures size { HasWordsStrideRows self.old.words self.old.stride self.old.rows self.new }
     {
         turn_lanes(
             &mut self.odd,
@@ -91,9 +92,9 @@ impl Planes {
             lane self.new a (1 + x) (1 + y)
             ≡ turned (lane self.old a (1 + x) (1 + y)) (lane self.old a (1 + mate x) (1 + mate y))
             (lane self.old a (1 + mate x) (1 + y)) (lane self.old a (1 + x) (1 + mate y)) }
-        ensures size { HasSize self.old.words self.old.stride self.old.rows self.new }
+        ensures size { HasWordsStrideRows self.old.words self.old.stride self.old.rows self.new }
     {
-        turn_across(
+        turn_blocks_at_offsets(
             &mut self.even,
             &mut self.down,
             &mut self.right,
@@ -105,7 +106,7 @@ impl Planes {
 }
 
 // Turns the blocks of a word, that after `across` words, that after `below` words, and that after both.
-fn turn_across(
+fn turn_blocks_at_offsets(
     even: &mut [u64],
     down: &mut [u64],
     right: &mut [u64],
@@ -130,7 +131,7 @@ fn turn_across(
 }
 
 impl Planes {
-    ghost use Rattle.local_run.specs.Live.{AreZeroAt};
+    ghost use Rattle.local_run.specs.Live.{AreWordsZeroAt};
 
     /// Returns how many cells a plane has. A block of the odd partition has the number of its cells, counted row by
     /// row.
@@ -167,7 +168,7 @@ impl Planes {
     }
 
     /// Returns how many cells a row has and how many rows there are, together.
-    pub fn columns_and_rows(&self) -> usize
+    pub fn columns_plus_rows(&self) -> usize
         ensures { (result ≡ self.now.stride + self.now.rows) × (result ≤ 128) }
     {
         self.stride + self.rows
@@ -195,7 +196,7 @@ impl Planes {
     /// Returns whether some cell with number u is live under one of the first 64 assignments.
     pub fn is_live_in_first_word(&self, u: usize) -> bool
         requires { u < self.now.stride * self.now.rows }
-        ensures { (result ≡ false) ↔ AreZeroAt (self.now.words * u) self.now }
+        ensures { (result ≡ false) ↔ AreWordsZeroAt (self.now.words * u) self.now }
     {
         let at = self.words * u;
         (self.odd[at] | self.right[at] | self.down[at] | self.even[at]) != 0
@@ -205,7 +206,7 @@ impl Planes {
 impl Planes {
     ghost use Rattle.bbm_rule.specs.Bits.{bit};
     ghost use Rattle.local_run.specs.Calm.{ChangesCells};
-    ghost use Rattle.local_run.specs.Lanes.{HasSize, lane, SetsWord};
+    ghost use Rattle.local_run.specs.Lanes.{HasWordsStrideRows, lane, SetsWord};
 
     /// Returns word k of a cell, counted from the halo.
     pub fn word(&self, x: usize, y: usize, k: usize) -> u64
@@ -237,14 +238,14 @@ impl Planes {
         let at = words * (self.stride * (y / 2) + x / 2);
         if x % 2 == 0 {
             if y % 2 == 0 {
-                are_different(&self.odd, at, row, from, words)
+                are_words_different(&self.odd, at, row, from, words)
             } else {
-                are_different(&self.down, at, row, from, words)
+                are_words_different(&self.down, at, row, from, words)
             }
         } else if y % 2 == 0 {
-            are_different(&self.right, at, row, from, words)
+            are_words_different(&self.right, at, row, from, words)
         } else {
-            are_different(&self.even, at, row, from, words)
+            are_words_different(&self.even, at, row, from, words)
         }
     }
 
@@ -258,14 +259,14 @@ impl Planes {
         let at = words * (self.stride * (y / 2) + x / 2);
         if x % 2 == 0 {
             if y % 2 == 0 {
-                has_other_word(&self.odd, at, word, words)
+                has_word_other_than(&self.odd, at, word, words)
             } else {
-                has_other_word(&self.down, at, word, words)
+                has_word_other_than(&self.down, at, word, words)
             }
         } else if y % 2 == 0 {
-            has_other_word(&self.right, at, word, words)
+            has_word_other_than(&self.right, at, word, words)
         } else {
-            has_other_word(&self.even, at, word, words)
+            has_word_other_than(&self.even, at, word, words)
         }
     }
 
@@ -275,7 +276,7 @@ impl Planes {
         ensures set { SetsWord x y k word self.old self.new }
         ensures cells { let u = self.old.stride * (y / 2) + x / 2 in ChangesCells
             (is_on_main_diagonal x y) (not (is_on_main_diagonal x y)) u u u u self.old self.new }
-        ensures size { HasSize self.old.words self.old.stride self.old.rows self.new }
+        ensures size { HasWordsStrideRows self.old.words self.old.stride self.old.rows self.new }
     {
         let at = self.words * (self.stride * (y / 2) + x / 2) + k;
         if x % 2 == 0 {

@@ -2,7 +2,7 @@
 ghost use Rattle.std.specs.Prelude.{◌≡◌, ◌+◌, ◌%◌, ◌<◌, IfOk, MatchOption, false};
 ghost use Rattle.std.specs.Arc.{arc_value};
 ghost use Rattle.local_run.specs.Faults.{IsLeastFault, IsLeastKeepFault};
-ghost use Rattle.local_run.specs.Scans.{IsHaloSet, IsFirst, IsFirstAt, HasNoFaultOfKind, IsNextStop, IsPassed, IsReady, IsSought, Shows};
+ghost use Rattle.local_run.specs.Scans.{IsHaloSet, IsFirst, IsFirstFaultAt, HasNoFaultOfKind, IsNextStop, IsPassed, IsReady, IsKindSoughtAt, Shows};
 ghost use Rattle.local_run.specs.Shown.{digest_of, number_of, job_of, fault_of, keep_of};
 
 use crate::border::set_halo_check_ring;
@@ -20,14 +20,14 @@ use std::alloc::{AllocError, Global};
 use std::sync::Arc;
 
 // The first fault of an edge at an odd time before the last. The cells of the halo become what their signals say.
-fn edge_fault(
+fn set_halo_find_edge_fault(
     marked_planes: &mut MarkedPlanes,
     values: &Values,
     job: &Job,
     time: u32,
 ) -> Option<Fault>
     requires ready { IsReady job.now values.now }
-    requires sought { IsSought job.now time Kind.Edge }
+    requires sought { IsKindSoughtAt job.now time Kind.Edge }
     requires shows { Shows job.now values.now time marked_planes.old.planes }
     ensures shows { Shows job.now values.now time marked_planes.new.planes }
     ensures halo { IsHaloSet job.now values.now time marked_planes.new.planes }
@@ -44,7 +44,7 @@ fn edge_fault(
 // The first fault of a time before the last, where `next` is the place of the first stop that is not earlier. If there
 // is none, `next` is then the place of the first later stop. At an odd time the cells of the halo become what their
 // signals say.
-fn time_fault(
+fn fault_at_time(
     marked_planes: &mut MarkedPlanes,
     values: &Values,
     job: &Job,
@@ -58,10 +58,10 @@ fn time_fault(
     ensures shows { Shows job.now values.now time marked_planes.new.planes }
     ensures halo { time % 2 ≡ 1 → IsHaloSet job.now values.now time marked_planes.new.planes }
     ensures fault { MatchOption result (IsPassed job.now values.now time next.new)
-        (λ f. IsFirstAt job.now values.now time f) }
+        (λ f. IsFirstFaultAt job.now values.now time f) }
 {
     if time % 2 == 1 {
-        if let Some(fault) = edge_fault(marked_planes, values, job, time) {
+        if let Some(fault) = set_halo_find_edge_fault(marked_planes, values, job, time) {
             return Some(fault);
         }
     }
@@ -99,7 +99,7 @@ fn least_fault(alloc: Global, values: &Values, job: &Job) -> Result<Option<Fault
     let mut time = 0;
     let mut changed = true;
     'times: while time < steps {
-        if let Some(fault) = time_fault(&mut marked_planes, values, job, time, &mut next) {
+        if let Some(fault) = fault_at_time(&mut marked_planes, values, job, time, &mut next) {
             return Ok(Some(fault));
         }
         let before = changed;
@@ -129,7 +129,10 @@ fn least_fault_if_defined(
 }
 
 // The least fault of the job, and its least keep fault.
-fn least_faults(alloc: Global, job: &Job) -> Result<(Option<Fault>, Option<KeepFault>), AllocError>
+fn least_fault_and_keep_fault(
+    alloc: Global,
+    job: &Job,
+) -> Result<(Option<Fault>, Option<KeepFault>), AllocError>
     ensures fault { IfOk result (λ o. IsLeastFault job.now o.0) }
     ensures keep { IfOk result (λ o. IsLeastKeepFault job.now o.1) }
 {
@@ -159,6 +162,6 @@ pub fn run_job(
     ensures least_fault { IfOk result (λ f. IsLeastFault (arc_value job) (fault_of f)) }
     ensures least_keep_fault { IfOk result (λ f. IsLeastKeepFault (arc_value job) (keep_of f)) }
 {
-    let (fault, keep) = least_faults(alloc, &job)?;
+    let (fault, keep) = least_fault_and_keep_fault(alloc, &job)?;
     Ok(Finding::new(digest, number, job, fault, keep))
 }

@@ -7,11 +7,13 @@ ghost use Rattle.local_run.specs.Places.{box_coord};
 ghost use Rattle.local_run.specs.Lanes.{lane};
 ghost use Rattle.module_job.specs.Jobs.{job_demand};
 ghost use Rattle.module_job.specs.Signals.{is_live};
-ghost use Rattle.local_run.specs.Scans.{IsFirst, IsDefinedFault, HasNoFaultOfKind, IsLeastBelow, IsStopMissed, IsNextStop, IsReady, IsSought, IsScanStride, Shows, is_defined, valuation};
+ghost use Rattle.local_run.specs.Scans.{IsFirst, IsFaultWhereDefined, HasNoFaultOfKind, IsLeastBelow, IsStopMissed, IsNextStop, IsReady, IsKindSoughtAt, IsScanStride, Shows, is_defined_under, valuation};
 
 use crate::fault::{Fault, Kind};
 use crate::marked_planes::MarkedPlanes;
-use crate::places::{demand_at, edge_at, inner_cell, is_ring, place_of, skip_dead_demands};
+use crate::places::{
+    box_cell_at, column_and_row_of, demand_at, edge_at, is_ring, skip_dead_demands,
+};
 use crate::values::Values;
 use module_box::Signal;
 use module_job::{Demand, Job, Stop};
@@ -29,7 +31,7 @@ fn first_live_assignment(
     requires room_for_assignments { values.now.count ≤ 64 * values.now.words }
     requires defined { values.now.words ≤ length values.now.rows.defined.items }
     ensures { IsLeastBelow values.now.count
-        (λ a. (is_defined values.now a ≡ true)
+        (λ a. (is_defined_under values.now a ≡ true)
         × (lane marked_planes.now.planes a x y ≢ is_live (valuation values.now a) Signal.Zero))
         result }
 {
@@ -51,10 +53,10 @@ pub fn cell_fault_assignment(
 ) -> Option<u32>
     requires ready { IsReady job.now values.now }
     requires shows { Shows job.now values.now time marked_planes.now.planes }
-    requires sought { IsSought job.now time kind }
+    requires sought { IsKindSoughtAt job.now time kind }
     requires place { (x < job.now.area.w) × (y < job.now.area.h) }
     ensures { IsLeastBelow (assignments job.now)
-        (λ a. IsDefinedFault job.now values.now a time kind (box_coord job.now.area.x x)
+        (λ a. IsFaultWhereDefined job.now values.now a time kind (box_coord job.now.area.x x)
         (box_coord job.now.area.y y)) result }
 {
     let planes = marked_planes.planes();
@@ -92,7 +94,13 @@ fn scan_stride(kind: Kind, width: usize, height: usize, y: usize) -> usize
 
 // A column from x on: no cell of row y from x to before it has a fault of the kind. At the last time most cells are
 // dead and must be dead.
-fn next_column(marked_planes: &MarkedPlanes, job: &Job, kind: Kind, x: usize, y: usize) -> usize
+fn skip_faultless_columns(
+    marked_planes: &MarkedPlanes,
+    job: &Job,
+    kind: Kind,
+    x: usize,
+    y: usize,
+) -> usize
     requires place { (x < job.now.area.w) × (y < job.now.area.h) }
     requires columns { marked_planes.now.planes.stride ≡ job.now.area.w / 2 + 1 }
     requires rows { marked_planes.now.planes.rows ≡ job.now.area.h / 2 + 1 }
@@ -122,7 +130,7 @@ pub fn first_fault(
 ) -> Option<Fault>
     requires ready { IsReady job.now values.now }
     requires shows { Shows job.now values.now time marked_planes.now.planes }
-    requires sought { IsSought job.now time kind }
+    requires sought { IsKindSoughtAt job.now time kind }
     ensures { MatchOption result (HasNoFaultOfKind job.now values.now time kind)
         (λ f. IsFirst job.now values.now time kind f) }
 {
@@ -133,7 +141,7 @@ pub fn first_fault(
         let stride = scan_stride(kind, width, height, y);
         let mut x = 0;
         'cells: while x < width {
-            x = next_column(marked_planes, job, kind, x, y);
+            x = skip_faultless_columns(marked_planes, job, kind, x, y);
             if x >= width {
                 break;
             }
@@ -146,7 +154,7 @@ pub fn first_fault(
                 x,
                 y,
             ) {
-                let cell = inner_cell(area, x, y);
+                let cell = box_cell_at(area, x, y);
                 return Some(Fault {
                     time,
                     kind,
@@ -174,7 +182,7 @@ fn stop_fault_assignment(
     ensures { IsLeastBelow (assignments job.now) (λ a. IsStopMissed job.now values.now a stop)
         result }
 {
-    let (x, y) = place_of(job, stop.at.cell);
+    let (x, y) = column_and_row_of(job, stop.at.cell);
     values.first_difference(
         marked_planes.planes(),
         1 + x,

@@ -1,8 +1,8 @@
 //! The start of a run over planes, and its steps.
 ghost use Rattle.std.specs.Prelude.{ℕ, ◌≡◌, ◌+◌, ◌*◌, ◌/◌, ◌%◌, ◌<◌, ◌≤◌, true, false};
 ghost use Rattle.module_job.specs.Jobs.{job_start};
-ghost use Rattle.local_run.specs.Calm.{AreDead};
-ghost use Rattle.local_run.specs.Lanes.{HasSize, lane};
+ghost use Rattle.local_run.specs.Calm.{AreAllCellsDead};
+ghost use Rattle.local_run.specs.Lanes.{HasWordsStrideRows, lane};
 ghost use Rattle.local_run.specs.Places.{box_coord};
 ghost use Rattle.local_run.specs.Scans.{IsHaloSet, IsReady, PutsCell, Shows};
 
@@ -16,8 +16,8 @@ use module_job::Job;
 #[tactic(auto, using(crate::proofs::Scans::row_from))]
 fn put_start_cell(marked_planes: &mut MarkedPlanes, values: &Values, job: &Job, x: usize, y: usize)
     requires ready { IsReady job.now values.now }
-    requires size { HasSize values.now.words (job.now.area.w / 2 + 1) (job.now.area.h / 2 + 1)
-        marked_planes.old.planes }
+    requires size { HasWordsStrideRows values.now.words (job.now.area.w / 2 + 1)
+        (job.now.area.h / 2 + 1) marked_planes.old.planes }
     requires place { (x < job.now.area.w) × (y < job.now.area.h) }
     requires dead { (a : ℕ) → a < 64 * values.now.words →
         lane marked_planes.old.planes a (1 + x) (1 + y) ≡ false }
@@ -35,9 +35,9 @@ fn put_start_cell(marked_planes: &mut MarkedPlanes, values: &Values, job: &Job, 
 /// Sets the cells of the box to those of time 0. All cells are dead before.
 pub fn put_start(marked_planes: &mut MarkedPlanes, values: &Values, job: &Job)
     requires ready { IsReady job.now values.now }
-    requires size { HasSize values.now.words (job.now.area.w / 2 + 1) (job.now.area.h / 2 + 1)
-        marked_planes.old.planes }
-    requires dead { AreDead marked_planes.old.planes }
+    requires size { HasWordsStrideRows values.now.words (job.now.area.w / 2 + 1)
+        (job.now.area.h / 2 + 1) marked_planes.old.planes }
+    requires dead { AreAllCellsDead marked_planes.old.planes }
     ensures { Shows job.now values.now 0 marked_planes.new.planes }
 {
     let area = job.area();

@@ -6,10 +6,10 @@ ghost use Rattle.module_job.specs.Signals.{is_live};
 ghost use Rattle.local_run.specs.Calm.{ChangesCells};
 ghost use Rattle.local_run.specs.Turns.{is_on_main_diagonal};
 ghost use Rattle.local_run.specs.Lanes.{lane};
-ghost use Rattle.local_run.specs.Scans.{HasValueRow, IsLeastBelow, IsReady, IsCellAsSignal, KeepsDefinedValues, PutsCell, is_defined, valuation};
+ghost use Rattle.local_run.specs.Scans.{HasValueRow, IsLeastBelow, IsReady, IsCellAsSignalUnderWords, KeepsDefinedValues, PutsCell, is_defined_under, valuation};
 ghost use Rattle.module_box.specs.LocalValues.{value_of};
 
-use crate::lines::all_times_cells;
+use crate::lines::marks_of_all_times_cells;
 use crate::planes::Planes;
 use module_box::{Signal, ValueRows};
 use module_job::Job;
@@ -79,7 +79,7 @@ impl Values {
         let count = 1usize << wiring.cuts();
         let words = count.div_ceil(64);
         let rows = without_undefined(wiring.value_rows(alloc, words)?);
-        let all_times_marks = all_times_cells(alloc, job)?;
+        let all_times_marks = marks_of_all_times_cells(alloc, job)?;
         Ok(Values {
             words,
             count,
@@ -132,7 +132,7 @@ impl Values {
         requires row { HasValueRow self.now signal }
         requires defined { self.now.words ≤ length self.now.rows.defined.items }
         ensures { IsLeastBelow self.now.count
-            (λ a. (is_defined self.now a ≡ true)
+            (λ a. (is_defined_under self.now a ≡ true)
             × (lane planes.now a x y ≢ is_live (valuation self.now a) signal)) result }
     {
         // Most cells are as they should be.
@@ -151,7 +151,7 @@ impl Values {
         requires row { HasValueRow self.now signal }
         requires defined { self.now.words ≤ length self.now.rows.defined.items }
         ensures { IsLeastBelow self.now.count
-            (λ a. (is_defined self.now a ≡ true)
+            (λ a. (is_defined_under self.now a ≡ true)
             × (lane planes.now a x y ≢ is_live (valuation self.now a) signal)) result }
     {
         for k in 0..self.words {
@@ -176,7 +176,8 @@ impl Values {
         requires place { (x / 2 < planes.now.stride) × (y / 2 < planes.now.rows) }
         requires words { (self.now.words ≡ planes.now.words) × (self.now.words ≤ 64) }
         requires row { HasValueRow self.now signal }
-        ensures { result ≡ false → IsCellAsSignal self.now planes.now x y signal self.now.words }
+        ensures { result ≡ false →
+            IsCellAsSignalUnderWords self.now planes.now x y signal self.now.words }
     {
         match signal {
             Signal::Zero => planes.differs_from_word(x, y, 0),
@@ -191,7 +192,8 @@ impl Values {
     pub fn is_some_defined(&self) -> bool
         requires defined { self.now.words ≤ length self.now.rows.defined.items }
         requires room_for_assignments { self.now.count ≤ 64 * self.now.words }
-        ensures { result ≡ false → (a : ℕ) → a < self.now.count → is_defined self.now a ≡ false }
+        ensures { result ≡ false → (a : ℕ) → a < self.now.count →
+            is_defined_under self.now a ≡ false }
     {
         for k in 0..self.words {
             if self.rows.defined[k] != 0 {

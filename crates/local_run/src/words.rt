@@ -44,7 +44,7 @@ pub(crate) fn turn_part(
 // Exchanges four words from a place on in one slice, and four from a place on in another. All are read before the first
 // is written, so that some are exchanged at once.
 #[inline(always)]
-fn swap_four(first: &mut [u64], second: &mut [u64], a: usize, b: usize)
+fn swap_four_words(first: &mut [u64], second: &mut [u64], a: usize, b: usize)
     requires { (a + 4 ≤ length first.old) × (b + 4 ≤ length second.old) }
     ensures { SwapsPart a b 4 first.old second.old first.new second.new }
 {
@@ -75,7 +75,7 @@ pub(crate) fn swap_part(first: &mut [u64], second: &mut [u64], a: usize, b: usiz
     }
     let mut k = 0;
     'fours: while k + 4 <= long {
-        swap_four(first, second, a + k, b + k);
+        swap_four_words(first, second, a + k, b + k);
         k += 4;
     }
     'words: while k < long {
@@ -105,7 +105,13 @@ fn flips_of(upper_left: u64, upper_right: u64, lower_left: u64, lower_right: u64
 
 /// Returns whether some word from a place on in one slice is not that from a place on in another.
 #[inline(always)]
-pub(crate) fn are_different(first: &[u64], a: usize, second: &[u64], b: usize, long: usize) -> bool
+pub(crate) fn are_words_different(
+    first: &[u64],
+    a: usize,
+    second: &[u64],
+    b: usize,
+    long: usize,
+) -> bool
     requires { (a + long ≤ length first.now) × (b + long ≤ length second.now) }
     ensures { result ≡ false → (k : ℕ) → k < long →
         slice_index first.now (a + k) ≡ slice_index second.now (b + k) }
@@ -120,7 +126,7 @@ pub(crate) fn are_different(first: &[u64], a: usize, second: &[u64], b: usize, l
 
 /// Returns whether some word from a place on is not the given one.
 #[inline(always)]
-pub(crate) fn has_other_word(words: &[u64], a: usize, word: u64, long: usize) -> bool
+pub(crate) fn has_word_other_than(words: &[u64], a: usize, word: u64, long: usize) -> bool
     requires { a + long ≤ length words.now }
     ensures { result ≡ false → (k : ℕ) → k < long → slice_index words.now (a + k) ≡ word }
 {

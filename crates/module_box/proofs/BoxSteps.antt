@@ -1,6 +1,5 @@
 -- The cells of a box after a step
-use Rattle.std.proofs.Common.{◌≡◌, ℕ, ◌%◌, ◌&&◌, ap, ap₂, ◌∙◌}
-use Rattle.std.specs.Prelude.{ℤ}
+use Rattle.std.proofs.Common.{◌≡◌, ℕ, ◌%◌, ◌&&◌, ap, ap₂, ◌∙◌, ℤ}
 use Rattle.bbm_rule.specs.Plane.{State, partner, step}
 use Rattle.bbm_rule.specs.Spans.{in_span}
 use Rattle.module_box.specs.Boxes.{in_box, IsEven}

@@ -1,8 +1,7 @@
 -- The tests of equality answer whether two values are equal
 use Rattle.std.proofs.Common.{◌≡◌, ℕ, Bool, true, false, ◌&&◌, List, [], ◌∷◌, get_or, map, Option, Some, None, refl}
-use Rattle.std.proofs.Common.{sym, ap, ap₂, ◌∙◌}
+use Rattle.std.proofs.Common.{sym, ap, ap₂, ◌∙◌, nat_eq}
 use Rattle.std.specs.Bool.{Decides, beq}
-use Rattle.std.specs.Prelude.{nat_eq}
 use Rattle.std.specs.Cmp.{signed_Decides, booleans_Decides}
 use Rattle.std.specs.Cmp.Lexicographic.{pointwise}
 use Rattle.std.specs.Option.{option_eq}
@@ -20,11 +19,11 @@ use Rattle.module_box.specs.declared.schedules.Signal.{Signal}
 use Rattle.module_box.specs.declared.schedules.Signal.TheVariants.{Zero, One, Wire}
 use Rattle.std.specs.Ordering.{on}
 use Rattle.module_box.specs.declared.locals.LocalGate.{LocalGate}
-use Rattle.module_box.specs.LocalGates.{as_gate}
+use Rattle.module_box.specs.LocalGates.{gate_of_local_gate}
 use Rattle.module_box.specs.Laws.{LocalsEqualityDecides, ScheduleEqualityDecides}
 use Rattle.module_box.specs.Equality.{is_one, signal_wire, same_signal, same_cell, same_all_times, same_event}
-use Rattle.module_box.specs.Equality.{gate_kind_number}
-use Rattle.module_box.specs.Equality.{source_bit, delay_steps, same_gate_kind, same_gate, same_netlist}
+use Rattle.module_box.specs.Equality.{gate_kind_number, source_bit, delay_steps, same_gate_kind, same_gate}
+use Rattle.module_box.specs.Equality.{same_netlist}
 
 -- two tests, of two parts
 pub both : {P Q R : Type 0} (r s : Bool) → Decides r P → Decides s Q → (P → Q → R) → (R → P) → (R → Q) →
@@ -153,8 +152,9 @@ locals_decides l m =
 
 -- gates that are kept are compared by the gates that they stand for
 pub same_gates : (gs hs : List LocalGate) →
-    pointwise (on as_gate same_gate) gs hs ≡ pointwise same_gate (map as_gate gs) (map as_gate hs)
+    pointwise (on gate_of_local_gate same_gate) gs hs
+    ≡ pointwise same_gate (map gate_of_local_gate gs) (map gate_of_local_gate hs)
 same_gates [] [] = refl
 same_gates [] (h ∷ hs) = refl
 same_gates (g ∷ gs) [] = refl
-same_gates (g ∷ gs) (h ∷ hs) = ap (λ b. same_gate (as_gate g) (as_gate h) && b) (same_gates gs hs)
+same_gates (g ∷ gs) (h ∷ hs) = ap (λ b. same_gate (gate_of_local_gate g) (gate_of_local_gate h) && b) (same_gates gs hs)

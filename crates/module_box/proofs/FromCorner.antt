@@ -1,6 +1,5 @@
 -- The cells of a box, counted from its corner
-use Rattle.std.proofs.Common.{◌≡◌, ◌≤◌, true, sym, ap, subst}
-use Rattle.std.specs.Prelude.{ℤ}
+use Rattle.std.proofs.Common.{◌≡◌, ◌≤◌, true, sym, ap, subst, ℤ}
 use Rattle.std.specs.Int.RustNames.{unsigned_abs}
 use Rattle.module_box.specs.Boxes.{in_box}
 use Rattle.module_box.specs.declared.boxes.Box2.{Box2}

@@ -1,15 +1,14 @@
 -- Lists of numbers that tell what they were made of
 use Rattle.std.proofs.Common.{◌≡◌, ℕ, zero, suc, ◌+◌, List, [], ◌∷◌, ◌++◌, true, false, length, get_or, nat_eq, refl}
-use Rattle.std.proofs.Common.{sym, ap, ap₂, ◌∙◌, arith}
-use Rattle.std.specs.List.{flat_map, range_with_len}
+use Rattle.std.proofs.Common.{sym, ap, ap₂, ◌∙◌, arith, flat_map}
+use Rattle.std.specs.List.{range_with_len}
 use Rattle.std.proofs.lemmas.List.{append_assoc}
 use Rattle.circuit.specs.declared.circuit_line.GateKind.{GateKind}
 use Rattle.circuit.specs.declared.circuit_line.GateKind.TheVariants.{Source, Fredkin, Cswap, Interact, Switch, Delay}
 use Rattle.circuit.specs.declared.circuit_line.GateKind.TheVariants.{Unswitch, Uninteract}
 use Rattle.module_box.specs.Equality.{gate_kind_number}
-use Rattle.module_box.specs.Numbers.{IsPrefixFree, NumbersDetermineGates, length_prefixed, gate_numbers}
-use Rattle.module_box.specs.Numbers.{netlist_numbers}
-use Rattle.module_box.specs.Numbers.{gate_kind_parameter}
+use Rattle.module_box.specs.Numbers.{IsPrefixFree, NumbersDetermineGates, length_prefixed, gate_code_numbers}
+use Rattle.module_box.specs.Numbers.{netlist_numbers, gate_kind_parameter}
 
 range_suc : (a n : ℕ) → range_with_len a (suc n) ≡ range_with_len a n ++ (a + n) ∷ []
 range_suc a zero = ap (λ k. k ∷ []) (omega arith)
@@ -89,7 +88,7 @@ gate_kinds_tell a b r s e =
       same_tail (gate_kind_parameter a) (gate_kind_parameter b) r s rest,
     )
 
-gates_tell : IsPrefixFree gate_numbers
+gates_tell : IsPrefixFree gate_code_numbers
 gates_tell g h r s e =
     let kinds = gate_kinds_tell g.kind h.kind ((listed g.ins ++ listed g.outs) ++ r)
     ((listed h.ins ++ listed h.outs) ++ s) e in
@@ -101,9 +100,9 @@ gates_tell g h r s e =
 pub netlists_tell : NumbersDetermineGates
 unfolding netlist_numbers
 netlists_tell n m r s e =
-    let given = same_head n.given m.given (length_prefixed gate_numbers n.gates ++ r)
-    (length_prefixed gate_numbers m.gates ++ s) e in
-    let gates = counted_tell gate_numbers gates_tell n.gates m.gates r s
-    (same_tail n.given m.given (length_prefixed gate_numbers n.gates ++ r)
-    (length_prefixed gate_numbers m.gates ++ s) e) in
+    let given = same_head n.given m.given (length_prefixed gate_code_numbers n.gates ++ r)
+    (length_prefixed gate_code_numbers m.gates ++ s) e in
+    let gates = counted_tell gate_code_numbers gates_tell n.gates m.gates r s
+    (same_tail n.given m.given (length_prefixed gate_code_numbers n.gates ++ r)
+    (length_prefixed gate_code_numbers m.gates ++ s) e) in
     (λ i. record { given = given i; gates = gates.0 i }, gates.1)

@@ -1,9 +1,8 @@
 -- The wires and gates of a module, gate after gate
 use Rattle.std.proofs.Common.{◌≡◌, ℕ, zero, suc, ◌+◌, ◌*◌, ◌<◌, ◌≤◌, List, [], ◌∷◌, ◌++◌, map, length, take, drop}
 use Rattle.std.proofs.Common.{get_or, slice_get, Option, Some, refl, sym, ap, ap₂, subst, ◌∙◌, ◌⊎◌, arith, inl, inr}
-use Rattle.std.proofs.Common.{append_assoc, length-append, take-append-drop}
-use Rattle.std.specs.Prelude.{slice_index, IsTrue}
-use Rattle.std.specs.List.{All, flat_map, range_with_len}
+use Rattle.std.proofs.Common.{append_assoc, length-append, take-append-drop, slice_index, IsTrue, All, flat_map}
+use Rattle.std.specs.List.{range_with_len}
 use Rattle.std.specs.Option.{option_map_or}
 use Rattle.std.proofs.lemmas.List.{append-nil, take_more, take_all, get_or_at, get_or_append_left, get_or_default}
 use Rattle.std.proofs.lemmas.List.{length_push, length-map}
@@ -14,8 +13,7 @@ use Rattle.std.proofs.lemmas.Option.{same_Some, slice_get-get_or, slice_get_read
 use Rattle.circuit.specs.declared.circuit_line.GateKind.{GateKind}
 use Rattle.circuit.specs.declared.circuit_line.GateKind.TheVariants.{Source, Fredkin, Cswap, Interact, Switch, Delay}
 use Rattle.circuit.specs.declared.circuit_line.GateKind.TheVariants.{Unswitch, Uninteract}
-use Rattle.circuit.specs.Gates.{uses}
-use Rattle.circuit.specs.Gates.{defines}
+use Rattle.circuit.specs.Gates.{uses, defines}
 use Rattle.circuit.specs.Meaning.{Gate, Netlist, AreOrdered, wires_after}
 use Rattle.module_box.specs.Locals.{outs_of, local_wires, is_among, AreDifferent, IsKnown, AreLocalLines, renumber_gate}
 use Rattle.module_box.specs.Locals.{AreLocalsOf}

@@ -1,6 +1,5 @@
 -- Boxes that a halo reaches
-use Rattle.std.proofs.Common.{◌≡◌, ℕ, ◌+◌, ◌<◌, ◌≤◌, true, ◌||◌, refl, ◌∙◌, inl, inr, ◌⊎◌, arith}
-use Rattle.std.specs.Prelude.{ℤ, pos, ◌+ℤ◌, ◌-ℤ◌}
+use Rattle.std.proofs.Common.{◌≡◌, ℕ, ◌+◌, ◌<◌, ◌≤◌, true, ◌||◌, refl, ◌∙◌, inl, inr, ◌⊎◌, arith, ℤ, pos, ◌+ℤ◌, ◌-ℤ◌}
 use Rattle.std.proofs.lemmas.Bool.{and_parts, and_from, lt-ltb, or_cases}
 use Rattle.std.proofs.lemmas.Int.{ints}
 use Rattle.bbm_rule.specs.Spans.{in_span}

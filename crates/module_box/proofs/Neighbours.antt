@@ -1,7 +1,6 @@
 -- The eight neighbours of a cell, rings and halos
 use Rattle.std.proofs.Common.{◌≡◌, ℕ, Bool, true, false, not, ◌||◌, refl, sym, ap, ap₂, ◌∙◌, inl, inr, ◌⊎◌, arith, List}
-use Rattle.std.proofs.Common.{Some}
-use Rattle.std.specs.Prelude.{ℤ, pos, ◌+ℤ◌, ◌-ℤ◌, slice_get}
+use Rattle.std.proofs.Common.{Some, ℤ, pos, ◌+ℤ◌, ◌-ℤ◌, slice_get}
 use Rattle.std.proofs.lemmas.Int.{ints}
 use Rattle.std.proofs.lemmas.Bool.{and_parts, and_from, or_left, or_right, or_cases, not_from_false, not-true}
 use Rattle.std.proofs.lemmas.Bool.{cases_Bool, false≢true}

@@ -1,9 +1,8 @@
 -- Facts about a rising list by comparing its keys with a key
 use Rattle.std.proofs.Common.{◌≡◌, ℕ, zero, suc, ◌+◌, ◌<◌, ◌≤◌, List, [], ◌∷◌, ◌++◌, length, true, Option, Some, None}
 use Rattle.std.proofs.Common.{Ordering, Less, Equal, Greater, refl, sym, ap, subst, ◌∙◌, inl, inr, ◌⊎◌, arith, rules}
-use Rattle.std.proofs.Common.{eqb}
-use Rattle.std.specs.Prelude.{ℤ, ◌≢◌, slice_get, if◌then◌else◌}
-use Rattle.std.specs.Ordering.{nat_cmp, int_cmp, ordering_reverse, int_eq}
+use Rattle.std.proofs.Common.{eqb, ℤ, ◌≢◌, slice_get, if◌then◌else◌, nat_cmp, int_cmp, int_eq}
+use Rattle.std.specs.Ordering.{ordering_reverse}
 use Rattle.std.specs.Cmp.{IsTotalOrder}
 use Rattle.std.proofs.lemmas.Cmp.{then_total, on_total, nat_cmp_total, int_cmp_total, tied_itself}
 use Rattle.std.proofs.lemmas.Map.Lookups.{CmpEqualImpliesEq, exact_pairs, exact_unsigned, exact_signed}

@@ -1,8 +1,6 @@
 -- The values of a circuit's wires, as a module sees them
 use Rattle.std.proofs.Common.{◌≡◌, ℕ, zero, suc, ◌+◌, ◌*◌, ◌/◌, ◌%◌, ◌<◌, ◌^◌, Bool, true, false, eqb, get_or, List}
-use Rattle.std.proofs.Common.{Option, Some, map, refl, sym, ap, subst, ◌∙◌, arith}
-use Rattle.std.specs.Prelude.{slice_get}
-use Rattle.std.specs.List.{All}
+use Rattle.std.proofs.Common.{Option, Some, map, refl, sym, ap, subst, ◌∙◌, arith, slice_get, All}
 use Rattle.std.proofs.lemmas.Simd.{map-map}
 use Rattle.std.proofs.lemmas.Nat.Bits.{bit_at_lowest, bit_at-suc}
 use Rattle.std.proofs.lemmas.Option.{slice_get-get_or, slice_get_within, get_or_from_slice_get, same_Some}
@@ -12,7 +10,7 @@ use Rattle.circuit.specs.Gates.{row}
 use Rattle.circuit.specs.Meaning.{Gate, Netlist, Valuation, HasRow, Satisfies}
 use Rattle.circuit.proofs.Valuations.{at_most_one}
 use Rattle.module_box.specs.Locals.{LocalNet, AreLocalsOf, circuit_gate, circuit_wire, renumber_gate}
-use Rattle.module_box.specs.LocalValues.{IsLocalValuation, localized}
+use Rattle.module_box.specs.LocalValues.{IsLocalValuation, values_by_local_number}
 use Rattle.module_box.specs.Laws.{ChoicesAreAssignments, LocalValuesAgree, UndefinedGateIsSeenLocally}
 
 -- ---- the number whose first n bits are these
@@ -73,7 +71,8 @@ row_at v gates k g all e = subst (HasRow v) (get_or_from_slice_get gates k g g e
     (all k g (slice_get_within gates k g e))
 
 seen_valuation : (n : Netlist) (l : LocalNet) (inputs v : Valuation) (a : ℕ) → AreLocalsOf n l → Satisfies n inputs v →
-    ((i : ℕ) → i < l.netlist.given → bit a i ≡ localized l v i) → IsLocalValuation l a (localized l v)
+    ((i : ℕ) → i < l.netlist.given → bit a i ≡ values_by_local_number l v i) →
+    IsLocalValuation l a (values_by_local_number l v)
 seen_valuation n l inputs v a are s bits = record {
   given = λ i h. sym (bits i h);
   rows = λ k d h. row_seen (circuit_wire l) v (get_or l.netlist.gates k d)
@@ -85,7 +84,7 @@ local_values_agree n l inputs v a are s bits =
     let seen = seen_valuation n l inputs v a are s bits in
     record {
       is_local = seen;
-      only = λ u local i h. at_most_one l.netlist (bit a) u (localized l v) are.ordered local seen i h;
+      only = λ u local i h. at_most_one l.netlist (bit a) u (values_by_local_number l v) are.ordered local seen i h;
     }
 
 -- ---- a gate that has no row
@@ -101,7 +100,7 @@ undefined_is_seen n l inputs k place a are u below same bits =
     record {
       gate = h;
       numbered = at;
-      values = localized l u.values;
+      values = values_by_local_number l u.values;
       given = λ i lt. sym (bits i lt);
       before = λ m f lt there. row_seen (circuit_wire l) u.values f
           (u.before (circuit_gate l m) _ (subst (λ b. circuit_gate l m < b) same (are.rising m place lt below))

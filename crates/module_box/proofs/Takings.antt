@@ -1,15 +1,14 @@
 -- Boxes that take the places of their blocks, row by row
 use Rattle.std.proofs.Common.{◌≡◌, ℕ, ◌+◌, ◌-◌, ◌*◌, ◌/◌, ◌%◌, ◌<◌, ◌≤◌, min, List, length, refl, sym, ap, subst, ◌∙◌}
-use Rattle.std.proofs.Common.{inl, inr, ◌⊎◌, arith}
-use Rattle.std.specs.Prelude.{slice_index}
+use Rattle.std.proofs.Common.{inl, inr, ◌⊎◌, arith, slice_index}
 use Rattle.std.proofs.lemmas.Nat.{mod-mul-add, div-mul-add, div-add-mod'}
 use Rattle.std.proofs.lemmas.Bool.{and_from, and_parts}
 use Rattle.std.proofs.Math.Nat.{mul-le-mul_right, mod-lt}
 use Rattle.bbm_rule.specs.Spans.{in_span}
 use Rattle.bbm_rule.proofs.Spans.{span_from, span_parts}
 use Rattle.module_box.specs.Boxes.{in_box, IsEven}
-use Rattle.module_box.specs.Tiling.{corner_x, corner_y}
-use Rattle.module_box.specs.Taking.{TakesRow, TakesBox, HasBlock, FitsTable}
+use Rattle.module_box.specs.Tiling.{block_corner_x, block_corner_y}
+use Rattle.module_box.specs.Taking.{TakesRow, TakesBox, HasBlockAtPlace, FitsTable}
 use Rattle.module_box.specs.declared.boxes.Box2.{Box2}
 
 below_or_from : (i m : ℕ) → (i < m) ⊎ (m ≤ i)
@@ -22,10 +21,10 @@ record IsAmong (b : Box2) (row column : ℕ) : Type 0 where
   pub left : b.x / 2 ≤ column
   pub right : column < b.x / 2 + b.w / 2
 
-among_from : (b : Box2) (columns k : ℕ) → IsEven b → HasBlock b columns k → IsAmong b (k / columns) (k % columns)
+among_from : (b : Box2) (columns k : ℕ) → IsEven b → HasBlockAtPlace b columns k → IsAmong b (k / columns) (k % columns)
 unfolding in_box
 among_from b columns k even h =
-    let p = and_parts (in_span b.x b.w (corner_x columns k)) (in_span b.y b.h (corner_y columns k)) h in
+    let p = and_parts (in_span b.x b.w (block_corner_x columns k)) (in_span b.y b.h (block_corner_y columns k)) h in
     let x = span_parts b.x b.w (2 * (k % columns)) p.0 in
     let y = span_parts b.y b.h (2 * (k / columns)) p.1 in
     record {
@@ -35,10 +34,10 @@ among_from b columns k even h =
       right = omega (arith, x.0, x.1, even.x, even.w);
     }
 
-block_from : (b : Box2) (columns k : ℕ) → IsEven b → IsAmong b (k / columns) (k % columns) → HasBlock b columns k
+block_from : (b : Box2) (columns k : ℕ) → IsEven b → IsAmong b (k / columns) (k % columns) → HasBlockAtPlace b columns k
 unfolding in_box
 block_from b columns k even a =
-    and_from (in_span b.x b.w (corner_x columns k)) (in_span b.y b.h (corner_y columns k))
+    and_from (in_span b.x b.w (block_corner_x columns k)) (in_span b.y b.h (block_corner_y columns k))
     (span_from b.x b.w (2 * (k % columns)) (omega (arith, a.left, even.x)) (omega (arith, a.right, even.x, even.w)))
     (span_from b.y b.h (2 * (k / columns)) (omega (arith, a.top, even.y)) (omega (arith, a.bottom, even.y, even.h)))
 
@@ -58,9 +57,10 @@ in_row columns row k p q =
 -- of the places before `upto`, those of the box's blocks were free and have the number now; all others are as before
 pub record TakesRows (columns : ℕ) (b : Box2) (free number upto : ℕ) (old new : List ℕ) : Type 0 where
   pub sized : length new ≡ length old
-  pub taken : (k : ℕ) → k < length old → k < upto → HasBlock b columns k →
+  pub taken : (k : ℕ) → k < length old → k < upto → HasBlockAtPlace b columns k →
       (slice_index old k ≡ free) × (slice_index new k ≡ number)
-  pub others : (k : ℕ) → k < length old → k < upto → ¬ HasBlock b columns k → slice_index new k ≡ slice_index old k
+  pub others : (k : ℕ) → k < length old → k < upto → ¬ HasBlockAtPlace b columns k →
+      slice_index new k ≡ slice_index old k
   pub after : (k : ℕ) → upto ≤ k → slice_index new k ≡ slice_index old k
 
 row_of : (columns row k : ℕ) → 0 < columns → k < row * columns → k / columns < row
@@ -92,7 +92,8 @@ rows_begun columns b free number xs even fits = record {
 
 -- no block of the box has a place from `upto` on
 rows_done : (columns : ℕ) (b : Box2) (free number upto : ℕ) (old new : List ℕ) →
-    TakesRows columns b free number upto old new → ((k : ℕ) → upto ≤ k → k < length old → ¬ HasBlock b columns k) →
+    TakesRows columns b free number upto old new →
+    ((k : ℕ) → upto ≤ k → k < length old → ¬ HasBlockAtPlace b columns k) →
     TakesBox columns b free number (length old) old new
 rows_done columns b free number upto old new t past = record {
   sized = t.sized;
@@ -145,7 +146,7 @@ record IsRowTaken (columns : ℕ) (b : Box2) (free number row stop : ℕ) (old m
 
 in_its_row : (columns : ℕ) (b : Box2) (free number row stop k : ℕ) (old mid new : List ℕ) →
     IsRowTaken columns b free number row stop old mid new → row * columns + b.x / 2 ≤ k →
-    k < row * columns + b.x / 2 + b.w / 2 → HasBlock b columns k
+    k < row * columns + b.x / 2 + b.w / 2 → HasBlockAtPlace b columns k
 in_its_row columns b free number row stop k old mid new t p q =
     let r = in_row columns row k (omega arith) (let s = t.fits.right in omega (arith, s, p, q)) in
     let e = r.row in
@@ -160,7 +161,7 @@ in_its_row columns b free number row stop k old mid new t p q =
     })
 
 taken_before : (columns : ℕ) (b : Box2) (free number row stop k : ℕ) (old mid new : List ℕ) →
-    IsRowTaken columns b free number row stop old mid new → k < length old → k < stop → HasBlock b columns k →
+    IsRowTaken columns b free number row stop old mid new → k < length old → k < stop → HasBlockAtPlace b columns k →
     (slice_index old k ≡ free) × (slice_index new k ≡ number)
 taken_before columns b free number row stop k old mid new t within lt h = elim (below_or_from k (row * columns)) [
   | inl p ↦ (let g = t.rows.taken k within p h in (g.0, t.before k (omega arith) ∙ g.1))
@@ -174,7 +175,7 @@ taken_before columns b free number row stop k old mid new t within lt h = elim (
 ]
 
 same_before : (columns : ℕ) (b : Box2) (free number row stop k : ℕ) (old mid new : List ℕ) →
-    IsRowTaken columns b free number row stop old mid new → k < length old → k < stop → ¬ HasBlock b columns k →
+    IsRowTaken columns b free number row stop old mid new → k < length old → k < stop → ¬ HasBlockAtPlace b columns k →
     slice_index new k ≡ slice_index old k
 same_before columns b free number row stop k old mid new t within lt h = elim (below_or_from k (row * columns)) [
   | inl p ↦ t.before k (omega arith) ∙ t.rows.others k within p h

@@ -1,7 +1,6 @@
 -- From the blocks of a rectangle to its cells
 use Rattle.std.proofs.Common.{◌≡◌, ℕ, ◌+◌, ◌*◌, ◌/◌, ◌%◌, ◌<◌, ◌≤◌, List, length, take, replicate, true, Some, sym, ap}
-use Rattle.std.proofs.Common.{ap₂, subst, ◌∙◌, inl, inr, ◌⊎◌, arith, get_or}
-use Rattle.std.specs.Prelude.{ℤ, pos, slice_get, slice_index, IsTrue}
+use Rattle.std.proofs.Common.{ap₂, subst, ◌∙◌, inl, inr, ◌⊎◌, arith, get_or, ℤ, pos, slice_get, slice_index, IsTrue}
 use Rattle.std.proofs.lemmas.Option.{slice_get-get_or, slice_get_within, get_or_from_slice_get}
 use Rattle.std.proofs.lemmas.List.{get_or-take, get_or-replicate, length-replicate, length-take-le}
 use Rattle.std.proofs.Math.Nat.{div-add-mod, mul-le-mul_left}
@@ -12,9 +11,10 @@ use Rattle.bbm_rule.specs.Spans.{in_span}
 use Rattle.bbm_rule.specs.declared.block.Cell.{Cell}
 use Rattle.module_box.specs.declared.boxes.Box2.{Box2}
 use Rattle.bbm_rule.proofs.Spans.{span_from, span_parts}
-use Rattle.module_box.specs.Tiling.{Owning, rectangle, owner_of, IsTable, AreOwners, corner_x, corner_y, IsInside}
-use Rattle.module_box.specs.Tiling.{AllInside, Holds, IsHolder, AreBlocksOwnedOnce, HeldTwice, IsBadBlock}
-use Rattle.module_box.specs.Taking.{TakesBox, HasBlock}
+use Rattle.module_box.specs.Tiling.{Owning, rectangle, owner_of, IsTable, AreOwners, block_corner_x, block_corner_y}
+use Rattle.module_box.specs.Tiling.{IsInside, AreFirstBoxesInside, Holds, IsHolder, AreFirstBlocksInOneBox, HeldTwice}
+use Rattle.module_box.specs.Tiling.{IsBadBlock}
+use Rattle.module_box.specs.Taking.{TakesBox, HasBlockAtPlace}
 use Rattle.module_box.proofs.BoxCells.{in_box_nats, same_some, owner_in_table, abs_within}
 
 span_down : (f n k : ℕ) → f % 2 ≡ 0 → n % 2 ≡ 0 → in_span f n (pos k) ≡ true → in_span f n (pos (2 * (k / 2))) ≡ true
@@ -40,7 +40,8 @@ box_up b i k e h = let p = and_parts (in_span b.x b.w (pos (2 * (i / 2)))) (in_s
 
 pub record IsFilled (columns : ℕ) (boxes : List Box2) (place : ℕ) (table : List ℕ) : Type 0 where
   pub sized : length table ≡ place
-  pub holders : (k i : ℕ) → slice_get table k ≡ Some i → IsHolder boxes (corner_x columns k) (corner_y columns k) i
+  pub holders : (k i : ℕ) → slice_get table k ≡ Some i →
+      IsHolder boxes (block_corner_x columns k) (block_corner_y columns k) i
 
 -- the table after the first n boxes: each place has the number of the one box that has its block, or the number of
 -- boxes where none has; where it ends before the last block, there is one that lies in two boxes
@@ -48,13 +49,13 @@ pub record IsTakenBy (columns blocks n : ℕ) (boxes : List Box2) (table : List 
   pub bound : length table ≤ blocks
   pub below : (k : ℕ) → k < length table → ¬ (slice_index table k ≡ length boxes) → slice_index table k < n
   pub holds : (k : ℕ) → k < length table → ¬ (slice_index table k ≡ length boxes) →
-      Holds boxes (corner_x columns k) (corner_y columns k) (slice_index table k)
+      Holds boxes (block_corner_x columns k) (block_corner_y columns k) (slice_index table k)
   pub only : (k j : ℕ) → k < length table → ¬ (slice_index table k ≡ length boxes) → j < n →
-      Holds boxes (corner_x columns k) (corner_y columns k) j → j ≡ slice_index table k
+      Holds boxes (block_corner_x columns k) (block_corner_y columns k) j → j ≡ slice_index table k
   pub none : (k j : ℕ) → k < length table → slice_index table k ≡ length boxes → j < n →
-      ¬ Holds boxes (corner_x columns k) (corner_y columns k) j
+      ¬ Holds boxes (block_corner_x columns k) (block_corner_y columns k) j
   pub twice : length table < blocks →
-      HeldTwice boxes (corner_x columns (length table)) (corner_y columns (length table))
+      HeldTwice boxes (block_corner_x columns (length table)) (block_corner_y columns (length table))
 
 pub taken_by_none : (columns blocks : ℕ) (boxes : List Box2) (table : List ℕ) →
     table ≡ replicate blocks (length boxes) → IsTakenBy columns blocks 0 boxes table
@@ -80,8 +81,8 @@ same_box boxes x y n b e h = subst (λ z. IsTrue (in_box z x y))
 last_or_before : (j n : ℕ) → j < n + 1 → (j < n) ⊎ (j ≡ n)
 last_or_before j n h = grind arith
 
-pub decide_block : (columns : ℕ) (b : Box2) (k : ℕ) → HasBlock b columns k ⊎ ¬ HasBlock b columns k
-decide_block columns b k = elim (cases_Bool (in_box b (corner_x columns k) (corner_y columns k))) [
+pub decide_block : (columns : ℕ) (b : Box2) (k : ℕ) → HasBlockAtPlace b columns k ⊎ ¬ HasBlockAtPlace b columns k
+decide_block columns b k = elim (cases_Bool (in_box b (block_corner_x columns k) (block_corner_y columns k))) [
   | inl e ↦ inl e
   | inr e ↦ inr (λ h. false≢true (sym e ∙ h))
 ]
@@ -89,10 +90,12 @@ decide_block columns b k = elim (cases_Bool (in_box b (corner_x columns k) (corn
 -- what the next box makes of a place
 record IsNextPlace (columns n k : ℕ) (boxes : List Box2) (number : ℕ) : Type 0 where
   pub below : ¬ (number ≡ length boxes) → number < n + 1
-  pub holds : ¬ (number ≡ length boxes) → Holds boxes (corner_x columns k) (corner_y columns k) number
-  pub only : (j : ℕ) → ¬ (number ≡ length boxes) → j < n + 1 → Holds boxes (corner_x columns k) (corner_y columns k) j →
+  pub holds : ¬ (number ≡ length boxes) → Holds boxes (block_corner_x columns k) (block_corner_y columns k) number
+  pub only : (j : ℕ) → ¬ (number ≡ length boxes) → j < n + 1 →
+      Holds boxes (block_corner_x columns k) (block_corner_y columns k) j →
       j ≡ number
-  pub none : (j : ℕ) → number ≡ length boxes → j < n + 1 → ¬ Holds boxes (corner_x columns k) (corner_y columns k) j
+  pub none : (j : ℕ) → number ≡ length boxes → j < n + 1 →
+      ¬ Holds boxes (block_corner_x columns k) (block_corner_y columns k) j
 
 next_place : (columns blocks n k stop : ℕ) (boxes : List Box2) (b : Box2) (table table' : List ℕ) →
     IsTakenBy columns blocks n boxes table → n < length boxes → slice_get boxes n ≡ Some b →
@@ -104,7 +107,7 @@ next_place columns blocks n k stop boxes b table table' t lt got takes ks = elim
       let own : slice_index table' k ≡ n = g.1 in
       record {
         below = λ f. omega (arith, own);
-        holds = λ f. subst (λ z. Holds boxes (corner_x columns k) (corner_y columns k) z) (sym own)
+        holds = λ f. subst (λ z. Holds boxes (block_corner_x columns k) (block_corner_y columns k) z) (sym own)
             (record { area = b; numbered = got; has = h });
         only = λ j f p hold. elim (last_or_before j n p) [
           | inl l ↦ absurd (t.none k j within g.0 l hold)
@@ -118,17 +121,17 @@ next_place columns blocks n k stop boxes b table table' t lt got takes ks = elim
       λ f e. f (same ∙ e) in
       record {
         below = λ f. (let p = t.below k within (old f) in omega (arith, p, same));
-        holds = λ f. subst (λ z. Holds boxes (corner_x columns k) (corner_y columns k) z) (sym same)
+        holds = λ f. subst (λ z. Holds boxes (block_corner_x columns k) (block_corner_y columns k) z) (sym same)
             (t.holds k within (old f));
         only = λ j f p hold. elim (last_or_before j n p) [
           | inl l ↦ t.only k j within (old f) l hold ∙ sym same
-          | inr e ↦ absurd (h (same_box boxes (corner_x columns k) (corner_y columns k) n b got
-              (subst (λ z. Holds boxes (corner_x columns k) (corner_y columns k) z) e hold)))
+          | inr e ↦ absurd (h (same_box boxes (block_corner_x columns k) (block_corner_y columns k) n b got
+              (subst (λ z. Holds boxes (block_corner_x columns k) (block_corner_y columns k) z) e hold)))
         ];
         none = λ j e p hold. elim (last_or_before j n p) [
           | inl l ↦ t.none k j within (sym same ∙ e) l hold
-          | inr i ↦ h (same_box boxes (corner_x columns k) (corner_y columns k) n b got
-              (subst (λ z. Holds boxes (corner_x columns k) (corner_y columns k) z) i hold))
+          | inr i ↦ h (same_box boxes (block_corner_x columns k) (block_corner_y columns k) n b got
+              (subst (λ z. Holds boxes (block_corner_x columns k) (block_corner_y columns k) z) i hold))
         ];
       })
 ]
@@ -139,7 +142,7 @@ next_place columns blocks n k stop boxes b table table' t lt got takes ks = elim
 twice_at : (columns blocks n stop : ℕ) (boxes : List Box2) (b : Box2) (table table' : List ℕ) →
     IsTakenBy columns blocks n boxes table → slice_get boxes n ≡ Some b →
     TakesBox columns b (length boxes) n stop table table' → stop < blocks →
-    HeldTwice boxes (corner_x columns stop) (corner_y columns stop)
+    HeldTwice boxes (block_corner_x columns stop) (block_corner_y columns stop)
 twice_at columns blocks n stop boxes b table table' t got takes lt =
     elim (last_or_before stop (length table) (let w = takes.within in omega (arith, w))) [
       | inl l ↦ (
@@ -151,7 +154,7 @@ twice_at columns blocks n stop boxes b table table' t got takes lt =
             first = t.holds stop l e.1;
             second = record { area = b; numbered = got; has = e.0 };
           })
-      | inr e ↦ subst (λ z. HeldTwice boxes (corner_x columns z) (corner_y columns z)) (sym e)
+      | inr e ↦ subst (λ z. HeldTwice boxes (block_corner_x columns z) (block_corner_y columns z)) (sym e)
           (t.twice (omega (arith, e, lt)))
     ]
 
@@ -173,14 +176,14 @@ taken_by_next columns blocks n stop boxes b table table' table'' t lt got takes 
       holds = λ k p f. (at k p).holds f;
       only = λ k j p f q h. (at k p).only j f q h;
       none = λ k j p i q h. (at k p).none j i q h;
-      twice = λ p. subst (λ z. HeldTwice boxes (corner_x columns z) (corner_y columns z)) (sym long)
+      twice = λ p. subst (λ z. HeldTwice boxes (block_corner_x columns z) (block_corner_y columns z)) (sym long)
           (twice_at columns blocks n stop boxes b table table' t got takes (omega (arith, p, long)));
     }
 
 -- a place with a number, after all boxes
 holder_at : (columns blocks k : ℕ) (boxes : List Box2) (table : List ℕ) →
     IsTakenBy columns blocks (length boxes) boxes table → k < length table → ¬ (slice_index table k ≡ length boxes) →
-    IsHolder boxes (corner_x columns k) (corner_y columns k) (slice_index table k)
+    IsHolder boxes (block_corner_x columns k) (block_corner_y columns k) (slice_index table k)
 holder_at columns blocks k boxes table t lt f = record {
   holds = t.holds k lt f;
   only = λ j h. t.only k j lt f (slice_get_within boxes j h.area h.numbered) h;
@@ -188,27 +191,29 @@ holder_at columns blocks k boxes table t lt f = record {
 
 pub taken_all_times : (columns blocks place : ℕ) (boxes : List Box2) (table : List ℕ) →
     IsTakenBy columns blocks (length boxes) boxes table → place ≤ length table →
-    ((k : ℕ) → k < place → ¬ (slice_index table k ≡ length boxes)) → AreBlocksOwnedOnce columns place boxes
+    ((k : ℕ) → k < place → ¬ (slice_index table k ≡ length boxes)) → AreFirstBlocksInOneBox columns place boxes
 taken_all_times columns blocks place boxes table t le full k lt =
     (slice_index table k, holder_at columns blocks k boxes table t (omega arith) (full k lt))
 
 pub taken_gap : (columns blocks place : ℕ) (boxes : List Box2) (table : List ℕ) (c : Cell) →
     IsTakenBy columns blocks (length boxes) boxes table → place < length table →
-    slice_index table place ≡ length boxes → (c.x ≡ corner_x columns place) × (c.y ≡ corner_y columns place) → (i : ℕ) →
+    slice_index table place ≡ length boxes →
+    (c.x ≡ block_corner_x columns place) × (c.y ≡ block_corner_y columns place) → (i : ℕ) →
     ¬ Holds boxes c.x c.y i
 taken_gap columns blocks place boxes table c t lt e is i h =
-    let at : Holds boxes (corner_x columns place) (corner_y columns place) i =
-    subst (λ z. Holds boxes z (corner_y columns place) i) is.0 (subst (λ z. Holds boxes c.x z i) is.1 h) in
+    let at : Holds boxes (block_corner_x columns place) (block_corner_y columns place) i =
+    subst (λ z. Holds boxes z (block_corner_y columns place) i) is.0 (subst (λ z. Holds boxes c.x z i) is.1 h) in
     t.none place i lt e (slice_get_within boxes i at.area at.numbered) at
 
 pub taken_twice : (columns blocks place : ℕ) (boxes : List Box2) (table : List ℕ) (c : Cell) →
     IsTakenBy columns blocks (length boxes) boxes table → place ≡ length table → place < blocks →
-    (c.x ≡ corner_x columns place) × (c.y ≡ corner_y columns place) → HeldTwice boxes c.x c.y
+    (c.x ≡ block_corner_x columns place) × (c.y ≡ block_corner_y columns place) → HeldTwice boxes c.x c.y
 taken_twice columns blocks place boxes table c t e lt is =
-    let at : HeldTwice boxes (corner_x columns place) (corner_y columns place) =
-    subst (λ z. HeldTwice boxes (corner_x columns z) (corner_y columns z)) (sym e) (t.twice (omega (arith, e, lt))) in
+    let at : HeldTwice boxes (block_corner_x columns place) (block_corner_y columns place) =
+    subst (λ z. HeldTwice boxes (block_corner_x columns z) (block_corner_y columns z)) (sym e)
+    (t.twice (omega (arith, e, lt))) in
     subst (λ z. HeldTwice boxes z c.y) (sym is.0)
-    (subst (λ z. HeldTwice boxes (corner_x columns place) z) (sym is.1) at)
+    (subst (λ z. HeldTwice boxes (block_corner_x columns place) z) (sym is.1) at)
 
 pub taken_by_all : (columns blocks n : ℕ) (boxes : List Box2) (table : List ℕ) →
     IsTakenBy columns blocks n boxes table → n ≡ length boxes → IsTakenBy columns blocks (length boxes) boxes table
@@ -223,7 +228,8 @@ filled_from columns blocks n gap boxes table by e le past full =
       sized = (let b = t.bound in omega (arith, b, le));
       holders = λ k i e.
           let lt = slice_get_within table k i e in
-          subst (λ z. IsHolder boxes (corner_x columns k) (corner_y columns k) z) (get_or_from_slice_get table k i 0 e)
+          subst (λ z. IsHolder boxes (block_corner_x columns k) (block_corner_y columns k) z)
+          (get_or_from_slice_get table k i 0 e)
           (holder_at columns blocks k boxes table t lt (full k (omega (arith, lt, past))));
     }
 
@@ -259,7 +265,7 @@ named_cell o boxes x y t even f h =
     cell_holder boxes x y _ even (subst
     (λ z. IsHolder boxes (pos (2 * z)) (pos (2 * (y / 2))) (get_or o.numbers place 0))
     (mod-mul-add (y / 2) c (x / 2) left)
-    (subst (λ z. IsHolder boxes (corner_x c place) (pos (2 * z)) (get_or o.numbers place 0))
+    (subst (λ z. IsHolder boxes (block_corner_x c place) (pos (2 * z)) (get_or o.numbers place 0))
     (div-mul-add (y / 2) c (x / 2) left) g))
   where
     half_less : (a b : ℕ) → a < b → b % 2 ≡ 0 → a / 2 < b / 2
@@ -278,7 +284,7 @@ inside_box o b x y is h =
 pub owners_from : (o : Owning) (boxes : List Box2) → IsTable o →
     ((k : ℕ) (b : Box2) → slice_get boxes k ≡ Some b → IsEven b) →
     IsFilled (o.width / 2) boxes ((o.height / 2) * (o.width / 2)) o.numbers →
-    AllInside o.width o.height (length boxes) boxes → AreOwners o boxes
+    AreFirstBoxesInside o.width o.height (length boxes) boxes → AreOwners o boxes
 owners_from o boxes t even f inside =
     let at : (x y : ℤ) → in_box (rectangle o) x y ≡ true → IsHolder boxes x y (owner_of o x y) = λ x y h.
     let p = in_box_nats (rectangle o) x y h in
@@ -313,13 +319,14 @@ div_small a c n h = elim (below_or_from (n / c) a) [
   | inr g ↦ absurd (let e = div-add-mod n c in let m : c * a ≤ c * (n / c) = mul-le-mul_left c g in omega (arith, e, m))
 ]
 
-pub all_inside : (w h n : ℕ) (boxes : List Box2) → AllInside w h n boxes → length boxes ≤ n →
-    AllInside w h (length boxes) boxes
+pub all_inside : (w h n : ℕ) (boxes : List Box2) → AreFirstBoxesInside w h n boxes → length boxes ≤ n →
+    AreFirstBoxesInside w h (length boxes) boxes
 all_inside w h n boxes a le k b lt e = a k b (omega arith) e
 
-pub bad_block : (w h outside place : ℕ) (boxes : List Box2) (c : Cell) → AllInside w h outside boxes →
+pub bad_block : (w h outside place : ℕ) (boxes : List Box2) (c : Cell) → AreFirstBoxesInside w h outside boxes →
     length boxes ≤ outside → place < (h / 2) * (w / 2) →
-    AreBlocksOwnedOnce (w / 2) place boxes → (c.x ≡ corner_x (w / 2) place) × (c.y ≡ corner_y (w / 2) place) →
+    AreFirstBlocksInOneBox (w / 2) place boxes →
+    (c.x ≡ block_corner_x (w / 2) place) × (c.y ≡ block_corner_y (w / 2) place) →
     IsBadBlock w h boxes c
 bad_block w h outside place boxes c a le lt before is = record {
   inside = all_inside w h outside boxes a le;

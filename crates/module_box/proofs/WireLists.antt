@@ -2,8 +2,7 @@
 use Rattle.std.proofs.Common.{◌≡◌, ◌≢◌, ℕ, zero, suc, ◌+◌, ◌<◌, ◌≤◌, ◌==◌, ◌||◌, true, false, List, [], ◌∷◌, ◌++◌}
 use Rattle.std.proofs.Common.{length, take, drop, get_or, set, slice_get, position, Option, Some, None, nat_eq, min}
 use Rattle.std.proofs.Common.{Contains, refl, sym, ap, ap₂, subst, ◌∙◌, inl, inr, arith, append_assoc, length-append}
-use Rattle.std.proofs.Common.{cond, take-append-drop}
-use Rattle.std.specs.Prelude.{if◌then◌else◌, nat_lt, is_some, IfSome, Bool, not}
+use Rattle.std.proofs.Common.{cond, take-append-drop, if◌then◌else◌, nat_lt, is_some, IfSome, Bool, not}
 use Rattle.std.specs.List.{list_any, position_or_len}
 use Rattle.std.proofs.Math.Seq.{get_or-append_seam}
 use Rattle.std.proofs.lemmas.Bool.{cases_lt, eqb-true, eqb-false, eq-eqb, ne_eqb, false_from_ne_true, false≢true}

@@ -2,8 +2,7 @@
 use Rattle.std.proofs.Common.{◌≡◌, ℕ, ◌+◌, ◌<◌, ◌≤◌, Bool, true, false, ◌&&◌, ◌||◌, not, cond, List, [], ◌∷◌, ◌++◌, map}
 use Rattle.std.proofs.Common.{take, drop, get_or, length, Option, Some, None, refl, sym, ap, ap₂, subst, ◌∙◌, arith}
 use Rattle.std.proofs.Common.{inl, inr, bit_and, bit_or, add-one, drop-cons, drop_of_length-le, length-append}
-use Rattle.std.proofs.Common.{get_or-append-add}
-use Rattle.std.specs.Prelude.{bit_xor, slice_index, slice_index_or, option_and_then, option_map}
+use Rattle.std.proofs.Common.{get_or-append-add, bit_xor, slice_index, slice_index_or, option_and_then, option_map}
 use Rattle.std.proofs.Math.ListN as listn
 use Rattle.std.proofs.lemmas.Bool.{cases_lt, true≢false, eq-eqb, ne_eqb}
 use Rattle.std.proofs.lemmas.List.{map-append, length-map, get_or_append_left}
@@ -11,17 +10,15 @@ use Rattle.bbm_rule.specs.Bits.{bit}
 use Rattle.bbm_rule.proofs.BitLemmas.{bit-and, bit-or, bit-xor, bit-zero, xor}
 use Rattle.circuit.specs.declared.circuit_line.GateKind.{GateKind}
 use Rattle.circuit.specs.declared.circuit_line.GateKind.TheVariants.{Source, Fredkin, Cswap, Interact, Switch, Delay}
-use Rattle.circuit.specs.declared.circuit_line.GateKind.TheVariants.{Unswitch}
-use Rattle.circuit.specs.declared.circuit_line.GateKind.TheVariants.{Uninteract}
+use Rattle.circuit.specs.declared.circuit_line.GateKind.TheVariants.{Unswitch, Uninteract}
 use Rattle.circuit.specs.Gates.{row, uses, defines}
 use Rattle.circuit.specs.Meaning.{Gate, wires_after}
 use Rattle.circuit.specs.Bridge.{read}
-use Rattle.circuit.specs.Evaluate.{evaluate, first_undefined, undefined_gate_or_later}
+use Rattle.circuit.specs.Evaluate.{evaluate, first_undefined_gate, this_or_later_undefined}
 use Rattle.module_box.specs.declared.locals.LocalGate.{LocalGate}
-use Rattle.module_box.specs.LocalGates.{as_gate}
-use Rattle.module_box.specs.LocalValues.{lane, word_row, undefined_bits, row_unless, wire_word, AddsRow, SaysColumn}
-use Rattle.module_box.specs.LocalValues.{is_none}
-use Rattle.module_box.specs.LocalValues.{is_this_gate}
+use Rattle.module_box.specs.LocalGates.{gate_of_local_gate}
+use Rattle.module_box.specs.LocalValues.{lane, gate_out_words, undefined_bits, row_unless_undefined, word_of_in_wire}
+use Rattle.module_box.specs.LocalValues.{AddsRow, SaysColumn, is_none, is_this_gate}
 use Rattle.module_box.proofs.CutWords.{bit_ones}
 
 -- which of two
@@ -72,10 +69,10 @@ first_only_bit : (x y b : ℕ) → bit (bit_xor x (bit_and x y)) b ≡ (bit x b 
 first_only_bit x y b = rw (bit-xor x (bit_and x y) b, bit-and x y b) (first_only (bit x b) (bit y b))
 
 -- a row that is always there
-forward : (o : Option (List Bool)) (r : List Bool) (b : ℕ) → o ≡ Some r → o ≡ row_unless (bit 0 b) r
-forward o r b e = e ∙ ap (λ (v : Bool). row_unless v r) (sym (bit-zero b))
+forward : (o : Option (List Bool)) (r : List Bool) (b : ℕ) → o ≡ Some r → o ≡ row_unless_undefined (bit 0 b) r
+forward o r b e = e ∙ ap (λ (v : Bool). row_unless_undefined v r) (sym (bit-zero b))
 
-unswitch_bits : (c y z : Bool) → row Unswitch (c ∷ y ∷ z ∷ []) ≡ row_unless (cond c z y) (c ∷ (y || z) ∷ [])
+unswitch_bits : (c y z : Bool) → row Unswitch (c ∷ y ∷ z ∷ []) ≡ row_unless_undefined (cond c z y) (c ∷ (y || z) ∷ [])
 unfolding row
 unswitch_bits true true true = refl
 unswitch_bits true true false = refl
@@ -88,7 +85,7 @@ unswitch_bits false false false = refl
 
 uninteract_bits : (a b c d : Bool) →
     row Uninteract (a ∷ b ∷ c ∷ d ∷ [])
-    ≡ row_unless (xor a d || ((a && (b || c)) || (b && c))) ((a || c) ∷ (a || b) ∷ [])
+    ≡ row_unless_undefined (xor a d || ((a && (b || c)) || (b && c))) ((a || c) ∷ (a || b) ∷ [])
 unfolding row
 uninteract_bits false false false false = refl
 uninteract_bits false true false false = refl
@@ -109,7 +106,7 @@ uninteract_bits false false false true = refl
 
 words_row : (kind : GateKind) (a x y z b : ℕ) → b < 64 →
     row kind (take (uses kind) (bit a b ∷ bit x b ∷ bit y b ∷ bit z b ∷ []))
-    ≡ row_unless (bit (undefined_bits kind a x y z) b) (lane b (word_row kind a x y z))
+    ≡ row_unless_undefined (bit (undefined_bits kind a x y z) b) (lane b (gate_out_words kind a x y z))
 unfolding row
 words_row (Source true) a x y z b h = forward _ _ b (ap (λ (v : Bool). Some (v ∷ [])) (sym (bit_ones b h)))
 words_row (Source false) a x y z b h = forward _ _ b (ap (λ (v : Bool). Some (v ∷ [])) (sym (bit-zero b)))
@@ -126,10 +123,10 @@ words_row Switch a x y z b h =
 words_row (Delay n) a x y z b h = forward _ _ b refl
 words_row Unswitch a x y z b h =
     unswitch_bits (bit a b) (bit x b) (bit y b)
-    ∙ ap₂ (λ (u v : Bool). row_unless u (bit a b ∷ v ∷ [])) (sym (second_bit a x y b)) (sym (bit-or x y b))
+    ∙ ap₂ (λ (u v : Bool). row_unless_undefined u (bit a b ∷ v ∷ [])) (sym (second_bit a x y b)) (sym (bit-or x y b))
 words_row Uninteract a x y z b h =
     uninteract_bits (bit a b) (bit x b) (bit y b) (bit z b)
-    ∙ ap₂ (λ (u : Bool) (l : List Bool). row_unless u l) (sym none)
+    ∙ ap₂ (λ (u : Bool) (l : List Bool). row_unless_undefined u l) (sym none)
     (ap₂ (λ (u v : Bool). u ∷ v ∷ []) (sym (bit-or a y b)) (sym (bit-or a x b)))
   where
     none : bit (undefined_bits Uninteract a x y z) b
@@ -165,24 +162,27 @@ front_ins Uninteract f (a ∷ b ∷ c ∷ d ∷ l) e = refl
 
 -- the words of the wires that a gate uses
 abbrev outs_of : GateKind → List ℕ → List ℕ → List ℕ
-outs_of kind ws ins = word_row kind (wire_word ws ins 0) (wire_word ws ins 1) (wire_word ws ins 2) (wire_word ws ins 3)
+outs_of kind ws ins = gate_out_words kind (word_of_in_wire ws ins 0) (word_of_in_wire ws ins 1)
+    (word_of_in_wire ws ins 2) (word_of_in_wire ws ins 3)
 
 abbrev none_of : GateKind → List ℕ → List ℕ → ℕ
-none_of kind ws ins = undefined_bits kind (wire_word ws ins 0) (wire_word ws ins 1) (wire_word ws ins 2)
-    (wire_word ws ins 3)
+none_of kind ws ins = undefined_bits kind (word_of_in_wire ws ins 0) (word_of_in_wire ws ins 1)
+    (word_of_in_wire ws ins 2)
+    (word_of_in_wire ws ins 3)
 
 lane_row : (kind : GateKind) (ins ws : List ℕ) (b : ℕ) → b < 64 → length ins ≡ 4 →
     row kind (map (read (lane b ws)) (take (uses kind) ins))
-    ≡ row_unless (bit (none_of kind ws ins) b) (lane b (outs_of kind ws ins))
+    ≡ row_unless_undefined (bit (none_of kind ws ins) b) (lane b (outs_of kind ws ins))
 lane_row kind ins ws b h e =
     ap (row kind) (front_ins kind (read (lane b ws)) ins e
     ∙ ap (take (uses kind))
     (ap₂ (λ (p : Bool) (l : List Bool). p ∷ l) (read_lane ws b (get_or ins 0 0))
     (ap₂ (λ (p : Bool) (l : List Bool). p ∷ l) (read_lane ws b (get_or ins 1 0))
     (ap₂ (λ (q r : Bool). q ∷ r ∷ []) (read_lane ws b (get_or ins 2 0)) (read_lane ws b (get_or ins 3 0))))))
-    ∙ words_row kind (wire_word ws ins 0) (wire_word ws ins 1) (wire_word ws ins 2) (wire_word ws ins 3) b h
+    ∙ words_row kind (word_of_in_wire ws ins 0) (word_of_in_wire ws ins 1) (word_of_in_wire ws ins 2)
+    (word_of_in_wire ws ins 3) b h
 
-many_outs : (kind : GateKind) (a x y z : ℕ) → length (word_row kind a x y z) ≡ defines kind
+many_outs : (kind : GateKind) (a x y z : ℕ) → length (gate_out_words kind a x y z) ≡ defines kind
 many_outs (Source true) a x y z = refl
 many_outs (Source false) a x y z = refl
 many_outs Fredkin a x y z = refl
@@ -194,23 +194,24 @@ many_outs Unswitch a x y z = refl
 many_outs Uninteract a x y z = refl
 
 pub gate_done : (ws new : List ℕ) (g : LocalGate) (none : ℕ) → length g.ins ≡ 4 → new ≡ ws ++ outs_of g.kind ws g.ins →
-    none ≡ none_of g.kind ws g.ins → AddsRow (as_gate g) ws new none
+    none ≡ none_of g.kind ws g.ins → AddsRow (gate_of_local_gate g) ws new none
 unfolding evaluate
 gate_done ws new g none long more is = record {
   long = ap length more ∙ length-append ws outs ∙ ap (λ n. length ws + n) (many_outs g.kind _ _ _ _);
   has = λ b small e.
       ap (option_and_then (λ (r : List Bool). Some (lane b ws ++ r)))
-      (at b small ∙ ap (λ (v : Bool). row_unless v (lane b outs)) e)
+      (at b small ∙ ap (λ (v : Bool). row_unless_undefined v (lane b outs)) e)
       ∙ ap Some (sym (ap (lane b) more ∙ map-append (λ (x : ℕ). bit x b) ws outs));
-  lacks = λ b small e. at b small ∙ ap (λ (v : Bool). row_unless v (lane b outs)) e;
+  lacks = λ b small e. at b small ∙ ap (λ (v : Bool). row_unless_undefined v (lane b outs)) e;
 }
   where
     outs : List ℕ
     outs = outs_of g.kind ws g.ins
 
     at : (b : ℕ) → b < 64 → row g.kind (map (read (lane b ws)) (take (uses g.kind) g.ins))
-        ≡ row_unless (bit none b) (lane b outs)
-    at b small = lane_row g.kind g.ins ws b small long ∙ ap (λ (n : ℕ). row_unless (bit n b) (lane b outs)) (sym is)
+        ≡ row_unless_undefined (bit none b) (lane b outs)
+    at b small = lane_row g.kind g.ins ws b small long
+        ∙ ap (λ (n : ℕ). row_unless_undefined (bit n b) (lane b outs)) (sym is)
 
 -- ---- one gate after another
 -- a number of a gate, where k gates come before
@@ -219,13 +220,14 @@ shift k o = option_map (λ m. k + m) o
 
 -- the first k gates are done
 pub record InColumn (given : List ℕ) (gs : List LocalGate) (k : ℕ) (words lacking : List ℕ) (whole b : ℕ) : Type 0 where
-  left : bit whole b ≡ true → evaluate (lane b words) (map as_gate (drop k gs))
-      ≡ evaluate (lane b given) (map as_gate gs)
-  later : bit whole b ≡ true → shift k (first_undefined (lane b words) (map as_gate (drop k gs)))
-      ≡ first_undefined (lane b given) (map as_gate gs)
-  earlier : bit whole b ≡ false → (m : ℕ) × (m < k) × (first_undefined (lane b given) (map as_gate gs) ≡ Some m)
+  left : bit whole b ≡ true → evaluate (lane b words) (map gate_of_local_gate (drop k gs))
+      ≡ evaluate (lane b given) (map gate_of_local_gate gs)
+  later : bit whole b ≡ true → shift k (first_undefined_gate (lane b words) (map gate_of_local_gate (drop k gs)))
+      ≡ first_undefined_gate (lane b given) (map gate_of_local_gate gs)
+  earlier : bit whole b ≡ false →
+      (m : ℕ) × (m < k) × (first_undefined_gate (lane b given) (map gate_of_local_gate gs) ≡ Some m)
   undefined : (j : ℕ) → j < k →
-      bit (slice_index lacking j) b ≡ is_this_gate (first_undefined (lane b given) (map as_gate gs)) j
+      bit (slice_index lacking j) b ≡ is_this_gate (first_undefined_gate (lane b given) (map gate_of_local_gate gs)) j
 
 shift_none : (o : Option ℕ) → shift 0 o ≡ o
 unfolding shift
@@ -253,7 +255,7 @@ column_start given gs undefined b small = record {
 
 -- the words after a gate
 record IsAfter (g : LocalGate) (old new undefined undefined' : List ℕ) (defined defined' none first : ℕ) : Type 0 where
-  pub adds : AddsRow (as_gate g) old new none
+  pub adds : AddsRow (gate_of_local_gate g) old new none
   pub is_first : first ≡ bit_and defined none
   pub more : undefined' ≡ undefined ++ first ∷ []
   pub fewer : defined' ≡ bit_xor defined first
@@ -269,10 +271,11 @@ step_evaluate vs new gs (Some r) e = ap (λ (l : List Bool). evaluate l gs) (som
 
 step_undefined : (vs new : List Bool) (gs : List Gate) (o : Option (List Bool)) →
     option_and_then (λ (r : List Bool). Some (vs ++ r)) o ≡ Some new →
-    undefined_gate_or_later (λ r. first_undefined (vs ++ r) gs) o ≡ option_map (λ m. m + 1) (first_undefined new gs)
+    this_or_later_undefined (λ r. first_undefined_gate (vs ++ r) gs) o
+    ≡ option_map (λ m. m + 1) (first_undefined_gate new gs)
 step_undefined vs new gs None e = cc
 step_undefined vs new gs (Some r) e =
-    ap (λ (l : List Bool). option_map (λ m. m + 1) (first_undefined l gs)) (some_is (vs ++ r) new e)
+    ap (λ (l : List Bool). option_map (λ m. m + 1) (first_undefined_gate l gs)) (some_is (vs ++ r) new e)
   where
     some_is : (x y : List Bool) → Some x ≡ Some y → x ≡ y
     some_is x y e = cc
@@ -286,12 +289,12 @@ one_more : (given : List ℕ) (gs : List LocalGate) (k : ℕ) (g : LocalGate) (o
     drop k gs ≡ g ∷ drop (k + 1) gs → IsAfter g old new undefined undefined' defined defined' none first →
     bit defined b ≡ x → bit none b ≡ y →
     InColumn given gs k old undefined defined b → InColumn given gs (k + 1) new undefined' defined' b
-unfolding evaluate first_undefined shift
+unfolding evaluate first_undefined_gate shift
 one_more given gs k g old new undefined undefined' defined defined' none first b x y small within many parts is ex ey
     so_far = go x y ex ey
   where
     all : Option ℕ
-    all = first_undefined (lane b given) (map as_gate gs)
+    all = first_undefined_gate (lane b given) (map gate_of_local_gate gs)
 
     first_bits : bit first b ≡ (bit defined b && bit none b)
     first_bits = ap (λ n. bit n b) is.is_first ∙ bit-and defined none b
@@ -331,10 +334,11 @@ one_more given gs k g old new undefined undefined' defined defined' none first b
         let now : bit defined' b ≡ false = new_bits ∙ ap₂ xor ex first_true in
         let here : all ≡ Some (k + 0) =
         sym (so_far.later ex) ∙ ap (λ (l : List LocalGate).
-        option_map (λ m. k + m) (first_undefined (lane b old) (map as_gate l))) parts
+        option_map (λ m. k + m) (first_undefined_gate (lane b old) (map gate_of_local_gate l))) parts
         ∙ ap (λ (o : Option (List Bool)).
-        option_map (λ m. k + m) (undefined_gate_or_later
-        (λ r. first_undefined (lane b old ++ r) (map as_gate (drop (k + 1) gs))) o)) (is.adds.lacks b small ey) in
+        option_map (λ m. k + m) (this_or_later_undefined
+        (λ r. first_undefined_gate (lane b old ++ r) (map gate_of_local_gate (drop (k + 1) gs))) o))
+        (is.adds.lacks b small ey) in
         record {
           left = λ e. absurd (true≢false (sym e ∙ now));
           later = λ e. absurd (true≢false (sym e ∙ now));
@@ -345,15 +349,18 @@ one_more given gs k g old new undefined undefined' defined defined' none first b
     go true false ex ey =
         let first_false : bit first b ≡ false = first_bits ∙ ap₂ (λ (u v : Bool). u && v) ex ey in
         let has = is.adds.has b small ey in
-        let later : option_map (λ m. k + 1 + m) (first_undefined (lane b new) (map as_gate (drop (k + 1) gs))) ≡ all =
-        shift_suc k (first_undefined (lane b new) (map as_gate (drop (k + 1) gs)))
+        let later : option_map (λ m. k + 1 + m)
+        (first_undefined_gate (lane b new) (map gate_of_local_gate (drop (k + 1) gs))) ≡ all =
+        shift_suc k (first_undefined_gate (lane b new) (map gate_of_local_gate (drop (k + 1) gs)))
         ∙ ap (λ (o : Option ℕ). option_map (λ m. k + m) o)
-        (sym (step_undefined (lane b old) (lane b new) (map as_gate (drop (k + 1) gs)) _ has))
-        ∙ sym (ap (λ (l : List LocalGate). option_map (λ m. k + m) (first_undefined (lane b old) (map as_gate l)))
+        (sym (step_undefined (lane b old) (lane b new) (map gate_of_local_gate (drop (k + 1) gs)) _ has))
+        ∙ sym (ap (λ (l : List LocalGate).
+        option_map (λ m. k + m) (first_undefined_gate (lane b old) (map gate_of_local_gate l)))
         parts) ∙ so_far.later ex in
         record {
-          left = λ e. sym (step_evaluate (lane b old) (lane b new) (map as_gate (drop (k + 1) gs)) _ has)
-              ∙ sym (ap (λ (l : List LocalGate). evaluate (lane b old) (map as_gate l)) parts) ∙ so_far.left ex;
+          left = λ e. sym (step_evaluate (lane b old) (lane b new) (map gate_of_local_gate (drop (k + 1) gs)) _ has)
+              ∙ sym (ap (λ (l : List LocalGate). evaluate (lane b old) (map gate_of_local_gate l)) parts)
+              ∙ so_far.left ex;
           later = λ e. later;
           earlier = λ e. absurd (true≢false (sym (new_bits ∙ ap₂ xor ex first_false) ∙ e));
           undefined = told (first_false ∙ sym (ap (λ (o : Option ℕ). is_this_gate o k) (sym later) ∙ not_shifted k _));
@@ -362,7 +369,8 @@ one_more given gs k g old new undefined undefined' defined defined' none first b
 -- the first k gates are done at all bits
 pub record AreInColumn (given : List ℕ) (gs : List LocalGate) (k : ℕ) (words undefined : List ℕ)
     (defined : ℕ) : Type 0 where
-  pub long : wires_after (length words) (map as_gate (drop k gs)) ≡ wires_after (length given) (map as_gate gs)
+  pub long : wires_after (length words) (map gate_of_local_gate (drop k gs))
+      ≡ wires_after (length given) (map gate_of_local_gate gs)
   pub count : length undefined ≡ k
   pub each : (b : ℕ) → b < 64 → InColumn given gs k words undefined defined b
 
@@ -377,7 +385,7 @@ column_none given gs words undefined same none =
 
 pub column_more : (given : List ℕ) (gs : List LocalGate) (k : ℕ) (d : LocalGate) (old new undefined undefined' : List ℕ)
     (defined defined' none first : ℕ) → k < length gs →
-    AddsRow (as_gate (get_or gs k d)) old new none → first ≡ bit_and defined none →
+    AddsRow (gate_of_local_gate (get_or gs k d)) old new none → first ≡ bit_and defined none →
     undefined' ≡ undefined ++ first ∷ [] → defined' ≡ bit_xor defined first →
     AreInColumn given gs k old undefined defined → AreInColumn given gs (k + 1) new undefined' defined'
 unfolding wires_after
@@ -385,8 +393,8 @@ column_more given gs k d old new undefined undefined' defined defined' none firs
     so_far =
     let parts = front gs k d within in
     record {
-      long = ap (λ n. wires_after n (map as_gate (drop (k + 1) gs))) adds.long
-          ∙ sym (ap (λ (l : List LocalGate). wires_after (length old) (map as_gate l)) parts) ∙ so_far.long;
+      long = ap (λ n. wires_after n (map gate_of_local_gate (drop (k + 1) gs))) adds.long
+          ∙ sym (ap (λ (l : List LocalGate). wires_after (length old) (map gate_of_local_gate l)) parts) ∙ so_far.long;
       count = ap length more ∙ length-append undefined (first ∷ []) ∙ ap (λ n. n + 1) so_far.count;
       each = λ b small. one_more given gs k
           (get_or gs k d) old new undefined undefined' defined defined' none first b _ _ small within so_far.count parts
@@ -396,28 +404,30 @@ column_more given gs k d old new undefined undefined' defined defined' none firs
 -- all gates are done
 pub column_says : (given : List ℕ) (gs : List LocalGate) (k : ℕ) (words undefined : List ℕ) (defined b : ℕ) → b < 64 →
     length gs ≤ k → k ≤ length gs → AreInColumn given gs k words undefined defined →
-    SaysColumn given (map as_gate gs) words undefined defined b
-unfolding evaluate first_undefined shift
+    SaysColumn given (map gate_of_local_gate gs) words undefined defined b
+unfolding evaluate first_undefined_gate shift
 column_says given gs k words undefined defined b small past within all =
     let is : InColumn given gs k words undefined defined b = all.each b small in
     let none : drop k gs ≡ [] = drop_of_length-le gs past in
     record {
-      values = λ e. sym (is.left e) ∙ ap (λ (l : List LocalGate). evaluate (lane b words) (map as_gate l)) none;
+      values = λ e. sym (is.left e)
+          ∙ ap (λ (l : List LocalGate). evaluate (lane b words) (map gate_of_local_gate l)) none;
       defined = told is none _ refl;
-      undefined = λ j h. is.undefined j (omega (arith, length-map gs as_gate));
+      undefined = λ j h. is.undefined j (omega (arith, length-map gs gate_of_local_gate));
     }
   where
     told : InColumn given gs k words undefined defined b → drop k gs ≡ [] → (v : Bool) → bit defined b ≡ v →
-        bit defined b ≡ is_none (first_undefined (lane b given) (map as_gate gs))
+        bit defined b ≡ is_none (first_undefined_gate (lane b given) (map gate_of_local_gate gs))
     told is none true e =
         e ∙ ap is_none (ap (λ (l : List LocalGate).
-        option_map (λ m. k + m) (first_undefined (lane b words) (map as_gate l))) (sym none) ∙ is.later e)
+        option_map (λ m. k + m) (first_undefined_gate (lane b words) (map gate_of_local_gate l))) (sym none)
+        ∙ is.later e)
     told is none false e = e ∙ ap is_none (sym (is.earlier e).2)
 
 pub column_long : (given : List ℕ) (gs : List LocalGate) (k : ℕ) (words undefined : List ℕ) (defined : ℕ) →
     length gs ≤ k → AreInColumn given gs k words undefined defined →
-    length words ≡ wires_after (length given) (map as_gate gs)
+    length words ≡ wires_after (length given) (map gate_of_local_gate gs)
 unfolding wires_after
 column_long given gs k words undefined defined past all =
-    ap (λ (l : List LocalGate). wires_after (length words) (map as_gate l)) (sym (drop_of_length-le gs past))
+    ap (λ (l : List LocalGate). wires_after (length words) (map gate_of_local_gate l)) (sym (drop_of_length-le gs past))
     ∙ all.long

@@ -8,7 +8,7 @@ use Rattle.module_box.specs.Boxes.{in_box, in_ring, in_halo, IsEven, Tile}
 use Rattle.module_box.specs.Tiling.{rectangle_of, IsTask, IsTileFault}
 use Rattle.module_box.specs.Schedules.{Signals}
 use Rattle.module_box.specs.Locals.{LocalNet, AreLocalsOf, circuit_gate}
-use Rattle.module_box.specs.LocalValues.{IsLocalValuation, IsLocallyUndefined, localized}
+use Rattle.module_box.specs.LocalValues.{IsLocalValuation, IsLocallyUndefined, values_by_local_number}
 use Rattle.module_box.specs.Equality.{same_locals, same_signals}
 use Rattle.module_box.specs.declared.boxes.Box2.{Box2}
 use Rattle.module_box.specs.declared.tile.TileFault.{TileFault}
@@ -67,15 +67,16 @@ ChoicesAreAssignments = (cuts : ℕ) (values : Valuation) →
 
 -- under the assignment the values of the circuit's wires are the module's one local valuation
 pub record SeesCircuit (l : LocalNet) (v : Valuation) (a : ℕ) : Type 0 where
-  pub is_local : IsLocalValuation l a (localized l v)
-  pub only : (u : Valuation) → IsLocalValuation l a u → (i : ℕ) → i < wires l.netlist → u i ≡ localized l v i
+  pub is_local : IsLocalValuation l a (values_by_local_number l v)
+  pub only : (u : Valuation) → IsLocalValuation l a u → (i : ℕ) → i < wires l.netlist →
+      u i ≡ values_by_local_number l v i
 
 -- If v satisfies the circuit's netlist, and the assignment gives each cut its value in v, each wire of the module has
 -- its value in v.
 abbrev pub LocalValuesAgree : Type 0
 LocalValuesAgree = (n : Netlist) (l : LocalNet) (inputs v : Valuation) (a : ℕ) → AreLocalsOf n l →
     Satisfies n inputs v →
-    ((i : ℕ) → i < l.netlist.given → bit a i ≡ localized l v i) → SeesCircuit l v a
+    ((i : ℕ) → i < l.netlist.given → bit a i ≡ values_by_local_number l v i) → SeesCircuit l v a
 
 -- If a gate of the circuit is the first that has no row, it is so in a module that uses it. The assignment gives each
 -- cut the value that it has up to there.
@@ -83,4 +84,4 @@ abbrev pub UndefinedGateIsSeenLocally : Type 0
 UndefinedGateIsSeenLocally = (n : Netlist) (l : LocalNet) (inputs : Valuation) (k place a : ℕ) → AreLocalsOf n l →
     (u : IsUndefined n inputs k) →
     place < length l.netlist.gates → circuit_gate l place ≡ k →
-    ((i : ℕ) → i < l.netlist.given → bit a i ≡ localized l u.values i) → IsLocallyUndefined l a place
+    ((i : ℕ) → i < l.netlist.given → bit a i ≡ values_by_local_number l u.values i) → IsLocallyUndefined l a place

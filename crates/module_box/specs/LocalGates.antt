@@ -6,8 +6,8 @@ use Rattle.circuit.specs.Meaning.{Gate}
 use Rattle.module_box.specs.declared.locals.LocalGate.{LocalGate}
 
 -- the gate that is kept
-abbrev pub as_gate : LocalGate → Gate
-as_gate g = record {
+abbrev pub gate_of_local_gate : LocalGate → Gate
+gate_of_local_gate g = record {
   kind = g.kind;
   ins = take (uses g.kind) g.ins;
   outs = range_with_len g.first (defines g.kind);

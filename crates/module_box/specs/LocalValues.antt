@@ -9,7 +9,7 @@ use Rattle.circuit.specs.declared.circuit_line.GateKind.TheVariants.{Uninteract}
 use Rattle.circuit.specs.Gates.{row, defines}
 use Rattle.circuit.specs.Meaning.{Gate, Netlist, Valuation, Satisfies, IsUndefined, wires}
 use Rattle.circuit.specs.Bridge.{AreValues, read}
-use Rattle.circuit.specs.Evaluate.{evaluate, first_undefined}
+use Rattle.circuit.specs.Evaluate.{evaluate, first_undefined_gate}
 use Rattle.module_box.specs.declared.values.LocalValuesError.{LocalValuesError}
 use Rattle.module_box.specs.declared.values.LocalValuesError.TheVariants.{NoRow, Memory}
 use Rattle.module_box.specs.declared.values.ValueRows.{ValueRows}
@@ -25,8 +25,8 @@ abbrev pub IsLocallyUndefined : LocalNet → ℕ → ℕ → Type 0
 IsLocallyUndefined l cut_bits k = IsUndefined l.netlist (bit cut_bits) k
 
 -- the values of the circuit's wires, by the numbers that they have in the module
-abbrev pub localized : LocalNet → Valuation → Valuation
-localized l v i = v (circuit_wire l i)
+abbrev pub values_by_local_number : LocalNet → Valuation → Valuation
+values_by_local_number l v i = v (circuit_wire l i)
 
 -- vs lists each wire's value in the one local valuation under the assignment
 abbrev pub AreLocalValues : LocalNet → ℕ → List Bool → Type 0
@@ -67,16 +67,16 @@ lane b ws = map (λ word. bit word b) ws
 
 -- The words of the wires that a gate defines, from the words of those that it uses. At bits where it has no row they
 -- say nothing.
-abbrev pub word_row : GateKind → ℕ → ℕ → ℕ → ℕ → List ℕ
-word_row (Source true) a b c d = 18446744073709551615 ∷ []
-word_row (Source false) a b c d = 0 ∷ []
-word_row Fredkin a b c d = a ∷ bit_xor c (bit_and a (bit_xor b c)) ∷ bit_xor b (bit_and a (bit_xor b c)) ∷ []
-word_row Cswap a b c d = a ∷ bit_xor b (bit_and a (bit_xor b c)) ∷ bit_xor c (bit_and a (bit_xor b c)) ∷ []
-word_row Interact a b c d = bit_and a b ∷ bit_xor b (bit_and a b) ∷ bit_xor a (bit_and a b) ∷ bit_and a b ∷ []
-word_row Switch a b c d = a ∷ bit_and a b ∷ bit_xor b (bit_and a b) ∷ []
-word_row (Delay n) a b c d = a ∷ []
-word_row Unswitch a b c d = a ∷ bit_or b c ∷ []
-word_row Uninteract a b c d = bit_or a c ∷ bit_or a b ∷ []
+abbrev pub gate_out_words : GateKind → ℕ → ℕ → ℕ → ℕ → List ℕ
+gate_out_words (Source true) a b c d = 18446744073709551615 ∷ []
+gate_out_words (Source false) a b c d = 0 ∷ []
+gate_out_words Fredkin a b c d = a ∷ bit_xor c (bit_and a (bit_xor b c)) ∷ bit_xor b (bit_and a (bit_xor b c)) ∷ []
+gate_out_words Cswap a b c d = a ∷ bit_xor b (bit_and a (bit_xor b c)) ∷ bit_xor c (bit_and a (bit_xor b c)) ∷ []
+gate_out_words Interact a b c d = bit_and a b ∷ bit_xor b (bit_and a b) ∷ bit_xor a (bit_and a b) ∷ bit_and a b ∷ []
+gate_out_words Switch a b c d = a ∷ bit_and a b ∷ bit_xor b (bit_and a b) ∷ []
+gate_out_words (Delay n) a b c d = a ∷ []
+gate_out_words Unswitch a b c d = a ∷ bit_or b c ∷ []
+gate_out_words Uninteract a b c d = bit_or a c ∷ bit_or a b ∷ []
 
 -- the bits at which a gate has no row
 abbrev pub undefined_bits : GateKind → ℕ → ℕ → ℕ → ℕ → ℕ
@@ -85,13 +85,13 @@ undefined_bits Uninteract a b c d = bit_or (bit_xor a d) (bit_or (bit_and a (bit
 undefined_bits _ a b c d = 0
 
 -- a row where the bit is false
-abbrev pub row_unless : Bool → List Bool → Option (List Bool)
-row_unless true r = None
-row_unless false r = Some r
+abbrev pub row_unless_undefined : Bool → List Bool → Option (List Bool)
+row_unless_undefined true r = None
+row_unless_undefined false r = Some r
 
 -- the word of the wire at a place of ins
-abbrev pub wire_word : List ℕ → List ℕ → ℕ → ℕ
-wire_word words ins place = slice_index_or words (slice_index_or ins place 0) 0
+abbrev pub word_of_in_wire : List ℕ → List ℕ → ℕ → ℕ
+word_of_in_wire words ins place = slice_index_or words (slice_index_or ins place 0) 0
 
 -- a gate is done: the words of its outputs are added, but at the bits of `none`, where it has no row
 pub record AddsRow (g : Gate) (old new : List ℕ) (none : ℕ) : Type 0 where
@@ -115,9 +115,9 @@ is_this_gate (Some m) k = m == k
 -- a row; whether they do; and for each gate whether it is the first that has none.
 pub record SaysColumn (given : List ℕ) (gs : List Gate) (words lacking : List ℕ) (whole b : ℕ) : Type 0 where
   pub values : bit whole b ≡ true → evaluate (lane b given) gs ≡ Some (lane b words)
-  pub defined : bit whole b ≡ is_none (first_undefined (lane b given) gs)
+  pub defined : bit whole b ≡ is_none (first_undefined_gate (lane b given) gs)
   pub undefined : (k : ℕ) → k < length gs →
-      bit (slice_index lacking k) b ≡ is_this_gate (first_undefined (lane b given) gs) k
+      bit (slice_index lacking k) b ≡ is_this_gate (first_undefined_gate (lane b given) gs) k
 
 -- the same of a module under an assignment
 pub record IsColumnAt (n : Netlist) (a : ℕ) (words lacking : List ℕ) (whole b : ℕ) : Type 0 where

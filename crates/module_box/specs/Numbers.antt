@@ -22,13 +22,13 @@ gate_kind_parameter (Delay n) = n
 gate_kind_parameter _ = 0
 
 -- what the gate does, the wires that it uses, and those that it defines
-abbrev pub gate_numbers : Gate → List ℕ
-gate_numbers g = gate_kind_number g.kind ∷ gate_kind_parameter g.kind ∷ (length g.ins ∷ g.ins)
+abbrev pub gate_code_numbers : Gate → List ℕ
+gate_code_numbers g = gate_kind_number g.kind ∷ gate_kind_parameter g.kind ∷ (length g.ins ∷ g.ins)
     ++ (length g.outs ∷ g.outs)
 
 -- the numbers of a netlist: how many wires are given, and then its gates
 unfoldable pub netlist_numbers : Netlist → List ℕ
-netlist_numbers n = n.given ∷ length_prefixed gate_numbers n.gates
+netlist_numbers n = n.given ∷ length_prefixed gate_code_numbers n.gates
 
 -- ---- law
 -- Two netlists with the same numbers are the same, also if more numbers follow.

@@ -7,5 +7,5 @@ abbrev pub owners_view : Inside → Owning
 owners_view o = record { width = o.width; height = o.height; numbers = o.numbers.items }
 
 -- the fields of every table of owners
-abbrev pub IsOwners : Inside → Type 0
-IsOwners o = IsTable (owners_view o)
+abbrev pub AreOwnersFields : Inside → Type 0
+AreOwnersFields o = IsTable (owners_view o)

@@ -1,7 +1,7 @@
 -- A table of the blocks of a rectangle, row by row, in which boxes take the places of their blocks
 use Rattle.std.specs.Prelude.{◌≡◌, ℕ, ◌+◌, ◌*◌, ◌<◌, ◌≤◌, List, length, slice_index, IsTrue}
 use Rattle.module_box.specs.Boxes.{in_box}
-use Rattle.module_box.specs.Tiling.{corner_x, corner_y}
+use Rattle.module_box.specs.Tiling.{block_corner_x, block_corner_y}
 use Rattle.module_box.specs.declared.boxes.Box2.{Box2}
 
 -- the places from `from` to before `stop` were free and have the number now, the others are as before; a `stop` before
@@ -16,17 +16,18 @@ pub record TakesRow (free number from end stop : ℕ) (old new : List ℕ) : Typ
   pub ends : stop < end → ¬ (slice_index old stop ≡ free)
 
 -- the block at a place, by blocks counted row by row, lies in the box
-abbrev pub HasBlock : Box2 → ℕ → ℕ → Type 0
-HasBlock b columns k = IsTrue (in_box b (corner_x columns k) (corner_y columns k))
+abbrev pub HasBlockAtPlace : Box2 → ℕ → ℕ → Type 0
+HasBlockAtPlace b columns k = IsTrue (in_box b (block_corner_x columns k) (block_corner_y columns k))
 
 -- before `stop`, the places of the box's blocks were free and have the number now, and the others are as before; a
 -- `stop` before the end of the table is the place of a block of the box and is not free
 pub record TakesBox (columns : ℕ) (b : Box2) (free number stop : ℕ) (old new : List ℕ) : Type 0 where
   pub sized : length new ≡ length old
   pub within : stop ≤ length old
-  pub taken : (k : ℕ) → k < stop → HasBlock b columns k → (slice_index old k ≡ free) × (slice_index new k ≡ number)
-  pub others : (k : ℕ) → k < stop → ¬ HasBlock b columns k → slice_index new k ≡ slice_index old k
-  pub ends : stop < length old → HasBlock b columns stop × ¬ (slice_index old stop ≡ free)
+  pub taken : (k : ℕ) → k < stop → HasBlockAtPlace b columns k →
+      (slice_index old k ≡ free) × (slice_index new k ≡ number)
+  pub others : (k : ℕ) → k < stop → ¬ HasBlockAtPlace b columns k → slice_index new k ≡ slice_index old k
+  pub ends : stop < length old → HasBlockAtPlace b columns stop × ¬ (slice_index old stop ≡ free)
 
 -- the box lies in a rectangle that is `columns` blocks wide, and at most 256 blocks wide and high
 pub record FitsTable (columns : ℕ) (b : Box2) : Type 0 where

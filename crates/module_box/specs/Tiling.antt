@@ -9,12 +9,12 @@ use Rattle.module_box.specs.declared.tile.TileFault.{TileFault}
 use Rattle.module_box.specs.declared.tile.TileFault.TheVariants.{Outside, Overlap, Gap, Memory}
 
 -- the corner of the block at a place, by blocks counted row by row
-abbrev pub corner_x : ℕ → ℕ → ℤ
-corner_x columns place = pos (2 * (place % columns))
+abbrev pub block_corner_x : ℕ → ℕ → ℤ
+block_corner_x columns place = pos (2 * (place % columns))
 
 -- the row of the upper left cell of the block at a place
-abbrev pub corner_y : ℕ → ℕ → ℤ
-corner_y columns place = pos (2 * (place / columns))
+abbrev pub block_corner_y : ℕ → ℕ → ℤ
+block_corner_y columns place = pos (2 * (place / columns))
 
 -- the rectangle of this width and height with its upper left corner at (0, 0)
 abbrev pub rectangle_of : ℕ → ℕ → Box2
@@ -37,22 +37,22 @@ pub record IsHolder (boxes : List Box2) (x y : ℤ) (i : ℕ) : Type 0 where
   pub only : (j : ℕ) → Holds boxes x y j → j ≡ i
 
 -- the first n boxes are inside the rectangle
-abbrev pub AllInside : ℕ → ℕ → ℕ → List Box2 → Type 0
-AllInside w h n boxes = (k : ℕ) (b : Box2) → k < n → slice_get boxes k ≡ Some b → IsInside w h b
+abbrev pub AreFirstBoxesInside : ℕ → ℕ → ℕ → List Box2 → Type 0
+AreFirstBoxesInside w h n boxes = (k : ℕ) (b : Box2) → k < n → slice_get boxes k ≡ Some b → IsInside w h b
 
 -- each block before the place lies in one box
-abbrev pub AreBlocksOwnedOnce : ℕ → ℕ → List Box2 → Type 0
-AreBlocksOwnedOnce columns place boxes =
-    (k : ℕ) → k < place → (i : ℕ) × IsHolder boxes (corner_x columns k) (corner_y columns k) i
+abbrev pub AreFirstBlocksInOneBox : ℕ → ℕ → List Box2 → Type 0
+AreFirstBlocksInOneBox columns place boxes =
+    (k : ℕ) → k < place → (i : ℕ) × IsHolder boxes (block_corner_x columns k) (block_corner_y columns k) i
 
 -- a block that lies in two boxes or in none, the first such
 pub record IsBadBlock (w h : ℕ) (boxes : List Box2) (c : Cell) : Type 0 where
-  pub inside : AllInside w h (length boxes) boxes
+  pub inside : AreFirstBoxesInside w h (length boxes) boxes
   pub place : ℕ
   pub within : place < (h / 2) * (w / 2)
-  pub x : c.x ≡ corner_x (w / 2) place
-  pub y : c.y ≡ corner_y (w / 2) place
-  pub before : AreBlocksOwnedOnce (w / 2) place boxes
+  pub x : c.x ≡ block_corner_x (w / 2) place
+  pub y : c.y ≡ block_corner_y (w / 2) place
+  pub before : AreFirstBlocksInOneBox (w / 2) place boxes
 
 -- two boxes have the cell (x, y)
 pub record HeldTwice (boxes : List Box2) (x y : ℤ) : Type 0 where
@@ -65,7 +65,7 @@ pub record HeldTwice (boxes : List Box2) (x y : ℤ) : Type 0 where
 -- the first box that is not inside, else the first block that lies in two boxes or in none
 abbrev pub IsTileFault : ℕ → ℕ → List Box2 → TileFault → Type 0
 IsTileFault w h boxes (Outside n) =
-    AllInside w h n boxes × ((b : Box2) × (slice_get boxes n ≡ Some b) × ¬ IsInside w h b)
+    AreFirstBoxesInside w h n boxes × ((b : Box2) × (slice_get boxes n ≡ Some b) × ¬ IsInside w h b)
 IsTileFault w h boxes (Overlap c) = IsBadBlock w h boxes c × HeldTwice boxes c.x c.y
 IsTileFault w h boxes (Gap c) = IsBadBlock w h boxes c × ((i : ℕ) → ¬ Holds boxes c.x c.y i)
 IsTileFault w h boxes Memory = Unit {0}

@@ -35,8 +35,8 @@ impl Box2 {
         ensures { result ≡ in_ring self cell.x cell.y }
     {
         let inside = self.holds(cell);
-        let inner_x = is_inside_range(self.x, self.w, cell.x);
-        let inner_y = is_inside_range(self.y, self.h, cell.y);
+        let inner_x = are_neighbours_in_range(self.x, self.w, cell.x);
+        let inner_y = are_neighbours_in_range(self.y, self.h, cell.y);
         inside & !(inner_x & inner_y)
     }
 
@@ -64,7 +64,7 @@ impl Box2 {
 
 // whether the numbers before and after x are both among the n from `from` on.
 #[tactic(auto, unfolding(bbm_rule::specs::Spans::in_span))]
-fn is_inside_range(from: u32, n: u32, x: i32) -> bool
+fn are_neighbours_in_range(from: u32, n: u32, x: i32) -> bool
     ensures { result ≡ (in_span from n (x -ℤ pos 1) && in_span from n (x +ℤ pos 1)) }
 {
     let x = x as i64;

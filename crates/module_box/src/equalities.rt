@@ -4,7 +4,7 @@ ghost use Rattle.std.specs.Prelude.{◌≡◌};
 ghost use Rattle.std.specs.Cmp.{on_equiv, partial_equiv_from_equiv};
 ghost use Rattle.std.specs.Ordering.{on};
 ghost use Rattle.module_box.specs.Equality.{same_gate, gate_equivalence, same_locals, locals_equivalence, same_netlist, netlist_equivalence, same_signals, signals_equivalence};
-ghost use Rattle.module_box.specs.LocalGates.{as_gate};
+ghost use Rattle.module_box.specs.LocalGates.{gate_of_local_gate};
 
 use crate::locals::{LocalGate, Locals};
 use crate::schedules::Schedule;
@@ -29,16 +29,16 @@ impl Eq for Schedule {
 impl LocalGate {
     /// Returns the wires that the gate uses.
     pub(crate) fn ins(&self) -> &[u16]
-        ensures { result.now ≡ (as_gate self.now).ins }
+        ensures { result.now ≡ (gate_of_local_gate self.now).ins }
     {
         &self.ins[..self.kind.ins()]
     }
 }
 
 impl PartialEq for LocalGate {
-    ghost eq = { on as_gate same_gate };
+    ghost eq = { on gate_of_local_gate same_gate };
 
-    ghost laws = { partial_equiv_from_equiv (on_equiv as_gate gate_equivalence) };
+    ghost laws = { partial_equiv_from_equiv (on_equiv gate_of_local_gate gate_equivalence) };
 
     fn eq(&self, other: &LocalGate) -> bool {
         let kind = self.kind == other.kind;

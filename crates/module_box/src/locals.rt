@@ -6,7 +6,7 @@ ghost use Rattle.circuit.specs.Bridge.{netlist_of};
 ghost use Rattle.circuit.specs.Gates.{uses};
 ghost use Rattle.circuit.specs.Meaning.{Gate, wires};
 ghost use Rattle.circuit.specs.Wiring.{gate_of};
-ghost use Rattle.module_box.specs.LocalGates.{as_gate};
+ghost use Rattle.module_box.specs.LocalGates.{gate_of_local_gate};
 ghost use Rattle.module_box.specs.Locals.{AreDifferent, AreLocalLines, AreLocalsOf, circuit_gate, circuit_wire, is_among, local_wires};
 
 use crate::numbered_wires::NumberedWires;
@@ -76,9 +76,9 @@ fn local_gate(known: &NumberedWires, gate: GateWires) -> LocalGate
     requires below_65536 { length known.now < 2 ^ 16 }
     requires known { All (λ w. IsTrue (is_among known.now w)) (gate_of gate).ins }
     requires fits { length (gate_of gate).ins ≡ uses (gate_of gate).kind }
-    ensures kind { (as_gate result).kind ≡ (gate_of gate).kind }
-    ensures within { All (λ w. w < length known.now) (as_gate result).ins }
-    ensures ins { map (slice_index known.now) (as_gate result).ins ≡ (gate_of gate).ins }
+    ensures kind { (gate_of_local_gate result).kind ≡ (gate_of gate).kind }
+    ensures within { All (λ w. w < length known.now) (gate_of_local_gate result).ins }
+    ensures ins { map (slice_index known.now) (gate_of_local_gate result).ins ≡ (gate_of gate).ins }
     ensures first { result.first ≡ length known.now }
 {
     let mut ins = [0; 4];
@@ -104,7 +104,7 @@ fn number_cuts_and_gates(
     requires lines { AreLocalLines (netlist_of circuit.now) cuts.now gates.now }
     ensures locals { IfOk result (λ made. AreLocalsOf (netlist_of circuit.now)
         (record {
-          netlist = record { given = length cuts.now; gates = map as_gate made.items };
+          netlist = record { given = length cuts.now; gates = map gate_of_local_gate made.items };
           circuit_wires = known.new;
           circuit_gates = gates.now;
         })) }

@@ -3,8 +3,8 @@
 ghost use Rattle.std.specs.Prelude.{◌≡◌, ◌≤◌, ◌∷◌, ◌++◌, map, length, IfOk, OnOk};
 ghost use Rattle.std.specs.List.{flat_map, range_with_len};
 ghost use Rattle.module_box.specs.Equality.{gate_kind_number};
-ghost use Rattle.module_box.specs.LocalGates.{as_gate};
-ghost use Rattle.module_box.specs.Numbers.{gate_numbers, netlist_numbers, gate_kind_parameter};
+ghost use Rattle.module_box.specs.LocalGates.{gate_of_local_gate};
+ghost use Rattle.module_box.specs.Numbers.{gate_code_numbers, netlist_numbers, gate_kind_parameter};
 
 use crate::locals::LocalGate;
 use crate::wiring::Wiring;
@@ -62,7 +62,7 @@ fn push_wires_from(numbers: &mut Vec<u64>, first: u16, count: usize) -> Result<(
 
 fn push_gate(numbers: &mut Vec<u64>, gate: &LocalGate) -> Result<(), AllocError>
     ensures { OnOk result (numbers.new.items
-        ≡ numbers.old.items ++ gate_numbers (as_gate gate.now)) }
+        ≡ numbers.old.items ++ gate_code_numbers (gate_of_local_gate gate.now)) }
 {
     numbers.push(gate_kind_number(gate.kind))?;
     numbers.push(gate_kind_parameter(gate.kind))?;
@@ -72,7 +72,7 @@ fn push_gate(numbers: &mut Vec<u64>, gate: &LocalGate) -> Result<(), AllocError>
 
 fn push_gates(numbers: &mut Vec<u64>, gates: &[LocalGate]) -> Result<(), AllocError>
     ensures { OnOk result (numbers.new.items
-        ≡ numbers.old.items ++ flat_map gate_numbers (map as_gate gates.now)) }
+        ≡ numbers.old.items ++ flat_map gate_code_numbers (map gate_of_local_gate gates.now)) }
 {
     for gate in gates {
         push_gate(numbers, gate)?;

@@ -23,11 +23,11 @@ impl Model for Owners {
 
     ghost Value = { Owning };
 
-    ghost use Rattle.module_box.specs.OwnersView.{owners_view, IsOwners};
+    ghost use Rattle.module_box.specs.OwnersView.{owners_view, AreOwnersFields};
 
     ghost view = { owners_view };
 
-    ghost invariant = { IsOwners };
+    ghost invariant = { AreOwnersFields };
 }
 
 impl Owners {

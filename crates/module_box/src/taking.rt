@@ -7,7 +7,13 @@ ghost use Rattle.module_box.specs.Taking.{TakesRow, TakesBox, FitsTable};
 use crate::boxes::Box2;
 
 // Puts the number at the places from `from` on, up to the first that is not free: that one, or the end, is the result.
-fn take_row(table: &mut [usize], from: usize, end: usize, free: usize, number: usize) -> usize
+fn fill_row_until_taken(
+    table: &mut [usize],
+    from: usize,
+    end: usize,
+    free: usize,
+    number: usize,
+) -> usize
     requires { (from ≤ end) × (end ≤ length table.old) }
     ensures { TakesRow free number from end result table.old table.new }
 {
@@ -23,7 +29,7 @@ fn take_row(table: &mut [usize], from: usize, end: usize, free: usize, number: u
 /// Puts the number at the places of the box's blocks, up to the first that is not free.
 ///
 /// It returns that place, or the table's length. It takes a step for each place that was free, and one.
-pub fn take_box(
+pub fn fill_box_until_taken(
     table: &mut [usize],
     columns: usize,
     area: Box2,
@@ -44,7 +50,7 @@ pub fn take_box(
             return table.len();
         }
         let end = (from + across).min(table.len());
-        let stop = take_row(table, from, end, free, number);
+        let stop = fill_row_until_taken(table, from, end, free, number);
         if stop < end {
             return stop;
         }

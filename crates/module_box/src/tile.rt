@@ -3,11 +3,11 @@
 ghost use Rattle.std.specs.Prelude.{◌≡◌, ◌<◌, ◌≤◌, ◌+◌, ◌↔◌, ◌*◌, ℕ, IsTrue, MatchResult, Some, slice_get, slice_index, length};
 ghost use Rattle.module_box.specs.declared.boxes.Box2.{Box2};
 ghost use Rattle.module_box.specs.declared.tile.TileFault.TheVariants.{Memory};
-ghost use Rattle.module_box.specs.Tiling.{AreOwners, AllInside, IsTask, IsTileFault, IsInside, corner_x, corner_y};
+ghost use Rattle.module_box.specs.Tiling.{AreOwners, AreFirstBoxesInside, IsTask, IsTileFault, IsInside, block_corner_x, block_corner_y};
 
 use crate::boxes::Box2;
 use crate::owners::Owners;
-use crate::taking::take_box;
+use crate::taking::fill_box_until_taken;
 use bbm_rule::Cell;
 use std::alloc::{AllocError, Global};
 
@@ -44,9 +44,9 @@ fn is_inside(width: u32, height: u32, area: Box2) -> bool
 }
 
 // the number of the first box that is not inside, or how many there are.
-fn first_outside(width: u32, height: u32, boxes: &[Box2]) -> usize
+fn first_box_outside(width: u32, height: u32, boxes: &[Box2]) -> usize
     ensures bound { result ≤ length boxes.now }
-    ensures before { AllInside width height result boxes.now }
+    ensures before { AreFirstBoxesInside width height result boxes.now }
     ensures outside { result < length boxes.now →
         (b : Box2) × (slice_get boxes.now result ≡ Some b) × ¬ IsInside width height b }
 {
@@ -60,7 +60,7 @@ fn first_outside(width: u32, height: u32, boxes: &[Box2]) -> usize
 }
 
 // the first place of the table that is free, or its length.
-fn first_free(table: &[usize], free: usize) -> usize
+fn first_free_place(table: &[usize], free: usize) -> usize
     ensures bound { result ≤ length table.now }
     ensures before { (k : ℕ) → k < result → ¬ (slice_index table.now k ≡ free) }
     ensures found { result < length table.now → slice_index table.now result ≡ free }
@@ -77,7 +77,8 @@ fn first_free(table: &[usize], free: usize) -> usize
 fn corner(columns: usize, place: usize) -> Cell
     requires columns { (0 < columns) × (columns ≤ 256) }
     requires place { place < 256 * columns }
-    ensures { (result.x ≡ corner_x columns place) × (result.y ≡ corner_y columns place) }
+    ensures { (result.x ≡ block_corner_x columns place)
+        × (result.y ≡ block_corner_y columns place) }
 {
     Cell {
         x: (2 * (place % columns)) as i32,
@@ -113,7 +114,7 @@ pub fn owner_table(
         (λ owners. (owners.width ≡ width) × (owners.height ≡ height) × AreOwners owners boxes.now)
         (λ fault. IsTileFault width height boxes.now fault) }
 {
-    let outside = first_outside(width, height, boxes);
+    let outside = first_box_outside(width, height, boxes);
     if outside < boxes.len() {
         return Err(TileFault::Outside(outside));
     }
@@ -124,10 +125,10 @@ pub fn owner_table(
     let mut numbers = vec![in alloc; free; blocks]?;
     'boxes: for number in 0..boxes.len() {
         // Where a block lies in two boxes, no later one can be the first fault.
-        let kept = take_box(&mut numbers, columns, boxes[number], free, number);
+        let kept = fill_box_until_taken(&mut numbers, columns, boxes[number], free, number);
         numbers.truncate(kept);
     }
-    let gap = first_free(&numbers, free);
+    let gap = first_free_place(&numbers, free);
     if gap < numbers.len() {
         return Err(TileFault::Gap(corner(columns, gap)));
     }

@@ -4,8 +4,8 @@ ghost use Rattle.std.specs.Prelude.{◌≡◌, ◌≢◌, ◌<◌, ◌≤◌, �
 ghost use Rattle.bbm_rule.specs.Bits.{bit};
 ghost use Rattle.circuit.specs.Bridge.{AreValues};
 ghost use Rattle.circuit.specs.Meaning.{AreOrdered, wires, wires_after};
-ghost use Rattle.module_box.specs.LocalGates.{as_gate};
-ghost use Rattle.module_box.specs.LocalValues.{AddsRow, AreValueRows, IsColumnAt, IsLocalValuesError, SaysColumn, lane, undefined_bits, word_row};
+ghost use Rattle.module_box.specs.LocalGates.{gate_of_local_gate};
+ghost use Rattle.module_box.specs.LocalValues.{AddsRow, AreValueRows, IsColumnAt, IsLocalValuesError, SaysColumn, lane, undefined_bits, gate_out_words};
 
 use crate::locals::LocalGate;
 use crate::wiring::Wiring;
@@ -55,7 +55,7 @@ fn word_at(words: &[u64], wire: u16) -> u64
 }
 
 // Adds the words of the wires that a gate defines, from those of the wires that it uses.
-fn push_row(
+fn push_gate_out_words(
     words: &mut Vec<u64>,
     kind: GateKind,
     a: u64,
@@ -63,7 +63,7 @@ fn push_row(
     c: u64,
     d: u64,
 ) -> Result<(), AllocError>
-    ensures { OnOk result (words.new.items ≡ words.old.items ++ word_row kind a b c d) }
+    ensures { OnOk result (words.new.items ≡ words.old.items ++ gate_out_words kind a b c d) }
 {
     match kind {
         GateKind::Source(true) => words.extend_from_slice(&[u64::MAX])?,
@@ -97,15 +97,16 @@ fn undefined_bits(kind: GateKind, a: u64, b: u64, c: u64, d: u64) -> u64
 }
 
 // Adds the words of the wires that the gate defines, and tells the bits at which it has no row.
-fn push_outs(words: &mut Vec<u64>, gate: LocalGate) -> Result<u64, AllocError>
-    ensures { IfOk result (λ none. AddsRow (as_gate gate) words.old.items words.new.items none) }
+fn push_out_words(words: &mut Vec<u64>, gate: LocalGate) -> Result<u64, AllocError>
+    ensures { IfOk result (λ none. AddsRow (gate_of_local_gate gate) words.old.items words.new.items
+        none) }
 {
     let [x, y, z, w] = gate.ins;
     let a = word_at(words.as_slice(), x);
     let b = word_at(words.as_slice(), y);
     let c = word_at(words.as_slice(), z);
     let d = word_at(words.as_slice(), w);
-    push_row(words, gate.kind, a, b, c, d)?;
+    push_gate_out_words(words, gate.kind, a, b, c, d)?;
     Ok(undefined_bits(gate.kind, a, b, c, d))
 }
 
@@ -121,17 +122,17 @@ struct ValueWords {
 // The words of all wires, those that are given first.
 fn value_words(alloc: Global, given: &[u64], gates: &[LocalGate]) -> Result<ValueWords, AllocError>
     ensures long { IfOk result (λ c. length c.words.items
-        ≡ wires_after (length given.now) (map as_gate gates.now)) }
+        ≡ wires_after (length given.now) (map gate_of_local_gate gates.now)) }
     ensures count { IfOk result (λ c. length c.undefined.items ≡ length gates.now) }
     ensures says { IfOk result (λ c. (b : ℕ) → b < 64 →
-        SaysColumn given.now (map as_gate gates.now) c.words.items c.undefined.items c.defined
-        b) }
+        SaysColumn given.now (map gate_of_local_gate gates.now) c.words.items c.undefined.items
+        c.defined b) }
 {
     let mut words = given.to_vec(alloc)?;
     let mut undefined = Vec::with_capacity(alloc, gates.len())?;
     let mut defined = u64::MAX;
     'gates: for gate in gates {
-        let none = push_outs(&mut words, *gate)?;
+        let none = push_out_words(&mut words, *gate)?;
         let first = defined & none;
         undefined.push(first)?;
         defined ^= first;
@@ -144,7 +145,7 @@ fn value_words(alloc: Global, given: &[u64], gates: &[LocalGate]) -> Result<Valu
 }
 
 // The values at bit `place` of the words.
-fn bits_of(alloc: Global, words: &[u64], place: u32) -> Result<Vec<bool>, AllocError>
+fn bits_at_place(alloc: Global, words: &[u64], place: u32) -> Result<Vec<bool>, AllocError>
     requires { place < 64 }
     ensures { IfOk result (λ vs. vs.items ≡ lane place words.now) }
 {
@@ -172,7 +173,7 @@ fn first_word_with_bit(words: &[u64], place: u32) -> Option<usize>
 }
 
 // Writes the words into rows of `words` words each, one into each row.
-fn put_column(rows: &mut [u64], words: usize, place: usize, column: &[u64])
+fn put_word_in_each_row(rows: &mut [u64], words: usize, place: usize, column: &[u64])
     requires at_most_64 { words ≤ 64 }
     requires short { length column.now ≤ 268 }
     requires place { place < words }
@@ -275,7 +276,7 @@ impl Wiring {
         match first_word_with_bit(column.undefined.as_slice(), cut_bits % 64) {
             Some(gate) => Err(LocalValuesError::NoRow(gate)),
             None => {
-                let values = bits_of(alloc, column.words.as_slice(), cut_bits % 64)?;
+                let values = bits_at_place(alloc, column.words.as_slice(), cut_bits % 64)?;
                 Ok(values)
             }
         }
@@ -293,8 +294,8 @@ impl Wiring {
         let mut defined = Vec::with_capacity(alloc, words)?;
         'chunks: for chunk in 0..words {
             let column = self.column(alloc, chunk as u32)?;
-            put_column(&mut values, words, chunk, &column.words);
-            put_column(&mut undefined, words, chunk, &column.undefined);
+            put_word_in_each_row(&mut values, words, chunk, &column.words);
+            put_word_in_each_row(&mut undefined, words, chunk, &column.undefined);
             defined.push(column.defined)?;
         }
         Ok(ValueRows {

@@ -6,13 +6,13 @@ use Rattle.std.proofs.lemmas.Bool.Decides.{nat_tests}
 use Rattle.std.proofs.lemmas.List.{append_assoc, length-map}
 use Rattle.module_box.specs.Numbers.{IsPrefixFree}
 use Rattle.module_box.proofs.InjectiveNumbers.{same_head, same_tail}
-use Rattle.module_job.specs.Keys.{cell_entry, cell_list_numbers, entries_from}
+use Rattle.module_job.specs.Keys.{sparse_entry, sparse_list_numbers, sparse_entries_from}
 
 -- ---- one cell
 
 -- a cell has the number 0 and no entry, or another number and an entry
 abbrev pub Forms : ℕ → ℕ → Type 0
-Forms place n = ((n ≡ 0) × (cell_entry place n ≡ [])) ⊎ ((0 < n) × (cell_entry place n ≡ (place + 1) ∷ n ∷ []))
+Forms place n = ((n ≡ 0) × (sparse_entry place n ≡ [])) ⊎ ((0 < n) × (sparse_entry place n ≡ (place + 1) ∷ n ∷ []))
 
 pub forms : (place n : ℕ) → Forms place n
 forms place n = elim (cases_Bool (nat_eq n 0)) [
@@ -26,33 +26,33 @@ forms place n = elim (cases_Bool (nat_eq n 0)) [
 abbrev BeginsAbove : ℕ → List ℕ → Type 0
 BeginsAbove place l = (n : ℕ) (r : List ℕ) → l ≡ n ∷ r → (n ≡ 0) ⊎ (place < n)
 
-begins_above : (place p : ℕ) (ns r : List ℕ) → place ≤ p → BeginsAbove place (entries_from p ns ++ 0 ∷ r)
-unfolding entries_from
+begins_above : (place p : ℕ) (ns r : List ℕ) → place ≤ p → BeginsAbove place (sparse_entries_from p ns ++ 0 ∷ r)
+unfolding sparse_entries_from
 begins_above place p [] r le n s e = inl (sym (same_head 0 n r s e))
 begins_above place p (m ∷ ns) r le n s e = elim (forms p m) [
   | inl none ↦ begins_above place (p + 1) ns r (omega (arith, le)) n s
-      (sym (ap (λ (l : List ℕ). (l ++ entries_from (p + 1) ns) ++ 0 ∷ r) none.1) ∙ e)
+      (sym (ap (λ (l : List ℕ). (l ++ sparse_entries_from (p + 1) ns) ++ 0 ∷ r) none.1) ∙ e)
   | inr some ↦
       let head = same_head (p + 1) n _ s
-      (sym (ap (λ (l : List ℕ). (l ++ entries_from (p + 1) ns) ++ 0 ∷ r) some.1) ∙ e) in
+      (sym (ap (λ (l : List ℕ). (l ++ sparse_entries_from (p + 1) ns) ++ 0 ∷ r) some.1) ∙ e) in
       inr (omega (arith, le, head))
 ]
 
 -- ---- entries tell their numbers
 
 entries_tell : (p : ℕ) (ns ms r s : List ℕ) → length ns ≡ length ms →
-    entries_from p ns ++ 0 ∷ r ≡ entries_from p ms ++ 0 ∷ s → (ns ≡ ms) × (r ≡ s)
-unfolding entries_from
+    sparse_entries_from p ns ++ 0 ∷ r ≡ sparse_entries_from p ms ++ 0 ∷ s → (ns ≡ ms) × (r ≡ s)
+unfolding sparse_entries_from
 entries_tell p [] [] r s same e = (refl, same_tail 0 0 r s e)
 entries_tell p [] (m ∷ ms) r s same e = absurd (omega (arith, same))
 entries_tell p (n ∷ ns) [] r s same e = absurd (omega (arith, same))
 entries_tell p (n ∷ ns) (m ∷ ms) r s same e =
-    let left : (l : List ℕ) → cell_entry p n ≡ l →
-    entries_from p (n ∷ ns) ++ 0 ∷ r ≡ (l ++ entries_from (p + 1) ns) ++ 0 ∷ r
-    = λ l is. ap (λ (k : List ℕ). (k ++ entries_from (p + 1) ns) ++ 0 ∷ r) is in
-    let right : (l : List ℕ) → cell_entry p m ≡ l →
-    entries_from p (m ∷ ms) ++ 0 ∷ s ≡ (l ++ entries_from (p + 1) ms) ++ 0 ∷ s
-    = λ l is. ap (λ (k : List ℕ). (k ++ entries_from (p + 1) ms) ++ 0 ∷ s) is in
+    let left : (l : List ℕ) → sparse_entry p n ≡ l →
+    sparse_entries_from p (n ∷ ns) ++ 0 ∷ r ≡ (l ++ sparse_entries_from (p + 1) ns) ++ 0 ∷ r
+    = λ l is. ap (λ (k : List ℕ). (k ++ sparse_entries_from (p + 1) ns) ++ 0 ∷ r) is in
+    let right : (l : List ℕ) → sparse_entry p m ≡ l →
+    sparse_entries_from p (m ∷ ms) ++ 0 ∷ s ≡ (l ++ sparse_entries_from (p + 1) ms) ++ 0 ∷ s
+    = λ l is. ap (λ (k : List ℕ). (k ++ sparse_entries_from (p + 1) ms) ++ 0 ∷ s) is in
     let shorter : length ns ≡ length ms = omega (arith, same) in
     elim (forms p n) [
       | inl none ↦ elim (forms p m) [
@@ -74,13 +74,14 @@ entries_tell p (n ∷ ns) (m ∷ ms) r s same e =
               | inr above ↦ omega (arith, above)
             ])
         | inr some' ↦
-            let both = same_tail (p + 1) (p + 1) (n ∷ entries_from (p + 1) ns ++ 0 ∷ r)
-            (m ∷ entries_from (p + 1) ms ++ 0 ∷ s)
+            let both = same_tail (p + 1) (p + 1) (n ∷ sparse_entries_from (p + 1) ns ++ 0 ∷ r)
+            (m ∷ sparse_entries_from (p + 1) ms ++ 0 ∷ s)
             (sym (left ((p + 1) ∷ n ∷ []) some.1) ∙ e ∙ right ((p + 1) ∷ m ∷ []) some'.1) in
             let rest = entries_tell (p + 1) ns ms r s shorter
-            (same_tail n m (entries_from (p + 1) ns ++ 0 ∷ r) (entries_from (p + 1) ms ++ 0 ∷ s) both) in (
-              ap₂ (λ x xs. x ∷ xs) (same_head n m (entries_from (p + 1) ns ++ 0 ∷ r)
-                  (entries_from (p + 1) ms ++ 0 ∷ s) both) rest.0,
+            (same_tail n m (sparse_entries_from (p + 1) ns ++ 0 ∷ r)
+            (sparse_entries_from (p + 1) ms ++ 0 ∷ s) both) in (
+              ap₂ (λ x xs. x ∷ xs) (same_head n m (sparse_entries_from (p + 1) ns ++ 0 ∷ r)
+                  (sparse_entries_from (p + 1) ms ++ 0 ∷ s) both) rest.0,
               rest.1,
             )
       ]
@@ -96,23 +97,24 @@ numbers_told_by f tells (x ∷ xs) (y ∷ ys) e =
     (numbers_told_by f tells xs ys (same_tail (f x) (f y) (map f xs) (map f ys) e))
 
 -- where a number tells what a cell carries, so do the numbers of the cells
-pub cells_tell_all : {A : Type 0} (f : A → ℕ) → ((a b : A) → f a ≡ f b → a ≡ b) → IsPrefixFree (cell_list_numbers f)
+pub cells_tell_all : {A : Type 0} (f : A → ℕ) → ((a b : A) → f a ≡ f b → a ≡ b) → IsPrefixFree (sparse_list_numbers f)
 cells_tell_all f tells xs ys r s e =
     let count = same_head (length xs) (length ys) _ _ e in
     let entries = same_tail (length xs) (length ys) _ _ e in
     let both = entries_tell 0 (map f xs) (map f ys) r s (length-map xs f ∙ count ∙ sym (length-map ys f))
-    (sym (append_assoc (entries_from 0 (map f xs)) (0 ∷ []) r) ∙ entries
-    ∙ append_assoc (entries_from 0 (map f ys)) (0 ∷ []) s) in
+    (sym (append_assoc (sparse_entries_from 0 (map f xs)) (0 ∷ []) r) ∙ entries
+    ∙ append_assoc (sparse_entries_from 0 (map f ys)) (0 ∷ []) s) in
     (numbers_told_by f tells xs ys both.0, both.1)
 
 -- ---- more cells
 
 pub entries_append : (p : ℕ) (ns ms : List ℕ) →
-    entries_from p (ns ++ ms) ≡ entries_from p ns ++ entries_from (p + length ns) ms
-unfolding entries_from
-entries_append p [] ms = ap (λ q. entries_from q ms) (omega arith)
+    sparse_entries_from p (ns ++ ms) ≡ sparse_entries_from p ns ++ sparse_entries_from (p + length ns) ms
+unfolding sparse_entries_from
+entries_append p [] ms = ap (λ q. sparse_entries_from q ms) (omega arith)
 entries_append p (n ∷ ns) ms =
     let place : (p + 1) + length ns ≡ p + length (n ∷ ns) = omega arith in
-    ap (λ l. cell_entry p n ++ l)
-    (entries_append (p + 1) ns ms ∙ ap (λ q. entries_from (p + 1) ns ++ entries_from q ms) place)
-    ∙ sym (append_assoc (cell_entry p n) (entries_from (p + 1) ns) (entries_from (p + length (n ∷ ns)) ms))
+    ap (λ l. sparse_entry p n ++ l)
+    (entries_append (p + 1) ns ms ∙ ap (λ q. sparse_entries_from (p + 1) ns ++ sparse_entries_from q ms) place)
+    ∙ sym (append_assoc (sparse_entry p n) (sparse_entries_from (p + 1) ns)
+    (sparse_entries_from (p + length (n ∷ ns)) ms))

@@ -8,7 +8,8 @@ use Rattle.module_box.proofs.EqualTests.{both, lists, options, signal_decides, c
 use Rattle.module_box.proofs.EqualTests.{locals_decides, netlists_decide}
 use Rattle.module_box.specs.Equality.{same_cell, same_signal}
 use Rattle.module_box.specs.declared.boxes.Box2.{Box2}
-use Rattle.module_job.specs.Equality.{same_box, demand_place, demand_wire, same_demand, same_job, same_shape, same_stop}
+use Rattle.module_job.specs.Equality.{same_box, demand_kind_number, demand_wire, same_demand, same_job, same_shape}
+use Rattle.module_job.specs.Equality.{same_stop}
 use Rattle.module_job.specs.Laws.{JobEqualityDecides, ShapeEqualityDecides}
 use Rattle.module_job.specs.Shapes.{ShapeView, placed, shape_of}
 use Rattle.module_job.specs.declared.job.Demand.{Demand}
@@ -47,7 +48,7 @@ demand_from (suc (suc zero)) None = Demanded.Any
 demand_from (suc (suc zero)) (Some w) = Demanded.Wire w
 demand_from (suc (suc (suc n))) w = Demanded.Any
 
-demand_back : (a : Demand) → demand_from (demand_place a) (demand_wire a) ≡ a
+demand_back : (a : Demand) → demand_from (demand_kind_number a) (demand_wire a) ≡ a
 unfolding demand_from
 demand_back Demanded.Dead = refl
 demand_back Demanded.Live = refl
@@ -56,9 +57,9 @@ demand_back Demanded.Any = refl
 
 pub demand_decides : (a b : Demand) → Decides (same_demand a b) (a ≡ b)
 demand_decides a b =
-    both _ _ (Decides-eqb (demand_place a) (demand_place b))
+    both _ _ (Decides-eqb (demand_kind_number a) (demand_kind_number b))
     (options nat_eq Decides-eqb (demand_wire a) (demand_wire b))
-    (λ place wire. sym (demand_back a) ∙ ap₂ demand_from place wire ∙ demand_back b) (λ e. ap demand_place e)
+    (λ place wire. sym (demand_back a) ∙ ap₂ demand_from place wire ∙ demand_back b) (λ e. ap demand_kind_number e)
     (λ e. ap demand_wire e)
 
 stop_decides : (a b : Stop) → Decides (same_stop a b) (a ≡ b)

@@ -1,7 +1,6 @@
 -- The first keys that are the same, as a map has them
 use Rattle.std.proofs.Common.{◌≡◌, ℕ, ◌+◌, ◌<◌, List, Option, Some, None, nat_eq, refl, sym, ap, subst, ◌∙◌, arith, inl}
-use Rattle.std.proofs.Common.{inr}
-use Rattle.std.specs.Prelude.{◌≢◌, if◌then◌else◌, slice_get, unwrap_or}
+use Rattle.std.proofs.Common.{inr, ◌≢◌, if◌then◌else◌, slice_get, unwrap_or}
 use Rattle.std.proofs.lemmas.Bool.{cases_Bool, cases_lt, false≢true}
 use Rattle.std.proofs.lemmas.Bool.Decides.{Decides-eqb}
 use Rattle.module_box.proofs.EqualTests.{lists}

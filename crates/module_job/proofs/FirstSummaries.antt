@@ -1,8 +1,6 @@
 -- The first of a list with each summary, and the first with each key of those that differ from it: for `job_groups`.
-use Rattle.std.proofs.Common.{◌≡◌, ℕ, ◌+◌, ◌<◌, List, map, Option, Some, None, nat_eq, refl, sym, ap, subst, ◌∙◌}
-use Rattle.std.proofs.Common.{arith, inl, inr, ◌⊎◌}
-use Rattle.std.specs.Prelude.{◌≢◌, if◌then◌else◌, slice_get, unwrap_or}
-use Rattle.std.specs.Option.{option_map}
+use Rattle.std.proofs.Common.{◌≡◌, ℕ, ◌+◌, ◌<◌, List, map, Option, Some, None, nat_eq, refl, sym, ap, subst, ◌∙◌, arith}
+use Rattle.std.proofs.Common.{inl, inr, ◌⊎◌, ◌≢◌, if◌then◌else◌, slice_get, unwrap_or, option_map}
 use Rattle.std.proofs.lemmas.Bool.{cases_Bool, cases_lt, cond-true, cond-false, false≢true}
 use Rattle.std.proofs.lemmas.Bool.Decides.{Decides-eqb}
 use Rattle.std.proofs.lemmas.Option.{slice_get-map}

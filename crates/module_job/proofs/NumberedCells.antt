@@ -1,10 +1,8 @@
 -- Lists of what cells carry or must be, by their numbers.
 use Rattle.std.proofs.Common.{◌≡◌, ℕ, zero, suc, ◌+◌, ◌<◌, Bool, List, [], ◌∷◌, ◌++◌, length, map, replicate, nat_eq}
-use Rattle.std.proofs.Common.{refl, sym, ap, ap₂, subst, ◌∙◌, arith}
-use Rattle.std.specs.Prelude.{slice_get, unwrap_or}
+use Rattle.std.proofs.Common.{refl, sym, ap, ap₂, subst, ◌∙◌, arith, slice_get, unwrap_or, All}
 use Rattle.std.specs.Bool.{Decides}
 use Rattle.std.specs.Cmp.Lexicographic.{pointwise}
-use Rattle.std.specs.List.{All}
 use Rattle.std.proofs.lemmas.Bool.Decides.{Decides-eqb, same_from_decides}
 use Rattle.std.proofs.lemmas.List.{get_or-replicate, length-map, length-replicate, map-append}
 use Rattle.std.proofs.lemmas.List.Elements.{All-append, All-head, All-tail}
@@ -12,36 +10,36 @@ use Rattle.module_box.proofs.EqualTests.{lists, signal_decides}
 use Rattle.module_box.specs.Equality.{same_signal}
 use Rattle.module_box.specs.declared.schedules.Signal.{Signal}
 use Rattle.module_box.specs.declared.schedules.Signal.TheVariants.{Zero, One, Wire}
-use Rattle.module_job.specs.CellLists.{numbered_demand, numbered_signal}
+use Rattle.module_job.specs.CellLists.{demand_from_number, signal_from_number}
 use Rattle.module_job.specs.Equality.{same_demand}
-use Rattle.module_job.specs.Keys.{cell_list_numbers, demand_number, entries_from, signal_number}
+use Rattle.module_job.specs.Keys.{sparse_list_numbers, demand_number, sparse_entries_from, signal_number}
 use Rattle.module_job.specs.declared.job.Demand.{Demand}
 use Rattle.module_job.specs.declared.job.Demand.TheVariants as Demanded
 use Rattle.module_job.proofs.EqualJobs.{demand_decides}
 
 -- ---- one signal, one demand
 
-signal_back : (n : ℕ) → signal_number (numbered_signal n) ≡ n
+signal_back : (n : ℕ) → signal_number (signal_from_number n) ≡ n
 signal_back zero = refl
 signal_back (suc zero) = refl
 signal_back (suc (suc w)) = omega arith
 
-demand_back : (n : ℕ) → demand_number (numbered_demand n) ≡ n
+demand_back : (n : ℕ) → demand_number (demand_from_number n) ≡ n
 demand_back zero = refl
 demand_back (suc zero) = refl
 demand_back (suc (suc zero)) = refl
 demand_back (suc (suc (suc w))) = omega arith
 
-signal_again : (s : Signal) → numbered_signal (signal_number s) ≡ s
+signal_again : (s : Signal) → signal_from_number (signal_number s) ≡ s
 signal_again Zero = refl
 signal_again One = refl
-signal_again (Wire w) = let e : w + 2 ≡ suc (suc w) = omega arith in ap numbered_signal e
+signal_again (Wire w) = let e : w + 2 ≡ suc (suc w) = omega arith in ap signal_from_number e
 
-demand_again : (d : Demand) → numbered_demand (demand_number d) ≡ d
+demand_again : (d : Demand) → demand_from_number (demand_number d) ≡ d
 demand_again Demanded.Dead = refl
 demand_again Demanded.Live = refl
 demand_again Demanded.Any = refl
-demand_again (Demanded.Wire w) = let e : w + 3 ≡ suc (suc (suc w)) = omega arith in ap numbered_demand e
+demand_again (Demanded.Wire w) = let e : w + 3 ≡ suc (suc (suc w)) = omega arith in ap demand_from_number e
 
 -- ---- lists
 
@@ -74,8 +72,9 @@ module _ {A : Type 0} (of : ℕ → A) (number : A → ℕ) (exact : (n : ℕ) �
   numbers_again [] = refl
   numbers_again (n ∷ ns) = ap₂ (λ m ms. m ∷ ms) (exact n) (numbers_again ns)
 
-  length_prefixed : (ns : List ℕ) → cell_list_numbers number (map of ns) ≡ length ns ∷ entries_from 0 ns ++ 0 ∷ []
-  length_prefixed ns = ap₂ (λ (count : ℕ) (ms : List ℕ). count ∷ entries_from 0 ms ++ 0 ∷ []) (length-map ns of)
+  length_prefixed : (ns : List ℕ) →
+      sparse_list_numbers number (map of ns) ≡ length ns ∷ sparse_entries_from 0 ns ++ 0 ∷ []
+  length_prefixed ns = ap₂ (λ (count : ℕ) (ms : List ℕ). count ∷ sparse_entries_from 0 ms ++ 0 ∷ []) (length-map ns of)
       (numbers_again ns)
 
   same_tests : (E : A → A → Bool) → ((a b : A) → Decides (E a b) (a ≡ b)) → (ns ms : List ℕ) →
@@ -88,48 +87,48 @@ module _ {A : Type 0} (of : ℕ → A) (number : A → ℕ) (exact : (n : ℕ) �
 -- ---- what the cells carry at time 0
 
 pub start_pushed : (ns : List ℕ) (s : Signal) →
-    map numbered_signal (ns ++ signal_number s ∷ []) ≡ map numbered_signal ns ++ s ∷ []
-start_pushed ns s = map-append numbered_signal ns (signal_number s ∷ [])
-    ∙ ap (λ t. map numbered_signal ns ++ t ∷ []) (signal_again s)
+    map signal_from_number (ns ++ signal_number s ∷ []) ≡ map signal_from_number ns ++ s ∷ []
+start_pushed ns s = map-append signal_from_number ns (signal_number s ∷ [])
+    ∙ ap (λ t. map signal_from_number ns ++ t ∷ []) (signal_again s)
 
 pub dead_pushed : (ns : List ℕ) (count : ℕ) →
-    map numbered_signal (ns ++ replicate count 0) ≡ map numbered_signal ns ++ replicate count Zero
-dead_pushed ns count = map-append numbered_signal ns (replicate count 0)
-    ∙ ap (λ ts. map numbered_signal ns ++ ts) (map_zeros numbered_signal count)
+    map signal_from_number (ns ++ replicate count 0) ≡ map signal_from_number ns ++ replicate count Zero
+dead_pushed ns count = map-append signal_from_number ns (replicate count 0)
+    ∙ ap (λ ts. map signal_from_number ns ++ ts) (map_zeros signal_from_number count)
 
 pub start_found : (ns : List ℕ) (place : ℕ) →
-    numbered_signal (unwrap_or (slice_get ns place) 0) ≡ unwrap_or (slice_get (map numbered_signal ns) place) Zero
-start_found = at_place numbered_signal
+    signal_from_number (unwrap_or (slice_get ns place) 0) ≡ unwrap_or (slice_get (map signal_from_number ns) place) Zero
+start_found = at_place signal_from_number
 
 pub start_numbers : (ns : List ℕ) →
-    cell_list_numbers signal_number (map numbered_signal ns) ≡ length ns ∷ entries_from 0 ns ++ 0 ∷ []
-start_numbers = length_prefixed numbered_signal signal_number signal_back
+    sparse_list_numbers signal_number (map signal_from_number ns) ≡ length ns ∷ sparse_entries_from 0 ns ++ 0 ∷ []
+start_numbers = length_prefixed signal_from_number signal_number signal_back
 
 pub start_tests : (ns ms : List ℕ) →
-    pointwise nat_eq ns ms ≡ pointwise same_signal (map numbered_signal ns) (map numbered_signal ms)
-start_tests = same_tests numbered_signal signal_number signal_back same_signal signal_decides
+    pointwise nat_eq ns ms ≡ pointwise same_signal (map signal_from_number ns) (map signal_from_number ms)
+start_tests = same_tests signal_from_number signal_number signal_back same_signal signal_decides
 
 -- ---- what they must be at the last time
 
 pub demand_pushed : (ns : List ℕ) (d : Demand) →
-    map numbered_demand (ns ++ demand_number d ∷ []) ≡ map numbered_demand ns ++ d ∷ []
-demand_pushed ns d = map-append numbered_demand ns (demand_number d ∷ [])
-    ∙ ap (λ t. map numbered_demand ns ++ t ∷ []) (demand_again d)
+    map demand_from_number (ns ++ demand_number d ∷ []) ≡ map demand_from_number ns ++ d ∷ []
+demand_pushed ns d = map-append demand_from_number ns (demand_number d ∷ [])
+    ∙ ap (λ t. map demand_from_number ns ++ t ∷ []) (demand_again d)
 
 pub dead_demands_pushed : (ns : List ℕ) (count : ℕ) →
-    map numbered_demand (ns ++ replicate count 0) ≡ map numbered_demand ns ++ replicate count Demanded.Dead
-dead_demands_pushed ns count = map-append numbered_demand ns (replicate count 0)
-    ∙ ap (λ ts. map numbered_demand ns ++ ts) (map_zeros numbered_demand count)
+    map demand_from_number (ns ++ replicate count 0) ≡ map demand_from_number ns ++ replicate count Demanded.Dead
+dead_demands_pushed ns count = map-append demand_from_number ns (replicate count 0)
+    ∙ ap (λ ts. map demand_from_number ns ++ ts) (map_zeros demand_from_number count)
 
 pub demand_found : (ns : List ℕ) (place : ℕ) →
-    numbered_demand (unwrap_or (slice_get ns place) 0)
-    ≡ unwrap_or (slice_get (map numbered_demand ns) place) Demanded.Dead
-demand_found = at_place numbered_demand
+    demand_from_number (unwrap_or (slice_get ns place) 0)
+    ≡ unwrap_or (slice_get (map demand_from_number ns) place) Demanded.Dead
+demand_found = at_place demand_from_number
 
 pub demand_numbers : (ns : List ℕ) →
-    cell_list_numbers demand_number (map numbered_demand ns) ≡ length ns ∷ entries_from 0 ns ++ 0 ∷ []
-demand_numbers = length_prefixed numbered_demand demand_number demand_back
+    sparse_list_numbers demand_number (map demand_from_number ns) ≡ length ns ∷ sparse_entries_from 0 ns ++ 0 ∷ []
+demand_numbers = length_prefixed demand_from_number demand_number demand_back
 
 pub demand_tests : (ns ms : List ℕ) →
-    pointwise nat_eq ns ms ≡ pointwise same_demand (map numbered_demand ns) (map numbered_demand ms)
-demand_tests = same_tests numbered_demand demand_number demand_back same_demand demand_decides
+    pointwise nat_eq ns ms ≡ pointwise same_demand (map demand_from_number ns) (map demand_from_number ms)
+demand_tests = same_tests demand_from_number demand_number demand_back same_demand demand_decides

@@ -1,19 +1,17 @@
 -- A list of numbers from the entries of those that are not 0, and the search for an entry.
 use Rattle.std.proofs.Common.{◌≡◌, ◌≢◌, ℕ, zero, suc, ◌+◌, ◌-◌, ◌*◌, ◌/◌, ◌<◌, ◌≤◌, List, [], ◌∷◌, ◌++◌, true, false}
 use Rattle.std.proofs.Common.{length, take, drop, get_or, replicate, nat_eq, refl, sym, ap, ap₂, subst, ◌∙◌, arith}
-use Rattle.std.proofs.Common.{◌&&◌, inl, inr, ◌⊎◌}
+use Rattle.std.proofs.Common.{◌&&◌, inl, inr, ◌⊎◌, slice_get, unwrap_or}
 use Rattle.std.specs.Cmp.Lexicographic.{pointwise}
-use Rattle.std.specs.Prelude.{slice_get, unwrap_or}
 use Rattle.std.proofs.lemmas.Bool.{cases_Bool, cases_lt, cond-true, cond-false}
 use Rattle.std.proofs.lemmas.Bool.Decides.{Decides-eqb, nat_tests, same_from_decides}
 use Rattle.std.proofs.lemmas.List.{append_assoc, append-nil, drop_more, get_or_append_left, get_or-append-add}
-use Rattle.std.proofs.lemmas.List.{get_or-append_right}
-use Rattle.std.proofs.lemmas.List.{get_or_past, length-append, length-drop, length-replicate, length-take}
-use Rattle.std.proofs.lemmas.List.{length-take-le, take-append-drop}
+use Rattle.std.proofs.lemmas.List.{get_or-append_right, get_or_past, length-append, length-drop, length-replicate}
+use Rattle.std.proofs.lemmas.List.{length-take, length-take-le, take-append-drop}
 use Rattle.std.proofs.lemmas.Option.{unwrap_or-slice_get}
 use Rattle.module_box.proofs.EqualTests.{both, lists}
-use Rattle.module_job.specs.Keys.{cell_entry, entries_from}
-use Rattle.module_job.specs.SparseNumbers.{numbers_from}
+use Rattle.module_job.specs.Keys.{sparse_entry, sparse_entries_from}
+use Rattle.module_job.specs.SparseNumbers.{numbers_from_entries}
 use Rattle.module_job.proofs.CellEntries.{entries_append, forms}
 
 -- ---- the list of its own entries
@@ -22,22 +20,22 @@ use Rattle.module_job.proofs.CellEntries.{entries_append, forms}
 abbrev AreFrom : ℕ → List ℕ → Type 0
 AreFrom place es = (n : ℕ) (r : List ℕ) → es ≡ n ∷ r → place < n
 
-are_from : (place p : ℕ) (ns : List ℕ) → place ≤ p → AreFrom place (entries_from p ns)
-unfolding entries_from
+are_from : (place p : ℕ) (ns : List ℕ) → place ≤ p → AreFrom place (sparse_entries_from p ns)
+unfolding sparse_entries_from
 are_from place p [] le n r e = absurd cc
 are_from place p (m ∷ ns) le n r e = elim (forms p m) [
   | inl none ↦ are_from place (p + 1) ns (omega (arith, le)) n r
-      (sym (ap (λ (l : List ℕ). l ++ entries_from (p + 1) ns) none.1) ∙ e)
+      (sym (ap (λ (l : List ℕ). l ++ sparse_entries_from (p + 1) ns) none.1) ∙ e)
   | inr some ↦
-      let same = sym (ap (λ (l : List ℕ). l ++ entries_from (p + 1) ns) some.1) ∙ e in
+      let same = sym (ap (λ (l : List ℕ). l ++ sparse_entries_from (p + 1) ns) some.1) ∙ e in
       let head : p + 1 ≡ n = cc in
       omega (arith, le, head)
 ]
 
 -- a place before that of the first entry has the number 0
 passed : (count place : ℕ) (es : List ℕ) → AreFrom (place + 1) es →
-    numbers_from (suc count) place es ≡ 0 ∷ numbers_from count (place + 1) es
-unfolding numbers_from
+    numbers_from_entries (suc count) place es ≡ 0 ∷ numbers_from_entries count (place + 1) es
+unfolding numbers_from_entries
 passed count place [] from = refl
 passed zero place (p ∷ []) from = refl
 passed (suc count) place (p ∷ []) from = refl
@@ -47,28 +45,30 @@ passed count place (p ∷ n ∷ es) from =
     cond-false _ _ _ other
 
 found : (count place n : ℕ) (es : List ℕ) →
-    numbers_from (suc count) place ((place + 1) ∷ n ∷ es) ≡ n ∷ numbers_from count (place + 1) es
-unfolding numbers_from
+    numbers_from_entries (suc count) place ((place + 1) ∷ n ∷ es) ≡ n ∷ numbers_from_entries count (place + 1) es
+unfolding numbers_from_entries
 found count place n es =
     let here : nat_eq (place + 1) (place + 1) ≡ true = grind (arith, nat_tests) in
     cond-true _ _ _ here
 
-pub numbers_back : (place : ℕ) (ns : List ℕ) → numbers_from (length ns) place (entries_from place ns) ≡ ns
-unfolding numbers_from entries_from
+pub numbers_back : (place : ℕ) (ns : List ℕ) →
+    numbers_from_entries (length ns) place (sparse_entries_from place ns) ≡ ns
+unfolding numbers_from_entries sparse_entries_from
 numbers_back place [] = refl
 numbers_back place (n ∷ ns) = elim (forms place n) [
   | inl none ↦
-      ap (λ (l : List ℕ). numbers_from (suc (length ns)) place (l ++ entries_from (place + 1) ns)) none.1
-      ∙ passed (length ns) place (entries_from (place + 1) ns) (are_from (place + 1) (place + 1) ns (omega arith))
+      ap (λ (l : List ℕ). numbers_from_entries (suc (length ns)) place (l ++ sparse_entries_from (place + 1) ns)) none.1
+      ∙ passed (length ns) place (sparse_entries_from (place + 1) ns)
+      (are_from (place + 1) (place + 1) ns (omega arith))
       ∙ ap₂ (λ x xs. x ∷ xs) (sym none.0) (numbers_back (place + 1) ns)
   | inr some ↦
-      ap (λ (l : List ℕ). numbers_from (suc (length ns)) place (l ++ entries_from (place + 1) ns)) some.1
-      ∙ found (length ns) place n (entries_from (place + 1) ns)
+      ap (λ (l : List ℕ). numbers_from_entries (suc (length ns)) place (l ++ sparse_entries_from (place + 1) ns)) some.1
+      ∙ found (length ns) place n (sparse_entries_from (place + 1) ns)
       ∙ ap (λ (xs : List ℕ). n ∷ xs) (numbers_back (place + 1) ns)
 ]
 
-pub count_numbers : (count place : ℕ) (es : List ℕ) → length (numbers_from count place es) ≡ count
-unfolding numbers_from
+pub count_numbers : (count place : ℕ) (es : List ℕ) → length (numbers_from_entries count place es) ≡ count
+unfolding numbers_from_entries
 count_numbers zero place es = refl
 count_numbers (suc count) place [] = ap suc (count_numbers count (place + 1) [])
 count_numbers (suc count) place (p ∷ []) = ap suc (count_numbers count (place + 1) [])
@@ -77,70 +77,73 @@ count_numbers (suc count) place (p ∷ n ∷ es) = elim (cases_Bool (nat_eq p (p
   | inr other ↦ ap length (cond-false _ _ _ other) ∙ ap suc (count_numbers count (place + 1) (p ∷ n ∷ es))
 ]
 
-pub no_numbers : (es : List ℕ) → numbers_from 0 0 es ≡ []
-unfolding numbers_from
+pub no_numbers : (es : List ℕ) → numbers_from_entries 0 0 es ≡ []
+unfolding numbers_from_entries
 no_numbers es = refl
 
-pub no_number : (es : List ℕ) (u : ℕ) → get_or (numbers_from 0 0 es) u 0 ≡ 0
-unfolding numbers_from
+pub no_number : (es : List ℕ) (u : ℕ) → get_or (numbers_from_entries 0 0 es) u 0 ≡ 0
+unfolding numbers_from_entries
 no_number es u = refl
 
-pub no_entries : entries_from 0 [] ≡ []
-unfolding entries_from
+pub no_entries : sparse_entries_from 0 [] ≡ []
+unfolding sparse_entries_from
 no_entries = refl
 
 -- ---- more numbers
 
-pub entries_zeros : (place count : ℕ) → entries_from place (replicate count 0) ≡ []
-unfolding entries_from
+pub entries_zeros : (place count : ℕ) → sparse_entries_from place (replicate count 0) ≡ []
+unfolding sparse_entries_from
 entries_zeros place zero = refl
 entries_zeros place (suc count) = entries_zeros (place + 1) count
 
 -- the entries are those of the list
 abbrev pub AreEntries : ℕ → List ℕ → Type 0
-AreEntries count es = es ≡ entries_from 0 (numbers_from count 0 es)
+AreEntries count es = es ≡ sparse_entries_from 0 (numbers_from_entries count 0 es)
 
 -- the list and its entries, if there are more numbers, with these entries
 abbrev Grown : ℕ → List ℕ → List ℕ → List ℕ → Type 0
-Grown count es added ns = (numbers_from (count + length ns) 0 (es ++ added) ≡ numbers_from count 0 es ++ ns)
-    × (es ++ added ≡ entries_from 0 (numbers_from count 0 es ++ ns))
+Grown count es added ns = (numbers_from_entries (count + length ns) 0 (es ++ added)
+    ≡ numbers_from_entries count 0 es ++ ns)
+    × (es ++ added ≡ sparse_entries_from 0 (numbers_from_entries count 0 es ++ ns))
 
-grown : (count : ℕ) (es added ns : List ℕ) → AreEntries count es → added ≡ entries_from count ns →
+grown : (count : ℕ) (es added ns : List ℕ) → AreEntries count es → added ≡ sparse_entries_from count ns →
     Grown count es added ns
 grown count es added ns are more =
-    let v = numbers_from count 0 es in
+    let v = numbers_from_entries count 0 es in
     let start : length v ≡ count = count_numbers count 0 es in
-    let entries : es ++ added ≡ entries_from 0 (v ++ ns) =
-    ap₂ (λ (xs ys : List ℕ). xs ++ ys) are (more ∙ ap (λ (p : ℕ). entries_from p ns) (omega (arith, start)))
+    let entries : es ++ added ≡ sparse_entries_from 0 (v ++ ns) =
+    ap₂ (λ (xs ys : List ℕ). xs ++ ys) are (more ∙ ap (λ (p : ℕ). sparse_entries_from p ns) (omega (arith, start)))
     ∙ sym (entries_append 0 v ns) in
     let sum : count + length ns ≡ length (v ++ ns) = omega (arith, start, length-append v ns) in
-    (ap₂ (λ (n : ℕ) (l : List ℕ). numbers_from n 0 l) sum entries ∙ numbers_back 0 (v ++ ns), entries)
+    (ap₂ (λ (n : ℕ) (l : List ℕ). numbers_from_entries n 0 l) sum entries ∙ numbers_back 0 (v ++ ns), entries)
 
 pub zeros_grow : (count n : ℕ) (es : List ℕ) → AreEntries count es →
-    (numbers_from (count + n) 0 es ≡ numbers_from count 0 es ++ replicate n 0) × AreEntries (count + n) es
+    (numbers_from_entries (count + n) 0 es ≡ numbers_from_entries count 0 es ++ replicate n 0)
+    × AreEntries (count + n) es
 zeros_grow count n es are =
     let both = grown count es [] (replicate n 0) are (sym (entries_zeros count n)) in
-    let list : numbers_from (count + n) 0 es ≡ numbers_from count 0 es ++ replicate n 0 =
-    ap₂ (λ (m : ℕ) (l : List ℕ). numbers_from m 0 l)
+    let list : numbers_from_entries (count + n) 0 es ≡ numbers_from_entries count 0 es ++ replicate n 0 =
+    ap₂ (λ (m : ℕ) (l : List ℕ). numbers_from_entries m 0 l)
     (ap (λ (m : ℕ). count + m) (sym (length-replicate n 0))) (sym (append-nil es)) ∙ both.0 in
-    (list, sym (append-nil es) ∙ both.1 ∙ ap (entries_from 0) (sym list))
+    (list, sym (append-nil es) ∙ both.1 ∙ ap (sparse_entries_from 0) (sym list))
 
-one_entry : (place n : ℕ) → 0 < n → entries_from place (n ∷ []) ≡ (place + 1) ∷ n ∷ []
-unfolding entries_from
+one_entry : (place n : ℕ) → 0 < n → sparse_entries_from place (n ∷ []) ≡ (place + 1) ∷ n ∷ []
+unfolding sparse_entries_from
 one_entry place n more =
     let other : nat_eq n 0 ≡ false = grind (arith, nat_tests, more) in
-    append-nil (cell_entry place n) ∙ cond-false _ _ _ other
+    append-nil (sparse_entry place n) ∙ cond-false _ _ _ other
 
 pub number_grows : (count n : ℕ) (es : List ℕ) → 0 < n → AreEntries count es →
-    (numbers_from (count + 1) 0 (es ++ (count + 1) ∷ n ∷ []) ≡ numbers_from count 0 es ++ n ∷ [])
+    (numbers_from_entries (count + 1) 0 (es ++ (count + 1) ∷ n ∷ []) ≡ numbers_from_entries count 0 es ++ n ∷ [])
     × AreEntries (count + 1) (es ++ (count + 1) ∷ n ∷ [])
 number_grows count n es more are =
     let both = grown count es ((count + 1) ∷ n ∷ []) (n ∷ []) are (sym (one_entry count n more)) in
-    (both.0, both.1 ∙ ap (entries_from 0) (sym both.0))
+    (both.0, both.1 ∙ ap (sparse_entries_from 0) (sym both.0))
 
 pub all_entered : (count : ℕ) (es old : List ℕ) → AreEntries count es →
     ((old ++ count ∷ []) ++ es) ++ 0 ∷ []
-    ≡ old ++ (length (numbers_from count 0 es) ∷ entries_from 0 (numbers_from count 0 es) ++ 0 ∷ [])
+    ≡ old ++ (length (numbers_from_entries count 0 es) ∷ sparse_entries_from 0 (numbers_from_entries count 0 es) ++ 0
+    ∷ [])
 all_entered count es old are =
     append_assoc (old ++ count ∷ []) es (0 ∷ []) ∙ append_assoc old (count ∷ []) (es ++ 0 ∷ [])
     ∙ ap₂ (λ (n : ℕ) (l : List ℕ). old ++ (n ∷ l ++ 0 ∷ [])) (sym (count_numbers count 0 es)) are
@@ -148,14 +151,15 @@ all_entered count es old are =
 -- ---- equal fields make equal lists
 
 pub same_fields : (n m : ℕ) (es fs : List ℕ) → AreEntries n es → AreEntries m fs →
-    (nat_eq n m && pointwise nat_eq es fs) ≡ pointwise nat_eq (numbers_from n 0 es) (numbers_from m 0 fs)
+    (nat_eq n m && pointwise nat_eq es fs)
+    ≡ pointwise nat_eq (numbers_from_entries n 0 es) (numbers_from_entries m 0 fs)
 same_fields n m es fs are are' =
-    same_from_decides {P = numbers_from n 0 es ≡ numbers_from m 0 fs} _ _
+    same_from_decides {P = numbers_from_entries n 0 es ≡ numbers_from_entries m 0 fs} _ _
     (both _ _ (Decides-eqb n m) (lists nat_eq Decides-eqb es fs)
-    (λ count entries. ap₂ (λ (k : ℕ) (l : List ℕ). numbers_from k 0 l) count entries)
+    (λ count entries. ap₂ (λ (k : ℕ) (l : List ℕ). numbers_from_entries k 0 l) count entries)
     (λ e. sym (count_numbers n 0 es) ∙ ap length e ∙ count_numbers m 0 fs)
-    (λ e. are ∙ ap (entries_from 0) e ∙ sym are'))
-    (lists nat_eq Decides-eqb (numbers_from n 0 es) (numbers_from m 0 fs))
+    (λ e. are ∙ ap (sparse_entries_from 0) e ∙ sym are'))
+    (lists nat_eq Decides-eqb (numbers_from_entries n 0 es) (numbers_from_entries m 0 fs))
 
 -- ---- places with the number 0
 
@@ -176,56 +180,61 @@ zero_elsewhere ns n u other none = elim (cases_lt u (length ns)) [
   | inr le ↦ get_or_past (ns ++ n ∷ []) u 0 (omega (arith, le, other, length-append ns (n ∷ [])))
 ]
 
-pub zeros_unmarked : (count n u : ℕ) (es : List ℕ) → AreEntries count es → get_or (numbers_from count 0 es) u 0 ≡ 0 →
-    get_or (numbers_from (count + n) 0 es) u 0 ≡ 0
+pub zeros_unmarked : (count n u : ℕ) (es : List ℕ) → AreEntries count es →
+    get_or (numbers_from_entries count 0 es) u 0 ≡ 0 →
+    get_or (numbers_from_entries (count + n) 0 es) u 0 ≡ 0
 zeros_unmarked count n u es are none =
-    ap (λ (ns : List ℕ). get_or ns u 0) (zeros_grow count n es are).0 ∙ zero_stays (numbers_from count 0 es) n u none
+    ap (λ (ns : List ℕ). get_or ns u 0) (zeros_grow count n es are).0
+    ∙ zero_stays (numbers_from_entries count 0 es) n u none
 
 pub number_unmarked : (count n u : ℕ) (es : List ℕ) → 0 < n → AreEntries count es → u ≢ count →
-    get_or (numbers_from count 0 es) u 0 ≡ 0 →
-    get_or (numbers_from (count + 1) 0 (es ++ (count + 1) ∷ n ∷ [])) u 0 ≡ 0
+    get_or (numbers_from_entries count 0 es) u 0 ≡ 0 →
+    get_or (numbers_from_entries (count + 1) 0 (es ++ (count + 1) ∷ n ∷ [])) u 0 ≡ 0
 number_unmarked count n u es more are other none =
     ap (λ (ns : List ℕ). get_or ns u 0) (number_grows count n es more are).0
-    ∙ zero_elsewhere (numbers_from count 0 es) n u (λ e. other (e ∙ count_numbers count 0 es)) none
+    ∙ zero_elsewhere (numbers_from_entries count 0 es) n u (λ e. other (e ∙ count_numbers count 0 es)) none
 
 pub past : (count place : ℕ) (es : List ℕ) → count ≤ place →
-    0 ≡ unwrap_or (slice_get (numbers_from count 0 es) place) 0
+    0 ≡ unwrap_or (slice_get (numbers_from_entries count 0 es) place) 0
 past count place es le =
-    sym (unwrap_or-slice_get (numbers_from count 0 es) place 0
-    ∙ get_or_past (numbers_from count 0 es) place 0 (omega (arith, le, count_numbers count 0 es)))
+    sym (unwrap_or-slice_get (numbers_from_entries count 0 es) place 0
+    ∙ get_or_past (numbers_from_entries count 0 es) place 0 (omega (arith, le, count_numbers count 0 es)))
 
 -- ---- the search for an entry
 
-even : (place : ℕ) (ns : List ℕ) → length (entries_from place ns) ≡ 2 * (length (entries_from place ns) / 2)
-unfolding entries_from
+even : (place : ℕ) (ns : List ℕ) →
+    length (sparse_entries_from place ns) ≡ 2 * (length (sparse_entries_from place ns) / 2)
+unfolding sparse_entries_from
 even place [] = refl
 even place (n ∷ ns) =
     let rest = even (place + 1) ns in
     elim (forms place n) [
       | inl none ↦
-          let same : length (entries_from place (n ∷ ns)) ≡ length (entries_from (place + 1) ns) =
-          ap (λ (l : List ℕ). length (l ++ entries_from (place + 1) ns)) none.1 in
+          let same : length (sparse_entries_from place (n ∷ ns)) ≡ length (sparse_entries_from (place + 1) ns) =
+          ap (λ (l : List ℕ). length (l ++ sparse_entries_from (place + 1) ns)) none.1 in
           omega (arith, same, rest)
       | inr some ↦
-          let more : length (entries_from place (n ∷ ns)) ≡ suc (suc (length (entries_from (place + 1) ns))) =
-          ap (λ (l : List ℕ). length (l ++ entries_from (place + 1) ns)) some.1 in
+          let more : length (sparse_entries_from place (n ∷ ns))
+          ≡ suc (suc (length (sparse_entries_from (place + 1) ns))) =
+          ap (λ (l : List ℕ). length (l ++ sparse_entries_from (place + 1) ns)) some.1 in
           omega (arith, more, rest)
     ]
 
 -- at most one entry for each number
-few : (place : ℕ) (ns : List ℕ) → length (entries_from place ns) ≤ 2 * length ns
-unfolding entries_from
+few : (place : ℕ) (ns : List ℕ) → length (sparse_entries_from place ns) ≤ 2 * length ns
+unfolding sparse_entries_from
 few place [] = omega arith
 few place (n ∷ ns) =
     let rest = few (place + 1) ns in
     elim (forms place n) [
       | inl none ↦
-          let same : length (entries_from place (n ∷ ns)) ≡ length (entries_from (place + 1) ns) =
-          ap (λ (l : List ℕ). length (l ++ entries_from (place + 1) ns)) none.1 in
+          let same : length (sparse_entries_from place (n ∷ ns)) ≡ length (sparse_entries_from (place + 1) ns) =
+          ap (λ (l : List ℕ). length (l ++ sparse_entries_from (place + 1) ns)) none.1 in
           omega (arith, same, rest)
       | inr some ↦
-          let more : length (entries_from place (n ∷ ns)) ≡ suc (suc (length (entries_from (place + 1) ns))) =
-          ap (λ (l : List ℕ). length (l ++ entries_from (place + 1) ns)) some.1 in
+          let more : length (sparse_entries_from place (n ∷ ns))
+          ≡ suc (suc (length (sparse_entries_from (place + 1) ns))) =
+          ap (λ (l : List ℕ). length (l ++ sparse_entries_from (place + 1) ns)) some.1 in
           omega (arith, more, rest)
     ]
 
@@ -246,42 +255,44 @@ one_within place count n es rest (suc j) lt =
 none_within : (place count : ℕ) (es : List ℕ) → AreWithin (place + 1) count es → AreWithin place (suc count) es
 none_within place count es rest i lt = let both = rest i lt in (omega (arith, both), omega (arith, both))
 
-within : (place : ℕ) (ns : List ℕ) → AreWithin place (length ns) (entries_from place ns)
-unfolding entries_from
+within : (place : ℕ) (ns : List ℕ) → AreWithin place (length ns) (sparse_entries_from place ns)
+unfolding sparse_entries_from
 within place [] = λ i lt. absurd (omega (arith, lt))
 within place (n ∷ ns) = elim (forms place n) [
   | inl none ↦ subst (AreWithin place (suc (length ns)))
-      (sym (ap (λ (l : List ℕ). l ++ entries_from (place + 1) ns) none.1))
-      (none_within place (length ns) (entries_from (place + 1) ns) (within (place + 1) ns))
+      (sym (ap (λ (l : List ℕ). l ++ sparse_entries_from (place + 1) ns) none.1))
+      (none_within place (length ns) (sparse_entries_from (place + 1) ns) (within (place + 1) ns))
   | inr some ↦ subst (AreWithin place (suc (length ns)))
-      (sym (ap (λ (l : List ℕ). l ++ entries_from (place + 1) ns) some.1))
-      (one_within place (length ns) n (entries_from (place + 1) ns) (within (place + 1) ns))
+      (sym (ap (λ (l : List ℕ). l ++ sparse_entries_from (place + 1) ns) some.1))
+      (one_within place (length ns) n (sparse_entries_from (place + 1) ns) (within (place + 1) ns))
 ]
 
 -- how many numbers the entries of places before this one have
 abbrev pub rank : ℕ → List ℕ → ℕ
-rank place ns = length (entries_from 0 (take place ns))
+rank place ns = length (sparse_entries_from 0 (take place ns))
 
 split : (place : ℕ) (ns : List ℕ) →
-    entries_from 0 ns ≡ entries_from 0 (take place ns) ++ entries_from (length (take place ns)) (drop place ns)
+    sparse_entries_from 0 ns ≡ sparse_entries_from 0 (take place ns)
+    ++ sparse_entries_from (length (take place ns)) (drop place ns)
 split place ns =
-    ap (entries_from 0) (sym (take-append-drop place ns)) ∙ entries_append 0 (take place ns) (drop place ns)
-    ∙ ap (λ (p : ℕ). entries_from 0 (take place ns) ++ entries_from p (drop place ns)) (omega arith)
+    ap (sparse_entries_from 0) (sym (take-append-drop place ns)) ∙ entries_append 0 (take place ns) (drop place ns)
+    ∙ ap (λ (p : ℕ). sparse_entries_from 0 (take place ns) ++ sparse_entries_from p (drop place ns)) (omega arith)
 
-pub rank_below : (place : ℕ) (ns : List ℕ) → rank place ns ≤ 2 * (length (entries_from 0 ns) / 2)
+pub rank_below : (place : ℕ) (ns : List ℕ) → rank place ns ≤ 2 * (length (sparse_entries_from 0 ns) / 2)
 rank_below place ns =
     let parts = ap length (split place ns) in
-    let sum = length-append (entries_from 0 (take place ns)) (entries_from (length (take place ns)) (drop place ns)) in
+    let sum = length-append (sparse_entries_from 0 (take place ns))
+    (sparse_entries_from (length (take place ns)) (drop place ns)) in
     let whole = even 0 ns in
     omega (arith, parts, sum, whole)
 
-pub low_moves : (place m : ℕ) (ns : List ℕ) → 2 * m < length (entries_from 0 ns) →
-    get_or (entries_from 0 ns) (2 * m) 0 ≤ place → 2 * (m + 1) ≤ rank place ns
+pub low_moves : (place m : ℕ) (ns : List ℕ) → 2 * m < length (sparse_entries_from 0 ns) →
+    get_or (sparse_entries_from 0 ns) (2 * m) 0 ≤ place → 2 * (m + 1) ≤ rank place ns
 low_moves place m ns lt le = elim (cases_lt (2 * m) (rank place ns)) [
   | inl below ↦ let half = even 0 (take place ns) in omega (arith, below, half)
   | inr above ↦
-      let first = entries_from 0 (take place ns) in
-      let second = entries_from (length (take place ns)) (drop place ns) in
+      let first = sparse_entries_from 0 (take place ns) in
+      let second = sparse_entries_from (length (take place ns)) (drop place ns) in
       let half = even 0 (take place ns) in
       let parts = split place ns in
       let sum = length-append first second in
@@ -293,19 +304,20 @@ low_moves place m ns lt le = elim (cases_lt (2 * m) (rank place ns)) [
       let few_left = few (length (take place ns)) (drop place ns) in
       let left = length-drop place ns in
       let taken = length-take place ns in
-      let value : get_or (entries_from 0 ns) (2 * m) 0 ≡ get_or second (2 * k) 0 =
+      let value : get_or (sparse_entries_from 0 ns) (2 * m) 0 ≡ get_or second (2 * k) 0 =
       ap₂ (λ (l : List ℕ) (i : ℕ). get_or l i 0) parts index ∙ get_or-append-add first second (2 * k) 0 in
       absurd (omega (arith, value, bounds, le, few_left, left, taken, inside))
 ]
 
-pub high_moves : (place m : ℕ) (ns : List ℕ) → place < get_or (entries_from 0 ns) (2 * m) 0 → rank place ns ≤ 2 * m
+pub high_moves : (place m : ℕ) (ns : List ℕ) → place < get_or (sparse_entries_from 0 ns) (2 * m) 0 →
+    rank place ns ≤ 2 * m
 high_moves place m ns above = elim (cases_lt (2 * m) (rank place ns)) [
   | inr under ↦ under
   | inl over ↦
-      let first = entries_from 0 (take place ns) in
-      let second = entries_from (length (take place ns)) (drop place ns) in
+      let first = sparse_entries_from 0 (take place ns) in
+      let second = sparse_entries_from (length (take place ns)) (drop place ns) in
       let lt : 2 * m < length first = omega (arith, over) in
-      let value : get_or (entries_from 0 ns) (2 * m) 0 ≡ get_or first (2 * m) 0 =
+      let value : get_or (sparse_entries_from 0 ns) (2 * m) 0 ≡ get_or first (2 * m) 0 =
       ap (λ (l : List ℕ). get_or l (2 * m) 0) (split place ns) ∙ get_or_append_left first second 0 (2 * m) lt in
       let bounds = within 0 (take place ns) m lt in
       let taken = length-take place ns in
@@ -324,20 +336,21 @@ Found place ns es = ((get_or ns place 0 ≡ 0) × (get_or es (rank place ns) 0 �
     ⊎ ((rank place ns + 1 < length es) × (get_or es (rank place ns) 0 ≡ place + 1)
     × (get_or es (rank place ns + 1) 0 ≡ get_or ns place 0))
 
-finds : (place : ℕ) (ns : List ℕ) → place < length ns → Found place ns (entries_from 0 ns)
-unfolding entries_from
+finds : (place : ℕ) (ns : List ℕ) → place < length ns → Found place ns (sparse_entries_from 0 ns)
+unfolding sparse_entries_from
 finds place ns lt =
     let n = get_or ns place 0 in
-    let first = entries_from 0 (take place ns) in
-    let rest = entries_from (place + 1) (drop (place + 1) ns) in
+    let first = sparse_entries_from 0 (take place ns) in
+    let rest = sparse_entries_from (place + 1) (drop (place + 1) ns) in
     let start : length (take place ns) ≡ place = length-take-le place ns (omega (arith, lt)) in
-    let parts : entries_from 0 ns ≡ first ++ (cell_entry place n ++ rest) =
+    let parts : sparse_entries_from 0 ns ≡ first ++ (sparse_entry place n ++ rest) =
     split place ns
-    ∙ ap₂ (λ (p : ℕ) (l : List ℕ). first ++ entries_from p l) start (drop_more ns place 0 lt) in
+    ∙ ap₂ (λ (p : ℕ) (l : List ℕ). first ++ sparse_entries_from p l) start (drop_more ns place 0 lt) in
     elim (forms place n) [
       | inl none ↦
-          let same : entries_from 0 ns ≡ first ++ rest = parts ∙ ap (λ (l : List ℕ). first ++ (l ++ rest)) none.1 in
-          let value : get_or (entries_from 0 ns) (length first) 0 ≡ get_or rest 0 0 =
+          let same : sparse_entries_from 0 ns ≡ first ++ rest =
+          parts ∙ ap (λ (l : List ℕ). first ++ (l ++ rest)) none.1 in
+          let value : get_or (sparse_entries_from 0 ns) (length first) 0 ≡ get_or rest 0 0 =
           ap₂ (λ (l : List ℕ) (i : ℕ). get_or l i 0) same (omega arith) ∙ get_or-append-add first rest 0 0 in
           inl (
             none.0,
@@ -346,16 +359,17 @@ finds place ns lt =
           )
       | inr some ↦
           let tail = (place + 1) ∷ n ∷ rest in
-          let same : entries_from 0 ns ≡ first ++ tail = parts ∙ ap (λ (l : List ℕ). first ++ (l ++ rest)) some.1 in
+          let same : sparse_entries_from 0 ns ≡ first ++ tail =
+          parts ∙ ap (λ (l : List ℕ). first ++ (l ++ rest)) some.1 in
           let count = ap length same ∙ length-append first tail in
-          let value : get_or (entries_from 0 ns) (length first) 0 ≡ place + 1 =
+          let value : get_or (sparse_entries_from 0 ns) (length first) 0 ≡ place + 1 =
           ap₂ (λ (l : List ℕ) (i : ℕ). get_or l i 0) same (omega arith) ∙ get_or-append-add first tail 0 0 in
-          let next : get_or (entries_from 0 ns) (length first + 1) 0 ≡ n =
+          let next : get_or (sparse_entries_from 0 ns) (length first + 1) 0 ≡ n =
           ap (λ (l : List ℕ). get_or l (length first + 1) 0) same ∙ get_or-append-add first tail 1 0 in
           inr (omega (arith, count), value, next)
     ]
 
-module _ (place at : ℕ) (ns es : List ℕ) (lt : place < length ns) (are : es ≡ entries_from 0 ns)
+module _ (place at : ℕ) (ns es : List ℕ) (lt : place < length ns) (are : es ≡ sparse_entries_from 0 ns)
     (start : at ≡ rank place ns) where
   found_there : Found place ns es
   found_there = subst (Found place ns) (sym are) (finds place ns lt)

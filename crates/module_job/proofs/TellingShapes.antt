@@ -1,8 +1,7 @@
 -- The numbers of a shape tell it, and the bytes of numbers tell them
-use Rattle.std.proofs.Common.{◌≡◌, ℕ, ◌<◌, ◌^◌, List, [], ◌∷◌, ◌++◌, refl, sym, ap, ap₂, ◌∙◌, arith, inl, inr, ◌⊎◌}
-use Rattle.std.specs.Prelude.{ℤ, pos, negsuc, nat_lt}
+use Rattle.std.proofs.Common.{◌≡◌, ℕ, ◌<◌, ◌^◌, List, [], ◌∷◌, ◌++◌, refl, sym, ap, ap₂, ◌∙◌, arith, inl, inr, ◌⊎◌, ℤ}
+use Rattle.std.proofs.Common.{pos, negsuc, nat_lt, flat_map}
 use Rattle.std.specs.Int.{from_le_bytes, to_le_bytes, w16, w64}
-use Rattle.std.specs.List.{flat_map}
 use Rattle.std.proofs.lemmas.Bool.{cases_Bool, cond-true, cond-false}
 use Rattle.std.proofs.lemmas.Bool.Decides.{nat_tests}
 use Rattle.std.proofs.lemmas.List.{append_assoc}
@@ -13,10 +12,9 @@ use Rattle.module_box.specs.declared.schedules.Signal.{Signal}
 use Rattle.module_box.specs.declared.schedules.Signal.TheVariants.{Zero, One, Wire}
 use Rattle.module_box.proofs.InjectiveNumbers.{counted_tell, listed, lists_tell, netlists_tell, same_head, same_length}
 use Rattle.module_box.proofs.InjectiveNumbers.{same_tail}
-use Rattle.module_job.specs.Keys.{BytesDetermineNumbers, NumbersDetermineShapes, cell_numbers, cell_list_numbers}
-use Rattle.module_job.specs.Keys.{demand_number}
-use Rattle.module_job.specs.Keys.{event_numbers, all_times_numbers, zigzag_number, number_bytes, shape_numbers}
-use Rattle.module_job.specs.Keys.{signal_number, signals_numbers, stop_numbers}
+use Rattle.module_job.specs.Keys.{BytesDetermineNumbers, NumbersDetermineShapes, cell_numbers, sparse_list_numbers}
+use Rattle.module_job.specs.Keys.{demand_number, event_numbers, all_times_numbers, zigzag_number, number_bytes}
+use Rattle.module_job.specs.Keys.{shape_numbers, signal_number, signals_numbers, stop_numbers}
 use Rattle.module_job.proofs.CellEntries.{cells_tell_all}
 use Rattle.module_job.specs.Shapes.{ShapeView}
 use Rattle.module_job.specs.declared.job.Demand.{Demand}
@@ -117,10 +115,10 @@ abbrev sides : ShapeView → List ℕ
 sides s = s.width ∷ s.height ∷ s.steps ∷ []
 
 abbrev starts : ShapeView → List ℕ
-starts s = cell_list_numbers signal_number s.starts
+starts s = sparse_list_numbers signal_number s.starts
 
 abbrev demands : ShapeView → List ℕ
-demands s = cell_list_numbers demand_number s.demands
+demands s = sparse_list_numbers demand_number s.demands
 
 abbrev stops : ShapeView → List ℕ
 stops s = length_prefixed stop_numbers s.stops

@@ -9,30 +9,30 @@ use Rattle.module_job.specs.declared.job.Demand.{Demand}
 use Rattle.module_job.specs.declared.job.Demand.TheVariants as Demanded
 
 -- the signal that has this number
-abbrev pub numbered_signal : ℕ → Signal
-numbered_signal zero = Zero
-numbered_signal (suc zero) = One
-numbered_signal (suc (suc w)) = Wire w
+abbrev pub signal_from_number : ℕ → Signal
+signal_from_number zero = Zero
+signal_from_number (suc zero) = One
+signal_from_number (suc (suc w)) = Wire w
 
 -- the demand that has this number
-abbrev pub numbered_demand : ℕ → Demand
-numbered_demand zero = Demanded.Dead
-numbered_demand (suc zero) = Demanded.Live
-numbered_demand (suc (suc zero)) = Demanded.Any
-numbered_demand (suc (suc (suc w))) = Demanded.Wire w
+abbrev pub demand_from_number : ℕ → Demand
+demand_from_number zero = Demanded.Dead
+demand_from_number (suc zero) = Demanded.Live
+demand_from_number (suc (suc zero)) = Demanded.Any
+demand_from_number (suc (suc (suc w))) = Demanded.Wire w
 
 -- the signals, from the fields
 abbrev pub starts_view : OfStarts.Inside → List Signal
-starts_view a = map numbered_signal a.numbers
+starts_view a = map signal_from_number a.numbers
 
 -- the demands, from the fields
 abbrev pub demands_view : OfDemands.Inside → List Demand
-demands_view a = map numbered_demand a.numbers
+demands_view a = map demand_from_number a.numbers
 
 -- the wire of each signal has 16 bits
-abbrev pub AreSignalNumbers : OfStarts.Inside → Type 0
-AreSignalNumbers a = All (λ n. n < 65538) a.numbers
+abbrev pub HaveSignalsShortWires : OfStarts.Inside → Type 0
+HaveSignalsShortWires a = All (λ n. n < 65538) a.numbers
 
 -- the wire of each demand has 16 bits
-abbrev pub AreDemandNumbers : OfDemands.Inside → Type 0
-AreDemandNumbers a = All (λ n. n < 65539) a.numbers
+abbrev pub HaveDemandsShortWires : OfDemands.Inside → Type 0
+HaveDemandsShortWires a = All (λ n. n < 65539) a.numbers

@@ -20,11 +20,11 @@ same_box = eq_of_both (eq_of_both (eq_of_both (on (λ b. b.x) nat_eq) (on (λ b.
     (on (λ b. b.h) nat_eq)
 
 -- the number of a demand, whatever its wire
-abbrev pub demand_place : Demand → ℕ
-demand_place Dead = 0
-demand_place Live = 1
-demand_place (Wire w) = 2
-demand_place Any = 3
+abbrev pub demand_kind_number : Demand → ℕ
+demand_kind_number Dead = 0
+demand_kind_number Live = 1
+demand_kind_number (Wire w) = 2
+demand_kind_number Any = 3
 
 -- the wire of a demand, if it has one
 abbrev pub demand_wire : Demand → Option ℕ
@@ -33,7 +33,7 @@ demand_wire _ = None
 
 -- whether two demands are the same
 abbrev pub same_demand : Demand → Demand → Bool
-same_demand = eq_of_both (on demand_place nat_eq) (on demand_wire (option_eq nat_eq))
+same_demand = eq_of_both (on demand_kind_number nat_eq) (on demand_wire (option_eq nat_eq))
 
 -- whether two stops are the same
 abbrev pub same_stop : Stop → Stop → Bool
@@ -68,7 +68,8 @@ box_equivalence =
 
 -- the test on demands is an equivalence
 pub demand_equivalence : IsEquivalence same_demand
-demand_equivalence = and_equiv (on_equiv demand_place nat_eq_equiv) (on_equiv demand_wire (options_equiv nat_eq_equiv))
+demand_equivalence = and_equiv (on_equiv demand_kind_number nat_eq_equiv)
+    (on_equiv demand_wire (options_equiv nat_eq_equiv))
 
 -- the test on stops is an equivalence
 stop_equivalence : IsEquivalence same_stop

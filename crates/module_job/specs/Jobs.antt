@@ -10,7 +10,7 @@ use Rattle.module_box.specs.declared.boxes.Box2.{Box2}
 use Rattle.module_box.specs.declared.schedules.Moment.{Moment}
 use Rattle.module_box.specs.declared.schedules.Signal.{Signal}
 use Rattle.module_box.specs.declared.schedules.Signal.TheVariants.{Zero}
-use Rattle.module_job.specs.Signals.{IsBelow, IsDemandBelow}
+use Rattle.module_job.specs.Signals.{IsSignalWireBelow, IsDemandWireBelow}
 use Rattle.module_job.specs.declared.job.Demand.{Demand}
 use Rattle.module_job.specs.declared.job.Demand.TheVariants as Demanded
 use Rattle.module_job.specs.declared.job.Stop.{Stop}
@@ -41,12 +41,12 @@ job_demand j x y = if in_box j.area x y then unwrap_or
 
 -- each wire that the job names is one of its own
 pub record NamesOwnWires (j : JobView) : Type 0 where
-  pub starts : All (IsBelow (wires j.locals.netlist)) j.starts
-  pub demands : All (IsDemandBelow (wires j.locals.netlist)) j.demands
-  pub edge_all_times : All (λ h. IsBelow (wires j.locals.netlist) h.signal) j.edges.all_times
-  pub edge_events : All (λ e. IsBelow (wires j.locals.netlist) e.signal) j.edges.events
-  pub halo_all_times : All (λ h. IsBelow (wires j.locals.netlist) h.signal) j.halos.all_times
-  pub halo_events : All (λ e. IsBelow (wires j.locals.netlist) e.signal) j.halos.events
+  pub starts : All (IsSignalWireBelow (wires j.locals.netlist)) j.starts
+  pub demands : All (IsDemandWireBelow (wires j.locals.netlist)) j.demands
+  pub edge_all_times : All (λ h. IsSignalWireBelow (wires j.locals.netlist) h.signal) j.edges.all_times
+  pub edge_events : All (λ e. IsSignalWireBelow (wires j.locals.netlist) e.signal) j.edges.events
+  pub halo_all_times : All (λ h. IsSignalWireBelow (wires j.locals.netlist) h.signal) j.halos.all_times
+  pub halo_events : All (λ e. IsSignalWireBelow (wires j.locals.netlist) e.signal) j.halos.events
   pub stops : All (λ s. s.wire < wires j.locals.netlist) j.stops
 
 -- a stop is at a time up to the last one, and at a cell of the box

@@ -34,17 +34,17 @@ abbrev pub signal_numbers : Signal → List ℕ
 signal_numbers s = signal_number s ∷ []
 
 -- nothing for a cell with the number 0; for any other one its place plus one, and then the number
-abbrev pub cell_entry : ℕ → ℕ → List ℕ
-cell_entry place n = if nat_eq n 0 then [] else ((place + 1) ∷ n ∷ [])
+abbrev pub sparse_entry : ℕ → ℕ → List ℕ
+sparse_entry place n = if nat_eq n 0 then [] else ((place + 1) ∷ n ∷ [])
 
 -- the entries of cells with these numbers, if the first cell has this place
-unfoldable pub entries_from : ℕ → List ℕ → List ℕ
-entries_from place [] = []
-entries_from place (n ∷ ns) = cell_entry place n ++ entries_from (place + 1) ns
+unfoldable pub sparse_entries_from : ℕ → List ℕ → List ℕ
+sparse_entries_from place [] = []
+sparse_entries_from place (n ∷ ns) = sparse_entry place n ++ sparse_entries_from (place + 1) ns
 
 -- how many cells there are, their entries, and a 0
-abbrev pub cell_list_numbers : {A : Type 0} → (A → ℕ) → List A → List ℕ
-cell_list_numbers number cells = length cells ∷ entries_from 0 (map number cells) ++ 0 ∷ []
+abbrev pub sparse_list_numbers : {A : Type 0} → (A → ℕ) → List A → List ℕ
+sparse_list_numbers number cells = length cells ∷ sparse_entries_from 0 (map number cells) ++ 0 ∷ []
 
 -- 0, -1, 1, -2 and so on, counted from 0
 abbrev pub zigzag_number : ℤ → ℕ
@@ -76,7 +76,7 @@ signals_numbers s = length_prefixed all_times_numbers s.all_times ++ length_pref
 unfoldable pub shape_numbers : ShapeView → List ℕ
 shape_numbers s =
     netlist_numbers s.netlist ++ (s.width ∷ s.height ∷ s.steps ∷ [])
-    ++ cell_list_numbers signal_number s.starts ++ cell_list_numbers demand_number s.demands
+    ++ sparse_list_numbers signal_number s.starts ++ sparse_list_numbers demand_number s.demands
     ++ signals_numbers s.edges ++ signals_numbers s.halos ++ length_prefixed stop_numbers s.stops
     ++ (length s.kept ∷ s.kept)
 

@@ -30,12 +30,12 @@ abbrev pub moved_stop : ℤ → ℤ → Stop → Stop
 moved_stop dx dy s = record { at = record { time = s.at.time; cell = moved_cell dx dy s.at.cell }; wire = s.wire }
 
 -- signals whose cells are counted from the corner of the box, counted from that of the plane
-abbrev pub signals_from_corner : Box2 → Signals → Signals
-signals_from_corner b s = moved_signals (pos b.x) (pos b.y) s
+abbrev pub signals_in_plane : Box2 → Signals → Signals
+signals_in_plane b s = moved_signals (pos b.x) (pos b.y) s
 
 -- and stops likewise
-abbrev pub stops_from_corner : Box2 → List Stop → List Stop
-stops_from_corner b ss = map (moved_stop (pos b.x) (pos b.y)) ss
+abbrev pub stops_in_plane : Box2 → List Stop → List Stop
+stops_in_plane b ss = map (moved_stop (pos b.x) (pos b.y)) ss
 
 -- as far as n, but the other way
 abbrev pub shift_to_origin : ℕ → ℤ

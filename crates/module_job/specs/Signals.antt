@@ -17,24 +17,24 @@ is_live v One = true
 is_live v (Wire w) = v w
 
 -- a cell that is live or not meets a demand
-abbrev pub Meets : Valuation → Demand → Bool → Type 0
-Meets v Demanded.Dead live = live ≡ false
-Meets v Demanded.Live live = live ≡ true
-Meets v (Demanded.Wire w) live = live ≡ v w
-Meets v Demanded.Any live = Unit {0}
+abbrev pub MeetsDemand : Valuation → Demand → Bool → Type 0
+MeetsDemand v Demanded.Dead live = live ≡ false
+MeetsDemand v Demanded.Live live = live ≡ true
+MeetsDemand v (Demanded.Wire w) live = live ≡ v w
+MeetsDemand v Demanded.Any live = Unit {0}
 
 -- ---- the wire that it names, if it names one, is below n
 
 -- the wire of the signal, if it has one, is below n
-abbrev pub IsBelow : ℕ → Signal → Type 0
-IsBelow n Zero = Unit {0}
-IsBelow n One = Unit {0}
-IsBelow n (Wire w) = w < n
+abbrev pub IsSignalWireBelow : ℕ → Signal → Type 0
+IsSignalWireBelow n Zero = Unit {0}
+IsSignalWireBelow n One = Unit {0}
+IsSignalWireBelow n (Wire w) = w < n
 
 -- the wire of the demand, if it has one, is below n
-abbrev pub IsDemandBelow : ℕ → Demand → Type 0
-IsDemandBelow n (Demanded.Wire w) = w < n
-IsDemandBelow n _ = Unit {0}
+abbrev pub IsDemandWireBelow : ℕ → Demand → Type 0
+IsDemandWireBelow n (Demanded.Wire w) = w < n
+IsDemandWireBelow n _ = Unit {0}
 
 -- ---- the same by other numbers of the wires
 

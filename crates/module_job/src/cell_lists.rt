@@ -4,7 +4,7 @@ ghost use Rattle.std.specs.Cmp.{partial_equiv_from_equiv};
 ghost use Rattle.std.specs.Cmp.Lexicographic.{lists_equiv, pointwise};
 ghost use Rattle.module_box.specs.Equality.{same_signal, signal_equivalence};
 ghost use Rattle.module_job.specs.Equality.{demand_equivalence, same_demand};
-ghost use Rattle.module_job.specs.Keys.{cell_list_numbers, demand_number, signal_number};
+ghost use Rattle.module_job.specs.Keys.{sparse_list_numbers, demand_number, signal_number};
 
 use crate::job::Demand;
 use crate::keys::{demand_number, signal_number};
@@ -27,11 +27,11 @@ impl Model for StartSignals {
 
     ghost Value = { List Signal };
 
-    ghost use Rattle.module_job.specs.CellLists.{AreSignalNumbers, starts_view};
+    ghost use Rattle.module_job.specs.CellLists.{HaveSignalsShortWires, starts_view};
 
     ghost view = { starts_view };
 
-    ghost invariant = { AreSignalNumbers };
+    ghost invariant = { HaveSignalsShortWires };
 }
 
 /// A list of what the cells of a box must be at the last time, row by row. Contracts see the demands.
@@ -48,20 +48,20 @@ impl Model for EndDemands {
 
     ghost Value = { List Demand };
 
-    ghost use Rattle.module_job.specs.CellLists.{AreDemandNumbers, demands_view};
+    ghost use Rattle.module_job.specs.CellLists.{HaveDemandsShortWires, demands_view};
 
     ghost view = { demands_view };
 
-    ghost invariant = { AreDemandNumbers };
+    ghost invariant = { HaveDemandsShortWires };
 }
 
 impl StartSignals {
-    ghost use Rattle.module_job.specs.CellLists.{numbered_signal};
+    ghost use Rattle.module_job.specs.CellLists.{signal_from_number};
 
     // The signal of a number.
     fn decode_number(number: u64) -> Signal
         requires { number < 65538 }
-        ensures { result ≡ numbered_signal number }
+        ensures { result ≡ signal_from_number number }
     {
         match number {
             0 => Signal::Zero,
@@ -115,7 +115,7 @@ impl StartSignals {
     /// Adds how many cells there are, the entries of what they carry, and a 0.
     pub(crate) fn push_numbers(&self, numbers: &mut Vec<u64>) -> Result<(), AllocError>
         ensures { OnOk result (numbers.new.items
-            ≡ numbers.old.items ++ cell_list_numbers signal_number self.now) }
+            ≡ numbers.old.items ++ sparse_list_numbers signal_number self.now) }
     {
         self.numbers.push_entries(numbers)?;
         Ok(())
@@ -133,12 +133,12 @@ impl PartialEq for StartSignals {
 }
 
 impl EndDemands {
-    ghost use Rattle.module_job.specs.CellLists.{numbered_demand};
+    ghost use Rattle.module_job.specs.CellLists.{demand_from_number};
 
     // The demand of a number.
     fn decode_number(number: u64) -> Demand
         requires { number < 65539 }
-        ensures { result ≡ numbered_demand number }
+        ensures { result ≡ demand_from_number number }
     {
         match number {
             0 => Demand::Dead,
@@ -193,7 +193,7 @@ impl EndDemands {
     /// Adds how many cells there are, the entries of what they must be, and a 0.
     pub(crate) fn push_numbers(&self, numbers: &mut Vec<u64>) -> Result<(), AllocError>
         ensures { OnOk result (numbers.new.items
-            ≡ numbers.old.items ++ cell_list_numbers demand_number self.now) }
+            ≡ numbers.old.items ++ sparse_list_numbers demand_number self.now) }
     {
         self.numbers.push_entries(numbers)?;
         Ok(())

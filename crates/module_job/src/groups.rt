@@ -13,7 +13,7 @@ use std::hash::Hash;
 use std::sync::Arc;
 
 // The number that the map has for the key. Where it has none, this one from now on.
-fn first_with_key<K: Copy + Eq + Hash>(
+fn first_number_with_key<K: Copy + Eq + Hash>(
     firsts: &mut IndexMap<K, usize>,
     key: K,
     number: usize,
@@ -33,13 +33,13 @@ fn first_with_key<K: Copy + Eq + Hash>(
 }
 
 // For each key the number of the first that is the same.
-fn key_groups(alloc: Global, keys: &[[u8; 32]]) -> Result<Vec<usize>, AllocError>
+fn first_numbers_of_keys(alloc: Global, keys: &[[u8; 32]]) -> Result<Vec<usize>, AllocError>
     ensures { IfOk result (λ groups. AreGroups keys.now groups.items) }
 {
     let mut firsts = IndexMap::new(alloc);
     let mut groups = Vec::with_capacity(alloc, keys.len())?;
     'keys: for (number, key) in keys.iter().enumerate() {
-        let first = first_with_key(&mut firsts, *key, number)?;
+        let first = first_number_with_key(&mut firsts, *key, number)?;
         groups.push(first)?;
     }
     Ok(groups)
@@ -81,7 +81,7 @@ pub fn shape_groups(
     requires { AreKeys (map arc_value shapes.now) keys.now }
     ensures { IfOk result (λ groups. AreGroups (map arc_value shapes.now) groups.items) }
 {
-    let firsts = key_groups(alloc, keys)?;
+    let firsts = first_numbers_of_keys(alloc, keys)?;
     let mut groups = Vec::with_capacity(alloc, shapes.len())?;
     'shapes: for number in 0..shapes.len() {
         groups.push(first_equal_shape(shapes, keys, number, firsts[number]))?;
@@ -134,9 +134,9 @@ pub fn job_groups(alloc: Global, jobs: &[Arc<Job>]) -> Result<Vec<usize>, AllocE
     let mut groups = Vec::with_capacity(alloc, jobs.len())?;
     'jobs: for number in 0..jobs.len() {
         let shape: &Shape = jobs[number].shape();
-        let mut group = first_with_key(&mut summaries, shape.summary(), number)?;
+        let mut group = first_number_with_key(&mut summaries, shape.summary(), number)?;
         if !have_same_shape(jobs, group, number) {
-            let first = first_with_key(&mut keys, shape.key(alloc)?, number)?;
+            let first = first_number_with_key(&mut keys, shape.key(alloc)?, number)?;
             group = first_of_shape(jobs, first, number);
         }
         groups.push(group)?;

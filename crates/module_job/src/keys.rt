@@ -2,7 +2,7 @@
 ghost use Rattle.std.specs.Prelude.{◌≡◌, ◌^◌, ◌<◌, ◌++◌, [], ◌∷◌, length, IfOk, OnOk};
 ghost use Rattle.std.specs.List.{All, flat_map};
 ghost use Rattle.module_box.specs.Numbers.{length_prefixed};
-ghost use Rattle.module_job.specs.Keys.{cell_numbers, cell_list_numbers, demand_number, event_numbers, all_times_numbers, zigzag_number, number_bytes, shape_key, shape_numbers, signal_number, signal_numbers, signals_numbers, stop_numbers};
+ghost use Rattle.module_job.specs.Keys.{cell_numbers, sparse_list_numbers, demand_number, event_numbers, all_times_numbers, zigzag_number, number_bytes, shape_key, shape_numbers, signal_number, signal_numbers, signals_numbers, stop_numbers};
 
 use crate::job::{Demand, Stop};
 use crate::shape::Shape;
@@ -115,7 +115,7 @@ fn push_stops(numbers: &mut Vec<u64>, stops: &[Stop]) -> Result<(), AllocError>
 }
 
 // Adds how many gates are kept, and then their places.
-fn push_kept(numbers: &mut Vec<u64>, kept: &[u16]) -> Result<(), AllocError>
+fn push_kept_places(numbers: &mut Vec<u64>, kept: &[u16]) -> Result<(), AllocError>
     ensures { OnOk result (numbers.new.items ≡ numbers.old.items ++ length kept.now ∷ kept.now) }
 {
     numbers.push(kept.len() as u64)?;
@@ -134,11 +134,11 @@ fn push_schedule(numbers: &mut Vec<u64>, schedule: &Schedule) -> Result<(), Allo
     push_events(numbers, schedule.events())
 }
 
-fn push_cells(numbers: &mut Vec<u64>, shape: &Shape) -> Result<(), AllocError>
+fn push_cell_numbers(numbers: &mut Vec<u64>, shape: &Shape) -> Result<(), AllocError>
     ensures { OnOk result (numbers.new.items
         ≡ numbers.old.items ++ (shape.now.width ∷ shape.now.height ∷ shape.now.steps ∷ [])
-        ++ cell_list_numbers signal_number shape.now.starts
-        ++ cell_list_numbers demand_number shape.now.demands) }
+        ++ sparse_list_numbers signal_number shape.now.starts
+        ++ sparse_list_numbers demand_number shape.now.demands) }
 {
     numbers.push(shape.width as u64)?;
     numbers.push(shape.height as u64)?;
@@ -148,7 +148,7 @@ fn push_cells(numbers: &mut Vec<u64>, shape: &Shape) -> Result<(), AllocError>
 }
 
 // The bytes of a number.
-fn push_bytes(bytes: &mut Vec<u8>, number: u64) -> Result<(), AllocError>
+fn push_number_code(bytes: &mut Vec<u8>, number: u64) -> Result<(), AllocError>
     ensures { OnOk result (bytes.new.items ≡ bytes.old.items ++ number_bytes number) }
 {
     if number < 254 {
@@ -172,7 +172,7 @@ fn bytes_of(alloc: Global, numbers: &[u64]) -> Result<Vec<u8>, AllocError>
 {
     let mut bytes = Vec::with_capacity(alloc, numbers.len())?;
     for number in numbers {
-        push_bytes(&mut bytes, *number)?;
+        push_number_code(&mut bytes, *number)?;
     }
     Ok(bytes)
 }
@@ -184,12 +184,12 @@ impl Shape {
         ensures { IfOk result (λ numbers. numbers.items ≡ shape_numbers self.now) }
     {
         let mut numbers = self.wiring.numbers(alloc)?;
-        push_cells(&mut numbers, self)?;
+        push_cell_numbers(&mut numbers, self)?;
         push_schedule(&mut numbers, &self.edges)?;
         push_schedule(&mut numbers, &self.halos)?;
         numbers.push(self.stops.len() as u64)?;
         push_stops(&mut numbers, &self.stops)?;
-        push_kept(&mut numbers, &self.kept)?;
+        push_kept_places(&mut numbers, &self.kept)?;
         Ok(numbers)
     }
 

@@ -4,7 +4,7 @@ ghost use Rattle.std.specs.Cmp.{nat_eq_equiv, partial_equiv_from_equiv};
 ghost use Rattle.std.specs.Cmp.Lexicographic.{lists_equiv, pointwise};
 ghost use Rattle.bbm_rule.specs.Marks.{IsUnmarked};
 ghost use Rattle.bbm_rule.specs.Rows.{cell_at};
-ghost use Rattle.module_job.specs.Keys.{entries_from};
+ghost use Rattle.module_job.specs.Keys.{sparse_entries_from};
 
 use bbm_rule::marks::{mark, next_marked};
 use std::alloc::{AllocError, Global};
@@ -57,7 +57,7 @@ fn is_marked(marks: &[u64], at: usize) -> bool
 }
 
 // Marks a place, if the marks have room for it.
-fn mark_within(marks: &mut [u64], at: usize)
+fn mark_if_room(marks: &mut [u64], at: usize)
     ensures { (u : ℕ) → u / 64 < length marks.new → IsUnmarked marks.new u →
         IsUnmarked marks.old u × (u ≢ at) }
 {
@@ -67,10 +67,10 @@ fn mark_within(marks: &mut [u64], at: usize)
 }
 
 // How many entries are of places before this one.
-fn entries_before(entries: &[u64], place: usize) -> usize
+fn count_entries_before(entries: &[u64], place: usize) -> usize
     ensures bound { 2 * result ≤ length entries.now }
-    ensures length_prefixed { (numbers : List ℕ) → entries.now ≡ entries_from 0 numbers →
-        2 * result ≡ length (entries_from 0 (take place numbers)) }
+    ensures length_prefixed { (numbers : List ℕ) → entries.now ≡ sparse_entries_from 0 numbers →
+        2 * result ≡ length (sparse_entries_from 0 (take place numbers)) }
 {
     let mut low = 0;
     let mut high = entries.len() / 2;
@@ -124,7 +124,7 @@ impl SparseNumbers {
             return Err(AllocError);
         }
         push_entry(&mut self.entries, place as u64 + 1, number)?;
-        mark_within(&mut self.marks, place);
+        mark_if_room(&mut self.marks, place);
         self.count = place + 1;
         Ok(())
     }
@@ -139,7 +139,7 @@ impl SparseNumbers {
         if place / 64 < self.marks.len() && !is_marked(&self.marks, place) {
             return 0;
         }
-        let at = 2 * entries_before(&self.entries, place);
+        let at = 2 * count_entries_before(&self.entries, place);
         if at + 1 < self.entries.len() && self.entries[at] == place as u64 + 1 {
             return self.entries[at + 1];
         }
@@ -165,7 +165,7 @@ impl SparseNumbers {
     /// Adds to the numbers how many there are, the entries, and a 0.
     pub(crate) fn push_entries(&self, numbers: &mut Vec<u64>) -> Result<(), AllocError>
         ensures { OnOk result (numbers.new.items
-            ≡ numbers.old.items ++ (length self.now ∷ entries_from 0 self.now ++ 0 ∷ [])) }
+            ≡ numbers.old.items ++ (length self.now ∷ sparse_entries_from 0 self.now ++ 0 ∷ [])) }
     {
         numbers.push(self.count as u64)?;
         numbers.extend_from_slice(&self.entries)?;

@@ -1,27 +1,25 @@
 -- A layout with one more line.
 use Rattle.std.proofs.Common.{◌≡◌, ℕ, ◌||◌, ◌&&◌, Bool, true, false, not, List, [], ◌∷◌, ◌++◌, length, None, refl, sym}
-use Rattle.std.proofs.Common.{ap, subst, ◌∙◌, arith, append_assoc, append-nil}
-use Rattle.std.specs.Prelude.{◌==◌, ℤ}
+use Rattle.std.proofs.Common.{ap, subst, ◌∙◌, arith, append_assoc, append-nil, ◌==◌, ℤ}
 use Rattle.std.proofs.lemmas.Bool.Decides.{nat_tests}
 use Rattle.std.proofs.lemmas.List.{map-append}
 use Rattle.std.proofs.lemmas.List.Folds.{list_any-append}
 use Rattle.bbm_rule.specs.declared.block.Cell.{Cell}
-use Rattle.section_text.specs.Codes.{code_where}
+use Rattle.section_text.specs.Codes.{code_if}
 use Rattle.pattern.specs.declared.layout_line.Rectangle.{Rectangle}
 use Rattle.pattern.specs.declared.layout_line.Port.{Port}
 use Rattle.pattern.specs.declared.layout_line.LayoutHeader.{LayoutHeader}
 use Rattle.pattern.specs.declared.layout_line.LayoutLine.{LayoutLine}
 use Rattle.pattern.specs.declared.layout_line.LayoutLine.TheVariants.{Mirror, Ball, In, Out, Waste}
 use Rattle.pattern.specs.Layout.{Pattern, parts_of}
-use Rattle.pattern.specs.Lines.{is_late, order_fault, limit_fault, cell_fault, begins, ends, holds, taken_at_start}
-use Rattle.pattern.specs.Lines.{ended}
-use Rattle.pattern.specs.Lines.{AreGoodAfter}
+use Rattle.pattern.specs.Lines.{has_later_kind_before, order_fault, limit_fault, cell_fault, begins, ends, holds}
+use Rattle.pattern.specs.Lines.{cells_taken_at_start, ended, AreGoodAfter}
 use Rattle.pattern.proofs.Orders.{some, late_mirror, late_ball, late_in, late_out}
 use Rattle.section_text.specs.declared.code.RefusalCode.{RefusalCode}
 use Rattle.section_text.specs.declared.code.RefusalCode.TheVariants.{OutOfOrder}
 
 -- no code: the test was not failed
-pub no_code : (b : Bool) (code : RefusalCode) → code_where b code ≡ None → b ≡ false
+pub no_code : (b : Bool) (code : RefusalCode) → code_if b code ≡ None → b ≡ false
 no_code true code e = absurd cc
 no_code false code e = refl
 
@@ -59,10 +57,10 @@ module _ {A B C D : Type 0} (ks : List A) (ls : List B) (ms : List C) (ns : List
 
 -- the line stands behind the others of its kind, and no line of a later kind stands
 module _ (p v : Pattern) (same : v ≡ p) (part : LayoutLine) (follows : order_fault (parts_of v) part ≡ None) where
-  not_late : is_late (parts_of p) part ≡ false
+  not_late : has_later_kind_before (parts_of p) part ≡ false
   unfolding order_fault
-  not_late = subst (λ (q : Pattern). is_late (parts_of q) part ≡ false) same
-      (no_code (is_late (parts_of v) part) OutOfOrder follows)
+  not_late = subst (λ (q : Pattern). has_later_kind_before (parts_of q) part ≡ false) same
+      (no_code (has_later_kind_before (parts_of v) part) OutOfOrder follows)
 
   on_old : (q : Pattern) → parts_of q ≡ parts_of p ++ part ∷ [] → parts_of q ≡ parts_of v ++ part ∷ []
   on_old q e = e ∙ ap (λ (u : Pattern). parts_of u ++ part ∷ []) (sym same)
@@ -71,7 +69,7 @@ module _ (p v : Pattern) (same : v ≡ p) (part : LayoutLine) (follows : order_f
       parts_of (record p { mirrors = ms }) ≡ parts_of v ++ part ∷ []
   with_mirror r ms is more =
       let none = are_empty p.balls p.ins p.outs p.wastes
-      (sym (late_mirror p r) ∙ ap (is_late (parts_of p)) (sym is) ∙ not_late) in
+      (sym (late_mirror p r) ∙ ap (has_later_kind_before (parts_of p)) (sym is) ∙ not_late) in
       on_old (record p { mirrors = ms })
       (rw (more, none.first, none.second, none.third, none.fourth, is, map-append Mirror p.mirrors (r ∷ []))
       (simp (append-nil) refl))
@@ -81,7 +79,7 @@ module _ (p v : Pattern) (same : v ≡ p) (part : LayoutLine) (follows : order_f
   with_ball c bs is more =
       let none = are_empty p.ins p.ins p.outs p.wastes
       (twice (some p.ins) (some p.outs) (some p.wastes)
-      (sym (late_ball p c) ∙ ap (is_late (parts_of p)) (sym is) ∙ not_late)) in
+      (sym (late_ball p c) ∙ ap (has_later_kind_before (parts_of p)) (sym is) ∙ not_late)) in
       on_old (record p { balls = bs })
       (rw (more, none.second, none.third, none.fourth, is, map-append Ball p.balls (c ∷ []))
       (simp (append-nil, append_assoc) refl))
@@ -93,7 +91,8 @@ module _ (p v : Pattern) (same : v ≡ p) (part : LayoutLine) (follows : order_f
       parts_of (record p { ins = is }) ≡ parts_of v ++ part ∷ []
   with_in q ins is more =
       let none = are_empty p.outs p.outs p.outs p.wastes
-      (thrice (some p.outs) (some p.wastes) (sym (late_in p q) ∙ ap (is_late (parts_of p)) (sym is) ∙ not_late)) in
+      (thrice (some p.outs) (some p.wastes)
+      (sym (late_in p q) ∙ ap (has_later_kind_before (parts_of p)) (sym is) ∙ not_late)) in
       on_old (record p { ins = ins })
       (rw (more, none.third, none.fourth, is, map-append In p.ins (q ∷ [])) (simp (append-nil, append_assoc) refl))
     where
@@ -103,7 +102,7 @@ module _ (p v : Pattern) (same : v ≡ p) (part : LayoutLine) (follows : order_f
   pub with_out : (q : Port) (os : List Port) → part ≡ Out q → os ≡ p.outs ++ q ∷ [] →
       parts_of (record p { outs = os }) ≡ parts_of v ++ part ∷ []
   with_out q os is more =
-      let none = none_of p.wastes (sym (late_out p q) ∙ ap (is_late (parts_of p)) (sym is) ∙ not_late) in
+      let none = none_of p.wastes (sym (late_out p q) ∙ ap (has_later_kind_before (parts_of p)) (sym is) ∙ not_late) in
       on_old (record p { outs = os })
       (rw (more, none, is, map-append Out p.outs (q ∷ [])) (simp (append-nil, append_assoc) refl))
 
@@ -139,8 +138,8 @@ or_last : (a b : Bool) → (a || (b || false)) ≡ (a || b)
 or_last a b = grind arith
 
 pub begun_push : (parts : List LayoutLine) (part : LayoutLine) (x y : ℤ) →
-    taken_at_start (parts ++ part ∷ []) x y ≡ (taken_at_start parts x y || (begins part && holds part x y))
-unfolding taken_at_start
+    cells_taken_at_start (parts ++ part ∷ []) x y ≡ (cells_taken_at_start parts x y || (begins part && holds part x y))
+unfolding cells_taken_at_start
 begun_push parts part x y = list_any-append (λ b. begins b && holds b x y) parts (part ∷ []) ∙ or_last _ _
 
 pub ended_push : (parts : List LayoutLine) (part : LayoutLine) (x y : ℤ) →

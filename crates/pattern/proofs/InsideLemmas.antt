@@ -7,7 +7,7 @@ use Rattle.std.proofs.lemmas.List.Folds.{list_all-append, list_all-map}
 use Rattle.bbm_rule.specs.Plane.{is_at}
 use Rattle.bbm_rule.specs.Spans.{in_span}
 use Rattle.bbm_rule.specs.declared.block.Cell.{Cell}
-use Rattle.section_text.specs.Codes.{code_where}
+use Rattle.section_text.specs.Codes.{code_if}
 use Rattle.pattern.specs.declared.layout_line.Rectangle.{Rectangle}
 use Rattle.pattern.specs.declared.layout_line.Port.{Port}
 use Rattle.pattern.specs.declared.layout_line.LayoutHeader.{LayoutHeader}
@@ -16,7 +16,7 @@ use Rattle.pattern.specs.declared.layout_line.LayoutLine.TheVariants.{Mirror, Ba
 use Rattle.pattern.specs.Layout.{Pattern, in_rectangle, in_layout, in_cells, in_rectangles, in_ports_on, start}
 use Rattle.pattern.specs.Layout.{parts_of}
 use Rattle.pattern.proofs.TakenLemmas.{mirror_fits}
-use Rattle.pattern.specs.Lines.{size_fault, cell_fault, is_inside, is_taken, is_side, AreGoodAfter}
+use Rattle.pattern.specs.Lines.{size_fault, cell_fault, is_inside, is_taken, is_layout_side, AreGoodAfter}
 use Rattle.section_text.specs.declared.code.RefusalCode.{RefusalCode}
 use Rattle.section_text.specs.declared.code.RefusalCode.TheVariants.{PastLimit, TakenCell}
 
@@ -35,24 +35,24 @@ pub record IsSideLength (n : ℕ) : Type 0 where
   pub most : n ≤ 512
   pub even : n % 2 ≡ 0
 
-no_code : (a : Bool) (n : RefusalCode) → code_where (not a) n ≡ None → a ≡ true
+no_code : (a : Bool) (n : RefusalCode) → code_if (not a) n ≡ None → a ≡ true
 no_code true n e = refl
 no_code false n e = cc
 
-side_length : (n : ℕ) → is_side n ≡ true → IsSideLength n
+side_length : (n : ℕ) → is_layout_side n ≡ true → IsSideLength n
 side_length n e =
     record { least = grind (arith, nat_tests); most = grind (arith, nat_tests); even = grind (arith, nat_tests) }
 
 pub size_sides : (s : LayoutHeader) → size_fault s ≡ None → IsSideLength s.w × IsSideLength s.h
 unfolding size_fault
 size_sides s e =
-    let good : (is_side s.w && is_side s.h && _) ≡ true = no_code _ PastLimit e in
-    let both : (is_side s.w && is_side s.h) ≡ true = and_left _ _ good in
+    let good : (is_layout_side s.w && is_layout_side s.h && _) ≡ true = no_code _ PastLimit e in
+    let both : (is_layout_side s.w && is_layout_side s.h) ≡ true = and_left _ _ good in
     (side_length s.w (and_left _ _ both), side_length s.h (and_right _ _ both))
 
 -- ---- the parts
 
-first_holds : (a b : Bool) → code_where (not a || b) TakenCell ≡ None → a ≡ true
+first_holds : (a b : Bool) → code_if (not a || b) TakenCell ≡ None → a ≡ true
 first_holds true b e = refl
 first_holds false b e = cc
 

@@ -6,13 +6,14 @@ use Rattle.section_text.specs.Ports.{Named}
 use Rattle.section_text.proofs.Good.{AreFaultless, IsFaultless}
 use Rattle.pattern.specs.declared.layout_line.LayoutHeader.{LayoutHeader}
 use Rattle.pattern.specs.declared.layout_line.LayoutLine.{LayoutLine}
-use Rattle.pattern.specs.Lines.{AreNamed, cell_fault, limit_fault, line_fault, name_fault, order_fault, part_fault}
+use Rattle.pattern.specs.Lines.{AreNamed, cell_fault, limit_fault, line_fault, name_fault, order_fault}
+use Rattle.pattern.specs.Lines.{layout_line_fault}
 use Rattle.pattern.specs.Grammars.{layout_grammar}
 use Rattle.pattern.proofs.ReadingLemmas.{no_code_first, no_code_second}
 
 named_part : (ports : Option Named) (s : LayoutHeader) (before : List LayoutLine) (part : LayoutLine) →
-    part_fault ports s before part ≡ None → name_fault ports part ≡ None
-unfolding part_fault line_fault
+    layout_line_fault ports s before part ≡ None → name_fault ports part ≡ None
+unfolding layout_line_fault line_fault
 named_part ports s before part e =
     let line = no_code_first (line_fault ports before part) (cell_fault s before part) e in
     no_code_second (limit_fault part) (name_fault ports part) (no_code_second (order_fault before part) _ line)

@@ -9,7 +9,7 @@ use Rattle.pattern.specs.declared.layout_line.Port.{Port}
 use Rattle.pattern.specs.declared.layout_line.LayoutLine.{LayoutLine}
 use Rattle.pattern.specs.declared.layout_line.LayoutLine.TheVariants.{Mirror, Ball, In, Out, Waste}
 use Rattle.pattern.specs.Layout.{Pattern, parts_of}
-use Rattle.pattern.specs.Lines.{rank_of, is_late}
+use Rattle.pattern.specs.Lines.{rank_of, has_later_kind_before}
 
 -- whether a list has an element
 abbrev pub some : {X : Type 0} → List X → Bool
@@ -47,22 +47,23 @@ module _ (p : Pattern) (k : ℕ) where
 
 module _ (p : Pattern) where
   pub late_mirror : (r : Rectangle) →
-      is_late (parts_of p) (Mirror r) ≡ (some p.balls || (some p.ins || (some p.outs || some p.wastes)))
-  unfolding is_late rank_of
+      has_later_kind_before (parts_of p) (Mirror r) ≡ (some p.balls || (some p.ins || (some p.outs || some p.wastes)))
+  unfolding has_later_kind_before rank_of
   late_mirror r = late_by p 0
 
-  pub late_ball : (c : Cell) → is_late (parts_of p) (Ball c) ≡ (some p.ins || (some p.outs || some p.wastes))
-  unfolding is_late rank_of
+  pub late_ball : (c : Cell) → has_later_kind_before (parts_of p) (Ball c)
+      ≡ (some p.ins || (some p.outs || some p.wastes))
+  unfolding has_later_kind_before rank_of
   late_ball c = late_by p 1
 
-  pub late_in : (q : Port) → is_late (parts_of p) (In q) ≡ (some p.outs || some p.wastes)
-  unfolding is_late rank_of
+  pub late_in : (q : Port) → has_later_kind_before (parts_of p) (In q) ≡ (some p.outs || some p.wastes)
+  unfolding has_later_kind_before rank_of
   late_in q = late_by p 2
 
-  pub late_out : (q : Port) → is_late (parts_of p) (Out q) ≡ some p.wastes
-  unfolding is_late rank_of
+  pub late_out : (q : Port) → has_later_kind_before (parts_of p) (Out q) ≡ some p.wastes
+  unfolding has_later_kind_before rank_of
   late_out q = late_by p 3
 
-  pub late_waste : (c : Cell) → is_late (parts_of p) (Waste c) ≡ false
-  unfolding is_late rank_of
+  pub late_waste : (c : Cell) → has_later_kind_before (parts_of p) (Waste c) ≡ false
+  unfolding has_later_kind_before rank_of
   late_waste c = late_by p 4

@@ -1,19 +1,18 @@
 -- The ports of a good layout have cells of their own.
 use Rattle.std.proofs.Common.{◌≡◌, ℕ, zero, suc, ◌||◌, ℤ, Bool, true, false, not, List, [], ◌∷◌, ◌++◌, map, None, Some}
-use Rattle.std.proofs.Common.{refl, sym, ap, subst, ◌∙◌, arith, append_assoc, append-nil}
-use Rattle.std.specs.Prelude.{slice_get}
+use Rattle.std.proofs.Common.{refl, sym, ap, subst, ◌∙◌, arith, append_assoc, append-nil, slice_get}
 use Rattle.std.proofs.lemmas.Bool.{true≢false}
 use Rattle.std.proofs.lemmas.Option.{same_Some}
 use Rattle.std.proofs.lemmas.Bool.Decides.{Decides-int_eq}
 use Rattle.bbm_rule.specs.Plane.{State, is_at}
 use Rattle.bbm_rule.specs.declared.block.Cell.{Cell}
-use Rattle.section_text.specs.Codes.{code_where}
+use Rattle.section_text.specs.Codes.{code_if}
 use Rattle.pattern.specs.declared.layout_line.Port.{Port}
 use Rattle.pattern.specs.declared.layout_line.LayoutHeader.{LayoutHeader}
 use Rattle.pattern.specs.declared.layout_line.LayoutLine.{LayoutLine}
 use Rattle.pattern.specs.declared.layout_line.LayoutLine.TheVariants.{Mirror, Ball, In, Out, Waste}
-use Rattle.pattern.specs.Layout.{Pattern, HaveOwnCells, parts_of}
-use Rattle.pattern.specs.Lines.{is_inside, is_taken, cell_fault, begins, ends, cells_of, taken_at_start, ended}
+use Rattle.pattern.specs.Layout.{Pattern, HaveDistinctCells, parts_of}
+use Rattle.pattern.specs.Lines.{is_inside, is_taken, cell_fault, begins, ends, cells_of, cells_taken_at_start, ended}
 use Rattle.pattern.specs.Lines.{AreGoodAfter}
 use Rattle.pattern.proofs.Added.{no_code, begun_push, ended_push}
 use Rattle.section_text.specs.declared.code.RefusalCode.TheVariants.{TakenCell}
@@ -37,7 +36,7 @@ or_left a b e = grind arith
 or_right : (a b : Bool) → (a || (b || false)) ≡ false → b ≡ false
 or_right a b e = grind arith
 
-not_taken : (a b : Bool) → code_where (not a || b) TakenCell ≡ None → b ≡ false
+not_taken : (a b : Bool) → code_if (not a || b) TakenCell ≡ None → b ≡ false
 not_taken true b e = no_code b TakenCell e
 not_taken false b e = absurd cc
 
@@ -72,7 +71,7 @@ module _ (make : Port → LayoutLine) (taken : List LayoutLine → State)
       true≢false (sym all ∙ none)
 
   own : (before : List LayoutLine) (ports : List Port) → AreGoodAfter s before (map make ports ++ rest) →
-      HaveOwnCells ports
+      HaveDistinctCells ports
   own before [] good i j p q ei ej same = absurd cc
   own before (r ∷ ports) good zero zero p q ei ej same = refl
   own before (r ∷ ports) good zero (suc j) p q ei ej same =
@@ -83,9 +82,9 @@ module _ (make : Port → LayoutLine) (taken : List LayoutLine → State)
       ap (λ (n : ℕ). suc n) (own (before ++ make r ∷ []) ports good.2 i j p q ei ej same)
 
 in_free : (s : LayoutHeader) (before : List LayoutLine) (p : Port) → cell_fault s before (In p) ≡ None →
-    taken_at_start before p.cell.x p.cell.y ≡ false
+    cells_taken_at_start before p.cell.x p.cell.y ≡ false
 unfolding cell_fault is_taken cells_of begins
-in_free s before p e = one_of (taken_at_start before p.cell.x p.cell.y) (not_taken (is_inside s (In p)) _ e)
+in_free s before p e = one_of (cells_taken_at_start before p.cell.x p.cell.y) (not_taken (is_inside s (In p)) _ e)
 
 out_free : (s : LayoutHeader) (before : List LayoutLine) (p : Port) → cell_fault s before (Out p) ≡ None →
     ended before p.cell.x p.cell.y ≡ false
@@ -93,7 +92,7 @@ unfolding cell_fault is_taken cells_of begins
 out_free s before p e = one_of (ended before p.cell.x p.cell.y) (not_taken (is_inside s (Out p)) _ e)
 
 in_more : (before : List LayoutLine) (p : Port) (x y : ℤ) →
-    taken_at_start (before ++ In p ∷ []) x y ≡ (taken_at_start before x y || (is_at p.cell x y || false))
+    cells_taken_at_start (before ++ In p ∷ []) x y ≡ (cells_taken_at_start before x y || (is_at p.cell x y || false))
 unfolding cells_of begins
 in_more before p x y = begun_push before (In p) x y
 
@@ -116,11 +115,11 @@ module _ (p : Pattern) (good : AreGoodAfter p.size [] (parts_of p)) where
   from_outs = good_behind p.size (map Mirror p.mirrors ++ map Ball p.balls) (map In p.ins) _ from_ins
 
   -- no two input cells are one
-  pub ins_apart : HaveOwnCells p.ins
-  ins_apart = own In taken_at_start in_free in_more p.size (map Out p.outs ++ map Waste p.wastes)
+  pub ins_apart : HaveDistinctCells p.ins
+  ins_apart = own In cells_taken_at_start in_free in_more p.size (map Out p.outs ++ map Waste p.wastes)
       (map Mirror p.mirrors ++ map Ball p.balls) p.ins from_ins
 
   -- no two output cells are one
-  pub outs_apart : HaveOwnCells p.outs
+  pub outs_apart : HaveDistinctCells p.outs
   outs_apart = own Out ended out_free out_more p.size (map Waste p.wastes)
       ((map Mirror p.mirrors ++ map Ball p.balls) ++ map In p.ins) p.outs from_outs

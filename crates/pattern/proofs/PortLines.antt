@@ -3,11 +3,12 @@ use Rattle.std.proofs.Common.{◌≡◌, ◌==◌, if◌then◌else◌, ℕ, Boo
 use Rattle.std.proofs.Common.{sym, ap, ◌∙◌}
 use Rattle.std.proofs.lemmas.Option.{same_Some}
 use Rattle.section_text.specs.Words.{three, four, five, number_at, name_at}
-use Rattle.pattern.specs.Forms.{cell_from, lone_cell, named_cell, port_of, rectangle_of, size_of}
+use Rattle.pattern.specs.Forms.{cell_of_words_from, cell_after_keyword, port_after_keyword, port_of, rectangle_of}
+use Rattle.pattern.specs.Forms.{size_of}
 use Rattle.pattern.specs.PortWords.{cell_from_words, port_from_words}
 
 port_by_words : (k n x y : List ℕ) → port_of (k ∷ n ∷ x ∷ y ∷ []) ≡ port_from_words n x y
-unfolding port_of named_cell cell_from number_at name_at port_from_words cell_from_words
+unfolding port_of port_after_keyword cell_of_words_from number_at name_at port_from_words cell_from_words
 port_by_words k n x y = refl
 
 is_so_many : {A : Type 0} (b : Bool) (x y : A) → (if b then Some x else None) ≡ Some y → x ≡ y
@@ -20,18 +21,18 @@ not_so_many false x e = refl
 
 -- ---- lines of three words
 
-cell_by_words : (k x y : List ℕ) → lone_cell (k ∷ x ∷ y ∷ []) ≡ cell_from_words x y
-unfolding lone_cell cell_from number_at cell_from_words
+cell_by_words : (k x y : List ℕ) → cell_after_keyword (k ∷ x ∷ y ∷ []) ≡ cell_from_words x y
+unfolding cell_after_keyword cell_of_words_from number_at cell_from_words
 cell_by_words k x y = refl
 
 pub cell_found : (ws : List (List ℕ)) (k x y : List ℕ) → Some (k ∷ x ∷ y ∷ []) ≡ three ws →
-    cell_from_words x y ≡ lone_cell ws
+    cell_from_words x y ≡ cell_after_keyword ws
 unfolding three
 cell_found ws k x y e = sym (cell_by_words k x y)
-    ∙ ap lone_cell (sym (is_so_many (length ws == 3) ws (k ∷ x ∷ y ∷ []) (sym e)))
+    ∙ ap cell_after_keyword (sym (is_so_many (length ws == 3) ws (k ∷ x ∷ y ∷ []) (sym e)))
 
-pub cell_missed : (ws : List (List ℕ)) → None ≡ three ws → None ≡ lone_cell ws
-unfolding three lone_cell
+pub cell_missed : (ws : List (List ℕ)) → None ≡ three ws → None ≡ cell_after_keyword ws
+unfolding three cell_after_keyword
 cell_missed ws e = rw (not_so_many (length ws == 3) ws (sym e)) refl
 
 -- ---- lines of four words

@@ -2,7 +2,7 @@
 use Rattle.std.proofs.Common.{◌≡◌, ℕ, ◌&&◌, Bool, not, List, [], ◌∷◌, Option, None, Some, Vec, refl, sym, ap, ◌∙◌}
 use Rattle.std.specs.List.{list_all, list_any}
 use Rattle.std.specs.Global.{Global}
-use Rattle.section_text.specs.Codes.{or_else, code_where}
+use Rattle.section_text.specs.Codes.{or_else, code_if}
 use Rattle.section_text.specs.Ports.{Named, named_ports}
 use Rattle.section_text.specs.declared.ports.PortNames.{PortNames}
 use Rattle.section_text.specs.declared.ports.PortNames.TheVariants.{Any, Only}
@@ -58,6 +58,6 @@ module _ (ports : PortNames) (parts : List LayoutLine) where
 
     pub missing_by : (b : Bool) →
         (list_all (λ n. has seen_ins n) ins.items && list_all (λ n. has seen_outs n) outs.items) ≡ b →
-        code_where (not b) SomethingMissing ≡ missing_fault (named_ports ports) parts
+        code_if (not b) SomethingMissing ≡ missing_fault (named_ports ports) parts
     unfolding missing_fault
-    missing_by b e = rw only (ap (λ k. code_where (not k) SomethingMissing) (sym e ∙ all_seen))
+    missing_by b e = rw only (ap (λ k. code_if (not k) SomethingMissing) (sym e ∙ all_seen))

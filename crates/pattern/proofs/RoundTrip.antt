@@ -1,6 +1,5 @@
 -- The layout section has one text.
-use Rattle.std.proofs.Common.{ℕ, ◌+◌, List, length, drop, ◌∙◌, sym, ap, append_assoc}
-use Rattle.std.specs.List.{flat_map}
+use Rattle.std.proofs.Common.{ℕ, ◌+◌, List, length, drop, ◌∙◌, sym, ap, append_assoc, flat_map}
 use Rattle.pattern.specs.Layout.{parts_of}
 use Rattle.section_text.specs.Words.{lines_of}
 use Rattle.section_text.specs.Section.{section_of}

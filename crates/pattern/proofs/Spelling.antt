@@ -1,11 +1,11 @@
 -- Each line of the layout section is the spelling of its form.
-use Rattle.std.proofs.Common.{◌≡◌, ℕ, ◌+◌, true, eqb, List, [], ◌∷◌, length, Some, ap, subst, inl, inr}
-use Rattle.std.specs.Prelude.{slice_get, codes}
+use Rattle.std.proofs.Common.{◌≡◌, ℕ, ◌+◌, true, eqb, List, [], ◌∷◌, length, Some, ap, subst, inl, inr, slice_get}
+use Rattle.std.proofs.Common.{codes}
 use Rattle.std.specs.Fmt.{decimal}
 use Rattle.std.proofs.lemmas.Bool.{eqb-true}
 use Rattle.std.proofs.lemmas.Option.{option_and_then_some, same_Some}
 use Rattle.section_text.specs.Words.{◌>>=◌, words_of, is_word_at, lone, name_at, number_at}
-use Rattle.section_text.specs.Section.{ended_line}
+use Rattle.section_text.specs.Section.{with_line_feed}
 use Rattle.section_text.specs.declared.section.Form.TheVariants.{Header, Item, End}
 use Rattle.section_text.proofs.Spellings.{chosen, passed, number_at_spelled, one_word, three_words, four_words}
 use Rattle.section_text.proofs.Spellings.{five_words}
@@ -16,8 +16,8 @@ use Rattle.pattern.specs.declared.layout_line.Port.{Port}
 use Rattle.pattern.specs.declared.layout_line.LayoutHeader.{LayoutHeader}
 use Rattle.pattern.specs.declared.layout_line.LayoutLine.TheVariants.{Mirror, Ball, In, Out, Waste}
 use Rattle.pattern.specs.Layout.{cell}
-use Rattle.pattern.specs.Forms.{Line, cell_from, lone_cell, named_cell, port_of, corner_and_sides, rectangle_of}
-use Rattle.pattern.specs.Forms.{sides_and_steps, size_of, form_of}
+use Rattle.pattern.specs.Forms.{Line, cell_of_words_from, cell_after_keyword, port_after_keyword, port_of}
+use Rattle.pattern.specs.Forms.{corner_and_sides, rectangle_of, sides_and_steps, size_of, form_of}
 use Rattle.pattern.specs.Text.{coordinate, cell_words, rectangle_words, port_words, size_words, form_text}
 
 -- two words are a cell
@@ -25,31 +25,33 @@ record CellAt (ws : List (List ℕ)) (i j : ℕ) (c : Cell) : Type 0 where
   column : slice_get ws i ≡ Some (decimal (coordinate c.x))
   row : slice_get ws j ≡ Some (decimal (coordinate c.y))
 
-cell_spelled : (ws : List (List ℕ)) (i : ℕ) (c : Cell) → cell_from ws i ≡ Some c → CellAt ws i (i + 1) c
-unfolding cell_from
+cell_spelled : (ws : List (List ℕ)) (i : ℕ) (c : Cell) → cell_of_words_from ws i ≡ Some c → CellAt ws i (i + 1) c
+unfolding cell_of_words_from
 cell_spelled ws i c e =
     option_and_then_some (λ x. number_at ws (i + 1) >>= λ y. Some (cell x y)) (number_at ws i) c e (λ x first rest.
     option_and_then_some (λ y. Some (cell x y)) (number_at ws (i + 1)) c rest (λ y second made.
     subst (CellAt ws i (i + 1)) (same_Some (cell x y) c made)
     (record { column = number_at_spelled ws i x first; row = number_at_spelled ws (i + 1) y second })))
 
-lone_cell_spelled : (ws : List (List ℕ)) (w : List ℕ) (c : Cell) → is_word_at ws 0 w ≡ true → lone_cell ws ≡ Some c →
+lone_cell_spelled : (ws : List (List ℕ)) (w : List ℕ) (c : Cell) → is_word_at ws 0 w ≡ true →
+    cell_after_keyword ws ≡ Some c →
     ws ≡ w ∷ cell_words c
-unfolding lone_cell
+unfolding cell_after_keyword
 lone_cell_spelled ws w c at e =
-    let found = passed (eqb (length ws) 3) (cell_from ws 1) c e in
+    let found = passed (eqb (length ws) 3) (cell_of_words_from ws 1) c e in
     let words = cell_spelled ws 1 c found.1 in
     three_words ws w (decimal (coordinate c.x)) (decimal (coordinate c.y)) (eqb-true _ _ found.0)
     (is_at_is ws 0 w at) words.column words.row
 
 port_spelled : (ws : List (List ℕ)) (w : List ℕ) (p : Port) → is_word_at ws 0 w ≡ true → port_of ws ≡ Some p →
     ws ≡ w ∷ port_words p
-unfolding port_of named_cell
+unfolding port_of port_after_keyword
 port_spelled ws w p at e =
-    let found = passed (eqb (length ws) 4) (named_cell ws) p e in
-    option_and_then_some (λ n. cell_from ws 2 >>= λ c. Some (record { name = n; cell = c })) (name_at ws 1) p found.1
+    let found = passed (eqb (length ws) 4) (port_after_keyword ws) p e in
+    option_and_then_some (λ n. cell_of_words_from ws 2 >>= λ c. Some (record { name = n; cell = c }))
+    (name_at ws 1) p found.1
     (λ n named rest.
-    option_and_then_some (λ c. Some (record { name = n; cell = c })) (cell_from ws 2) p rest (λ c at_cell made.
+    option_and_then_some (λ c. Some (record { name = n; cell = c })) (cell_of_words_from ws 2) p rest (λ c at_cell made.
     let words = cell_spelled ws 2 c at_cell in
     subst (λ (q : Port). ws ≡ w ∷ port_words q) (same_Some (record { name = n; cell = c }) p made)
     (four_words ws w n (decimal (coordinate c.x)) (decimal (coordinate c.y)) (eqb-true _ _ found.0) (is_at_is ws 0 w at)
@@ -120,7 +122,7 @@ form_words ws f e =
             (λ r found made. subst (SpelledAs ws) (same_Some (Item (Mirror r)) f made)
             (rectangle_spelled ws (codes "mirror") r q.0 found))
         | inr q ↦ elim (chosen (is_word_at ws 0 (codes "ball")) _ _ (Some f) q.1) [
-          | inl r ↦ option_and_then_some (λ c. Some (Item (Ball c))) (lone_cell ws) f r.1
+          | inl r ↦ option_and_then_some (λ c. Some (Item (Ball c))) (cell_after_keyword ws) f r.1
               (λ c found made. subst (SpelledAs ws) (same_Some (Item (Ball c)) f made)
               (lone_cell_spelled ws (codes "ball") c r.0 found))
           | inr r ↦ elim (chosen (is_word_at ws 0 (codes "in")) _ _ (Some f) r.1) [
@@ -132,7 +134,7 @@ form_words ws f e =
                   (λ k found made. subst (SpelledAs ws) (same_Some (Item (Out k)) f made)
                   (port_spelled ws (codes "out") k t.0 found))
               | inr t ↦ elim (chosen (is_word_at ws 0 (codes "waste")) _ _ (Some f) t.1) [
-                | inl u ↦ option_and_then_some (λ c. Some (Item (Waste c))) (lone_cell ws) f u.1
+                | inl u ↦ option_and_then_some (λ c. Some (Item (Waste c))) (cell_after_keyword ws) f u.1
                     (λ c found made. subst (SpelledAs ws) (same_Some (Item (Waste c)) f made)
                     (lone_cell_spelled ws (codes "waste") c u.0 found))
                 | inr u ↦
@@ -147,18 +149,19 @@ form_words ws f e =
       ]
     ]
 
-pub form_line : (l : List ℕ) (f : Line) → form_of (words_of l) ≡ Some f → ended_line l ≡ form_text f
+pub form_line : (l : List ℕ) (f : Line) → form_of (words_of l) ≡ Some f → with_line_feed l ≡ form_text f
 unfolding first_of others_of
-form_line l (Header s) e = ap ended_line
+form_line l (Header s) e = ap with_line_feed
     (line_from_words l (codes "layout") (size_words s) (form_words (words_of l) (Header s) e))
 form_line l (Item (Mirror r)) e =
-    ap ended_line (line_from_words l (codes "mirror") (rectangle_words r) (form_words (words_of l) (Item (Mirror r)) e))
+    ap with_line_feed (line_from_words l (codes "mirror") (rectangle_words r)
+    (form_words (words_of l) (Item (Mirror r)) e))
 form_line l (Item (Ball c)) e =
-    ap ended_line (line_from_words l (codes "ball") (cell_words c) (form_words (words_of l) (Item (Ball c)) e))
+    ap with_line_feed (line_from_words l (codes "ball") (cell_words c) (form_words (words_of l) (Item (Ball c)) e))
 form_line l (Item (In p)) e =
-    ap ended_line (line_from_words l (codes "in") (port_words p) (form_words (words_of l) (Item (In p)) e))
+    ap with_line_feed (line_from_words l (codes "in") (port_words p) (form_words (words_of l) (Item (In p)) e))
 form_line l (Item (Out p)) e =
-    ap ended_line (line_from_words l (codes "out") (port_words p) (form_words (words_of l) (Item (Out p)) e))
+    ap with_line_feed (line_from_words l (codes "out") (port_words p) (form_words (words_of l) (Item (Out p)) e))
 form_line l (Item (Waste c)) e =
-    ap ended_line (line_from_words l (codes "waste") (cell_words c) (form_words (words_of l) (Item (Waste c)) e))
-form_line l End e = ap ended_line (line_from_words l (codes "end") [] (form_words (words_of l) End e))
+    ap with_line_feed (line_from_words l (codes "waste") (cell_words c) (form_words (words_of l) (Item (Waste c)) e))
+form_line l End e = ap with_line_feed (line_from_words l (codes "end") [] (form_words (words_of l) End e))

@@ -1,8 +1,8 @@
 -- The cells of a line, and the cells that are taken.
 use Rattle.std.proofs.Common.{◌≡◌, ℕ, zero, suc, ◌+◌, ◌%◌, ◌<◌, ◌≤◌, ◌||◌, ◌&&◌, ℤ, pos, Bool, true, false, not, List}
-use Rattle.std.proofs.Common.{[], ◌∷◌, ◌++◌, None, Some, if◌then◌else◌, refl, sym, subst, ◌∙◌, arith}
-use Rattle.std.specs.Prelude.{All, nat_le}
-use Rattle.std.specs.List.{AllByRecursion, list_any, flat_map, range_with_len}
+use Rattle.std.proofs.Common.{[], ◌∷◌, ◌++◌, None, Some, if◌then◌else◌, refl, sym, subst, ◌∙◌, arith, All, nat_le}
+use Rattle.std.proofs.Common.{flat_map}
+use Rattle.std.specs.List.{AllByRecursion, list_any, range_with_len}
 use Rattle.std.proofs.lemmas.Bool.Decides.{nat_tests}
 use Rattle.std.proofs.lemmas.List.Elements.{All-from_recursion}
 use Rattle.bbm_rule.specs.Board.{Board, live, is_inside as is_on_board}
@@ -14,8 +14,8 @@ use Rattle.pattern.specs.declared.layout_line.LayoutHeader.{LayoutHeader}
 use Rattle.pattern.specs.declared.layout_line.LayoutLine.{LayoutLine}
 use Rattle.pattern.specs.declared.layout_line.LayoutLine.TheVariants.{Mirror, Ball, In, Out, Waste}
 use Rattle.pattern.specs.Layout.{cell, row_cells, rectangle_cells, in_cells, in_layout}
-use Rattle.pattern.specs.Lines.{is_side, size_fault, is_inside, cells_of, begins, ends, taken_at_start, ended, is_taken}
-use Rattle.pattern.specs.Lines.{cell_fault}
+use Rattle.pattern.specs.Lines.{is_layout_side, size_fault, is_inside, cells_of, begins, ends, cells_taken_at_start}
+use Rattle.pattern.specs.Lines.{ended, is_taken, cell_fault}
 use Rattle.pattern.proofs.Added.{no_code, begun_push, ended_push}
 use Rattle.section_text.specs.declared.code.RefusalCode.TheVariants.{PastLimit, TakenCell}
 
@@ -32,13 +32,13 @@ all_three true true false e = absurd cc
 all_three true false c e = absurd cc
 all_three false b c e = absurd cc
 
-side : (n : ℕ) → is_side n ≡ true → (2 ≤ n) × (n ≤ 512) × (n % 2 ≡ 0)
+side : (n : ℕ) → is_layout_side n ≡ true → (2 ≤ n) × (n ≤ 512) × (n % 2 ≡ 0)
 side n e = grind (arith, nat_tests)
 
 pub is_sized : (s : LayoutHeader) → size_fault s ≡ None → IsSized s
 unfolding size_fault
 is_sized s e =
-    let good = all_three (is_side s.w) (is_side s.h) (nat_le s.steps 65536) (no_code _ PastLimit e) in
+    let good = all_three (is_layout_side s.w) (is_layout_side s.h) (nat_le s.steps 65536) (no_code _ PastLimit e) in
     record { width = side s.w good.0; height = side s.h good.1; steps = grind (arith, nat_tests, good.2) }
 
 -- ---- cells that lie inside
@@ -118,7 +118,7 @@ any_same p q same [] = refl
 any_same p q same (c ∷ cells) = rw (same c, any_same p q same cells) refl
 
 pub taken_by : (one other : Board) (parts : List LayoutLine) (part : LayoutLine) (cells : List Cell) →
-    ((x y : ℤ) → live one x y ≡ taken_at_start parts x y) → ((x y : ℤ) → live other x y ≡ ended parts x y) →
+    ((x y : ℤ) → live one x y ≡ cells_taken_at_start parts x y) → ((x y : ℤ) → live other x y ≡ ended parts x y) →
     cells ≡ cells_of part
     → (if begins part then list_any (λ c. live one c.x c.y) cells else list_any (λ c. live other c.x c.y) cells)
     ≡ is_taken parts part
@@ -126,7 +126,8 @@ unfolding is_taken
 taken_by one other parts part cells same_begun same_ended are =
     rw (
       are,
-      any_same (λ c. live one c.x c.y) (λ c. taken_at_start parts c.x c.y) (λ c. same_begun c.x c.y) (cells_of part),
+      any_same (λ c. live one c.x c.y) (λ c. cells_taken_at_start parts c.x c.y) (λ c. same_begun c.x c.y)
+          (cells_of part),
       any_same (λ c. live other c.x c.y) (λ c. ended parts c.x c.y) (λ c. same_ended c.x c.y) (cells_of part),
     ) refl
 
@@ -135,9 +136,9 @@ taken_by one other parts part cells same_begun same_ended are =
 module _ (old new : Board) (parts more : List LayoutLine) (part : LayoutLine) (cells : List Cell)
     (are : cells ≡ cells_of part)
     (longer : more ≡ parts ++ part ∷ []) where
-  pub begun_more : ((x y : ℤ) → live old x y ≡ taken_at_start parts x y) →
+  pub begun_more : ((x y : ℤ) → live old x y ≡ cells_taken_at_start parts x y) →
       ((x y : ℤ) → live new x y ≡ (live old x y || (begins part && in_cells cells x y))) → (x y : ℤ) →
-      live new x y ≡ taken_at_start more x y
+      live new x y ≡ cells_taken_at_start more x y
   begun_more before after x y = after x y ∙ rw (before x y, are, longer, begun_push parts part x y) refl
 
   pub ended_more : ((x y : ℤ) → live old x y ≡ ended parts x y) →

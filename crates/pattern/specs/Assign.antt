@@ -1,7 +1,7 @@
 -- The assign section: the names that are on.
 use Rattle.std.specs.Prelude.{ℕ, not, List, Option, Some, None, codes, if◌then◌else◌}
 use Rattle.section_text.specs.Words.{◌>>=◌, is_word_at, has, lone, lone_name}
-use Rattle.section_text.specs.Codes.{code_where, or_else}
+use Rattle.section_text.specs.Codes.{code_if, or_else}
 use Rattle.section_text.specs.Section.{Grammar}
 use Rattle.section_text.specs.declared.section.Form.{Form}
 use Rattle.section_text.specs.declared.section.Form.TheVariants.{Header, Item, End}
@@ -21,15 +21,15 @@ assign_form ws =
     else None
 
 -- a name that may be on, and is not on yet
-unfoldable pub on_fault : List (List ℕ) → List (List ℕ) → List ℕ → Option RefusalCode
-on_fault ins before n = or_else (code_where (not (has ins n)) UnknownName) (code_where (has before n) DefinedTwice)
+unfoldable pub name_on_fault : List (List ℕ) → List (List ℕ) → List ℕ → Option RefusalCode
+name_on_fault ins before n = or_else (code_if (not (has ins n)) UnknownName) (code_if (has before n) DefinedTwice)
 
 -- the section, if these names may be on
 abbrev pub assign_grammar : List (List ℕ) → Grammar (Unit {0}) (List ℕ)
 assign_grammar ins = record {
   form = assign_form;
   header_fault = λ h. None;
-  item_fault = λ h before n. on_fault ins before n;
+  item_fault = λ h before n. name_on_fault ins before n;
   end_fault = λ h names. None;
 }
 

@@ -16,26 +16,26 @@ abbrev pub Line : Type 0
 Line = Form LayoutHeader LayoutLine
 
 -- the cell that word i and the next one are
-unfoldable pub cell_from : List (List ℕ) → ℕ → Option Cell
-cell_from ws i = do
+unfoldable pub cell_of_words_from : List (List ℕ) → ℕ → Option Cell
+cell_of_words_from ws i = do
   x ← number_at ws i
   y ← number_at ws (i + 1)
   Some (cell x y)
 
 -- a keyword and a cell
-unfoldable pub lone_cell : List (List ℕ) → Option Cell
-lone_cell ws = if length ws == 3 then cell_from ws 1 else None
+unfoldable pub cell_after_keyword : List (List ℕ) → Option Cell
+cell_after_keyword ws = if length ws == 3 then cell_of_words_from ws 1 else None
 
 -- a keyword, a name and a cell
-unfoldable pub named_cell : List (List ℕ) → Option Port
-named_cell ws = do
+unfoldable pub port_after_keyword : List (List ℕ) → Option Port
+port_after_keyword ws = do
   n ← name_at ws 1
-  c ← cell_from ws 2
+  c ← cell_of_words_from ws 2
   Some (record { name = n; cell = c })
 
 -- the port of an `in` or `out` line
 unfoldable pub port_of : List (List ℕ) → Option Port
-port_of ws = if length ws == 4 then named_cell ws else None
+port_of ws = if length ws == 4 then port_after_keyword ws else None
 
 -- a keyword and four numbers
 unfoldable pub corner_and_sides : List (List ℕ) → Option Rectangle
@@ -67,9 +67,9 @@ unfoldable pub form_of : List (List ℕ) → Option Line
 form_of ws =
     if is_word_at ws 0 (codes "layout") then (size_of ws >>= λ s. Some (Header s))
     else if is_word_at ws 0 (codes "mirror") then (rectangle_of ws >>= λ r. Some (Item (Mirror r)))
-    else if is_word_at ws 0 (codes "ball") then (lone_cell ws >>= λ c. Some (Item (Ball c)))
+    else if is_word_at ws 0 (codes "ball") then (cell_after_keyword ws >>= λ c. Some (Item (Ball c)))
     else if is_word_at ws 0 (codes "in") then (port_of ws >>= λ p. Some (Item (In p)))
     else if is_word_at ws 0 (codes "out") then (port_of ws >>= λ p. Some (Item (Out p)))
-    else if is_word_at ws 0 (codes "waste") then (lone_cell ws >>= λ c. Some (Item (Waste c)))
+    else if is_word_at ws 0 (codes "waste") then (cell_after_keyword ws >>= λ c. Some (Item (Waste c)))
     else if is_word_at ws 0 (codes "end") then lone ws End
     else None

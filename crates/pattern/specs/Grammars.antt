@@ -6,14 +6,14 @@ use Rattle.pattern.specs.declared.layout_line.LayoutHeader.{LayoutHeader}
 use Rattle.pattern.specs.declared.layout_line.LayoutLine.{LayoutLine}
 use Rattle.pattern.specs.Layout.{Pattern, parts_of}
 use Rattle.pattern.specs.Forms.{form_of}
-use Rattle.pattern.specs.Lines.{size_fault, part_fault, missing_fault}
+use Rattle.pattern.specs.Lines.{size_fault, layout_line_fault, missing_fault}
 
 -- the section, if ports have these names, or any
 abbrev pub layout_grammar : Option Named → Grammar LayoutHeader LayoutLine
 layout_grammar ports = record {
   form = form_of;
   header_fault = size_fault;
-  item_fault = part_fault ports;
+  item_fault = layout_line_fault ports;
   end_fault = λ size parts. missing_fault ports parts;
 }
 

@@ -2,7 +2,7 @@
 use Rattle.std.specs.Prelude.{◌≡◌, ℕ, ◌+◌, List, length, take, drop, Option, Ok}
 use Rattle.std.specs.List.{flat_map}
 use Rattle.section_text.specs.Words.{lines_of}
-use Rattle.section_text.specs.Section.{section_of, ended_line}
+use Rattle.section_text.specs.Section.{section_of, with_line_feed}
 use Rattle.section_text.specs.Ports.{Named}
 use Rattle.pattern.specs.Layout.{Pattern, parts_of}
 use Rattle.pattern.specs.Grammars.{layout_grammar, layout_section}
@@ -12,7 +12,7 @@ use Rattle.pattern.specs.Text.{layout_text}
 abbrev pub PrintsWhatIsRead : Type 0
 PrintsWhatIsRead = (ports : Option Named) (n : ℕ) (ls : List (List ℕ)) (p : Pattern) →
     section_of (layout_grammar ports) n ls ≡ Ok (layout_section p) →
-    flat_map ended_line (take (length (parts_of p) + 2) ls) ≡ layout_text p
+    flat_map with_line_feed (take (length (parts_of p) + 2) ls) ≡ layout_text p
 
 -- and it is read as the same layout again, wherever it is
 abbrev pub ReadsWhatIsPrinted : Type 0

@@ -46,8 +46,8 @@ abbrev pub in_ports_on : (List ℕ → Bool) → List Port → State
 in_ports_on on ports x y = list_any (λ p. on p.name && is_at p.cell x y) ports
 
 -- no two ports are at one cell
-abbrev pub HaveOwnCells : List Port → Type 0
-HaveOwnCells ports = (i j : ℕ) (p q : Port) → slice_get ports i ≡ Some p → slice_get ports j ≡ Some q →
+abbrev pub HaveDistinctCells : List Port → Type 0
+HaveDistinctCells ports = (i j : ℕ) (p q : Port) → slice_get ports i ≡ Some p → slice_get ports j ≡ Some q →
     p.cell ≡ q.cell → i ≡ j
 
 -- ---- the run

@@ -7,7 +7,7 @@ use Rattle.std.specs.Str.{bytes_eq}
 use Rattle.bbm_rule.specs.Plane.{State, is_at}
 use Rattle.bbm_rule.specs.declared.block.Cell.{Cell}
 use Rattle.section_text.specs.Words.{has}
-use Rattle.section_text.specs.Codes.{code_where, or_else}
+use Rattle.section_text.specs.Codes.{code_if, or_else}
 use Rattle.section_text.specs.Ports.{Named}
 use Rattle.pattern.specs.declared.layout_line.LayoutHeader.{LayoutHeader}
 use Rattle.pattern.specs.declared.layout_line.LayoutLine.{LayoutLine}
@@ -20,12 +20,12 @@ use Rattle.section_text.specs.declared.code.RefusalCode.TheVariants.{SomethingMi
 -- ---- limits
 
 -- whether a side of the rectangle is within its limits
-abbrev pub is_side : ℕ → Bool
-is_side n = nat_le 2 n && nat_le n 512 && (n % 2 == 0)
+abbrev pub is_layout_side : ℕ → Bool
+is_layout_side n = nat_le 2 n && nat_le n 512 && (n % 2 == 0)
 
 -- width and height even, 2 to 512; at most 65,536 steps
 unfoldable pub size_fault : LayoutHeader → Option RefusalCode
-size_fault s = code_where (not (is_side s.w && is_side s.h && nat_le s.steps 65536)) PastLimit
+size_fault s = code_if (not (is_layout_side s.w && is_layout_side s.h && nat_le s.steps 65536)) PastLimit
 
 -- whether a side of a mirror is within its limits
 abbrev pub is_mirror_side : ℕ → Bool
@@ -33,7 +33,7 @@ is_mirror_side n = nat_le 1 n && nat_le n 512
 
 -- the sides of a mirror are 1 to 512
 unfoldable pub limit_fault : LayoutLine → Option RefusalCode
-limit_fault (Mirror r) = code_where (not (is_mirror_side r.w && is_mirror_side r.h)) PastLimit
+limit_fault (Mirror r) = code_if (not (is_mirror_side r.w && is_mirror_side r.h)) PastLimit
 limit_fault _ = None
 
 -- ---- order
@@ -47,12 +47,12 @@ rank_of (Out p) = 3
 rank_of (Waste c) = 4
 
 -- whether a line of a later kind is before it
-unfoldable pub is_late : List LayoutLine → LayoutLine → Bool
-is_late before part = list_any (λ b. nat_lt (rank_of part) (rank_of b)) before
+unfoldable pub has_later_kind_before : List LayoutLine → LayoutLine → Bool
+has_later_kind_before before part = list_any (λ b. nat_lt (rank_of part) (rank_of b)) before
 
 -- the code of a line after one of a later kind
 unfoldable pub order_fault : List LayoutLine → LayoutLine → Option RefusalCode
-order_fault before part = code_where (is_late before part) OutOfOrder
+order_fault before part = code_if (has_later_kind_before before part) OutOfOrder
 
 -- ---- names; any is good if no names of ports are given
 
@@ -62,19 +62,19 @@ allows_any_name None = true
 allows_any_name (Some names) = false
 
 -- whether an input cell may have the name
-abbrev pub is_in_name : Option Named → List ℕ → Bool
-is_in_name None n = true
-is_in_name (Some names) n = has names.ins n
+abbrev pub may_name_input : Option Named → List ℕ → Bool
+may_name_input None n = true
+may_name_input (Some names) n = has names.ins n
 
 -- whether an output cell may have the name
-abbrev pub is_out_name : Option Named → List ℕ → Bool
-is_out_name None n = true
-is_out_name (Some names) n = has names.outs n
+abbrev pub may_name_output : Option Named → List ℕ → Bool
+may_name_output None n = true
+may_name_output (Some names) n = has names.outs n
 
 -- the name of an input cell is one of the inputs, that of an output cell one of the outputs
 unfoldable pub name_fault : Option Named → LayoutLine → Option RefusalCode
-name_fault ports (In p) = code_where (not (is_in_name ports p.name)) UnknownName
-name_fault ports (Out p) = code_where (not (is_out_name ports p.name)) UnknownName
+name_fault ports (In p) = code_if (not (may_name_input ports p.name)) UnknownName
+name_fault ports (Out p) = code_if (not (may_name_output ports p.name)) UnknownName
 name_fault ports _ = None
 
 -- ---- cells
@@ -112,8 +112,8 @@ abbrev pub holds : LayoutLine → State
 holds part x y = list_any (λ c. is_at c x y) (cells_of part)
 
 -- the cells that are taken at the start, and at the end
-unfoldable pub taken_at_start : List LayoutLine → State
-taken_at_start parts x y = list_any (λ b. begins b && holds b x y) parts
+unfoldable pub cells_taken_at_start : List LayoutLine → State
+cells_taken_at_start parts x y = list_any (λ b. begins b && holds b x y) parts
 
 -- whether one of the lines takes the cell (x, y) at the end
 unfoldable pub ended : List LayoutLine → State
@@ -122,12 +122,12 @@ ended parts x y = list_any (λ b. ends b && holds b x y) parts
 -- one of its cells is taken at the start, if it takes them then, or at the end
 unfoldable pub is_taken : List LayoutLine → LayoutLine → Bool
 is_taken before part =
-    if begins part then list_any (λ c. taken_at_start before c.x c.y) (cells_of part)
+    if begins part then list_any (λ c. cells_taken_at_start before c.x c.y) (cells_of part)
     else list_any (λ c. ended before c.x c.y) (cells_of part)
 
 -- the code of a line with a cell outside the layout, or a cell that is taken
 unfoldable pub cell_fault : LayoutHeader → List LayoutLine → LayoutLine → Option RefusalCode
-cell_fault s before part = code_where (not (is_inside s part) || is_taken before part) TakenCell
+cell_fault s before part = code_if (not (is_inside s part) || is_taken before part) TakenCell
 
 -- ---- a line after the lines before it
 
@@ -136,8 +136,8 @@ unfoldable pub line_fault : Option Named → List LayoutLine → LayoutLine → 
 line_fault ports before part = or_else (order_fault before part) (or_else (limit_fault part) (name_fault ports part))
 
 -- the code of a line after those before it
-unfoldable pub part_fault : Option Named → LayoutHeader → List LayoutLine → LayoutLine → Option RefusalCode
-part_fault ports s before part = or_else (line_fault ports before part) (cell_fault s before part)
+unfoldable pub layout_line_fault : Option Named → LayoutHeader → List LayoutLine → LayoutLine → Option RefusalCode
+layout_line_fault ports s before part = or_else (line_fault ports before part) (cell_fault s before part)
 
 -- each input and each output has a cell
 abbrev pub is_in_line_named : List ℕ → LayoutLine → Bool
@@ -153,7 +153,7 @@ is_out_line_named n _ = false
 unfoldable pub missing_fault : Option Named → List LayoutLine → Option RefusalCode
 missing_fault None parts = None
 missing_fault (Some names) parts =
-    code_where (not (list_all (λ n. list_any (is_in_line_named n) parts) names.ins
+    code_if (not (list_all (λ n. list_any (is_in_line_named n) parts) names.ins
     && list_all (λ n. list_any (is_out_line_named n) parts) names.outs)) SomethingMissing
 
 -- the names of the ports are good, and each input and each output that is asked for has a cell

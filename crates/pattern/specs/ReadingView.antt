@@ -5,7 +5,7 @@ use Rattle.pattern.specs.Layout.{parts_of}
 use Rattle.section_text.specs.Ports.{named_ports}
 use Rattle.pattern.specs.declared.reading.Reading.TheInside.{Inside}
 use Rattle.section_text.specs.Words.{has}
-use Rattle.pattern.specs.Lines.{allows_any_name, is_in_line_named, is_in_name, is_out_line_named, is_out_name}
+use Rattle.pattern.specs.Lines.{allows_any_name, is_in_line_named, may_name_input, is_out_line_named, may_name_output}
 use Rattle.pattern.specs.Readings.{ReadingView}
 
 -- the view of a reader, from its fields
@@ -15,9 +15,10 @@ reading_view a = record { ports = named_ports a.ports.now; layout = a.draft }
 -- the fields of every reader: its sets of names are those of its ports and of its lines
 pub record IsReading (a : Inside) : Type 0 where
   pub known_ins : (n : List ℕ) →
-      is_in_name (named_ports a.ports.now) n ≡ (allows_any_name (named_ports a.ports.now) || has a.known_ins.keys n)
+      may_name_input (named_ports a.ports.now) n ≡ (allows_any_name (named_ports a.ports.now) || has a.known_ins.keys n)
   pub known_outs : (n : List ℕ) →
-      is_out_name (named_ports a.ports.now) n ≡ (allows_any_name (named_ports a.ports.now) || has a.known_outs.keys n)
+      may_name_output (named_ports a.ports.now) n
+      ≡ (allows_any_name (named_ports a.ports.now) || has a.known_outs.keys n)
   pub seen_ins : allows_any_name (named_ports a.ports.now) ≡ false → (n : List ℕ) →
       has a.seen_ins.keys n ≡ list_any (is_in_line_named n) (parts_of a.draft)
   pub seen_outs : allows_any_name (named_ports a.ports.now) ≡ false → (n : List ℕ) →

@@ -3,7 +3,7 @@ ghost use Rattle.std.specs.Prelude.{◌≡◌, ℕ, true, [], List};
 ghost use Rattle.section_text.specs.Words.{words_of, has};
 ghost use Rattle.section_text.specs.Feeds.{IsLine, line_bytes};
 ghost use Rattle.section_text.specs.Section.{Reads};
-ghost use Rattle.pattern.specs.Assign.{assign_form, assign_grammar, assign_section, on_fault};
+ghost use Rattle.pattern.specs.Assign.{assign_form, assign_grammar, assign_section, name_on_fault};
 
 use crate::names::name_set;
 use indexmap::IndexSet;
@@ -58,7 +58,7 @@ impl<'a> Section for AssignReader<'a> {
         Ok(())
     }
 
-    #[tactic(auto, unfolding(crate::specs::Assign::on_fault))]
+    #[tactic(auto, unfolding(crate::specs::Assign::name_on_fault))]
     fn add(&mut self, name: Name) -> Result<(), LineFault> {
         if !self.known.contains(&name) {
             return Err(LineFault::Code(RefusalCode::UnknownName));

@@ -18,7 +18,7 @@ use std::marker::Model;
 #[derive(Drop)]
 pub(crate) struct Draft {
     layout: Layout,
-    taken_at_start: Grid,
+    cells_taken_at_start: Grid,
     ended: Grid,
 }
 
@@ -59,11 +59,11 @@ impl Draft {
         ensures size { IfOk result (λ draft. draft.size ≡ size) }
         ensures parts { IfOk result (λ draft. parts_of draft ≡ []) }
     {
-        let taken_at_start = Grid::new(alloc, size.w, size.h)?;
+        let cells_taken_at_start = Grid::new(alloc, size.w, size.h)?;
         let ended = Grid::new(alloc, size.w, size.h)?;
         Ok(Draft {
             layout: Layout::new(alloc, size),
-            taken_at_start,
+            cells_taken_at_start,
             ended,
         })
     }
@@ -74,7 +74,7 @@ impl Draft {
     {
         let Draft {
             layout,
-            taken_at_start: _,
+            cells_taken_at_start: _,
             ended: _,
         } = self;
         layout
@@ -103,7 +103,12 @@ impl Draft {
         let Ok(cells) = cells_in(alloc, part, size) else {
             return Err(LineFault::Memory);
         };
-        if is_any_taken(part.begins(), &self.taken_at_start, &self.ended, &cells) {
+        if is_any_taken(
+            part.begins(),
+            &self.cells_taken_at_start,
+            &self.ended,
+            &cells,
+        ) {
             return Err(LineFault::Code(RefusalCode::TakenCell));
         }
         Ok(cells)
@@ -126,7 +131,7 @@ impl Draft {
         let Ok(()) = self.layout.add(part) else {
             return Err(LineFault::Memory);
         };
-        take_cells_if(begins, &mut self.taken_at_start, &cells);
+        take_cells_if(begins, &mut self.cells_taken_at_start, &cells);
         take_cells_if(ends, &mut self.ended, &cells);
         Ok(())
     }

@@ -1,10 +1,10 @@
 //! The line forms of the layout section.
 ghost use Rattle.std.specs.Prelude.{◌≡◌, ◌≤◌};
-ghost use Rattle.section_text.specs.Listed.{four_listed, five_listed};
+ghost use Rattle.section_text.specs.Listed.{list_of_four_words, list_of_five_words};
 ghost use Rattle.section_text.specs.Words.{words_of};
 ghost use Rattle.section_text.specs.Feeds.{IsLine, line_bytes};
 ghost use Rattle.pattern.specs.PortWords.{cell_from_words, port_from_words};
-ghost use Rattle.pattern.specs.Forms.{cell_from, lone_cell, port_of, rectangle_of, size_of, form_of};
+ghost use Rattle.pattern.specs.Forms.{cell_of_words_from, cell_after_keyword, port_of, rectangle_of, size_of, form_of};
 
 use crate::layout_line::{LayoutHeader, LayoutLine, Port, Rectangle};
 use bbm_rule::Cell;
@@ -12,7 +12,7 @@ use section_text::{Feed, FiveWords, Form, FourWords, Line, Name, is_keyword, rea
 
 fn lone_cell_from_line(feed: &Feed, line: &Line) -> Option<Cell>
     requires { IsLine feed.now line.now }
-    ensures { result ≡ lone_cell (words_of (line_bytes feed.now line.now)) }
+    ensures { result ≡ cell_after_keyword (words_of (line_bytes feed.now line.now)) }
 {
     let Some(words) = feed.three_words(line) else {
         return None;
@@ -55,7 +55,7 @@ fn port_from_line(feed: &Feed, line: &Line) -> Option<Port>
 
 #[tactic(auto, unfolding(crate::specs::Forms::rectangle_of, crate::specs::Forms::corner_and_sides, section_text::specs::Words::number_at))]
 fn rectangle_of_words(words: &FiveWords) -> Option<Rectangle>
-    ensures { result ≡ rectangle_of (five_listed words.now) }
+    ensures { result ≡ rectangle_of (list_of_five_words words.now) }
 {
     let x = read_number(words.second)?;
     let y = read_number(words.third)?;
@@ -76,7 +76,7 @@ fn rectangle_from_line(feed: &Feed, line: &Line) -> Option<Rectangle>
 
 #[tactic(auto, unfolding(crate::specs::Forms::size_of, crate::specs::Forms::sides_and_steps, section_text::specs::Words::number_at))]
 fn size_of_words(words: &FourWords) -> Option<LayoutHeader>
-    ensures { result ≡ size_of (four_listed words.now) }
+    ensures { result ≡ size_of (list_of_four_words words.now) }
 {
     let w = read_number(words.second)?;
     let h = read_number(words.third)?;

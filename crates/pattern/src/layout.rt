@@ -1,7 +1,7 @@
 //! Layouts.
 ghost use Rattle.std.specs.Prelude.{◌≡◌, ◌++◌, [], ◌∷◌, None, OnOk, OnErr};
-ghost use Rattle.pattern.specs.Layout.{HaveOwnCells, parts_of};
-ghost use Rattle.pattern.specs.Lines.{AreGoodAfter, cell_fault, limit_fault, is_late, order_fault, size_fault};
+ghost use Rattle.pattern.specs.Layout.{HaveDistinctCells, parts_of};
+ghost use Rattle.pattern.specs.Lines.{AreGoodAfter, cell_fault, limit_fault, has_later_kind_before, order_fault, size_fault};
 
 use crate::layout_line::{LayoutHeader, LayoutLine, Port, Rectangle};
 use bbm_rule::Cell;
@@ -55,7 +55,7 @@ impl Layout {
     // Whether a line of a later kind stands already.
     #[tactic(auto, using(crate::proofs::Orders::late_mirror, crate::proofs::Orders::late_ball, crate::proofs::Orders::late_in, crate::proofs::Orders::late_out, crate::proofs::Orders::late_waste))]
     fn has_later(&self, part: &LayoutLine) -> bool
-        ensures { result ≡ is_late (parts_of self.now) part.now }
+        ensures { result ≡ has_later_kind_before (parts_of self.now) part.now }
     {
         let waste = !self.wastes.is_empty();
         let output = !self.outs.is_empty() | waste;
@@ -127,7 +127,7 @@ impl Layout {
     /// Returns the input cells, in the order of their lines. No two are the same cell.
     pub fn ins(&self) -> &[Port]
         ensures same_ports { result.now ≡ self.now.ins }
-        ensures apart { HaveOwnCells result.now }
+        ensures apart { HaveDistinctCells result.now }
     {
         self.ins.as_slice()
     }
@@ -135,7 +135,7 @@ impl Layout {
     /// Returns the output cells, in the order of their lines. No two are the same cell.
     pub fn outs(&self) -> &[Port]
         ensures same_ports { result.now ≡ self.now.outs }
-        ensures apart { HaveOwnCells result.now }
+        ensures apart { HaveDistinctCells result.now }
     {
         self.outs.as_slice()
     }

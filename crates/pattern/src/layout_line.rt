@@ -10,7 +10,7 @@
 //! - `Waste`: a cell that may be live or dead at the end.
 ghost use Rattle.std.specs.Prelude.{◌≡◌, ◌+◌, ◌&&◌, nat_le};
 ghost use Rattle.pattern.specs.Layout.{in_layout};
-ghost use Rattle.pattern.specs.Lines.{begins, ends, is_inside, is_side, is_mirror_side, limit_fault, size_fault};
+ghost use Rattle.pattern.specs.Lines.{begins, ends, is_inside, is_layout_side, is_mirror_side, limit_fault, size_fault};
 
 use bbm_rule::Cell;
 use section_text::{Name, RefusalCode};
@@ -49,13 +49,13 @@ pub enum LayoutLine {
     Waste(Cell),
 }
 
-fn is_even_side(n: u32) -> bool
-    ensures { result ≡ is_side n }
+fn is_side_in_limits(n: u32) -> bool
+    ensures { result ≡ is_layout_side n }
 {
     2 <= n && n <= 512 && n % 2 == 0
 }
 
-fn has_mirror_sides(r: Rectangle) -> bool
+fn are_mirror_sides_in_limits(r: Rectangle) -> bool
     ensures { result ≡ (is_mirror_side r.w && is_mirror_side r.h) }
 {
     1 <= r.w && r.w <= 512 && 1 <= r.h && r.h <= 512
@@ -74,7 +74,7 @@ impl LayoutHeader {
     pub(crate) fn limit_code(self) -> Option<RefusalCode>
         ensures { result ≡ size_fault self }
     {
-        if is_even_side(self.w) && is_even_side(self.h) && self.steps <= 65_536 {
+        if is_side_in_limits(self.w) && is_side_in_limits(self.h) && self.steps <= 65_536 {
             None
         } else {
             Some(RefusalCode::PastLimit)
@@ -130,7 +130,7 @@ impl LayoutLine {
     {
         match self {
             LayoutLine::Mirror(r) => {
-                if has_mirror_sides(*r) {
+                if are_mirror_sides_in_limits(*r) {
                     None
                 } else {
                     Some(RefusalCode::PastLimit)

@@ -24,7 +24,7 @@ pub(crate) fn add_name(index: &mut IndexSet<Name, Seed>, name: Name) -> Result<(
 
 /// Adds a name if it is not there and there is room.
 #[tactic(auto, using(crate::proofs::NameSets::has_push, crate::proofs::NameSets::has_again))]
-pub(crate) fn put_name(index: &mut IndexSet<Name, Seed>, name: Name)
+pub(crate) fn put_name_if_room(index: &mut IndexSet<Name, Seed>, name: Name)
     requires { 0 < spare index.old }
     ensures { (n : List ℕ) → has index.new.keys n ≡ (has index.old.keys n || bytes_eq n name) }
 {

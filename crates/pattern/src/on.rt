@@ -7,7 +7,7 @@ use indexmap::IndexSet;
 use section_text::{Name, Seed};
 use std::alloc::{AllocError, Global};
 
-fn push_bits(
+fn push_whether_on(
     bits: &mut Vec<bool>,
     names: &[Name],
     on: &IndexSet<Name, Seed>,
@@ -27,6 +27,6 @@ pub fn are_on(alloc: Global, names: &[Name], on: &[Name]) -> Result<Vec<bool>, A
 {
     let on = name_set(alloc, Seed::of_names(on), on)?;
     let mut bits = Vec::new(alloc);
-    push_bits(&mut bits, names, &on)?;
+    push_whether_on(&mut bits, names, &on)?;
     Ok(bits)
 }

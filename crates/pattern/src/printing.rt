@@ -1,7 +1,7 @@
 //! The text of a layout.
 ghost use Rattle.std.specs.Prelude.{◌≡◌, ◌++◌, [], ◌∷◌, ℕ, List, OnOk, OnErr, IfOk, codes};
 ghost use Rattle.std.specs.List.{flat_map};
-ghost use Rattle.section_text.specs.Spelling.{spaced, line_text};
+ghost use Rattle.section_text.specs.Spelling.{space_and_word, line_text};
 ghost use Rattle.pattern.specs.Text.{cell_words, coordinate, layout_text, port_words, rectangle_words, size_words};
 
 use crate::layout::Layout;
@@ -11,7 +11,7 @@ use section_text::{print_number, print_word};
 use std::alloc::{AllocError, Global};
 
 // A coordinate of a cell, which is not negative in a layout.
-fn natural(x: i32) -> u32
+fn natural_or_zero(x: i32) -> u32
     ensures { result ≡ coordinate x }
 {
     if x < 0 { 0 } else { x as u32 }
@@ -25,11 +25,12 @@ fn natural(x: i32) -> u32
 ///
 /// Out of memory. A part of the bytes may then be written.
 pub fn print_cell(out: &mut Vec<u8>, cell: Cell) -> Result<(), AllocError>
-    ensures ok { OnOk result (out.new.items ≡ out.old.items ++ flat_map spaced (cell_words cell)) }
+    ensures ok { OnOk result (out.new.items
+        ≡ out.old.items ++ flat_map space_and_word (cell_words cell)) }
     ensures err { OnErr result ((part : List ℕ) × (out.new.items ≡ out.old.items ++ part)) }
 {
-    print_number(out, natural(cell.x))?;
-    print_number(out, natural(cell.y))?;
+    print_number(out, natural_or_zero(cell.x))?;
+    print_number(out, natural_or_zero(cell.y))?;
     Ok(())
 }
 

@@ -6,14 +6,14 @@ ghost use Rattle.indexmap.specs.IndexSet.{spare};
 ghost use Rattle.section_text.specs.Section.{Reads};
 ghost use Rattle.section_text.specs.Ports.{named_ports};
 ghost use Rattle.section_text.specs.Words.{has};
-ghost use Rattle.pattern.specs.Lines.{AreNamed, allows_any_name, is_in_line_named, is_out_line_named, is_in_name, is_out_name, line_fault, missing_fault, name_fault};
+ghost use Rattle.pattern.specs.Lines.{AreNamed, allows_any_name, is_in_line_named, is_out_line_named, may_name_input, may_name_output, line_fault, missing_fault, name_fault};
 ghost use Rattle.pattern.specs.Grammars.{layout_grammar, layout_section};
 
 use crate::draft::Draft;
 use crate::form::line_form;
 use crate::layout::Layout;
 use crate::layout_line::{LayoutHeader, LayoutLine};
-use crate::names::{name_set, put_name};
+use crate::names::{name_set, put_name_if_room};
 use indexmap::IndexSet;
 use section_text::{
     Feed, Form, Line, LineFault, Name, PortNames, ReadFault, RefusalCode, Section, Seed,
@@ -70,7 +70,11 @@ fn has_all(set: &IndexSet<Name, Seed>, names: &[Name]) -> bool
 }
 
 // Notes that the name of a port has one.
-fn note_port(ins: &mut IndexSet<Name, Seed>, outs: &mut IndexSet<Name, Seed>, part: &LayoutLine)
+fn note_port_name_seen(
+    ins: &mut IndexSet<Name, Seed>,
+    outs: &mut IndexSet<Name, Seed>,
+    part: &LayoutLine,
+)
     requires room_in { 0 < spare ins.old }
     requires room_out { 0 < spare outs.old }
     ensures ins { (n : List ℕ) →
@@ -79,8 +83,8 @@ fn note_port(ins: &mut IndexSet<Name, Seed>, outs: &mut IndexSet<Name, Seed>, pa
         has outs.new.keys n ≡ (has outs.old.keys n || is_out_line_named n part.now) }
 {
     match part {
-        LayoutLine::In(port) => put_name(ins, port.name),
-        LayoutLine::Out(port) => put_name(outs, port.name),
+        LayoutLine::In(port) => put_name_if_room(ins, port.name),
+        LayoutLine::Out(port) => put_name_if_room(outs, port.name),
         LayoutLine::Mirror(_) => {}
         LayoutLine::Ball(_) => {}
         LayoutLine::Waste(_) => {}
@@ -94,7 +98,7 @@ impl<'a> Reading<'a> {
         ensures ports { IfOk result (λ reading. reading.ports ≡ named_ports ports.now) }
         ensures parts { IfOk result (λ reading. parts_of reading.layout ≡ []) }
     {
-        let (known_ins, known_outs) = known_names(alloc, seed, ports)?;
+        let (known_ins, known_outs) = allowed_port_names(alloc, seed, ports)?;
         let seen_ins = IndexSet::with_hasher(alloc, seed);
         let seen_outs = IndexSet::with_hasher(alloc, seed);
         let smallest = LayoutHeader {
@@ -168,16 +172,16 @@ impl<'a> Reading<'a> {
 }
 
 // The names that ports may have, where not all are good.
-fn known_names(
+fn allowed_port_names(
     alloc: Global,
     seed: Seed,
     ports: &PortNames,
 ) -> Result<(IndexSet<Name, Seed>, IndexSet<Name, Seed>), AllocError>
     ensures ins { IfOk result (λ known. (n : List ℕ) →
-        is_in_name (named_ports ports.now) n
+        may_name_input (named_ports ports.now) n
         ≡ (allows_any_name (named_ports ports.now) || has known.0.keys n)) }
     ensures outs { IfOk result (λ known. (n : List ℕ) →
-        is_out_name (named_ports ports.now) n
+        may_name_output (named_ports ports.now) n
         ≡ (allows_any_name (named_ports ports.now) || has known.1.keys n)) }
 {
     match ports {
@@ -216,7 +220,7 @@ impl<'a> Section for Reading<'a> {
         Ok(())
     }
 
-    #[tactic(auto, using(crate::proofs::ReadingLemmas::in_order, crate::proofs::ReadingLemmas::in_limits), unfolding(crate::specs::Lines::part_fault))]
+    #[tactic(auto, using(crate::proofs::ReadingLemmas::in_order, crate::proofs::ReadingLemmas::in_limits), unfolding(crate::specs::Lines::layout_line_fault))]
     fn add(&mut self, part: LayoutLine) -> Result<(), LineFault> {
         if let Some(code) = self.line_code(&part) {
             return Err(LineFault::Code(code));
@@ -228,7 +232,7 @@ impl<'a> Section for Reading<'a> {
             return Err(LineFault::Memory);
         }
         self.draft.add(self.alloc, part)?;
-        note_port(&mut self.seen_ins, &mut self.seen_outs, &part);
+        note_port_name_seen(&mut self.seen_ins, &mut self.seen_outs, &part);
         Ok(())
     }
 

@@ -6,7 +6,7 @@ use crate::layout_line::Rectangle;
 use bbm_rule::Cell;
 use std::alloc::AllocError;
 
-fn push_row(out: &mut Vec<Cell>, x: u32, w: u32, y: u32) -> Result<(), AllocError>
+fn push_row_cells(out: &mut Vec<Cell>, x: u32, w: u32, y: u32) -> Result<(), AllocError>
     requires columns { x + w ≤ 512 }
     requires row { y < 512 }
     ensures { OnOk result (out.new.items ≡ out.old.items ++ row_cells x w y) }
@@ -31,7 +31,7 @@ pub fn push_rectangle(out: &mut Vec<Cell>, r: Rectangle) -> Result<(), AllocErro
     ensures { OnOk result (out.new.items ≡ out.old.items ++ rectangle_cells r) }
 {
     for row in r.y..r.y + r.h {
-        push_row(out, r.x, r.w, row)?;
+        push_row_cells(out, r.x, r.w, row)?;
     }
     Ok(())
 }

@@ -4,7 +4,7 @@ ghost use Rattle.std.specs.List.{All, flat_map, filter};
 ghost use Rattle.bbm_rule.specs.Board.{HasSameSize, is_inside, live};
 ghost use Rattle.pattern.specs.Layout.{in_cells, rectangle_cells, row_cells, start};
 ghost use Rattle.section_text.specs.Words.{has};
-ghost use Rattle.pattern.specs.Run.{IsRunEnd, RunLeaves, RunsInside, live_cells, start_list};
+ghost use Rattle.pattern.specs.Run.{IsRunEnd, RunLeaves, RunsInside, live_cells, start_cells_in_order};
 
 use crate::layout::Layout;
 use crate::layout_line::{LayoutHeader, Port, Rectangle};
@@ -25,7 +25,7 @@ pub enum RunEnd {
     LeftAt(u32),
 }
 
-fn push_mirrors(out: &mut Vec<Cell>, mirrors: &[Rectangle]) -> Result<(), AllocError>
+fn push_mirror_cells(out: &mut Vec<Cell>, mirrors: &[Rectangle]) -> Result<(), AllocError>
     requires { All (λ r. (r.x + r.w ≤ 512) × (r.y + r.h ≤ 512)) mirrors.now }
     ensures { OnOk result (out.new.items ≡ out.old.items ++ flat_map rectangle_cells mirrors.now) }
 {
@@ -69,12 +69,13 @@ fn push_ports_on(
 ///
 /// They are those of the mirrors, row by row, the balls, and the input cells whose name is on.
 pub fn start_cells(alloc: Global, layout: &Layout, on: &[Name]) -> Result<Vec<Cell>, AllocError>
-    ensures order { IfOk result (λ cells. cells.items ≡ start_list layout.now (λ n. has on.now n)) }
+    ensures order { IfOk result (λ cells. cells.items
+        ≡ start_cells_in_order layout.now (λ n. has on.now n)) }
     ensures cells { IfOk result (λ cells. (x y : ℤ) →
         in_cells cells.items x y ≡ start layout.now (has on.now) x y) }
 {
     let mut cells = Vec::new(alloc);
-    push_mirrors(&mut cells, layout.mirrors.as_slice())?;
+    push_mirror_cells(&mut cells, layout.mirrors.as_slice())?;
     cells.extend_from_slice(layout.balls.as_slice())?;
     push_ports_on(alloc, &mut cells, layout.ins.as_slice(), on)?;
     Ok(cells)
@@ -93,7 +94,7 @@ fn start_grid(alloc: Global, layout: &Layout, on: &[Name]) -> Result<Grid, Alloc
 }
 
 // Makes every step, or all before the first that leaves the layout, and answers the number of that one.
-fn run_all(grid: &mut Grid, size: LayoutHeader) -> Option<u32>
+fn run_until_leaving(grid: &mut Grid, size: LayoutHeader) -> Option<u32>
     requires { (grid.old.width ≡ size.w) × (grid.old.height ≡ size.h) }
     ensures run { MatchOption result (RunsInside size (live grid.old) (live grid.new))
         (λ k. RunLeaves size (live grid.old) k) }
@@ -127,7 +128,11 @@ fn push_live_row(out: &mut Vec<Cell>, grid: &Grid, w: u32, y: u32) -> Result<(),
 }
 
 // The live cells in order of y and then x.
-fn live_list(alloc: Global, grid: &Grid, size: LayoutHeader) -> Result<Vec<Cell>, AllocError>
+fn live_cells_in_order(
+    alloc: Global,
+    grid: &Grid,
+    size: LayoutHeader,
+) -> Result<Vec<Cell>, AllocError>
     requires same_size { (grid.now.width ≡ size.w) × (grid.now.height ≡ size.h) }
     requires small { (size.w ≤ 512) × (size.h ≤ 512) }
     ensures { IfOk result (λ cells. cells.items ≡ live_cells size (live grid.now)) }
@@ -148,8 +153,8 @@ pub fn run_plain(alloc: Global, layout: &Layout, on: &[Name]) -> Result<RunEnd, 
 {
     let size = layout.size;
     let mut grid = start_grid(alloc, layout, on)?;
-    match run_all(&mut grid, size) {
+    match run_until_leaving(&mut grid, size) {
         Some(step) => Ok(RunEnd::LeftAt(step)),
-        None => Ok(RunEnd::Cells(live_list(alloc, &grid, size)?)),
+        None => Ok(RunEnd::Cells(live_cells_in_order(alloc, &grid, size)?)),
     }
 }

@@ -3,7 +3,7 @@
 ghost use Rattle.std.specs.Prelude.{◌<◌, ◌≤◌};
 
 use crate::bundles::{NO, YES};
-use crate::gates::{Hold, Holding};
+use crate::gates::{HoldRule, HoldingGate};
 use certificate::read_certificate;
 use check_main::{Audited, Feed, Outcome, Watched, audit, check_stream, check_text};
 use core_book::{Filing, LogEntry, Reply};
@@ -16,7 +16,7 @@ use std::thread::Threads;
 use test_support::{ALONE, GOOD, fed, sections};
 
 /// Returns whether `check` ends like this over a text, and writes this.
-fn is_checked<G: Gate + Sync, T: Threads + Wait + RandomSource + Sync>(
+fn is_check_answer_as_worked<G: Gate + Sync, T: Threads + Wait + RandomSource + Sync>(
     rt: &T,
     alloc: Global,
     text: &str,
@@ -41,7 +41,7 @@ fn writes_the_same_for_each_number_of_workers(rt: HostRuntime) {
     for text in [GOOD, ALONE] {
         for workers in [1usize, 2, 3, 64] {
             assert!(rt;
-                is_checked(&rt, rt.alloc(), text, workers, &OpenGate),
+                is_check_answer_as_worked(&rt, rt.alloc(), text, workers, &OpenGate),
                 "{workers}"
             );
         }
@@ -49,7 +49,7 @@ fn writes_the_same_for_each_number_of_workers(rt: HostRuntime) {
 }
 
 /// Returns whether `check` has this answer to a text in memory.
-fn is_answered<T: Threads + Wait + RandomSource + Sync>(
+fn is_check_text_answer<T: Threads + Wait + RandomSource + Sync>(
     rt: &T,
     alloc: Global,
     text: &str,
@@ -71,19 +71,19 @@ fn is_answered<T: Threads + Wait + RandomSource + Sync>(
 
 #[test]
 fn answers_to_texts_in_memory(rt: HostRuntime) {
-    assert!(rt; is_answered(&rt, rt.alloc(), GOOD, Outcome::Yes, YES));
-    assert!(rt; is_answered(&rt, rt.alloc(), ALONE, Outcome::No, NO));
+    assert!(rt; is_check_text_answer(&rt, rt.alloc(), GOOD, Outcome::Yes, YES));
+    assert!(rt; is_check_text_answer(&rt, rt.alloc(), ALONE, Outcome::No, NO));
 }
 
 /// The ways to hold workers back, each with the number of workers.
-const HOLDS: [(Hold, usize); 7] = [
-    (Hold::Reverse, 4),
-    (Hold::FirstTwo, 2),
-    (Hold::UntilOthers(0), 2),
-    (Hold::UntilOthers(1), 2),
-    (Hold::UntilOthers(2), 2),
-    (Hold::UntilOthers(3), 2),
-    (Hold::FirstAlone, 2),
+const HOLDS: [(HoldRule, usize); 7] = [
+    (HoldRule::Reverse, 4),
+    (HoldRule::FirstTwo, 2),
+    (HoldRule::UntilOthers(0), 2),
+    (HoldRule::UntilOthers(1), 2),
+    (HoldRule::UntilOthers(2), 2),
+    (HoldRule::UntilOthers(3), 2),
+    (HoldRule::FirstAlone, 2),
 ];
 
 #[test]
@@ -91,12 +91,12 @@ fn writes_the_same_whatever_is_held_back(rt: HostRuntime) {
     for text in [GOOD, ALONE] {
         for (hold, workers) in HOLDS {
             assert!(rt; 0 < workers && workers <= 64);
-            let gate = Holding::new(hold);
+            let gate = HoldingGate::new(hold);
             assert!(rt;
-                is_checked(&rt, rt.alloc(), text, workers, &gate),
+                is_check_answer_as_worked(&rt, rt.alloc(), text, workers, &gate),
                 "{workers}"
             );
-            assert!(rt; gate.was_kept(), "{workers}");
+            assert!(rt; gate.was_gate_kept(), "{workers}");
         }
     }
 }
@@ -118,7 +118,7 @@ fn accepted(filing: &Filing) -> usize {
 }
 
 /// Returns the numbers of a history of five entries.
-fn numbers_of(history: &[LogEntry]) -> [usize; 5] {
+fn accepted_numbers_of(history: &[LogEntry]) -> [usize; 5] {
     let mut numbers = [5; 5];
     for (number, entry) in numbers.iter_mut().zip(history) {
         *number = number_of(entry);
@@ -127,7 +127,7 @@ fn numbers_of(history: &[LogEntry]) -> [usize; 5] {
 }
 
 /// Returns what the workers file of a bundle.
-pub(crate) fn audited<T: Abort + Threads + Wait + Sync, G: Gate + Sync>(
+pub(crate) fn audit_of_text<T: Abort + Threads + Wait + Sync, G: Gate + Sync>(
     rt: &T,
     alloc: Global,
     text: &str,
@@ -144,16 +144,16 @@ pub(crate) fn audited<T: Abort + Threads + Wait + Sync, G: Gate + Sync>(
 }
 
 /// Returns how the numbers of the findings end.
-fn past_last(hold: Hold) -> &'static [usize] {
+fn past_last(hold: HoldRule) -> &'static [usize] {
     match hold {
-        Hold::FirstTwo => &[4],
-        Hold::Reverse => &[3, 2, 1, 0, 4],
-        Hold::UntilOthers(0) => &[0, 4],
-        Hold::UntilOthers(1) => &[1, 4],
-        Hold::UntilOthers(2) => &[2, 4],
-        Hold::UntilOthers(_) => &[3, 4],
+        HoldRule::FirstTwo => &[4],
+        HoldRule::Reverse => &[3, 2, 1, 0, 4],
+        HoldRule::UntilOthers(0) => &[0, 4],
+        HoldRule::UntilOthers(1) => &[1, 4],
+        HoldRule::UntilOthers(2) => &[2, 4],
+        HoldRule::UntilOthers(_) => &[3, 4],
         // A worker tells the gate of an end when it has filed, so the first finding comes first.
-        Hold::FirstAlone => &[0, 1, 2, 3, 4],
+        HoldRule::FirstAlone => &[0, 1, 2, 3, 4],
     }
 }
 
@@ -161,12 +161,12 @@ fn past_last(hold: Hold) -> &'static [usize] {
 fn an_audit_files_in_the_order_of_the_gate(rt: HostRuntime) {
     for (hold, workers) in HOLDS {
         assert!(rt; 0 < workers && workers <= 64);
-        let gate = Holding::new(hold);
-        let Audited { state, memory } = audited(&rt, rt.alloc(), GOOD, workers, &gate);
+        let gate = HoldingGate::new(hold);
+        let Audited { state, memory } = audit_of_text(&rt, rt.alloc(), GOOD, workers, &gate);
         assert!(rt; !memory && state.is_closed());
         assert!(rt; state.accepted() == 4 && state.history().len() == 5);
-        let numbers = numbers_of(state.history());
+        let numbers = accepted_numbers_of(state.history());
         assert!(rt; numbers.ends_with(past_last(hold)), "{numbers:?}");
-        assert!(rt; gate.was_kept());
+        assert!(rt; gate.was_gate_kept());
     }
 }

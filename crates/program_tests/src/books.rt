@@ -4,7 +4,7 @@
 //! (`rt try --test --fail-alloc N`).
 ghost use Rattle.std.specs.Prelude.{◌≡◌, []};
 
-use crate::gates::{Counts, are_all, count_one, no_counts};
+use crate::gates::{Counts, are_all_counts, count_one, no_counts};
 use certificate::Job;
 use core_book::{BookState, LogEntry, NotFiled, Reply};
 use local_run::{Finding, run_job};
@@ -20,14 +20,14 @@ use verdict_book::*;
 
 /// The counts of each of the four numbers that was accepted, and that was answered `Double` with itself.
 #[derive(Drop)]
-struct Replies {
+struct ReplyCounts {
     accepted: Counts,
     double: Counts,
 }
 
-impl Replies {
-    fn new() -> Replies {
-        Replies {
+impl ReplyCounts {
+    fn new() -> ReplyCounts {
+        ReplyCounts {
             accepted: no_counts(),
             double: no_counts(),
         }
@@ -52,13 +52,13 @@ fn found(alloc: Global, digest: [u8; 32], number: usize, job: &Arc<Job>) -> Opti
 }
 
 /// Files a finding of each job, and counts the replies.
-fn file_all<F: Filings, A: Ledger, R: Wait>(
+fn file_finding_of_each_job<F: Filings, A: Ledger, R: Wait>(
     rt: &R,
     alloc: Global,
     work: &Work,
     book: &Book<F, A>,
     share: &mut Share<F, A>,
-    replies: &Replies,
+    replies: &ReplyCounts,
 ) {
     for (number, job) in work.jobs.iter().enumerate() {
         let Some(finding) = found(alloc, work.digest, number, job) else {
@@ -84,7 +84,7 @@ pub(crate) fn filed<F: Filings, A: Ledger, R: Wait>(
 }
 
 /// Returns a book of a bundle's modules, in which nothing is filed.
-pub(crate) fn new_state(rt: &impl Abort, alloc: Global, text: &str) -> BookState
+pub(crate) fn new_book_of_text(rt: &impl Abort, alloc: Global, text: &str) -> BookState
     ensures { result.history ≡ [] }
 {
     let Work { digest, jobs } = work_of(alloc, text).expect(rt, "work");
@@ -94,7 +94,7 @@ pub(crate) fn new_state(rt: &impl Abort, alloc: Global, text: &str) -> BookState
 }
 
 /// Files all findings in each of as many threads as there are shares. If `kept_back`, one share is not handed in.
-fn filed_by_all<
+fn gathered_after_all_file<
     F: Filings + Send + Sync,
     A: Ledger + Send + Sync,
     R: Abort + Threads + Wait + Sync,
@@ -104,7 +104,7 @@ fn filed_by_all<
     f: Blank,
     a: Blank,
     state: BookState,
-    replies: &Replies,
+    replies: &ReplyCounts,
     kept_back: bool,
 ) -> Option<Gathered>
     requires filings { (f.name ≡ F.name) × (f.parts ≡ F.parts) × (f.parts ≡ 4) }
@@ -122,7 +122,7 @@ fn filed_by_all<
         rt,
         shares.as_mut_slice(),
         4,
-        &|_, share| file_all(rt, alloc, own, shared, share, replies),
+        &|_, share| file_finding_of_each_job(rt, alloc, own, shared, share, replies),
     );
     assert!(rt; shares.iter().all(|share| share.filed() == 4));
     if kept_back {
@@ -133,7 +133,7 @@ fn filed_by_all<
 
 /// Returns whether it is the entry of a finding whose job is the book's, and that was accepted, or answered `Double`
 /// with its number.
-fn is_own(entry: &LogEntry) -> bool {
+fn is_own_filing(entry: &LogEntry) -> bool {
     match entry {
         LogEntry::Filed(filing) => {
             filing.same
@@ -144,23 +144,23 @@ fn is_own(entry: &LogEntry) -> bool {
 }
 
 /// Files all findings in each of four threads.
-fn filed_by_four<R: Abort + Threads + Wait + Sync>(
+fn gathered_from_four_threads<R: Abort + Threads + Wait + Sync>(
     rt: &R,
     alloc: Global,
-    replies: &Replies,
+    replies: &ReplyCounts,
     kept_back: bool,
 ) -> Option<Gathered> {
-    let state = new_state(rt, alloc, GOOD);
+    let state = new_book_of_text(rt, alloc, GOOD);
     let (f, a) = (Blank::new(4), Blank::new(4));
-    filed_by_all::<Brand, Brand, R>(rt, alloc, f, a, state, replies, kept_back)
+    gathered_after_all_file::<Brand, Brand, R>(rt, alloc, f, a, state, replies, kept_back)
 }
 
 #[test]
-fn four_threads(rt: HostRuntime) {
-    let replies = Replies::new();
-    assert!(rt; filed_by_four(&rt, rt.alloc(), &replies, true).is_none());
-    let replies = Replies::new();
-    let gathered = filed_by_four(&rt, rt.alloc(), &replies, false);
+fn four_threads_file_all(rt: HostRuntime) {
+    let replies = ReplyCounts::new();
+    assert!(rt; gathered_from_four_threads(&rt, rt.alloc(), &replies, true).is_none());
+    let replies = ReplyCounts::new();
+    let gathered = gathered_from_four_threads(&rt, rt.alloc(), &replies, false);
     let Gathered {
         state,
         filed,
@@ -168,13 +168,13 @@ fn four_threads(rt: HostRuntime) {
     } = gathered.expect(&rt, "every share");
     assert!(rt; filed == 16 && accepted == 4);
     assert!(rt; state.history().len() == 16 && state.accepted() == 4 && !state.is_closed());
-    assert!(rt; state.history().iter().all(is_own), "another entry");
+    assert!(rt; state.history().iter().all(is_own_filing), "another entry");
     // each number once and three times, so 4 and 12 of the sixteen
-    assert!(rt; are_all(&replies.accepted, 1) && are_all(&replies.double, 3));
+    assert!(rt; are_all_counts(&replies.accepted, 1) && are_all_counts(&replies.double, 3));
 }
 
 /// Files all findings into one of the two shares of a book. It returns `None` if there was no memory to open the book.
-fn filed_by_one<F: Filings, A: Ledger, R: Abort + Wait>(
+fn gathered_from_one_share<F: Filings, A: Ledger, R: Abort + Wait>(
     rt: &R,
     alloc: Global,
     f: Blank,
@@ -191,7 +191,7 @@ fn filed_by_one<F: Filings, A: Ledger, R: Abort + Wait>(
         alloc, f, a, state, 2,
     );
     let (book, mut shares) = opened.ok()?;
-    file_all(rt, alloc, work, &book, &mut shares[1], &Replies::new());
+    file_finding_of_each_job(rt, alloc, work, &book, &mut shares[1], &ReplyCounts::new());
     match gather(book, shares) {
         Ok(gathered) => Some(gathered),
         Err(_) => panic!(rt; "a share is missing"),
@@ -199,20 +199,20 @@ fn filed_by_one<F: Filings, A: Ledger, R: Abort + Wait>(
 }
 
 /// Files all findings in the same way, with a state and shares of its own.
-fn filed_in_new<R: Abort + Wait>(rt: &R, alloc: Global, work: &Work) -> Option<Gathered> {
-    let state = new_state(rt, alloc, GOOD);
+fn gathered_in_new_book<R: Abort + Wait>(rt: &R, alloc: Global, work: &Work) -> Option<Gathered> {
+    let state = new_book_of_text(rt, alloc, GOOD);
     let (f, a) = (Blank::new(2), Blank::new(2));
-    filed_by_one::<Brand, Brand, R>(rt, alloc, f, a, state, work)
+    gathered_from_one_share::<Brand, Brand, R>(rt, alloc, f, a, state, work)
 }
 
 /// Opens a book. It is made to be run with each growth of memory refused in turn.
 #[test]
 fn a_book_opens_at_the_second_try(rt: HostRuntime) {
     let work = work_of(rt.alloc(), GOOD).expect(&rt, "work");
-    let first = filed_in_new(&rt, rt.alloc(), &work);
+    let first = gathered_in_new_book(&rt, rt.alloc(), &work);
     let gathered = match first {
         Some(gathered) => Some(gathered),
-        None => filed_in_new(&rt, rt.alloc(), &work),
+        None => gathered_in_new_book(&rt, rt.alloc(), &work),
     };
     let Some(
         Gathered {
@@ -225,5 +225,5 @@ fn a_book_opens_at_the_second_try(rt: HostRuntime) {
         panic!(rt; "not opened at the second try")
     };
     assert!(rt; filed == 4 && accepted == 4);
-    assert!(rt; state.history().len() == 4 && state.history().iter().all(is_own));
+    assert!(rt; state.history().len() == 4 && state.history().iter().all(is_own_filing));
 }

@@ -2,7 +2,7 @@
 use case_text::{CaseFault, read_cases};
 
 #[test]
-fn reads_each_part(rt: HostRuntime) {
+fn read_cases_reads_each_part(rt: HostRuntime) {
     let file =
         b"# nothing\n\ncase one\nwords check --workers 2\ninput\n| a  b\n|\n2 times | c\n3 times \\ de\noutput\n| yes\nerrors\nstatus 3\ncase two\nwords\n";
     let cases = read_cases(rt.alloc(), file).expect(&rt, "cases");
@@ -19,7 +19,7 @@ fn reads_each_part(rt: HostRuntime) {
 }
 
 #[test]
-fn refuses_other_lines(rt: HostRuntime) {
+fn read_cases_refuses_other_lines(rt: HostRuntime) {
     let files: [&[u8]; 8] = [
         b"case a\nword run\n",
         b"case a\ninput | a\n",

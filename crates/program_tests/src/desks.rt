@@ -20,7 +20,7 @@ fn closed(rt: &impl Abort, alloc: Global, desk: Desk, seats: Vec<DeskSeat>) -> C
 }
 
 /// Draws until there is no number left.
-fn draw_all(desk: &Desk, seat: &mut DeskSeat)
+fn draw_until_empty(desk: &Desk, seat: &mut DeskSeat)
     requires { IsSeatOf desk.now seat.old }
     ensures { IsSeatOf desk.now seat.new }
 {
@@ -33,11 +33,11 @@ fn draw_in_threads<R: Threads + Sync>(rt: &R, desk: &Desk, seats: &mut [DeskSeat
     ensures { All (IsSeatOf desk.now) seats.new }
 {
     let threads = seats.len().max(1);
-    thread::for_each_mut(rt, seats, threads, &|_, seat| draw_all(desk, seat));
+    thread::for_each_mut(rt, seats, threads, &|_, seat| draw_until_empty(desk, seat));
 }
 
 /// Returns whether two new seats draw three numbers and the end in turn.
-fn draw_in_turn(desk: &Desk, first: &mut DeskSeat, second: &mut DeskSeat) -> bool
+fn are_turns_draws_right(desk: &Desk, first: &mut DeskSeat, second: &mut DeskSeat) -> bool
     requires { IsSeatOf desk.now first.old × IsSeatOf desk.now second.old }
     ensures { IsSeatOf desk.now first.new × IsSeatOf desk.now second.new }
 {
@@ -55,7 +55,7 @@ fn draw_in_turn(desk: &Desk, first: &mut DeskSeat, second: &mut DeskSeat) -> boo
 }
 
 /// Returns whether two lists of draws are these.
-fn are_draws(draws: &[Vec<usize>], first: &[usize], second: &[usize]) -> bool {
+fn are_two_draw_lists(draws: &[Vec<usize>], first: &[usize], second: &[usize]) -> bool {
     match draws {
         [one, two] => one.as_slice() == first && two.as_slice() == second,
         _ => false,
@@ -66,7 +66,7 @@ fn are_draws(draws: &[Vec<usize>], first: &[usize], second: &[usize]) -> bool {
 fn two_seats_draw_three_numbers(rt: HostRuntime) {
     let (desk, mut seats) = Desk::open(rt.alloc(), 3, 2).expect(&rt, "a desk");
     let mut second = seats.remove(1);
-    assert!(rt; draw_in_turn(&desk, &mut seats[0], &mut second));
+    assert!(rt; are_turns_draws_right(&desk, &mut seats[0], &mut second));
     let Err(fault) = desk.close(rt.alloc(), seats) else {
         panic!(rt; "closed without the second seat")
     };
@@ -78,7 +78,7 @@ fn two_seats_draw_three_numbers(rt: HostRuntime) {
     } = fault;
     seats.push(second).expect(&rt, "room");
     let Closed { draws, counter } = closed(&rt, rt.alloc(), desk, seats);
-    assert!(rt; are_draws(&draws, &[0, 2], &[1, 3]) && counter == 4);
+    assert!(rt; are_two_draw_lists(&draws, &[0, 2], &[1, 3]) && counter == 4);
 }
 
 /// Draws with each of the seats, in a thread of its own, until there is no number left.
@@ -93,12 +93,12 @@ fn draw_every_number<R: Abort + Threads + Sync>(
     let (desk, mut seats) = Desk::open(alloc, numbers, threads).expect(rt, "a desk");
     draw_in_threads(rt, &desk, seats.as_mut_slice());
     let Closed { draws, counter } = closed(rt, alloc, desk, seats);
-    let all = in_order(alloc, &draws).expect(rt, "memory");
+    let all = sorted_draws(alloc, &draws).expect(rt, "memory");
     assert!(rt; counter == numbers + threads && all.iter().copied().eq(0..counter));
 }
 
 /// Returns all draws, in order.
-fn in_order(alloc: Global, draws: &[Vec<usize>]) -> Result<Vec<usize>, AllocError> {
+fn sorted_draws(alloc: Global, draws: &[Vec<usize>]) -> Result<Vec<usize>, AllocError> {
     let mut all = Vec::new(alloc);
     for drawn in draws {
         all.extend_from_slice(drawn)?;
@@ -110,12 +110,12 @@ fn in_order(alloc: Global, draws: &[Vec<usize>]) -> Result<Vec<usize>, AllocErro
 #[test]
 fn no_number_is_drawn_where_there_is_none(rt: HostRuntime) {
     let (desk, mut seats) = Desk::open(rt.alloc(), 0, 1).expect(&rt, "a desk");
-    assert!(rt; draws_nothing(&desk, &mut seats[0]));
+    assert!(rt; draws_empty_twice(&desk, &mut seats[0]));
     let Closed { draws, counter } = closed(&rt, rt.alloc(), desk, seats);
     assert!(rt; draws.len() == 1 && draws[0].as_slice() == [0].as_slice() && counter == 1);
 }
 
-fn draws_nothing(desk: &Desk, seat: &mut DeskSeat) -> bool
+fn draws_empty_twice(desk: &Desk, seat: &mut DeskSeat) -> bool
     requires { IsSeatOf desk.now seat.old }
     ensures { IsSeatOf desk.now seat.new }
 {
@@ -134,7 +134,7 @@ fn the_largest_desk_hands_out_every_number_once(rt: HostRuntime) {
 }
 
 /// Returns a desk of two numbers with two seats: that of the second opening, if no memory was found for the first.
-fn desk_of_two(rt: &impl Abort, alloc: Global) -> (Desk, Vec<DeskSeat>)
+fn desk_for_two_seats(rt: &impl Abort, alloc: Global) -> (Desk, Vec<DeskSeat>)
     ensures { All (IsSeatOf result.0) result.1.items × (vec_len result.1 ≡ 2) }
 {
     if let Ok(opened) = Desk::open(alloc, 2, 2) {
@@ -151,7 +151,7 @@ fn desk_of_two(rt: &impl Abort, alloc: Global) -> (Desk, Vec<DeskSeat>)
 /// A desk opens whole or not at all, and closes later if there was no memory for it.
 #[test]
 fn a_desk_opens_and_closes_at_the_second_try(rt: HostRuntime) {
-    let (desk, mut seats) = desk_of_two(&rt, rt.alloc());
+    let (desk, mut seats) = desk_for_two_seats(&rt, rt.alloc());
     assert!(rt; desk.claim(&mut seats[1]) == Claim::Number(0));
     let Closed { draws, counter } = match desk.close(rt.alloc(), seats) {
         Ok(closed) => closed,
@@ -160,5 +160,5 @@ fn a_desk_opens_and_closes_at_the_second_try(rt: HostRuntime) {
             closed(&rt, rt.alloc(), fault.desk, fault.seats)
         }
     };
-    assert!(rt; are_draws(&draws, &[], &[0]) && counter == 1);
+    assert!(rt; are_two_draw_lists(&draws, &[], &[0]) && counter == 1);
 }

@@ -63,12 +63,12 @@ impl Write for FailingWriter {
 
 /// A reader that gives `a` a number of times, in pieces.
 #[derive(Drop)]
-pub(crate) struct Letters {
+pub(crate) struct LetterReader {
     pub(crate) left: usize,
     pub(crate) piece: usize,
 }
 
-impl Read for Letters {
+impl Read for LetterReader {
     fn read(&mut self, buf: &mut [u8]) -> io::Result<usize> {
         let count = self.piece.min(buf.len()).min(self.left);
         buf[..count].fill(b'a');
@@ -79,13 +79,13 @@ impl Read for Letters {
 
 /// The status, what was written, and what was said to standard error.
 #[derive(Drop)]
-pub(crate) struct Seen {
+pub(crate) struct ProgramResult {
     status: u8,
     written: Vec<u8>,
     said: Vec<u8>,
 }
 
-impl Seen {
+impl ProgramResult {
     pub(crate) fn is(&self, status: u8, written: &[u8], said: &str) -> bool {
         self.status == status
             && self.written.as_slice() == written
@@ -101,7 +101,7 @@ pub(crate) fn call<'a, T: Threads + Wait + RandomSource + Sync, R: Read + Drop>(
     reader: R,
     writer: FailingWriter,
     errors: FailingWriter,
-) -> Seen {
+) -> ProgramResult {
     let mut streams = Streams {
         reader: Watched::new(reader),
         writer: Watched::new(writer),
@@ -111,7 +111,7 @@ pub(crate) fn call<'a, T: Threads + Wait + RandomSource + Sync, R: Read + Drop>(
     let Streams { writer, errors, .. } = streams;
     let FailingWriter { taken: written, .. } = writer.into_inner();
     let FailingWriter { taken: said, .. } = errors.into_inner();
-    Seen {
+    ProgramResult {
         status,
         written,
         said,

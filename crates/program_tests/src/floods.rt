@@ -1,7 +1,7 @@
 //! Threads that flood a book with findings for another certificate. The counts were worked out by hand.
 ghost use Rattle.std.specs.Prelude.{◌≡◌, []};
 
-use crate::books::{filed, new_state};
+use crate::books::{filed, new_book_of_text};
 use core_book::{BookState, Mismatch, Reply};
 use local_run::run_job;
 use std::alloc::Global;
@@ -20,14 +20,14 @@ const STRANGERS: u32 = 1000;
 
 /// The modules of a bundle, and how often which reply came for the first of them.
 #[derive(Drop)]
-struct Flood {
+struct FloodCounts {
     work: Work,
     strangers: AtomicU64,
     accepted: AtomicU64,
     double: AtomicU64,
 }
 
-impl Flood {
+impl FloodCounts {
     fn count(&self, reply: Reply) {
         let counted = match reply {
             Reply::Stranger(Mismatch::Digest) => &self.strangers,
@@ -50,13 +50,13 @@ impl Flood {
 }
 
 /// Files the first module's finding for the certificate of this digest.
-fn file_first<F: Filings, A: Ledger, R: Wait>(
+fn file_first_job_under_digest<F: Filings, A: Ledger, R: Wait>(
     rt: &R,
     alloc: Global,
     digest: [u8; 32],
     book: &Book<F, A>,
     share: &mut Share<F, A>,
-    flood: &Flood,
+    flood: &FloodCounts,
 ) {
     let Some(job) = flood.work.jobs.first() else {
         return;
@@ -73,27 +73,31 @@ fn file_first<F: Filings, A: Ledger, R: Wait>(
 }
 
 /// Files many findings for another certificate, and then one for the book's.
-fn file_many<F: Filings, A: Ledger, R: Wait>(
+fn file_strangers_then_own<F: Filings, A: Ledger, R: Wait>(
     rt: &R,
     alloc: Global,
     book: &Book<F, A>,
     share: &mut Share<F, A>,
-    flood: &Flood,
+    flood: &FloodCounts,
 ) {
     for _ in 0..STRANGERS {
-        file_first(rt, alloc, [7; 32], book, share, flood);
+        file_first_job_under_digest(rt, alloc, [7; 32], book, share, flood);
     }
-    file_first(rt, alloc, flood.work.digest, book, share, flood);
+    file_first_job_under_digest(rt, alloc, flood.work.digest, book, share, flood);
 }
 
 /// Returns what is gathered if eight threads do so.
-fn flooded<F: Filings + Send + Sync, A: Ledger + Send + Sync, R: Abort + Threads + Wait + Sync>(
+fn gathered_after_flood<
+    F: Filings + Send + Sync,
+    A: Ledger + Send + Sync,
+    R: Abort + Threads + Wait + Sync,
+>(
     rt: &R,
     alloc: Global,
     f: Blank,
     a: Blank,
     state: BookState,
-    flood: &Flood,
+    flood: &FloodCounts,
 ) -> Option<Gathered>
     requires filings { (f.name ≡ F.name) × (f.parts ≡ F.parts) × (f.parts ≡ 8) }
     requires acceptances { (a.name ≡ A.name) × (a.parts ≡ A.parts) × (a.parts ≡ 8) }
@@ -109,31 +113,34 @@ fn flooded<F: Filings + Send + Sync, A: Ledger + Send + Sync, R: Abort + Threads
         rt,
         shares.as_mut_slice(),
         8,
-        &|_, share| file_many(rt, alloc, shared, share, flood),
+        &|_, share| file_strangers_then_own(rt, alloc, shared, share, flood),
     );
     gather(book, shares).ok()
 }
 
 /// Returns what is gathered of the bundle's own book.
-fn flooded_book<R: Abort + Threads + Wait + Sync>(
+fn gathered_own_book_after_flood<R: Abort + Threads + Wait + Sync>(
     rt: &R,
     alloc: Global,
-    flood: &Flood,
+    flood: &FloodCounts,
 ) -> Option<Gathered> {
-    let state = new_state(rt, alloc, GOOD);
+    let state = new_book_of_text(rt, alloc, GOOD);
     let (f, a) = (Blank::new(8), Blank::new(8));
-    flooded::<Brand, Brand, R>(rt, alloc, f, a, state, flood)
+    gathered_after_flood::<Brand, Brand, R>(rt, alloc, f, a, state, flood)
 }
 
 #[test]
-fn a_flood_of_other_findings(rt: HostRuntime) {
-    let flood = Flood {
+fn strangers_do_not_fill_book(rt: HostRuntime) {
+    let flood = FloodCounts {
         work: work_of(rt.alloc(), GOOD).expect(&rt, "work"),
         strangers: AtomicU64::new(0),
         accepted: AtomicU64::new(0),
         double: AtomicU64::new(0),
     };
-    let gathered = flooded_book(&rt, rt.alloc(), &flood).expect(&rt, "every share");
+    let gathered = gathered_own_book_after_flood(&rt, rt.alloc(), &flood).expect(
+        &rt,
+        "every share",
+    );
     assert!(rt; flood.has(8000, 1, 7));
     assert!(rt; gathered.filed == 8008 && gathered.accepted == 1);
     let state = &gathered.state;

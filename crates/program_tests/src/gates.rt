@@ -26,14 +26,14 @@ pub(crate) fn count_one(counts: &Counts, number: usize) {
 }
 
 /// Returns whether each number is counted this often.
-pub(crate) fn are_all(counts: &Counts, wanted: u64) -> bool {
+pub(crate) fn are_all_counts(counts: &Counts, wanted: u64) -> bool {
     counts
         .iter()
         .all(|count| count.load(Ordering::SeqCst) == wanted)
 }
 
 /// Returns whether a number is counted at least once.
-fn is_counted(counts: &Counts, number: usize) -> bool {
+fn is_counted_at_all(counts: &Counts, number: usize) -> bool {
     match counts.get(number) {
         Some(count) => count.load(Ordering::SeqCst) > 0,
         None => false,
@@ -42,7 +42,7 @@ fn is_counted(counts: &Counts, number: usize) -> bool {
 
 /// For what a number is held back, before its job is run or at its end.
 #[derive(Clone, Copy)]
-pub(crate) enum Hold {
+pub(crate) enum HoldRule {
     /// The first two numbers, each until the other has begun.
     FirstTwo,
     /// Each number but the last, until the next one has ended.
@@ -56,16 +56,16 @@ pub(crate) enum Hold {
 
 /// A gate that counts what it hears of each of four numbers, and holds numbers back.
 #[derive(Drop)]
-pub(crate) struct Holding {
-    hold: Hold,
+pub(crate) struct HoldingGate {
+    hold: HoldRule,
     begun: Counts,
     ended: Counts,
     late: AtomicBool,
 }
 
-impl Holding {
-    pub(crate) fn new(hold: Hold) -> Holding {
-        Holding {
+impl HoldingGate {
+    pub(crate) fn new(hold: HoldRule) -> HoldingGate {
+        HoldingGate {
             hold,
             begun: no_counts(),
             ended: no_counts(),
@@ -74,46 +74,49 @@ impl Holding {
     }
 
     /// Returns whether the number may go on.
-    fn lets(&self, number: usize) -> bool {
+    fn may_begin(&self, number: usize) -> bool {
         match self.hold {
-            Hold::FirstTwo => match number {
-                0 => is_counted(&self.begun, 1),
-                1 => is_counted(&self.begun, 0),
+            HoldRule::FirstTwo => match number {
+                0 => is_counted_at_all(&self.begun, 1),
+                1 => is_counted_at_all(&self.begun, 0),
                 _ => true,
             },
-            Hold::Reverse => match number {
-                0 => is_counted(&self.ended, 1),
-                1 => is_counted(&self.ended, 2),
-                2 => is_counted(&self.ended, 3),
+            HoldRule::Reverse => match number {
+                0 => is_counted_at_all(&self.ended, 1),
+                1 => is_counted_at_all(&self.ended, 2),
+                2 => is_counted_at_all(&self.ended, 3),
                 _ => true,
             },
-            Hold::UntilOthers(held) => {
+            HoldRule::UntilOthers(held) => {
                 number != held
-                    || (0..4).all(|other| other == held || is_counted(&self.ended, other))
+                    || (0..4).all(|other| other == held || is_counted_at_all(&self.ended, other))
             }
-            Hold::FirstAlone => number == 0 || is_counted(&self.ended, 0),
+            HoldRule::FirstAlone => number == 0 || is_counted_at_all(&self.ended, 0),
         }
     }
 
     /// Returns whether the number may go on from its end.
-    fn lets_end(&self, number: usize) -> bool {
+    fn may_end(&self, number: usize) -> bool {
         match self.hold {
-            Hold::FirstAlone => number != 0 || (1..4).all(|other| is_counted(&self.ended, other)),
+            HoldRule::FirstAlone => number != 0
+                || (1..4).all(|other| is_counted_at_all(&self.ended, other)),
             _ => true,
         }
     }
 
     /// Returns whether the gate heard of each number once before and once after, and none was held too long.
-    pub(crate) fn was_kept(&self) -> bool {
-        are_all(&self.begun, 1) && are_all(&self.ended, 1) && !self.late.load(Ordering::SeqCst)
+    pub(crate) fn was_gate_kept(&self) -> bool {
+        are_all_counts(&self.begun, 1)
+            && are_all_counts(&self.ended, 1)
+            && !self.late.load(Ordering::SeqCst)
     }
 }
 
-impl Gate for Holding {
+impl Gate for HoldingGate {
     fn before(&self, number: usize) {
         count_one(&self.begun, number);
         for _ in 0..MAX_TURNS {
-            if self.lets(number) {
+            if self.may_begin(number) {
                 return;
             }
             thread::yield_now();
@@ -124,7 +127,7 @@ impl Gate for Holding {
     fn after(&self, number: usize) {
         count_one(&self.ended, number);
         for _ in 0..MAX_TURNS {
-            if self.lets_end(number) {
+            if self.may_end(number) {
                 return;
             }
             thread::yield_now();
@@ -135,16 +138,16 @@ impl Gate for Holding {
 
 /// A gate that holds each worker back until a number of them have begun, and counts the numbers that it hears of.
 #[derive(Drop)]
-pub(crate) struct Crowd {
+pub(crate) struct CrowdGate {
     workers: u64,
     begun: AtomicU64,
     ended: AtomicU64,
     late: AtomicBool,
 }
 
-impl Crowd {
-    pub(crate) fn new(workers: u64) -> Crowd {
-        Crowd {
+impl CrowdGate {
+    pub(crate) fn new(workers: u64) -> CrowdGate {
+        CrowdGate {
             workers,
             begun: AtomicU64::new(0),
             ended: AtomicU64::new(0),
@@ -153,14 +156,14 @@ impl Crowd {
     }
 
     /// Returns whether the gate heard this often before and after, and no worker was held too long.
-    pub(crate) fn was_kept(&self, numbers: u64) -> bool {
+    pub(crate) fn was_gate_kept(&self, numbers: u64) -> bool {
         self.begun.load(Ordering::SeqCst) == numbers
             && self.ended.load(Ordering::SeqCst) == numbers
             && !self.late.load(Ordering::SeqCst)
     }
 }
 
-impl Gate for Crowd {
+impl Gate for CrowdGate {
     fn before(&self, _number: usize) {
         self.begun.fetch_add(1, Ordering::SeqCst);
         for _ in 0..MAX_TURNS {

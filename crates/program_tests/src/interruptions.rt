@@ -1,5 +1,5 @@
 //! Reads and writes that signals interrupt.
-use crate::devices::{FailingWriter, Letters};
+use crate::devices::{FailingWriter, LetterReader};
 use check_main::Retrying;
 use std::io;
 use std::io::{ErrorKind, Read, Write};
@@ -46,7 +46,7 @@ impl<W: Write> Write for Interrupted<W> {
 
 #[test]
 fn interrupted_reads_are_made_again(rt: HostRuntime) {
-    let letters = Letters { left: 5, piece: 2 };
+    let letters = LetterReader { left: 5, piece: 2 };
     let mut reader = Retrying::new(Interrupted::new(letters));
     let mut buf = [0u8; 4];
     for wanted in [2, 2, 1, 0] {
@@ -107,9 +107,9 @@ impl<W: Write> Write for FailingOnce<W> {
 }
 
 #[test]
-fn other_failed_reads_are_not_made_again(rt: HostRuntime) {
+fn other_read_errors_are_final(rt: HostRuntime) {
     for kind in [ErrorKind::WouldBlock, ErrorKind::TimedOut, ErrorKind::Other] {
-        let letters = Letters { left: 5, piece: 2 };
+        let letters = LetterReader { left: 5, piece: 2 };
         let mut reader = Retrying::new(FailingOnce::new(letters, kind));
         let mut buf = [0u8; 4];
         assert!(rt; reader.read(&mut buf).is_err());
@@ -118,7 +118,7 @@ fn other_failed_reads_are_not_made_again(rt: HostRuntime) {
 }
 
 #[test]
-fn other_failed_writes_are_not_made_again(rt: HostRuntime) {
+fn other_write_errors_are_final(rt: HostRuntime) {
     for kind in [
         ErrorKind::WouldBlock,
         ErrorKind::StorageFull,

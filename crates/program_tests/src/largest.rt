@@ -1,8 +1,8 @@
 //! Bundles at the limits: many modules for many workers, and a module with as many border lines as it may have. The
 //! expected results were worked out by hand from the format, and the digests with `sha256sum`.
 
-use crate::audits::audited;
-use crate::gates::Crowd;
+use crate::audits::audit_of_text;
+use crate::gates::CrowdGate;
 use check_main::{Audited, Streams, Watched, program};
 use job_pool::{Gate, OpenGate};
 use std::alloc::{AllocError, Global};
@@ -12,7 +12,7 @@ use std::thread::Threads;
 
 /// The mark of the layout on a cell of a module.
 #[derive(Clone, Copy, PartialEq, Eq)]
-enum Mark {
+enum CellMark {
     Nothing,
     Mirror,
     Output,
@@ -22,7 +22,7 @@ enum Mark {
 /// Returns the mark of a module of this number on one of its four cells.
 ///
 /// It is the module's output on one cell, and on the others a choice that no other module has.
-fn mark_of(module: u32, cell: u32) -> Mark {
+fn layout_mark_of(module: u32, cell: u32) -> CellMark {
     let (output, choice) = (module / 27, module % 27);
     let others = if cell < output {
         cell
@@ -35,24 +35,24 @@ fn mark_of(module: u32, cell: u32) -> Mark {
         _ => choice / 9,
     };
     match digit {
-        _ if cell == output => Mark::Output,
-        0 => Mark::Nothing,
-        1 => Mark::Mirror,
-        _ => Mark::Waste,
+        _ if cell == output => CellMark::Output,
+        0 => CellMark::Nothing,
+        1 => CellMark::Mirror,
+        _ => CellMark::Waste,
     }
 }
 
 /// Adds the places of the cells of 64 modules that have a mark, a line each, between these words.
-fn push_marked(
+fn push_lines_of_mark(
     alloc: Global,
     text: &mut String,
-    wanted: Mark,
+    wanted: CellMark,
     before: &str,
     after: &str,
 ) -> Result<(), AllocError> {
     for module in 0..64_u32 {
         for cell in 0..4_u32 {
-            if mark_of(module, cell) == wanted {
+            if layout_mark_of(module, cell) == wanted {
                 let (x, y) = (module % 8 * 2 + cell % 2, module / 8 * 2 + cell / 2);
                 text.push_str(&format!(in alloc; "{before} {x} {y}{after}\n")?)?;
             }
@@ -63,11 +63,11 @@ fn push_marked(
 
 /// Returns a text of 64 modules of 2 by 2 cells, each of another shape. A ball must be at one cell of each, and none
 /// comes.
-fn many_modules(alloc: Global) -> Result<String, AllocError> {
+fn text_of_64_modules(alloc: Global) -> Result<String, AllocError> {
     let mut text = format!(in alloc; "circuit\nsource 1 -> a\noutput a\nend\nlayout 16 16 0\n")?;
-    push_marked(alloc, &mut text, Mark::Mirror, "mirror", " 1 1")?;
-    push_marked(alloc, &mut text, Mark::Output, "out a", "")?;
-    push_marked(alloc, &mut text, Mark::Waste, "waste", "")?;
+    push_lines_of_mark(alloc, &mut text, CellMark::Mirror, "mirror", " 1 1")?;
+    push_lines_of_mark(alloc, &mut text, CellMark::Output, "out a", "")?;
+    push_lines_of_mark(alloc, &mut text, CellMark::Waste, "waste", "")?;
     text.push_str("end\ncertificate 1\n")?;
     for place in 0..64_u32 {
         let (x, y) = (place % 8 * 2, place / 8 * 2);
@@ -80,7 +80,7 @@ fn many_modules(alloc: Global) -> Result<String, AllocError> {
 /// Returns the report on these modules. The fault of each is at its output cell.
 ///
 /// This is the first of its cells, from module 27 on the second, from module 54 on the third.
-fn many_faults(alloc: Global) -> Result<String, AllocError> {
+fn report_on_64_modules(alloc: Global) -> Result<String, AllocError> {
     let mut report = format!(in alloc;
         "bbmcheck 1\ncertificate d703d23eb6b93c49bd0027729197bf8cc495c873ff97d62e612cde71b6dfc028\nmodules 64\nverdict no\n"
     )?;
@@ -117,26 +117,26 @@ fn answer<T: Threads + Wait + RandomSource + Sync, G: Gate + Sync>(
 const WORKERS: [(&str, u64); 2] = [("8", 8), ("64", 64)];
 
 #[test]
-fn many_workers_for_64_modules(rt: HostRuntime) {
-    let text = many_modules(rt.alloc()).expect(&rt, "a text");
-    let report = many_faults(rt.alloc()).expect(&rt, "a report");
+fn workers_report_on_64_modules(rt: HostRuntime) {
+    let text = text_of_64_modules(rt.alloc()).expect(&rt, "a text");
+    let report = report_on_64_modules(rt.alloc()).expect(&rt, "a report");
     for (count, workers) in WORKERS {
-        let gate = Crowd::new(workers);
+        let gate = CrowdGate::new(workers);
         let words = ["check", "--workers", count];
         let (status, written) = answer(&rt, rt.alloc(), &words, &text, &gate);
         assert!(rt;
-            status == 1 && written.as_slice() == report.as_bytes() && gate.was_kept(64),
+            status == 1 && written.as_slice() == report.as_bytes() && gate.was_gate_kept(64),
             "{count}"
         );
     }
 }
 
 #[test]
-fn an_audit_of_64_modules(rt: HostRuntime) {
-    let text = many_modules(rt.alloc()).expect(&rt, "a text");
-    let gate = Crowd::new(8);
-    let Audited { state, memory } = audited(&rt, rt.alloc(), &text, 8, &gate);
-    assert!(rt; !memory && state.is_closed() && gate.was_kept(64));
+fn audit_holds_64_findings(rt: HostRuntime) {
+    let text = text_of_64_modules(rt.alloc()).expect(&rt, "a text");
+    let gate = CrowdGate::new(8);
+    let Audited { state, memory } = audit_of_text(&rt, rt.alloc(), &text, 8, &gate);
+    assert!(rt; !memory && state.is_closed() && gate.was_gate_kept(64));
     assert!(rt; state.accepted() == 64 && state.history().len() == 65);
 }
 
@@ -175,7 +175,7 @@ const MOST_LINES: [(&[&str], &str, u8, &str); 5] = [
 ];
 
 #[test]
-fn most_border_lines(rt: HostRuntime) {
+fn full_module_is_listed(rt: HostRuntime) {
     for (words, line, wanted, told) in MOST_LINES {
         let text = borders(rt.alloc(), line).expect(&rt, "a text");
         let (status, written) = answer(&rt, rt.alloc(), words, &text, &OpenGate);

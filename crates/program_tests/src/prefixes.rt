@@ -1,7 +1,7 @@
 //! Every front of a bundle, in pieces of several lengths. The expected results follow from the format: the line behind
 //! the whole ones is not ended.
 
-use crate::devices::{FailingReader, FailingWriter, Seen, call};
+use crate::devices::{FailingReader, FailingWriter, ProgramResult, call};
 use std::alloc::Global;
 use std::random::RandomSource;
 use std::sync::Wait;
@@ -9,12 +9,12 @@ use std::thread::Threads;
 use test_support::GOOD;
 
 /// Returns what `check` does over the first `length` bytes of the bundle, in pieces of `piece` bytes.
-fn checked_front<T: Threads + Wait + RandomSource + Sync>(
+fn check_of_front<T: Threads + Wait + RandomSource + Sync>(
     rt: &T,
     alloc: Global,
     length: usize,
     piece: usize,
-) -> Seen {
+) -> ProgramResult {
     let reader = FailingReader {
         text: GOOD.as_bytes().get(..length).unwrap_or(b""),
         piece,
@@ -26,12 +26,12 @@ fn checked_front<T: Threads + Wait + RandomSource + Sync>(
 }
 
 #[test]
-fn every_front_is_refused_at_its_end(rt: HostRuntime) {
+fn each_cut_text_is_refused(rt: HostRuntime) {
     let mut line = 1_u32;
     for (length, byte) in GOOD.bytes().enumerate() {
         let wanted = format!(in rt.alloc(); "refused {line} 12\n").expect(&rt, "a line");
         for piece in [1, 2, 7, 4096] {
-            let seen = checked_front(&rt, rt.alloc(), length, piece);
+            let seen = check_of_front(&rt, rt.alloc(), length, piece);
             assert!(rt; seen.is(3, wanted.as_bytes(), ""), "{length} {piece}");
         }
         if byte == b'\n' {

@@ -1,8 +1,8 @@
 //! The program's statuses and texts, over readers and writers of which some fail.
 
 use crate::bundles::{NO, YES};
-use crate::devices::{FailingReader, FailingWriter, Letters, Seen, call};
-use crate::gates::{Hold, Holding};
+use crate::devices::{FailingReader, FailingWriter, LetterReader, ProgramResult, call};
+use crate::gates::{HoldRule, HoldingGate};
 use check_main::{CheckFault, OpenGate, Streams, Watched, program};
 use std::alloc::Global;
 use std::random::RandomSource;
@@ -80,13 +80,13 @@ const COMMANDS: [Command; 4] = [
 const MUCH: usize = 1_000;
 
 /// Returns what a command does if its text comes in pieces of `piece` bytes, and a read fails after `calls_left` calls.
-fn read_in<T: Threads + Wait + RandomSource + Sync>(
+fn result_in_pieces<T: Threads + Wait + RandomSource + Sync>(
     rt: &T,
     alloc: Global,
     command: &Command,
     piece: usize,
     calls_left: u32,
-) -> Seen {
+) -> ProgramResult {
     let reader = FailingReader {
         text: command.text.as_bytes(),
         piece,
@@ -101,7 +101,7 @@ fn read_in<T: Threads + Wait + RandomSource + Sync>(
 fn answers_however_the_text_is_cut(rt: HostRuntime) {
     for command in &COMMANDS {
         for piece in [1, 2, 7, 4096] {
-            let seen = read_in(&rt, rt.alloc(), command, piece, 1_000);
+            let seen = result_in_pieces(&rt, rt.alloc(), command, piece, 1_000);
             let answer = command.answer.as_bytes();
             assert!(rt; seen.is(command.status, answer, ""), "{piece}");
         }
@@ -109,15 +109,15 @@ fn answers_however_the_text_is_cut(rt: HostRuntime) {
 }
 
 #[test]
-fn says_that_a_read_failed(rt: HostRuntime) {
+fn read_fault_is_reported(rt: HostRuntime) {
     for command in &COMMANDS[..3] {
         // Pieces of eight bytes, and the end.
         let calls = command.text.len().div_ceil(8).min(1_000) as u32 + 1;
         for calls_left in 0..calls {
-            let seen = read_in(&rt, rt.alloc(), command, 8, calls_left);
+            let seen = result_in_pieces(&rt, rt.alloc(), command, 8, calls_left);
             assert!(rt; seen.is(4, b"", "bbmcheck: read fault\n"), "{calls_left}");
         }
-        let seen = read_in(&rt, rt.alloc(), command, 8, calls);
+        let seen = result_in_pieces(&rt, rt.alloc(), command, 8, calls);
         assert!(rt; seen.is(command.status, command.answer.as_bytes(), ""));
     }
 }
@@ -133,9 +133,9 @@ const LONG_TEXTS: [(usize, usize, u8, &str, &str); 3] = [
 ];
 
 #[test]
-fn stops_at_the_limit(rt: HostRuntime) {
+fn too_long_texts_are_refused(rt: HostRuntime) {
     for (left, piece, status, written, said) in LONG_TEXTS {
-        let reader = Letters { left, piece };
+        let reader = LetterReader { left, piece };
         let writer = FailingWriter::new(rt.alloc(), MUCH, true);
         let errors = FailingWriter::new(rt.alloc(), MUCH, true);
         let seen = call(&rt, rt.alloc(), &["run"], reader, writer, errors);
@@ -144,13 +144,13 @@ fn stops_at_the_limit(rt: HostRuntime) {
 }
 
 /// Returns what a command does if `room` bytes can be written.
-fn written_in<T: Threads + Wait + RandomSource + Sync>(
+fn result_with_room<T: Threads + Wait + RandomSource + Sync>(
     rt: &T,
     alloc: Global,
     command: &Command,
     room: usize,
     errs: bool,
-) -> Seen {
+) -> ProgramResult {
     let reader = command.text.as_bytes();
     let writer = FailingWriter::new(alloc, room, errs);
     let errors = FailingWriter::new(alloc, MUCH, true);
@@ -158,12 +158,12 @@ fn written_in<T: Threads + Wait + RandomSource + Sync>(
 }
 
 #[test]
-fn writes_the_front_before_a_write_fails(rt: HostRuntime) {
+fn front_is_written_before_fault(rt: HostRuntime) {
     for command in &COMMANDS {
         let answer = command.answer.as_bytes();
         for room in 0..answer.len() {
             for errs in [false, true] {
-                let seen = written_in(&rt, rt.alloc(), command, room, errs);
+                let seen = result_with_room(&rt, rt.alloc(), command, room, errs);
                 assert!(rt;
                     seen.is(4, &answer[..room], "bbmcheck: write fault\n"),
                     "{room}"
@@ -218,7 +218,7 @@ const UNHEARD: [(&[&str], u32, u8, &str, &str); 3] = [
 ];
 
 #[test]
-fn ignores_that_errors_cannot_be_written(rt: HostRuntime) {
+fn failing_stderr_is_ignored(rt: HostRuntime) {
     for (words, calls_left, status, written, said) in &UNHEARD {
         for room in [0, 1, 10, 12] {
             let reader = FailingReader {
@@ -251,8 +251,8 @@ fn names_each_fault_in_words(rt: HostRuntime) {
 
 /// Checks that two workers run. Each of them waits until the other has begun, so one alone would be late.
 #[test]
-fn hands_on_the_number_of_workers(rt: HostRuntime) {
-    let gate = Holding::new(Hold::FirstTwo);
+fn workers_option_is_obeyed(rt: HostRuntime) {
+    let gate = HoldingGate::new(HoldRule::FirstTwo);
     let mut streams = Streams {
         reader: Watched::new(GOOD.as_bytes()),
         writer: Watched::new(Vec::new(rt.alloc())),
@@ -261,14 +261,14 @@ fn hands_on_the_number_of_workers(rt: HostRuntime) {
     let words = ["check", "--workers", "2"];
     let status = program(&rt, rt.alloc(), &words, &mut streams, &gate);
     assert!(rt; status == 0 && streams.writer.get_ref().as_slice() == YES.as_bytes());
-    assert!(rt; gate.was_kept());
+    assert!(rt; gate.was_gate_kept());
 }
 
 /// Checks that each run ends in the whole answer, or out of memory with nothing written.
 ///
 /// It passes too if an allocation is refused.
 #[test]
-fn survives_want_of_memory(rt: HostRuntime) {
+fn answer_is_whole_or_no_memory(rt: HostRuntime) {
     for command in &COMMANDS {
         let (mut room, mut said) = ([0u8; 640], [0u8; 144]);
         let mut streams = Streams {

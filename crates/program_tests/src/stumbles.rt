@@ -62,7 +62,7 @@ impl Write for StumblingWriter {
 
 /// Returns the end of `check` over a text of which a read fails after `before` reads, how much was written, and whether
 /// the fault stays.
-fn read_with<T: Threads + Wait + RandomSource + Sync>(
+fn check_with_failing_read<T: Threads + Wait + RandomSource + Sync>(
     rt: &T,
     alloc: Global,
     text: &str,
@@ -86,7 +86,7 @@ fn a_read_that_fails_once_ends_it(rt: HostRuntime) {
     for text in [GOOD, ALONE] {
         // pieces of eight bytes, and the end
         for before in 0..text.len().div_ceil(8) + 1 {
-            let seen = read_with(&rt, rt.alloc(), text, before);
+            let seen = check_with_failing_read(&rt, rt.alloc(), text, before);
             assert!(rt; seen == (Err(CheckFault::Read), 0, true), "{before}");
         }
     }
@@ -96,7 +96,7 @@ fn a_read_that_fails_once_ends_it(rt: HostRuntime) {
 /// bytes.
 ///
 /// It also returns what was written, and whether the fault stays.
-fn written_with<T: Threads + Wait + RandomSource + Sync>(
+fn check_with_failing_write<T: Threads + Wait + RandomSource + Sync>(
     rt: &T,
     alloc: Global,
     before: usize,
@@ -123,7 +123,7 @@ fn written_with<T: Threads + Wait + RandomSource + Sync>(
 fn a_write_that_fails_once_ends_it(rt: HostRuntime) {
     for errs in [false, true] {
         for before in 0..NO.len().div_ceil(7) {
-            let (ended, taken, stays) = written_with(&rt, rt.alloc(), before, errs);
+            let (ended, taken, stays) = check_with_failing_write(&rt, rt.alloc(), before, errs);
             assert!(rt; ended == Err(CheckFault::Write) && stays, "{before}");
             let front = NO.as_bytes().chunks(7).take(before).flatten();
             assert!(rt; taken.iter().eq(front), "{before}");
@@ -132,7 +132,7 @@ fn a_write_that_fails_once_ends_it(rt: HostRuntime) {
 }
 
 /// Returns what is written of the report on a text, if a write takes `piece` bytes.
-fn report_by<T: Threads + Wait + RandomSource + Sync>(
+fn report_by_short_writes<T: Threads + Wait + RandomSource + Sync>(
     rt: &T,
     alloc: Global,
     text: &str,
@@ -157,7 +157,7 @@ fn report_by<T: Threads + Wait + RandomSource + Sync>(
 fn short_writes_make_the_same_report(rt: HostRuntime) {
     for (text, report) in [(GOOD, YES), (ALONE, NO)] {
         for piece in [1, 2, 7] {
-            let taken = report_by(&rt, rt.alloc(), text, piece);
+            let taken = report_by_short_writes(&rt, rt.alloc(), text, piece);
             assert!(rt; taken.as_slice() == report.as_bytes(), "{piece}");
         }
     }

@@ -62,7 +62,7 @@ const WORDS: [(&[&str], Read); 29] = [
 const VALUE: Read = Err(ErrorKind::ValueValidation);
 
 #[test]
-fn reads_words(rt: HostRuntime) {
+fn requests_of_words(rt: HostRuntime) {
     for (words, wanted) in &WORDS {
         assert!(rt; read(rt.alloc(), words) == *wanted, "{words:?}");
     }

@@ -1,7 +1,7 @@
 //! Work without a gate and without an audit. The counts were worked out by hand.
 ghost use Rattle.std.specs.Prelude.{◌≡◌, ◌<◌, ◌≤◌, [], length};
 
-use crate::books::new_state;
+use crate::books::new_book_of_text;
 use certificate::{Job, job_groups};
 use core_book::BookState;
 use job_pool::{OpenGate, WorkEnd, work};
@@ -49,7 +49,7 @@ fn worked<F: Filings + Send + Sync, A: Ledger + Send + Sync, R: Abort + Threads 
 }
 
 /// Checks that `count` workers file the finding of each job of a bundle once, and run `wanted` jobs.
-fn filed_by_workers<R: Abort + Threads + Wait + Sync>(
+fn check_filed_and_run_counts<R: Abort + Threads + Wait + Sync>(
     rt: &R,
     alloc: Global,
     text: &str,
@@ -59,7 +59,7 @@ fn filed_by_workers<R: Abort + Threads + Wait + Sync>(
     requires { (0 < count) × (count ≤ 64) }
 {
     let (f, a) = (Blank::new(count as u64), Blank::new(count as u64));
-    let state = new_state(rt, alloc, text);
+    let state = new_book_of_text(rt, alloc, text);
     let jobs = work_of(alloc, text).expect(rt, "work").jobs;
     assert!(rt; jobs.len() <= 1024);
     let (gathered, runs) = worked::<Brand, Brand, R>(rt, alloc, &jobs, f, a, state, count);
@@ -79,7 +79,7 @@ fn filed_by_workers<R: Abort + Threads + Wait + Sync>(
 #[test]
 fn workers_file_each_finding_once(rt: HostRuntime) {
     for count in [1usize, 2, 4, 64] {
-        filed_by_workers(&rt, rt.alloc(), GOOD, 4, count);
+        check_filed_and_run_counts(&rt, rt.alloc(), GOOD, 4, count);
     }
 }
 
@@ -90,14 +90,14 @@ const EQUAL: [&str; 2] = [
 ];
 
 #[test]
-fn a_group_is_run_once(rt: HostRuntime) {
+fn jobs_of_one_shape_run_once(rt: HostRuntime) {
     for text in EQUAL {
-        filed_by_workers(&rt, rt.alloc(), text, 1, 2);
+        check_filed_and_run_counts(&rt, rt.alloc(), text, 1, 2);
     }
 }
 
 /// Adds the lines of 1024 modules of two by two cells, in rows of 32.
-fn push_modules(alloc: Global, text: &mut String) -> Result<(), AllocError> {
+fn push_1024_modules(alloc: Global, text: &mut String) -> Result<(), AllocError> {
     for place in 0..1024_u32 {
         let (x, y) = (place % 32 * 2, place / 32 * 2);
         text.push_str(&format!(in alloc; "module {x} {y} 2 2\n")?)?;
@@ -106,7 +106,7 @@ fn push_modules(alloc: Global, text: &mut String) -> Result<(), AllocError> {
 }
 
 /// Modules whose first sixteen have mirrors on each choice of their four cells, and whose last one has an output cell.
-fn seventeen_shapes(alloc: Global) -> Result<String, AllocError> {
+fn text_of_seventeen_shapes(alloc: Global) -> Result<String, AllocError> {
     let mut text = format!(in alloc; "circuit\nsource 1 -> a\noutput a\nend\nlayout 64 64 0\n")?;
     for module in 0..16_u32 {
         for place in 0..4_u32 {
@@ -117,13 +117,13 @@ fn seventeen_shapes(alloc: Global) -> Result<String, AllocError> {
         }
     }
     text.push_str("out a 62 62\nend\ncertificate 1\n")?;
-    push_modules(alloc, &mut text)?;
+    push_1024_modules(alloc, &mut text)?;
     text.push_str("use 0\nend\n")?;
     Ok(text)
 }
 
 #[test]
-fn many_modules_of_few_shapes(rt: HostRuntime) {
-    let text = seventeen_shapes(rt.alloc()).expect(&rt, "a text");
-    filed_by_workers(&rt, rt.alloc(), &text, 17, 2);
+fn equal_shapes_run_once(rt: HostRuntime) {
+    let text = text_of_seventeen_shapes(rt.alloc()).expect(&rt, "a text");
+    check_filed_and_run_counts(&rt, rt.alloc(), &text, 17, 2);
 }

@@ -1,10 +1,9 @@
 -- The lines before the verdict, made in one piece.
-use Rattle.std.proofs.Common.{◌≡◌, ◌++◌, ◌∙◌, ℕ, List, [], ◌∷◌, refl, ap, append_assoc, append-nil}
-use Rattle.std.specs.Prelude.{codes}
+use Rattle.std.proofs.Common.{◌≡◌, ◌++◌, ◌∙◌, ℕ, List, [], ◌∷◌, refl, ap, append_assoc, append-nil, codes}
 use Rattle.std.specs.Fmt.{decimal}
 use Rattle.hex.specs.Hex.{encode_lower}
 use Rattle.section_text.specs.Spelling.{line_text}
-use Rattle.report.specs.ReportText.{opening_lines}
+use Rattle.report.specs.ReportText.{lines_before_verdict}
 
 -- the same from the digits of the digest and of the count
 piece : List ℕ → List ℕ → List ℕ
@@ -18,7 +17,7 @@ arranged h m = rw (append-nil h, append-nil m, append_assoc h (10 ∷ []) (codes
 
 pub opening_made : (digest : List ℕ) (modules : ℕ) (digits text : List ℕ) → digits ≡ encode_lower digest →
     text ≡ codes "bbmcheck 1\ncertificate " ++ (digits ++ (codes "\nmodules " ++ (decimal modules ++ codes "\n"))) →
-    text ≡ opening_lines digest modules
+    text ≡ lines_before_verdict digest modules
 unfolding piece
 opening_made digest modules digits text same made =
     made ∙ ap (λ h. piece h (decimal modules)) same ∙ arranged (encode_lower digest) (decimal modules)

@@ -10,7 +10,7 @@ use Rattle.circuit.specs.Bridge.{circuit_of}
 use Rattle.certificate_lines.specs.Entries.{modules_of}
 use Rattle.certificate.specs.Grammars.{CertView, modules_in}
 use Rattle.certificate.specs.Text.{certificate_text}
-use Rattle.certificate.specs.Times.{time_lines}
+use Rattle.certificate.specs.Times.{delay_and_meet_lines}
 use Rattle.certificate.specs.declared.times.StopGap.{StopGap}
 use Rattle.certificate.specs.declared.times.StopGap.TheVariants.{Steps, NoStop, Before}
 use Rattle.certificate.specs.declared.times.TimeLine.{TimeLine}
@@ -75,12 +75,12 @@ verdict_lines times Yes = line_text (codes "verdict") (codes "yes" ∷ [])
 verdict_lines times (No lines) = line_text (codes "verdict") (codes "no" ∷ []) ++ flat_map report_line_text lines.items
 
 -- before the verdict: the version of reports, the certificate's digest in lower case, and how many modules it has
-abbrev pub opening_lines : List ℕ → ℕ → List ℕ
-opening_lines digest modules =
+abbrev pub lines_before_verdict : List ℕ → ℕ → List ℕ
+lines_before_verdict digest modules =
     line_text (codes "bbmcheck") (codes "1" ∷ []) ++ line_text (codes "certificate") (encode_lower digest ∷ [])
     ++ line_text (codes "modules") (decimal modules ∷ [])
 
 -- the report on a certificate
 unfoldable pub report_lines : CertView → Verdict → List ℕ
-report_lines c v = opening_lines (sha256 (certificate_text c)) (length (modules_of c.entries))
-    ++ verdict_lines (time_lines (circuit_of c.circuit) (modules_in c)) v
+report_lines c v = lines_before_verdict (sha256 (certificate_text c)) (length (modules_of c.entries))
+    ++ verdict_lines (delay_and_meet_lines (circuit_of c.circuit) (modules_in c)) v

@@ -6,10 +6,10 @@ ghost use Rattle.sha2.specs.Sha256.{sha256};
 ghost use Rattle.core_book.specs.declared.verdict.ReportLine.TheVariants.{Border, Delay, Keep, Local, Meet, Unkept};
 ghost use Rattle.core_book.specs.Verdicts.{timing_report};
 ghost use Rattle.certificate.specs.Text.{certificate_text};
-ghost use Rattle.certificate.specs.Times.{time_lines};
+ghost use Rattle.certificate.specs.Times.{delay_and_meet_lines};
 ghost use Rattle.certificate.specs.Grammars.{modules_in};
 ghost use Rattle.circuit.specs.Bridge.{circuit_of};
-ghost use Rattle.report.specs.ReportText.{report_line_text, fault_kind_word, opening_lines, refusal_line, report_lines, verdict_lines};
+ghost use Rattle.report.specs.ReportText.{report_line_text, fault_kind_word, lines_before_verdict, refusal_line, report_lines, verdict_lines};
 
 use border_match::BorderFault;
 use certificate::{Cert, StopGap, TimeLine};
@@ -50,14 +50,18 @@ pub fn report_with_digest(
     requires { digest ≡ sha256 (certificate_text cert.now) }
     ensures { IfOk result (λ text. text.items ≡ report_lines cert.now verdict.now) }
 {
-    let mut text = opening_text(alloc, digest, cert.modules())?;
+    let mut text = text_before_verdict(alloc, digest, cert.modules())?;
     print_verdict(alloc, &mut text, cert, verdict)?;
     Ok(text)
 }
 
 // The lines before the verdict.
-fn opening_text(alloc: Global, digest: [u8; 32], modules: usize) -> Result<Vec<u8>, AllocError>
-    ensures { IfOk result (λ text. text.items ≡ opening_lines digest modules) }
+fn text_before_verdict(
+    alloc: Global,
+    digest: [u8; 32],
+    modules: usize,
+) -> Result<Vec<u8>, AllocError>
+    ensures { IfOk result (λ text. text.items ≡ lines_before_verdict digest modules) }
 {
     let digits = hex::encode(alloc, digest)?;
     let lines = format!(in alloc; "bbmcheck 1\ncertificate {digits}\nmodules {modules}\n")?;
@@ -72,7 +76,7 @@ fn print_verdict(
 ) -> Result<(), AllocError>
     ensures { OnOk result (text.new.items
         ≡ text.old.items ++ verdict_lines
-        (time_lines (circuit_of cert.now.circuit) (modules_in cert.now)) verdict.now) }
+        (delay_and_meet_lines (circuit_of cert.now.circuit) (modules_in cert.now)) verdict.now) }
 {
     match verdict {
         Verdict::Yes => {

@@ -8,7 +8,8 @@ use Rattle.section_text.specs.declared.section.Form.TheVariants.{Header, Item, E
 use Rattle.section_text.specs.declared.fault.Refusal.{Refusal}
 use Rattle.section_text.specs.declared.fault.ReadFault.{ReadFault}
 use Rattle.section_text.specs.Feeds.{FeedView, ahead}
-use Rattle.section_text.specs.Section.{Grammar, unless, result_after_line, header_line, section_of, body_of, Reads}
+use Rattle.section_text.specs.Section.{Grammar, unless, result_after_line, header_line, section_of, section_body_of}
+use Rattle.section_text.specs.Section.{Reads}
 use Rattle.section_text.specs.declared.code.RefusalCode.{RefusalCode}
 
 module _ {H I : Type 0} (g : Grammar H I) where
@@ -40,13 +41,14 @@ module _ {H I : Type 0} (g : Grammar H I) where
 
   line_faultless : (ls : List (List ℕ)) (h : H) (before : List I) (n : ℕ) (h' : H) (rows : List I)
       (o : Option (Form H I))
-      → result_after_line g h before n (λ i. body_of g h (before ++ i ∷ []) (n + 1) ls) o ≡ Ok (h', rows)
-      → ((i : I) → body_of g h (before ++ i ∷ []) (n + 1) ls ≡ Ok (h', rows) →
+      → result_after_line g h before n (λ i. section_body_of g h (before ++ i ∷ []) (n + 1) ls) o ≡ Ok (h', rows)
+      → ((i : I) → section_body_of g h (before ++ i ∷ []) (n + 1) ls ≡ Ok (h', rows) →
       BodyFaultless h (before ++ i ∷ []) h' rows) → BodyFaultless h before h' rows
   line_faultless ls h before n h' rows None e rec = absurd cc
   line_faultless ls h before n h' rows (Some (Header k)) e rec = absurd cc
   line_faultless ls h before n h' rows (Some (Item i)) e rec =
-      let good = unless_ok n (g.item_fault h before i) (body_of g h (before ++ i ∷ []) (n + 1) ls) (h', rows) e in
+      let good = unless_ok n (g.item_fault h before i) (section_body_of g h (before ++ i ∷ []) (n + 1) ls)
+      (h', rows) e in
       let t = rec i good.1 in
       record {
         more = i ∷ t.more;
@@ -68,20 +70,20 @@ module _ {H I : Type 0} (g : Grammar H I) where
       }
 
   body_faultless : (ls : List (List ℕ)) (h : H) (before : List I) (n : ℕ) (h' : H) (rows : List I) →
-      body_of g h before n ls ≡ Ok (h', rows) → BodyFaultless h before h' rows
-  unfolding body_of
+      section_body_of g h before n ls ≡ Ok (h', rows) → BodyFaultless h before h' rows
+  unfolding section_body_of
   body_faultless [] h before n h' rows e = absurd cc
   body_faultless (l ∷ ls) h before n h' rows e =
       line_faultless ls h before n h' rows (g.form (words_of l)) e
       (λ i. body_faultless ls h (before ++ i ∷ []) (n + 1) h' rows)
 
   header_faultless : (ls : List (List ℕ)) (n : ℕ) (h : H) (rows : List I) (o : Option (Form H I)) →
-      header_line g n (λ k. body_of g k [] (n + 1) ls) o ≡ Ok (h, rows) → IsFaultless h rows
+      header_line g n (λ k. section_body_of g k [] (n + 1) ls) o ≡ Ok (h, rows) → IsFaultless h rows
   header_faultless ls n h rows None e = absurd cc
   header_faultless ls n h rows (Some (Item i)) e = absurd cc
   header_faultless ls n h rows (Some End) e = absurd cc
   header_faultless ls n h rows (Some (Header k)) e =
-      let good = unless_ok n (g.header_fault k) (body_of g k [] (n + 1) ls) (h, rows) e in
+      let good = unless_ok n (g.header_fault k) (section_body_of g k [] (n + 1) ls) (h, rows) e in
       let t = body_faultless ls k [] (n + 1) h rows good.1 in
       record {
         header = subst (λ (j : H). g.header_fault j ≡ None) (sym t.same) good.0;

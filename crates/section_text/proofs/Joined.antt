@@ -1,7 +1,6 @@
 -- Readers one after the other read sections one after the other.
 use Rattle.std.proofs.Common.{◌≡◌, ℕ, ◌+◌, List, [], ◌∷◌, length, drop, None, Result, Ok, Err, refl, sym, ap, subst}
-use Rattle.std.proofs.Common.{◌∙◌}
-use Rattle.std.specs.Prelude.{◌≢◌}
+use Rattle.std.proofs.Common.{◌∙◌, ◌≢◌}
 use Rattle.std.proofs.lemmas.List.{drop-drop}
 use Rattle.section_text.specs.Words.{lines_of}
 use Rattle.section_text.specs.Faults.{refusal}
@@ -10,7 +9,7 @@ use Rattle.section_text.specs.declared.fault.Refusal.{Refusal}
 use Rattle.section_text.specs.declared.fault.ReadFault.{ReadFault}
 use Rattle.section_text.specs.declared.fault.ReadFault.TheVariants.{Refused, Memory}
 use Rattle.section_text.specs.Section.{Grammar, section_of, refused_at, Reads, FailsAsReading}
-use Rattle.section_text.specs.Sections.{go_on, section_then, value_at_end}
+use Rattle.section_text.specs.Sections.{continue_after_section, section_then, value_if_at_end}
 use Rattle.section_text.specs.declared.code.RefusalCode.TheVariants.{TextCut}
 
 module _ {H I A B : Type 0} (g : Grammar H I) (view : A → H × List I) (old new : FeedView) (going : old.stop ≡ None)
@@ -25,7 +24,8 @@ module _ {H I A B : Type 0} (g : Grammar H I) (view : A → H × List I) (old ne
       let rest : ahead new ≡ drop k (ahead old) =
       ap ahead done.after ∙ sym (drop-drop k old.taken (lines_of old.text)) in
       ap (λ (r : Result (H × List I) Refusal).
-      go_on r (λ h items. next h items (old.taken + (length items + 2)) (drop (length items + 2) (ahead old))))
+      continue_after_section r (λ h items.
+      next h items (old.taken + (length items + 2)) (drop (length items + 2) (ahead old))))
       done.gives
       ∙ ap (λ (n : ℕ). next (view a).0 (view a).1 n (drop k (ahead old))) (sym taken)
       ∙ ap (next (view a).0 (view a).1 new.taken) (sym rest)
@@ -45,7 +45,8 @@ module _ {H I A B : Type 0} (g : Grammar H I) (view : A → H × List I) (old ne
   fails_first Memory e = tt
   fails_first (Refused r) e = ap
       (λ (k : Result (H × List I) Refusal).
-      go_on k (λ h items. next h items (old.taken + (length items + 2)) (drop (length items + 2) (ahead old)))) e
+      continue_after_section k (λ h items.
+      next h items (old.taken + (length items + 2)) (drop (length items + 2) (ahead old)))) e
 
   pub section_failed : (fault : ReadFault) → Reads g view old new (Err fault) →
       FailsAsReading fault (section_then g old.taken (ahead old) next)
@@ -60,15 +61,15 @@ fails_along fault early late e fails = subst (FailsAsReading fault) (sym e) fail
 -- ---- the end of the text
 
 pub at_the_end : {B : Type 0} (n : ℕ) (ls : List (List ℕ)) (rest : List ℕ) (value : B) → ls ≡ [] → rest ≡ [] →
-    value_at_end n ls rest value ≡ Ok value
+    value_if_at_end n ls rest value ≡ Ok value
 at_the_end n ls rest value none nothing = rw (none, nothing) refl
 
 pub goes_on : {B : Type 0} (n : ℕ) (ls : List (List ℕ)) (rest : List ℕ) (value : B) → (ls ≡ [] → rest ≢ []) →
-    value_at_end n ls rest value ≡ refused_at n TextCut
+    value_if_at_end n ls rest value ≡ refused_at n TextCut
 goes_on n [] [] value more = absurd (more refl refl)
 goes_on n [] (b ∷ rest) value more = refl
 goes_on n (l ∷ ls) rest value more = refl
 
 pub more_fails : {B : Type 0} (n : ℕ) (ls : List (List ℕ)) (rest : List ℕ) (value : B) (fault : ReadFault) →
-    (ls ≡ [] → rest ≢ []) → fault ≡ refusal (n + 1) TextCut → FailsAsReading fault (value_at_end n ls rest value)
+    (ls ≡ [] → rest ≢ []) → fault ≡ refusal (n + 1) TextCut → FailsAsReading fault (value_if_at_end n ls rest value)
 more_fails n ls rest value fault more is = rw is (goes_on n ls rest value more)

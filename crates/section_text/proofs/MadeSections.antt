@@ -1,11 +1,10 @@
 -- Lines with the forms of a section and without a fault are read as that section, and their text is that of the forms
 use Rattle.std.proofs.Common.{◌≡◌, ℕ, ◌+◌, List, [], ◌∷◌, ◌++◌, map, Option, Some, None, Ok, refl, sym, ap, ap₂, subst}
-use Rattle.std.proofs.Common.{◌∙◌, append_assoc}
-use Rattle.std.specs.List.{flat_map}
+use Rattle.std.proofs.Common.{◌∙◌, append_assoc, flat_map}
 use Rattle.std.proofs.lemmas.List.{append-nil, append_cancel_left}
-use Rattle.section_text.specs.Words.{words_of, bytes_after_lines}
+use Rattle.section_text.specs.Words.{words_of, bytes_after_last_line_feed}
 use Rattle.section_text.specs.SaidSection.{IsSection}
-use Rattle.section_text.specs.Section.{Grammar, section_of, body_of, ended_line}
+use Rattle.section_text.specs.Section.{Grammar, section_of, section_body_of, with_line_feed}
 use Rattle.section_text.specs.declared.section.Form.{Form}
 use Rattle.section_text.specs.declared.section.Form.TheVariants.{Header, Item, End}
 use Rattle.section_text.proofs.Again.{AreLines, lines_again}
@@ -46,7 +45,7 @@ module _ {H I : Type 0} (form : List (List ℕ) → Option (Form H I)) where
 module _ {H I : Type 0} (g : Grammar H I) where
   body_made : (h : H) (before items : List I) (ls others : List (List ℕ)) (n : ℕ) →
       forms g.form ls ≡ items_said g.form items → AreFaultless g h before items → g.end_fault h (before ++ items) ≡ None
-      → body_of g h before n (ls ++ others) ≡ Ok (h, before ++ items)
+      → section_body_of g h before n (ls ++ others) ≡ Ok (h, before ++ items)
   body_made h before [] ls others n e good end =
       let one = one_line g.form (Some End) [] ls e in
       body_ends g n (ls ++ others) h before one.line (one.rest ++ others)
@@ -72,24 +71,24 @@ module _ {H I : Type 0} (g : Grammar H I) where
 -- ---- their text
 
 module _ {H I : Type 0} (g : Grammar H I) (text : Form H I → List ℕ)
-    (spelled : (l : List ℕ) (f : Form H I) → g.form (words_of l) ≡ Some f → ended_line l ≡ text f) where
+    (spelled : (l : List ℕ) (f : Form H I) → g.form (words_of l) ≡ Some f → with_line_feed l ≡ text f) where
   body_text : (items : List I) (ls : List (List ℕ)) → forms g.form ls ≡ items_said g.form items →
-      flat_map ended_line ls ≡ items_text g text spelled items
+      flat_map with_line_feed ls ≡ items_text g text spelled items
   body_text [] ls e =
       let one = one_line g.form (Some End) [] ls e in
-      ap (flat_map ended_line) (one.lines ∙ ap (λ ks. one.line ∷ ks) (no_lines g.form one.rest one.other_forms))
-      ∙ append-nil (ended_line one.line) ∙ spelled one.line End one.first_form
+      ap (flat_map with_line_feed) (one.lines ∙ ap (λ ks. one.line ∷ ks) (no_lines g.form one.rest one.other_forms))
+      ∙ append-nil (with_line_feed one.line) ∙ spelled one.line End one.first_form
   body_text (i ∷ items) ls e =
       let one = one_line g.form (Some (Item i)) (items_said g.form items) ls e in
-      ap (flat_map ended_line) one.lines
+      ap (flat_map with_line_feed) one.lines
       ∙ ap₂ (λ a b. a ++ b) (spelled one.line (Item i) one.first_form) (body_text items one.rest one.other_forms)
       ∙ sym (append_assoc (text (Item i)) (flat_map (λ j. text (Item j)) items) (text End))
 
   pub text_said : (ls : List (List ℕ)) (h : H) (items : List I) → IsSection g.form ls h items →
-      flat_map ended_line ls ≡ text (Header h) ++ items_text g text spelled items
+      flat_map with_line_feed ls ≡ text (Header h) ++ items_text g text spelled items
   text_said ls h items e =
       let one = one_line g.form (Some (Header h)) (items_said g.form items) ls e in
-      ap (flat_map ended_line) one.lines
+      ap (flat_map with_line_feed) one.lines
       ∙ ap₂ (λ a b. a ++ b) (spelled one.line (Header h) one.first_form) (body_text items one.rest one.other_forms)
 
 -- ---- lines one after the other
@@ -107,9 +106,10 @@ clean_both [] ks here there = there
 clean_both (l ∷ ls) ks here there = (here.0, clean_both ls ks here.1 there)
 
 -- no byte follows the lines of a text that is made of them
-pub nothing_follows : (ls : List (List ℕ)) → AreLines ls → bytes_after_lines (flat_map ended_line ls) ≡ []
+pub nothing_follows : (ls : List (List ℕ)) → AreLines ls → bytes_after_last_line_feed (flat_map with_line_feed ls) ≡ []
 nothing_follows ls clean =
-    let text = flat_map ended_line ls in
-    append_cancel_left text (bytes_after_lines text) []
-    (ap (λ ks. flat_map ended_line ks ++ bytes_after_lines text) (sym (lines_again ls clean)) ∙ whole_text text
+    let text = flat_map with_line_feed ls in
+    append_cancel_left text (bytes_after_last_line_feed text) []
+    (ap (λ ks. flat_map with_line_feed ks ++ bytes_after_last_line_feed text) (sym (lines_again ls clean))
+    ∙ whole_text text
     ∙ sym (append-nil text))

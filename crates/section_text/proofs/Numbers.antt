@@ -1,7 +1,6 @@
 -- A number has one spelling.
 use Rattle.std.proofs.Common.{◌≡◌, ◌⊎◌, inl, inr, ℕ, zero, suc, ◌<◌, ◌≤◌, ◌^◌, true, List, [], ◌∷◌, length, get_or}
-use Rattle.std.proofs.Common.{Bool, false, Option, None, Some, sym, ap, ◌∙◌, arith, rules}
-use Rattle.std.specs.Prelude.{IfNone, IfSome}
+use Rattle.std.proofs.Common.{Bool, false, Option, None, Some, sym, ap, ◌∙◌, arith, rules, IfNone, IfSome}
 use Rattle.std.specs.List.{list_all}
 use Rattle.std.specs.Fmt.{decimal}
 use Rattle.std.proofs.lemmas.Option.{cond_some}

@@ -5,7 +5,7 @@ use Rattle.std.proofs.lemmas.List.{append-nil, length-map, map-append}
 use Rattle.std.proofs.Math.Seq.{drop-append_seam}
 use Rattle.section_text.specs.Words.{words_of}
 use Rattle.section_text.specs.SaidSection.{IsSection}
-use Rattle.section_text.specs.Section.{Grammar, unless, result_after_line, header_line, section_of, body_of}
+use Rattle.section_text.specs.Section.{Grammar, unless, result_after_line, header_line, section_of, section_body_of}
 use Rattle.section_text.specs.declared.section.Form.{Form}
 use Rattle.section_text.specs.declared.section.Form.TheVariants.{Header, Item, End}
 use Rattle.section_text.specs.declared.fault.Refusal.{Refusal}
@@ -40,13 +40,15 @@ module _ {H I : Type 0} (g : Grammar H I) where
 
   line_said : (l : List ℕ) (ls : List (List ℕ)) (h : H) (before : List I) (n : ℕ) (h' : H) (rows : List I)
       (o : Option (Form H I)) → g.form (words_of l) ≡ o
-      → result_after_line g h before n (λ i. body_of g h (before ++ i ∷ []) (n + 1) ls) o ≡ Ok (h', rows)
-      → ((i : I) → body_of g h (before ++ i ∷ []) (n + 1) ls ≡ Ok (h', rows) → BodySaid (before ++ i ∷ []) ls h h' rows)
+      → result_after_line g h before n (λ i. section_body_of g h (before ++ i ∷ []) (n + 1) ls) o ≡ Ok (h', rows)
+      → ((i : I) → section_body_of g h (before ++ i ∷ []) (n + 1) ls ≡ Ok (h', rows) →
+      BodySaid (before ++ i ∷ []) ls h h' rows)
       → BodySaid before (l ∷ ls) h h' rows
   line_said l ls h before n h' rows None f e rec = absurd cc
   line_said l ls h before n h' rows (Some (Header k)) f e rec = absurd cc
   line_said l ls h before n h' rows (Some (Item i)) f e rec =
-      let t = rec i (unless_ok n (g.item_fault h before i) (body_of g h (before ++ i ∷ []) (n + 1) ls) (h', rows) e) in
+      let t = rec i (unless_ok n (g.item_fault h before i) (section_body_of g h (before ++ i ∷ []) (n + 1) ls)
+      (h', rows) e) in
       record {
         more = i ∷ t.more;
         rows_are = t.rows_are ∙ append_assoc before (i ∷ []) t.more;
@@ -63,8 +65,8 @@ module _ {H I : Type 0} (g : Grammar H I) where
       }
 
   body_said : (ls : List (List ℕ)) (h : H) (before : List I) (n : ℕ) (h' : H) (rows : List I) →
-      body_of g h before n ls ≡ Ok (h', rows) → BodySaid before ls h h' rows
-  unfolding body_of
+      section_body_of g h before n ls ≡ Ok (h', rows) → BodySaid before ls h h' rows
+  unfolding section_body_of
   body_said [] h before n h' rows e = absurd cc
   body_said (l ∷ ls) h before n h' rows e =
       line_said l ls h before n h' rows (g.form (words_of l)) refl e
@@ -72,14 +74,14 @@ module _ {H I : Type 0} (g : Grammar H I) where
 
   header_said : (l : List ℕ) (ls : List (List ℕ)) (n : ℕ) (h : H) (rows : List I) (o : Option (Form H I)) →
       g.form (words_of l) ≡ o
-      → header_line g n (λ k. body_of g k [] (n + 1) ls) o ≡ Ok (h, rows) →
+      → header_line g n (λ k. section_body_of g k [] (n + 1) ls) o ≡ Ok (h, rows) →
       IsSection g.form (take (length rows + 2) (l ∷ ls)) h rows
   header_said l ls n h rows None f e = absurd cc
   header_said l ls n h rows (Some (Item i)) f e = absurd cc
   header_said l ls n h rows (Some End) f e = absurd cc
   header_said l ls n h rows (Some (Header k)) f e =
       let t = body_said ls k [] (n + 1) h rows
-      (unless_ok n (g.header_fault k) (body_of g k [] (n + 1) ls) (h, rows) e) in
+      (unless_ok n (g.header_fault k) (section_body_of g k [] (n + 1) ls) (h, rows) e) in
       let count : length rows + 2 ≡ suc (length t.more + 1) = omega (arith, ap length t.rows_are) in
       ap (λ (m : ℕ). map (λ l. g.form (words_of l)) (take m (l ∷ ls))) count
       ∙ ap₂ (λ a b. a ∷ b) (f ∙ ap (λ j. Some (Header j)) (sym t.same)) (t.said ∙ ap items_said (sym t.rows_are))

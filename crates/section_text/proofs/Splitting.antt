@@ -1,16 +1,15 @@
 -- The words of a line, one after the other.
 use Rattle.std.proofs.Common.{◌≡◌, ◌==◌, if◌then◌else◌, ℕ, suc, ◌+◌, ◌-◌, ◌<◌, ◌≤◌, Bool, true, false, cond, List, []}
-use Rattle.std.proofs.Common.{◌∷◌, take, drop, length, Option, Some, None, nat_lt, refl, sym, ap, ◌∙◌, arith}
-use Rattle.std.specs.Prelude.{slice_get, option_and_then}
-use Rattle.std.specs.List.{position, position_or_len}
+use Rattle.std.proofs.Common.{◌∷◌, take, drop, length, Option, Some, None, nat_lt, refl, sym, ap, ◌∙◌, arith, slice_get}
+use Rattle.std.proofs.Common.{option_and_then, position}
+use Rattle.std.specs.List.{position_or_len}
 use Rattle.std.proofs.lemmas.List.{length-drop, take_all}
 use Rattle.std.proofs.lemmas.Bool.Decides.{nat_tests}
 use Rattle.std.proofs.lemmas.Option.{same_Some}
 use Rattle.std.proofs.lemmas.List.Splits.{length-slice_split, slice_split_first, slice_split_none}
 use Rattle.std.proofs.lemmas.List.Sums.{fails_before_first}
-use Rattle.section_text.specs.Words.{is_space, words_of, second_of_two, three, four, five, number_of, name_of}
-use Rattle.section_text.specs.Words.{number_at}
-use Rattle.section_text.specs.Words.{name_at, lone_number, lone_name}
+use Rattle.section_text.specs.Words.{is_space, words_of, second_word_of_two, three, four, five, number_of, name_of}
+use Rattle.section_text.specs.Words.{number_at, name_at, lone_number, lone_name}
 
 -- where the first space is
 found_by : (b : Bool) (p i : ℕ) → cond b (Some p) None ≡ Some i → (b ≡ true) × (p ≡ i)
@@ -130,18 +129,18 @@ is_alone l a = rw a refl
 pub is_not_alone : (l w r : List ℕ) → words_of l ≡ w ∷ words_of r → false ≡ (length (words_of l) == 1)
 is_not_alone l w r a = rw (a, not_one (length (words_of r)) (some_words r)) refl
 
-pub no_second : (l : List ℕ) → words_of l ≡ l ∷ [] → None ≡ second_of_two (words_of l)
-unfolding second_of_two
+pub no_second : (l : List ℕ) → words_of l ≡ l ∷ [] → None ≡ second_word_of_two (words_of l)
+unfolding second_word_of_two
 no_second l a = rw a refl
 
 pub second_is : (l w r : List ℕ) → words_of l ≡ w ∷ words_of r → words_of r ≡ r ∷ [] →
-    Some r ≡ second_of_two (words_of l)
-unfolding second_of_two
+    Some r ≡ second_word_of_two (words_of l)
+unfolding second_word_of_two
 second_is l w r a b = rw (a, b) refl
 
 pub past_second : (l w r v s : List ℕ) → words_of l ≡ w ∷ words_of r → words_of r ≡ v ∷ words_of s →
-    None ≡ second_of_two (words_of l)
-unfolding second_of_two
+    None ≡ second_word_of_two (words_of l)
+unfolding second_word_of_two
 past_second l w r v s a b = rw (a, b, not_two (length (words_of s)) (some_words s)) refl
 
 pub one_of_three : (l : List ℕ) → words_of l ≡ l ∷ [] → None ≡ three (words_of l)
@@ -170,10 +169,10 @@ read_if : {A B : Type 0} (b : Bool) (o : Option A) (f : A → Option B) →
 read_if true o f = refl
 read_if false o f = refl
 
-pub second_number : (ws : List (List ℕ)) → option_and_then number_of (second_of_two ws) ≡ lone_number ws
-unfolding second_of_two lone_number number_at
+pub second_number : (ws : List (List ℕ)) → option_and_then number_of (second_word_of_two ws) ≡ lone_number ws
+unfolding second_word_of_two lone_number number_at
 second_number ws = read_if (length ws == 2) (slice_get ws 1) number_of
 
-pub second_name : (ws : List (List ℕ)) → option_and_then name_of (second_of_two ws) ≡ lone_name ws
-unfolding second_of_two lone_name name_at
+pub second_name : (ws : List (List ℕ)) → option_and_then name_of (second_word_of_two ws) ≡ lone_name ws
+unfolding second_word_of_two lone_name name_at
 second_name ws = read_if (length ws == 2) (slice_get ws 1) name_of

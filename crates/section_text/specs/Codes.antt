@@ -27,5 +27,5 @@ or_else None other = other
 or_else (Some code) other = Some code
 
 -- the code of a test that fails
-abbrev pub code_where : Bool → RefusalCode → Option RefusalCode
-code_where fails code = if fails then Some code else None
+abbrev pub code_if : Bool → RefusalCode → Option RefusalCode
+code_if fails code = if fails then Some code else None

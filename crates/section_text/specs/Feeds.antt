@@ -25,8 +25,8 @@ abbrev pub ahead : FeedView → List (List ℕ)
 ahead f = drop f.taken (lines_of f.text)
 
 -- the feed after n more lines
-abbrev pub after_lines : ℕ → FeedView → FeedView
-after_lines n f = record f { taken = f.taken + n }
+abbrev pub feed_after_lines : ℕ → FeedView → FeedView
+feed_after_lines n f = record f { taken = f.taken + n }
 
 -- the line is a place in the text
 pub record IsLine (f : FeedView) (line : Line) : Type 0 where
@@ -42,7 +42,7 @@ pub record TakesLine (old new : FeedView) (line : Line) : Type 0 where
   pub place : IsLine new line
   pub number : line.number ≡ old.taken + 1
   pub ahead : ahead old ≡ line_bytes new line ∷ ahead new
-  pub feed : new ≡ after_lines 1 old
+  pub feed : new ≡ feed_after_lines 1 old
 
 -- there is no next line
 pub record RunsOut (old new : FeedView) (fault : ReadFault) : Type 0 where

@@ -2,8 +2,8 @@
 use Rattle.std.specs.Prelude.{◌≡◌, ℕ, ◌+◌, ◌^◌, ◌<◌, List, ◌++◌, length, take, Some, Ok}
 use Rattle.std.specs.Fmt.{decimal}
 use Rattle.std.specs.List.{flat_map}
-use Rattle.section_text.specs.Words.{number_of, lines_of, bytes_after_lines}
-use Rattle.section_text.specs.Section.{Grammar, section_of, ended_line}
+use Rattle.section_text.specs.Words.{number_of, lines_of, bytes_after_last_line_feed}
+use Rattle.section_text.specs.Section.{Grammar, section_of, with_line_feed}
 
 -- a word that is a number is how that number is written
 abbrev pub OneSpelling : Type 0
@@ -19,7 +19,7 @@ EachNumberHasASpelling = (n : ℕ) → n < 10 ^ 9 → number_of (decimal n) ≡ 
 
 -- the lines, each with its line feed, and the bytes after the last one are the text
 abbrev pub NoByteIsLost : Type 0
-NoByteIsLost = (text : List ℕ) → flat_map ended_line (lines_of text) ++ bytes_after_lines text ≡ text
+NoByteIsLost = (text : List ℕ) → flat_map with_line_feed (lines_of text) ++ bytes_after_last_line_feed text ≡ text
 
 -- The header, the items and the end of a section depend on its own lines alone, wherever they are, and whatever lines
 -- follow them.

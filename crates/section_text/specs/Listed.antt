@@ -5,13 +5,13 @@ use Rattle.section_text.specs.declared.words.FourWords.{FourWords}
 use Rattle.section_text.specs.declared.words.FiveWords.{FiveWords}
 
 -- the list of three words
-abbrev pub three_listed : ThreeWords → List (List ℕ)
-three_listed w = w.first.now ∷ w.second.now ∷ w.third.now ∷ []
+abbrev pub list_of_three_words : ThreeWords → List (List ℕ)
+list_of_three_words w = w.first.now ∷ w.second.now ∷ w.third.now ∷ []
 
 -- the list of four words
-abbrev pub four_listed : FourWords → List (List ℕ)
-four_listed w = w.first.now ∷ w.second.now ∷ w.third.now ∷ w.fourth.now ∷ []
+abbrev pub list_of_four_words : FourWords → List (List ℕ)
+list_of_four_words w = w.first.now ∷ w.second.now ∷ w.third.now ∷ w.fourth.now ∷ []
 
 -- the list of five words
-abbrev pub five_listed : FiveWords → List (List ℕ)
-five_listed w = w.first.now ∷ w.second.now ∷ w.third.now ∷ w.fourth.now ∷ w.fifth.now ∷ []
+abbrev pub list_of_five_words : FiveWords → List (List ℕ)
+list_of_five_words w = w.first.now ∷ w.second.now ∷ w.third.now ∷ w.fourth.now ∷ w.fifth.now ∷ []

@@ -2,12 +2,12 @@
 ghost use Rattle.std.specs.Prelude.{drop, take, ◌≡◌, ◌==◌, ◌+◌, ◌-◌, ◌^◌, ◌<◌, ◌≤◌, ◌↔◌, true, false, [], ◌++◌, length, Option, Some, None, Ok, Err, IfOk, IfErr, ◌≢◌, OnOk, OnErr, IfSome, unwrap_or, slice_get};
 ghost use Rattle.std.specs.Option.{option_copied, option_map, ForSome};
 ghost use Rattle.std.specs.List.{flat_map, position};
-ghost use Rattle.section_text.specs.Words.{lines_of, is_word_at, is_line_feed, bytes_after_lines, words_of, number_at, names_beside_arrow, lone, lone_number, lone_name, second_of_two, three, four, five};
+ghost use Rattle.section_text.specs.Words.{lines_of, is_word_at, is_line_feed, bytes_after_last_line_feed, words_of, number_at, names_beside_arrow, lone, lone_number, lone_name, second_word_of_two, three, four, five};
 ghost use Rattle.section_text.specs.declared.code.RefusalCode.TheVariants.{TextCut};
 ghost use Rattle.section_text.specs.declared.fault.ReadFault.TheVariants.{Memory};
-ghost use Rattle.section_text.specs.Listed.{three_listed, four_listed, five_listed};
+ghost use Rattle.section_text.specs.Listed.{list_of_three_words, list_of_four_words, list_of_five_words};
 ghost use Rattle.section_text.specs.Faults.{refusal};
-ghost use Rattle.section_text.specs.Section.{ended_line};
+ghost use Rattle.section_text.specs.Section.{with_line_feed};
 ghost use Rattle.section_text.specs.Feeds.{FeedView, ahead, IsLine, line_bytes, text_limit, TakesLine, RunsOut};
 
 use crate::code::RefusalCode;
@@ -17,8 +17,8 @@ use crate::names::Names;
 use crate::number::read_number;
 use crate::seed::Seed;
 use crate::words::{
-    FiveWords, FourWords, ThreeWords, count_words_in, five_in, four_in, is_one_word,
-    names_beside_arrow_in, next_word, second_of_two, three_in, word_in,
+    FiveWords, FourWords, ThreeWords, count_words_in, is_one_word, names_beside_arrow_in,
+    next_word, second_word_of_two, split_five_words, split_four_words, split_three_words, word_in,
 };
 use memchr::memchr;
 use std::alloc::Global;
@@ -196,7 +196,7 @@ impl Feed {
     /// Returns the lines that were taken, each with its line feed.
     pub fn taken_text(&self) -> &[u8]
         ensures { result.now
-            ≡ flat_map ended_line (take self.now.taken (lines_of self.now.text)) }
+            ≡ flat_map with_line_feed (take self.now.taken (lines_of self.now.text)) }
     {
         &self.bytes[..self.at]
     }
@@ -262,25 +262,28 @@ impl Feed {
     /// Returns the words of a line of three, or `None` for any other line. It passes over the line once.
     pub fn three_words(&self, line: &Line) -> Option<ThreeWords<'_>>
         requires { IsLine self.now line.now }
-        ensures { option_map three_listed result ≡ three (words_of (line_bytes self.now line.now)) }
+        ensures { option_map list_of_three_words result
+            ≡ three (words_of (line_bytes self.now line.now)) }
     {
-        three_in(self.line(line))
+        split_three_words(self.line(line))
     }
 
     /// Returns the words of a line of four, or `None` for any other line. It passes over the line once.
     pub fn four_words(&self, line: &Line) -> Option<FourWords<'_>>
         requires { IsLine self.now line.now }
-        ensures { option_map four_listed result ≡ four (words_of (line_bytes self.now line.now)) }
+        ensures { option_map list_of_four_words result
+            ≡ four (words_of (line_bytes self.now line.now)) }
     {
-        four_in(self.line(line))
+        split_four_words(self.line(line))
     }
 
     /// Returns the words of a line of five, or `None` for any other line. It passes over the line once.
     pub fn five_words(&self, line: &Line) -> Option<FiveWords<'_>>
         requires { IsLine self.now line.now }
-        ensures { option_map five_listed result ≡ five (words_of (line_bytes self.now line.now)) }
+        ensures { option_map list_of_five_words result
+            ≡ five (words_of (line_bytes self.now line.now)) }
     {
-        five_in(self.line(line))
+        split_five_words(self.line(line))
     }
 
     /// Returns the number of a line of two words, a keyword and a number, or `None` for any other line.
@@ -290,7 +293,7 @@ impl Feed {
         ensures number { result ≡ lone_number (words_of (line_bytes self.now line.now)) }
         ensures small { IfSome result (λ n. n < 10 ^ 9) }
     {
-        read_number(second_of_two(self.line(line))?)
+        read_number(second_word_of_two(self.line(line))?)
     }
 
     /// Returns the name of a line of two words, a keyword and a name, or `None` for any other line.
@@ -299,7 +302,7 @@ impl Feed {
         requires { IsLine self.now line.now }
         ensures { result ≡ lone_name (words_of (line_bytes self.now line.now)) }
     {
-        Name::of(second_of_two(self.line(line))?)
+        Name::of(second_word_of_two(self.line(line))?)
     }
 
     /// Returns the names on both sides of an arrow: `before` from index `from` on, and `after` to the line's end.
@@ -369,10 +372,10 @@ impl Feed {
         ensures stopped { ForSome self.old.stop
             (λ fault. (result ≡ Err fault) × (self.new ≡ self.old)) }
         ensures ok { self.old.stop ≡ None →
-            OnOk result ((ahead self.old ≡ []) × (bytes_after_lines self.old.text ≡ [])
+            OnOk result ((ahead self.old ≡ []) × (bytes_after_last_line_feed self.old.text ≡ [])
             × (self.new ≡ self.old)) }
         ensures more { self.old.stop ≡ None →
-            OnErr result (ahead self.old ≡ [] → bytes_after_lines self.old.text ≢ []) }
+            OnErr result (ahead self.old ≡ [] → bytes_after_last_line_feed self.old.text ≢ []) }
         ensures fault { self.old.stop ≡ None →
             IfErr result (λ fault. (fault ≡ refusal (self.old.taken + 1) TextCut)
             × (self.new ≡ record self.old { stop = Some fault })) }

@@ -1,7 +1,7 @@
 //! How words are written.
 ghost use Rattle.std.specs.Prelude.{◌≡◌, ◌++◌, ℕ, List, OnOk, OnErr};
 ghost use Rattle.std.specs.Fmt.{decimal};
-ghost use Rattle.section_text.specs.Spelling.{spaced};
+ghost use Rattle.section_text.specs.Spelling.{space_and_word};
 
 use itoa::Buffer;
 use std::alloc::AllocError;
@@ -12,7 +12,7 @@ use std::alloc::AllocError;
 ///
 /// Out of memory. A part of the bytes may then be written.
 pub fn print_word(out: &mut Vec<u8>, word: &[u8]) -> Result<(), AllocError>
-    ensures ok { OnOk result (out.new.items ≡ out.old.items ++ spaced word.now) }
+    ensures ok { OnOk result (out.new.items ≡ out.old.items ++ space_and_word word.now) }
     ensures err { OnErr result ((part : List ℕ) × (out.new.items ≡ out.old.items ++ part)) }
 {
     out.push(b' ')?;
@@ -26,7 +26,7 @@ pub fn print_word(out: &mut Vec<u8>, word: &[u8]) -> Result<(), AllocError>
 ///
 /// Out of memory. A part of the bytes may then be written.
 pub fn print_number(out: &mut Vec<u8>, number: u32) -> Result<(), AllocError>
-    ensures ok { OnOk result (out.new.items ≡ out.old.items ++ spaced (decimal number)) }
+    ensures ok { OnOk result (out.new.items ≡ out.old.items ++ space_and_word (decimal number)) }
     ensures err { OnErr result ((part : List ℕ) × (out.new.items ≡ out.old.items ++ part)) }
 {
     let mut digits = Buffer::new();

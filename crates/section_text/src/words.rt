@@ -2,8 +2,8 @@
 ghost use Rattle.std.specs.Prelude.{drop, ◌≡◌, ◌==◌, ◌+◌, ◌-◌, ◌<◌, ◌≤◌, true, false, [], ◌∷◌, length, Option, Some, None, IfSome, slice_get};
 ghost use Rattle.std.specs.Option.{option_copied, option_map};
 ghost use Rattle.std.specs.List.{position};
-ghost use Rattle.section_text.specs.Words.{is_space, words_of, names_at, names_beside_arrow, second_of_two, three, four, five, words_left};
-ghost use Rattle.section_text.specs.Listed.{three_listed, four_listed, five_listed};
+ghost use Rattle.section_text.specs.Words.{is_space, words_of, names_at, names_beside_arrow, second_word_of_two, three, four, five, words_of_rest};
+ghost use Rattle.section_text.specs.Listed.{list_of_three_words, list_of_four_words, list_of_five_words};
 
 use crate::name::Name;
 use crate::names::Names;
@@ -55,7 +55,7 @@ fn split_word(line: &[u8]) -> Option<(&[u8], &[u8])>
 
 // The first word of a line, and what stands behind its space, if it has one.
 pub(crate) fn next_word(line: &[u8]) -> (&[u8], Option<&[u8]>)
-    ensures { words_of line.now ≡ result.0.now ∷ words_left (option_copied result.1) }
+    ensures { words_of line.now ≡ result.0.now ∷ words_of_rest (option_copied result.1) }
 {
     match split_word(line) {
         Some((word, rest)) => (word, Some(rest)),
@@ -65,7 +65,7 @@ pub(crate) fn next_word(line: &[u8]) -> (&[u8], Option<&[u8]>)
 
 // The part of a line from one of its words on, or `None` past the last one.
 fn words_from(line: &[u8], index: usize) -> Option<&[u8]>
-    ensures { words_left (option_copied result) ≡ drop index (words_of line.now) }
+    ensures { words_of_rest (option_copied result) ≡ drop index (words_of line.now) }
 {
     let mut rest = line;
     for i in 0..index {
@@ -87,8 +87,8 @@ pub(crate) fn is_one_word(line: &[u8]) -> bool
 }
 
 // The second word of a line of two, or `None` for any other line.
-pub(crate) fn second_of_two(line: &[u8]) -> Option<&[u8]>
-    ensures { option_copied result ≡ second_of_two (words_of line.now) }
+pub(crate) fn second_word_of_two(line: &[u8]) -> Option<&[u8]>
+    ensures { option_copied result ≡ second_word_of_two (words_of line.now) }
 {
     let Some((_, rest)) = split_word(line) else {
         return None;
@@ -100,8 +100,8 @@ pub(crate) fn second_of_two(line: &[u8]) -> Option<&[u8]>
 }
 
 // The words of a line of three.
-pub(crate) fn three_in(line: &[u8]) -> Option<ThreeWords<'_>>
-    ensures { option_map three_listed result ≡ three (words_of line.now) }
+pub(crate) fn split_three_words(line: &[u8]) -> Option<ThreeWords<'_>>
+    ensures { option_map list_of_three_words result ≡ three (words_of line.now) }
 {
     let Some((first, rest)) = split_word(line) else {
         return None;
@@ -120,8 +120,8 @@ pub(crate) fn three_in(line: &[u8]) -> Option<ThreeWords<'_>>
 }
 
 // The words of a line of four.
-pub(crate) fn four_in(line: &[u8]) -> Option<FourWords<'_>>
-    ensures { option_map four_listed result ≡ four (words_of line.now) }
+pub(crate) fn split_four_words(line: &[u8]) -> Option<FourWords<'_>>
+    ensures { option_map list_of_four_words result ≡ four (words_of line.now) }
 {
     let Some((first, rest)) = split_word(line) else {
         return None;
@@ -144,8 +144,8 @@ pub(crate) fn four_in(line: &[u8]) -> Option<FourWords<'_>>
 }
 
 // The words of a line of five: the first one, and those of a line of four.
-pub(crate) fn five_in(line: &[u8]) -> Option<FiveWords<'_>>
-    ensures { option_map five_listed result ≡ five (words_of line.now) }
+pub(crate) fn split_five_words(line: &[u8]) -> Option<FiveWords<'_>>
+    ensures { option_map list_of_five_words result ≡ five (words_of line.now) }
 {
     let Some((first, rest)) = split_word(line) else {
         return None;
@@ -157,7 +157,7 @@ pub(crate) fn five_in(line: &[u8]) -> Option<FiveWords<'_>>
             third: fourth,
             fourth: fifth,
         },
-    ) = four_in(rest)
+    ) = split_four_words(rest)
     else {
         return None;
     };
@@ -181,9 +181,9 @@ pub(crate) fn word_in(line: &[u8], index: usize) -> Option<&[u8]>
 fn take_names(left: Option<&[u8]>, count: usize) -> Option<(Names, Option<&[u8]>)>
     requires { count ≤ 4 }
     ensures names { option_map (λ r. r.0) result
-        ≡ names_at (words_left (option_copied left.entry)) 0 count }
-    ensures left { IfSome result (λ r. words_left (option_copied r.1)
-        ≡ drop count (words_left (option_copied left.entry))) }
+        ≡ names_at (words_of_rest (option_copied left.entry)) 0 count }
+    ensures left { IfSome result (λ r. words_of_rest (option_copied r.1)
+        ≡ drop count (words_of_rest (option_copied left.entry))) }
 {
     let mut names = Names::new();
     let mut rest = left;

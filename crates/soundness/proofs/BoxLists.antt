@@ -1,7 +1,6 @@
 -- Lists with one element for each cell of a box are the same where they say the same of each cell
 use Rattle.std.proofs.Common.{◌≡◌, ℕ, zero, suc, ◌+◌, ◌-◌, ◌*◌, ◌/◌, ◌<◌, ◌≤◌, true, List, length, refl, sym, ap₂}
-use Rattle.std.proofs.Common.{subst, ◌∙◌, arith}
-use Rattle.std.specs.Prelude.{ℤ, pos, slice_get, unwrap_or}
+use Rattle.std.proofs.Common.{subst, ◌∙◌, arith, ℤ, pos, slice_get, unwrap_or}
 use Rattle.std.proofs.lemmas.List.{get_or_default, same_lists}
 use Rattle.std.proofs.lemmas.Option.{unwrap_or-slice_get}
 use Rattle.std.proofs.Math.Nat.{div-mul-le_self, lt_of_mul-lt-mul_right, lt-div-mul-add}

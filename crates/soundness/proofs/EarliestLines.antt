@@ -1,8 +1,7 @@
 -- The earliest line of a report is the first fault
 use Rattle.std.proofs.Common.{◌≡◌, ◌≢◌, ℕ, zero, suc, ◌+◌, ◌<◌, ◌≤◌, ◌++◌, List, [], ◌∷◌, map, length, Option, Some}
-use Rattle.std.proofs.Common.{None, refl, sym, ap, subst, ◌∙◌, inl, inr, arith}
-use Rattle.std.specs.Prelude.{Contains, slice_get}
-use Rattle.std.specs.Option.{option_map, option_to_list}
+use Rattle.std.proofs.Common.{None, refl, sym, ap, subst, ◌∙◌, inl, inr, arith, Contains, slice_get, option_map}
+use Rattle.std.proofs.Common.{option_to_list}
 use Rattle.std.specs.Ordering.{ordering_then}
 use Rattle.std.specs.declared.cmp.Ordering.TheVariants.{Greater}
 use Rattle.std.proofs.lemmas.List.Elements.{Contains-append_cases, Contains-append_left, Contains-append_right}
@@ -12,7 +11,7 @@ use Rattle.certificate_lines.specs.Entries.{ModuleLines, Setting}
 use Rattle.certificate_lines.specs.Settings.{setting_of}
 use Rattle.certificate.specs.declared.times.TimeLine.{TimeLine}
 use Rattle.certificate.specs.declared.times.TimeLine.TheVariants as times
-use Rattle.certificate.specs.Times.{time_lines}
+use Rattle.certificate.specs.Times.{delay_and_meet_lines}
 use Rattle.certificate.specs.Keeps.{unkept}
 use Rattle.module_job.specs.Jobs.{JobView}
 use Rattle.local_run.specs.Faults.{IsFault, IsLeastFault}
@@ -23,9 +22,9 @@ use Rattle.border_match.specs.declared.fault.BorderFault.{BorderFault}
 use Rattle.border_match.proofs.Modules.{there}
 use Rattle.soundness.specs.FirstFaults.{EarliestLineIsFirstFault, EarliestLineIsReal, IsAssignmentOf}
 use Rattle.soundness.proofs.FirstFaults.{assigned, first_means}
-use Rattle.core_book.specs.Verdicts.{AreReportLines, IsToldOf, IsVerdict, border_line, keep_line, lines_from}
+use Rattle.core_book.specs.Verdicts.{AreReportLines, IsToldOf, IsVerdict, border_line, keep_line, report_lines_from}
 use Rattle.core_book.specs.Verdicts.{local_line, timing_report, unkept_lines}
-use Rattle.core_book.specs.declared.verdict.Reasons.{Reasons}
+use Rattle.core_book.specs.declared.verdict.LeastFaults.{LeastFaults}
 use Rattle.core_book.specs.declared.verdict.ReportLine.{ReportLine}
 use Rattle.core_book.specs.declared.verdict.ReportLine.TheVariants.{Local, Keep, Border, Unkept, Delay, Meet}
 use Rattle.soundness.proofs.PlainCertificates.{greater, nat_greater}
@@ -77,9 +76,9 @@ local_fault d (Delay n w g) = d
 local_fault d (Meet n t) = d
 
 -- what a line on a fault says of the reasons
-record IsFrom (number i : ℕ) (f : Fault) (fs : List Reasons) : Type 0 where
+record IsFrom (number i : ℕ) (f : Fault) (fs : List LeastFaults) : Type 0 where
   place : ℕ
-  reasons : Reasons
+  reasons : LeastFaults
   listed : slice_get fs place ≡ Some reasons
   numbered : i ≡ number + place
   fault : reasons.fault ≡ Some f
@@ -92,16 +91,16 @@ own_line number i f (Some g) h =
     let e = one_is (Local number g) (Local i f) h in
     (ap local_number e, ap Some (ap (local_fault f) e))
 
-from_line : (number i : ℕ) (f : Fault) (fs : List Reasons) (bs : List (Option BorderFault)) →
-    Contains (lines_from number fs bs) (Local i f) → IsFrom number i f fs
-unfolding lines_from
+from_line : (number i : ℕ) (f : Fault) (fs : List LeastFaults) (bs : List (Option BorderFault)) →
+    Contains (report_lines_from number fs bs) (Local i f) → IsFrom number i f fs
+unfolding report_lines_from
 from_line number i f [] bs h = absurd (nothing_in (Local i f) h)
 from_line number i f (g ∷ fs) [] h = absurd (nothing_in (Local i f) h)
 from_line number i f (g ∷ fs) (b ∷ bs) h =
     let A = option_to_list (local_line number g.fault) in
     let B = option_to_list (keep_line number g.keep) in
     let C = option_to_list (border_line number b) in
-    elim (Contains-append_cases (A ++ B ++ C) (lines_from (number + 1) fs bs) (Local i f) h) [
+    elim (Contains-append_cases (A ++ B ++ C) (report_lines_from (number + 1) fs bs) (Local i f) h) [
       | inl here ↦ elim (Contains-append_cases (A ++ B) C (Local i f) here) [
         | inl two ↦ elim (Contains-append_cases A B (Local i f) two) [
           | inl first ↦ let own = own_line number i f g.fault first in let n = own.0 in
@@ -122,14 +121,14 @@ from_line number i f (g ∷ fs) (b ∷ bs) h =
           }
     ]
 
-lists_local : (number k : ℕ) (fs : List Reasons) (bs : List (Option BorderFault)) (r : Reasons) (f : Fault) →
+lists_local : (number k : ℕ) (fs : List LeastFaults) (bs : List (Option BorderFault)) (r : LeastFaults) (f : Fault) →
     slice_get fs k ≡ Some r → k < length bs → r.fault ≡ Some f →
-    Contains (lines_from number fs bs) (Local (number + k) f)
-unfolding lines_from
+    Contains (report_lines_from number fs bs) (Local (number + k) f)
+unfolding report_lines_from
 lists_local number k [] bs r f at lt is = absurd cc
 lists_local number k (g ∷ fs) [] r f at lt is = absurd (omega (arith, lt))
 lists_local number zero (g ∷ fs) (b ∷ bs) r f at lt is =
-    let own : g.fault ≡ Some f = ap (λ (r : Reasons). r.fault) (same_Some g r at) ∙ is in
+    let own : g.fault ≡ Some f = ap (λ (r : LeastFaults). r.fault) (same_Some g r at) ∙ is in
     let A = option_to_list (local_line number g.fault) in
     let B = option_to_list (keep_line number g.keep) in
     let C = option_to_list (border_line number b) in
@@ -140,14 +139,14 @@ lists_local number (suc k) (g ∷ fs) (b ∷ bs) r f at lt is =
     let A = option_to_list (local_line number g.fault) in
     let B = option_to_list (keep_line number g.keep) in
     let C = option_to_list (border_line number b) in
-    Contains-append_right (A ++ B ++ C) (lines_from (number + 1) fs bs) (Local (number + suc k) f)
-    (subst (λ n. Contains (lines_from (number + 1) fs bs) (Local n f)) (omega arith)
+    Contains-append_right (A ++ B ++ C) (report_lines_from (number + 1) fs bs) (Local (number + suc k) f)
+    (subst (λ n. Contains (report_lines_from (number + 1) fs bs) (Local n f)) (omega arith)
     (lists_local (number + 1) k fs bs r f at (omega (arith, lt)) is))
 
-lists_border : (number k : ℕ) (fs : List Reasons) (bs : List (Option BorderFault)) (f : BorderFault) →
+lists_border : (number k : ℕ) (fs : List LeastFaults) (bs : List (Option BorderFault)) (f : BorderFault) →
     slice_get bs k ≡ Some (Some f) → k < length fs →
-    Contains (lines_from number fs bs) (Border (number + k) f)
-unfolding lines_from
+    Contains (report_lines_from number fs bs) (Border (number + k) f)
+unfolding report_lines_from
 lists_border number k [] bs f at lt = absurd (omega (arith, lt))
 lists_border number k (g ∷ fs) [] f at lt = absurd cc
 lists_border number zero (g ∷ fs) (b ∷ bs) f at lt =
@@ -161,8 +160,8 @@ lists_border number (suc k) (g ∷ fs) (b ∷ bs) f at lt =
     let A = option_to_list (local_line number g.fault) in
     let B = option_to_list (keep_line number g.keep) in
     let C = option_to_list (border_line number b) in
-    Contains-append_right (A ++ B ++ C) (lines_from (number + 1) fs bs) (Border (number + suc k) f)
-    (subst (λ n. Contains (lines_from (number + 1) fs bs) (Border n f)) (omega arith)
+    Contains-append_right (A ++ B ++ C) (report_lines_from (number + 1) fs bs) (Border (number + suc k) f)
+    (subst (λ n. Contains (report_lines_from (number + 1) fs bs) (Border n f)) (omega arith)
     (lists_border (number + 1) k fs bs f at (omega (arith, lt))))
 
 not_timing : (i : ℕ) (f : Fault) (l : TimeLine) → ¬ (timing_report l ≡ Local i f)
@@ -194,23 +193,24 @@ module _ (g : Setting) (ms : List ModuleLines) (jobs : List JobView) (report : L
   same_count : length are.faults ≡ length are.borders
   same_count = are.are_least.count ∙ count ∙ sym are.are_border_faults.count
 
-  has_line : (l : ReportLine) → Contains (lines_from 0 are.faults are.borders) l → Contains report l
+  has_line : (l : ReportLine) → Contains (report_lines_from 0 are.faults are.borders) l → Contains report l
   has_line l h =
       subst (λ ls. Contains ls l) (sym are.lines_are)
-      (Contains-append_left (lines_from 0 are.faults are.borders ++ unkept_lines g ms) _ l
-      (Contains-append_left (lines_from 0 are.faults are.borders) (unkept_lines g ms) l h))
+      (Contains-append_left (report_lines_from 0 are.faults are.borders ++ unkept_lines g ms) _ l
+      (Contains-append_left (report_lines_from 0 are.faults are.borders) (unkept_lines g ms) l h))
 
   local_is : (i : ℕ) (f : Fault) → Contains report (Local i f) → IsFrom 0 i f are.faults
   local_is i f h =
-      elim (Contains-append_cases (lines_from 0 are.faults are.borders ++ unkept_lines g ms)
-      (map timing_report (time_lines g.circuit ms)) (Local i f)
+      elim (Contains-append_cases (report_lines_from 0 are.faults are.borders ++ unkept_lines g ms)
+      (map timing_report (delay_and_meet_lines g.circuit ms)) (Local i f)
       (subst (λ ls. Contains ls (Local i f)) are.lines_are h)) [
-        | inl front ↦ elim (Contains-append_cases (lines_from 0 are.faults are.borders) (unkept_lines g ms)
+        | inl front ↦ elim (Contains-append_cases (report_lines_from 0 are.faults are.borders) (unkept_lines g ms)
             (Local i f) front) [
               | inl own ↦ from_line 0 i f are.faults are.borders own
               | inr other ↦ absurd (not_mapped (λ n. Unkept n) (unkept g ms) (Local i f) (λ x e. cc) other)
             ]
-        | inr other ↦ absurd (not_mapped timing_report (time_lines g.circuit ms) (Local i f) (not_timing i f) other)
+        | inr other ↦ absurd (not_mapped timing_report (delay_and_meet_lines g.circuit ms) (Local i f)
+            (not_timing i f) other)
       ]
 
   its_fault : (i : ℕ) (f : Fault) (j : JobView) → Contains report (Local i f) → slice_get jobs i ≡ Some j → IsFault j f
@@ -221,7 +221,7 @@ module _ (g : Setting) (ms : List ModuleLines) (jobs : List JobView) (report : L
       (ap (slice_get are.faults) (omega (arith, n)) ∙ r.listed) in
       (subst (IsLeastFault j) r.fault told.fault).0
 
-  by_least : (n : ℕ) (j : JobView) (r : Reasons) (o : Option Fault) (e : Fault) → slice_get are.faults n ≡ Some r →
+  by_least : (n : ℕ) (j : JobView) (r : LeastFaults) (o : Option Fault) (e : Fault) → slice_get are.faults n ≡ Some r →
       r.fault ≡ o → IsLeastFault j o → IsFault j e →
       (t : ℕ) → ((n : ℕ) (h : Fault) → Contains report (Local n h) → t ≤ h.time) → t ≤ e.time
   by_least n j r None e at is none fault t least = absurd (none e fault)
@@ -229,7 +229,7 @@ module _ (g : Setting) (ms : List ModuleLines) (jobs : List JobView) (report : L
       let lt = slice_get_within are.faults n r at in
       let count = same_count in
       let first = least n h (has_line (Local n h)
-      (subst (λ k. Contains (lines_from 0 are.faults are.borders) (Local k h)) (omega arith)
+      (subst (λ k. Contains (report_lines_from 0 are.faults are.borders) (Local k h)) (omega arith)
       (lists_local 0 n are.faults are.borders r h at (omega (arith, lt, count)) is))) in
       let next = no_later h e (own.1 e fault) in
       omega (arith, first, next)
@@ -242,7 +242,7 @@ module _ (g : Setting) (ms : List ModuleLines) (jobs : List JobView) (report : L
       let lt = slice_get_within are.borders n (Some h) at in
       let count = same_count in
       let first = least n h (has_line (Border n h)
-      (subst (λ k. Contains (lines_from 0 are.faults are.borders) (Border k h)) (omega arith)
+      (subst (λ k. Contains (report_lines_from 0 are.faults are.borders) (Border k h)) (omega arith)
       (lists_border 0 n are.faults are.borders h at (omega (arith, lt, count))))) in
       let next = no_later_border h e (own.1 e fault) in
       omega (arith, first, next)

@@ -11,8 +11,7 @@ use Rattle.circuit.specs.declared.circuit_line.CircuitLine.{CircuitLine}
 use Rattle.circuit.specs.declared.circuit_line.Kind.TheVariants.{Input, Output}
 use Rattle.pattern.specs.Layout.{Pattern, cell, rectangle_cells}
 use Rattle.pattern.specs.Lines.{size_fault, limit_fault, cell_fault, is_inside, is_taken, begins, ends, cells_of}
-use Rattle.pattern.specs.Lines.{taken_at_start}
-use Rattle.pattern.specs.Lines.{ended}
+use Rattle.pattern.specs.Lines.{cells_taken_at_start, ended}
 use Rattle.pattern.specs.declared.layout_line.Port.{Port}
 use Rattle.module_box.specs.Boxes.{in_box, some_neighbour, in_ring, in_halo}
 use Rattle.module_box.specs.Schedules.{all_times_at, event_at, signal_at}
@@ -69,8 +68,8 @@ jobs = map (job_of (circuit_of lines) layout) modules
 
 is_faultless : IsFaultless (certificate_grammar (setting_of lines layout)) 1 certificate
 unfolding place_of number rectangle_cells in_box in_span orders.is_cut orders.may_precede orders.may_follow
-    entries.change_last entries.last_of entries.add_line entries.modules_of rules.lacks_port rules.box_fault
-    rules.module_fault rules.cut_fault rules.are_new rules.entry_fault rules.end_fault
+    entries.change_last entries.last_of entries.add_line entries.modules_of rules.has_nonlocal_port rules.box_fault
+    rules.module_fault rules.cut_fault rules.are_new_and_distinct rules.entry_fault rules.end_fault
 is_faultless = record { header = refl; each = (refl, (refl, tt)); end = refl }
 
 is_ordered : AreOrdered (netlist_of lines).given (netlist_of lines).gates
@@ -84,7 +83,7 @@ are_jobs : AreJobsOf (circuit_of lines) layout modules jobs
 are_jobs = are_jobs_of lines layout modules is_ordered (λ k m at. (are_modules.each k m at, are_modules.ports k m at))
 
 is_bundle : BelongTogether lines layout modules jobs
-unfolding size_fault limit_fault cell_fault is_inside is_taken begins ends cells_of taken_at_start ended in_span
+unfolding size_fault limit_fault cell_fault is_inside is_taken begins ends cells_of cells_taken_at_start ended in_span
 is_bundle = record {
   ordered = is_ordered;
   limits = refl;

@@ -1,10 +1,8 @@
 -- The first fault is one of the whole plane
 use Rattle.std.proofs.Common.{◌≡◌, ℕ, zero, suc, ◌<◌, ◌≤◌, ◌++◌, length, Bool, true, false, List, [], ◌∷◌, map, Option}
-use Rattle.std.proofs.Common.{Some, None}
-use Rattle.std.proofs.Common.{refl, sym, ap, ap₂, subst, ◌∙◌, inl, inr, arith}
-use Rattle.std.specs.Prelude.{ℤ, Contains, slice_get, slice_index, if◌then◌else◌}
-use Rattle.std.specs.List.{All, flat_map}
-use Rattle.std.specs.Option.{option_to_list, option_map_or}
+use Rattle.std.proofs.Common.{Some, None, refl, sym, ap, ap₂, subst, ◌∙◌, inl, inr, arith, ℤ, Contains, slice_get}
+use Rattle.std.proofs.Common.{slice_index, if◌then◌else◌, All, flat_map, option_to_list}
+use Rattle.std.specs.Option.{option_map_or}
 use Rattle.std.proofs.Props.{props}
 use Rattle.std.proofs.Math.Logic.{∥∥₁_elim}
 use Rattle.std.proofs.lemmas.Bool.{and_parts, cases_Bool}
@@ -21,7 +19,7 @@ use Rattle.pattern.specs.Layout.{Pattern, in_cells, in_rectangles}
 use Rattle.pattern.specs.declared.layout_line.Port.{Port}
 use Rattle.module_box.specs.Boxes.{in_box, in_ring}
 use Rattle.module_box.specs.Locals.{LocalNet, circuit_wire}
-use Rattle.module_box.specs.LocalValues.{localized}
+use Rattle.module_box.specs.LocalValues.{values_by_local_number}
 use Rattle.module_box.specs.declared.boxes.Box2.{Box2}
 use Rattle.module_box.proofs.SeenValues.{local_values_agree}
 use Rattle.certificate_lines.specs.Entries.{ModuleLines, cut_wires, cuts, known, stops}
@@ -32,11 +30,12 @@ use Rattle.certificate_lines.specs.declared.certificate_line.StopLine.{StopLine}
 use Rattle.certificate_lines.proofs.LayoutPorts.{port_stands, none_stands}
 use Rattle.certificate_lines.proofs.Lists.{kept, passed}
 use Rattle.module_job.specs.Jobs.{JobView, job_demand}
-use Rattle.module_job.specs.Signals.{Meets, renumber_demand, renumber_stop}
+use Rattle.module_job.specs.Signals.{MeetsDemand, renumber_demand, renumber_stop}
 use Rattle.module_job.specs.declared.job.Demand.{Demand}
 use Rattle.module_job.specs.declared.job.Demand.TheVariants as Demanded
 use Rattle.module_job.specs.declared.job.Stop as listed
-use Rattle.certificate.specs.Jobs.{IsJobOf, demand_outside_mirrors, demand_of, end_demand, line_stops, numbered_stop}
+use Rattle.certificate.specs.Jobs.{IsJobOf, demand_outside_mirrors, wire_or_dead, end_demand, stops_of_lines}
+use Rattle.certificate.specs.Jobs.{stop_with_wire_number}
 use Rattle.local_run.specs.Faults.{HasFault, IsFaultUnder}
 use Rattle.local_run.specs.Runs.{local_run}
 use Rattle.local_run.specs.declared.fault.Fault.{Fault}
@@ -46,7 +45,7 @@ use Rattle.local_run.proofs.Decided.{fault_same}
 use Rattle.border_match.proofs.Modules.{there}
 use Rattle.soundness.specs.HeadlineLaws.{BelongTogether, HasInputNames, IsRunOfJobs}
 use Rattle.meaning.specs.Implements.{IsCorrect, LooksAsAsked, in_ports, run_under}
-use Rattle.soundness.specs.FirstFaults.{EndFaultMeansIncorrect, FirstFaultIsReal, HasAssignment, HasGoodBorders}
+use Rattle.soundness.specs.FirstFaults.{EndFaultMeansIncorrect, FirstFaultIsReal, GivesModuleAssignment, HasGoodBorders}
 use Rattle.soundness.specs.FirstFaults.{IsAsCertified, IsAssignmentOf, IsFirstFault, IsReal}
 use Rattle.soundness.proofs.InputRuns.{at_place, inputs_decide}
 use Rattle.soundness.proofs.JobSignals.{Known, edge_by_circuit}
@@ -74,7 +73,7 @@ abbrev stop_at : StopLine → ℕ → listed.Stop
 stop_at s w = record { at = record { time = s.time; cell = s.cell }; wire = w }
 
 all_numbered : (P : listed.Stop → Type 0) (s : StopLine) (o : Option ℕ) → ((w : ℕ) → o ≡ Some w → P (stop_at s w)) →
-    All P (numbered_stop s o)
+    All P (stop_with_wire_number s o)
 all_numbered P s None h = All-nil P
 all_numbered P s (Some w) h = All-cons P (stop_at s w) [] (h w refl) (All-nil P)
 
@@ -83,7 +82,8 @@ pub stop_by_lines : (c : Circuit) (p : Pattern) (m : ModuleLines) (j : JobView) 
     ((k : ℕ) (s : StopLine) → slice_get (stops m) k ≡ Some s → (w : ℕ) → wire_of c s.wire ≡ Some w → P (stop_at s w)) →
     (s : listed.Stop) → Contains j.stops s → P (renumber_stop (circuit_wire j.locals) s)
 stop_by_lines c p m j P is h s has =
-    let all : All P (line_stops c (stops m)) = all_flat P (λ s. numbered_stop s (wire_of c s.wire)) (stops m) (λ k s at.
+    let all : All P (stops_of_lines c (stops m)) =
+    all_flat P (λ s. stop_with_wire_number s (wire_of c s.wire)) (stops m) (λ k s at.
     all_numbered P s (wire_of c s.wire) (h k s at)) in
     All-contains (λ r. P (renumber_stop (circuit_wire j.locals) r)) j.stops s
     (all_unmapped P (renumber_stop (circuit_wire j.locals)) j.stops (subst (All P) (sym is.stops) all)) has
@@ -95,7 +95,7 @@ unfolding in_ring
 ring_inside b x y h = (and_parts (in_box b x y) _ h).0
 
 meets_own : (l : LocalNet) (v : Valuation) (d : Demand) (live : Bool) →
-    Meets v (renumber_demand (circuit_wire l) d) live → Meets (localized l v) d live
+    MeetsDemand v (renumber_demand (circuit_wire l) d) live → MeetsDemand (values_by_local_number l v) d live
 meets_own l v Demanded.Dead live h = h
 meets_own l v Demanded.Live live h = h
 meets_own l v (Demanded.Wire w) live h = h
@@ -112,7 +112,8 @@ pub real : (lines : List CircuitLine) (p : Pattern) (ms : List ModuleLines) (job
     (i : ℕ) (m : ModuleLines) (j : JobView) (t : ℕ) (kind : Kind) (x y : ℤ) →
     BelongTogether lines p ms jobs → slice_get ms i ≡ Some m → slice_get jobs i ≡ Some j →
     Satisfies (netlist_of lines) inputs v →
-    ((s : ℕ) → s < t → HasGoodBorders lines p ms jobs v s) → IsFaultUnder j (localized j.locals v) t kind x y →
+    ((s : ℕ) → s < t → HasGoodBorders lines p ms jobs v s) →
+    IsFaultUnder j (values_by_local_number j.locals v) t kind x y →
     ¬ IsAsCertified (circuit_of lines) p m v t kind x y
 real lines p ms jobs inputs v i m j t Edge x y b atm atj s good f said =
     let is : IsJobOf (circuit_of lines) p m j = b.are_jobs.each i m j atm atj in
@@ -145,8 +146,8 @@ real lines p ms jobs inputs v i m j t End x y b atm atj s good f said =
     let last = f.last ∙ is.steps in
     let now = runs_up_to lines p ms jobs inputs v t b s (omega (arith, last)) good in
     let here : in_box m.area x y ≡ true = ap (λ a. in_box a x y) (sym is.area) ∙ f.inside in
-    let Q : Bool → Type 0 = λ b. Meets v (end_demand (circuit_of lines) p x y) b in
-    let R : Demand → Type 0 = λ d. Meets v d (local_run j (localized j.locals v) t x y) in
+    let Q : Bool → Type 0 = λ b. MeetsDemand v (end_demand (circuit_of lines) p x y) b in
+    let R : Demand → Type 0 = λ d. MeetsDemand v d (local_run j (values_by_local_number j.locals v) t x y) in
     f.differs (meets_own j.locals v (job_demand j x y) _ (subst R (sym (is.demand x y here))
     (subst Q (now.inside i j atj x y f.inside) said)))
 
@@ -155,10 +156,11 @@ real lines p ms jobs inputs v i m j t End x y b atm atj s good f said =
 pub seen_fault : (lines : List CircuitLine) (p : Pattern) (m : ModuleLines) (inputs v : Valuation) (j : JobView)
     (f : Fault) → IsJobOf (circuit_of lines) p m j →
     Satisfies (netlist_of lines) inputs v → IsAssignmentOf j v f.assignment → HasFault j f →
-    IsFaultUnder j (localized j.locals v) f.time f.kind f.cell.x f.cell.y
+    IsFaultUnder j (values_by_local_number j.locals v) f.time f.kind f.cell.x f.cell.y
 seen_fault lines p m inputs v j f is s under h =
     let agree = local_values_agree (netlist_of lines) j.locals inputs v f.assignment is.locals s under.bits in
-    fault_same j h.values (localized j.locals v) f.time f.kind f.cell.x f.cell.y is.own (agree.only h.values h.local)
+    fault_same j h.values (values_by_local_number j.locals v) f.time f.kind f.cell.x f.cell.y is.own
+    (agree.only h.values h.local)
     h.differs
 
 pub nothing_prop : IsProp ⊥
@@ -174,7 +176,8 @@ first_is_real lines p ms jobs inputs v i m f first said =
 
 -- ---- a plane that looks as asked meets each demand
 
-meets_wire : (v : Valuation) (o : Option ℕ) (live : Bool) → live ≡ option_map_or v o false → Meets v (demand_of o) live
+meets_wire : (v : Valuation) (o : Option ℕ) (live : Bool) → live ≡ option_map_or v o false →
+    MeetsDemand v (wire_or_dead o) live
 meets_wire v None live h = h
 meets_wire v (Some w) live h = h
 
@@ -188,7 +191,7 @@ no_port_there ports x y none = elim (cases_Bool (in_ports ports x y)) [
 off_mirrors : (c : Circuit) (p : Pattern) (v : Valuation) (state : State) (x y : ℤ) (o : Option (List ℕ))
     (waste : Bool) → LooksAsAsked p (values_by_name c v) state →
     in_rectangles p.mirrors x y ≡ false → port_at p.outs x y ≡ o → in_cells p.wastes x y ≡ waste →
-    Meets v (demand_outside_mirrors c o waste) (state x y)
+    MeetsDemand v (demand_outside_mirrors c o waste) (state x y)
 off_mirrors c p v state x y (Some n) waste looks mirror port there =
     let s = port_stands p.outs x y n port in
     let cell : s.port.cell ≡ record { x = x; y = y } = cell_same s.port.cell (record { x = x; y = y }) s.stands in
@@ -199,10 +202,11 @@ off_mirrors c p v state x y None false looks mirror port there = looks.elsewhere
     (no_port_there p.outs x y port) there
 
 pub asked_meets : (c : Circuit) (p : Pattern) (v : Valuation) (state : State) (x y : ℤ) →
-    LooksAsAsked p (values_by_name c v) state → Meets v (end_demand c p x y) (state x y)
+    LooksAsAsked p (values_by_name c v) state → MeetsDemand v (end_demand c p x y) (state x y)
 unfolding end_demand
 asked_meets c p v state x y looks =
-    let P : Bool → Type 0 = λ b. Meets v (if b then Demanded.Live else demand_outside_mirrors c (port_at p.outs x y)
+    let P : Bool → Type 0 = λ b. MeetsDemand v
+    (if b then Demanded.Live else demand_outside_mirrors c (port_at p.outs x y)
     (in_cells p.wastes x y)) (state x y) in
     elim (cases_Bool (in_rectangles p.mirrors x y)) [
       | inl h ↦ subst P (sym h) (looks.mirrors x y h)
@@ -216,7 +220,7 @@ end_last j u t AtStop x y e f = absurd cc
 end_last j u t End x y e f = f.last
 
 end_said : (c : Circuit) (p : Pattern) (m : ModuleLines) (v : Valuation) (t : ℕ) (kind : Kind) (x y : ℤ) → kind ≡ End →
-    Meets v (end_demand c p x y) (run_under c p v t x y) → IsAsCertified c p m v t kind x y
+    MeetsDemand v (end_demand c p x y) (run_under c p v t x y) → IsAsCertified c p m v t kind x y
 end_said c p m v t Edge x y e h = absurd cc
 end_said c p m v t AtStop x y e h = absurd cc
 end_said c p m v t End x y e h = h
@@ -225,16 +229,16 @@ end_said c p m v t End x y e h = h
 asked_at : (lines : List CircuitLine) (p : Pattern) (inputs v : Valuation) (x y : ℤ) → HasInputNames lines p →
     Satisfies (netlist_of lines) inputs v →
     LooksAsAsked p (values_by_name (circuit_of lines) v) (run_under (circuit_of lines) p inputs p.size.steps) →
-    Meets v (end_demand (circuit_of lines) p x y) (run_under (circuit_of lines) p v p.size.steps x y)
+    MeetsDemand v (end_demand (circuit_of lines) p x y) (run_under (circuit_of lines) p v p.size.steps x y)
 asked_at lines p inputs v x y named s looks =
     let c = circuit_of lines in
-    let Q : Bool → Type 0 = λ b. Meets v (end_demand c p x y) b in
+    let Q : Bool → Type 0 = λ b. MeetsDemand v (end_demand c p x y) b in
     subst Q (sym (inputs_decide lines p inputs v p.size.steps x y named s))
     (asked_meets c p v (run_under c p inputs p.size.steps) x y looks)
 
 pub correct_meets : (lines : List CircuitLine) (p : Pattern) (inputs v : Valuation) (x y : ℤ) → HasInputNames lines p →
     Satisfies (netlist_of lines) inputs v → IsCorrect lines p →
-    Meets v (end_demand (circuit_of lines) p x y) (run_under (circuit_of lines) p v p.size.steps x y)
+    MeetsDemand v (end_demand (circuit_of lines) p x y) (run_under (circuit_of lines) p v p.size.steps x y)
 correct_meets lines p inputs v x y named s correct =
     asked_at lines p inputs v x y named s ((correct.implements inputs).looks v s)
 
@@ -252,7 +256,7 @@ first_means lines p ms jobs inputs v i m f named first =
     let last : p.size.steps ≡ f.time =
     sym (end_last j h.values f.time f.kind f.cell.x f.cell.y kind h.differs ∙ is.steps) in
     differs (end_said c p m v f.time f.kind f.cell.x f.cell.y kind
-    (subst (λ t. Meets v (end_demand c p f.cell.x f.cell.y) (run_under c p v t f.cell.x f.cell.y)) last
+    (subst (λ t. MeetsDemand v (end_demand c p f.cell.x f.cell.y) (run_under c p v t f.cell.x f.cell.y)) last
     (asked_at lines p inputs v f.cell.x f.cell.y named first.satisfied looks)))) in
     record {
       differs = differs;
@@ -309,8 +313,9 @@ placed_wire f (x ∷ ns) n k all at =
 
 -- what gives the cuts the bits by their names does so by the job's wires
 pub assigned : (lines : List CircuitLine) (p : Pattern) (m : ModuleLines) (j : JobView) (v : Valuation) (a : ℕ) →
-    IsModule (setting_of lines p) m → IsJobOf (circuit_of lines) p m j → HasAssignment (circuit_of lines) m v a →
-    (k : ℕ) → k < j.locals.netlist.given → bit a k ≡ localized j.locals v k
+    IsModule (setting_of lines p) m → IsJobOf (circuit_of lines) p m j →
+    GivesModuleAssignment (circuit_of lines) m v a →
+    (k : ℕ) → k < j.locals.netlist.given → bit a k ≡ values_by_local_number j.locals v k
 assigned lines p m j v a good is has k lt =
     let c = circuit_of lines in
     let n = there (cuts m) k (let cut = is.cut in omega (arith, lt, cut)) in

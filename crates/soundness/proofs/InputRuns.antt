@@ -1,9 +1,7 @@
 -- The run by the values of the inputs
 use Rattle.std.proofs.Common.{◌≡◌, ℕ, zero, suc, ◌+◌, ◌<◌, ◌&&◌, ◌||◌, Bool, true, false, cond, not, List, [], ◌∷◌}
 use Rattle.std.proofs.Common.{◌++◌, map, take, length, Option, Some, None, refl, sym, ap, ap₂, subst, ◌∙◌, arith, inl}
-use Rattle.std.proofs.Common.{inr}
-use Rattle.std.specs.Prelude.{ℤ, slice_get, option_map}
-use Rattle.std.specs.List.{All}
+use Rattle.std.proofs.Common.{inr, ℤ, slice_get, option_map, All}
 use Rattle.std.specs.Str.{bytes_eq}
 use Rattle.std.proofs.lemmas.Bool.{cases_Bool, false≢true}
 use Rattle.std.proofs.lemmas.Option.{slice_get-map, slice_get_within, get_or_from_slice_get}
@@ -11,7 +9,7 @@ use Rattle.std.specs.Option.{option_map_or}
 use Rattle.circuit.specs.Entries.{defined}
 use Rattle.bbm_rule.specs.Plane.{run, is_at}
 use Rattle.bbm_rule.proofs.Steps.{step_same}
-use Rattle.section_text.specs.Codes.{code_where}
+use Rattle.section_text.specs.Codes.{code_if}
 use Rattle.section_text.specs.Ports.{Named}
 use Rattle.section_text.specs.Words.{has}
 use Rattle.circuit.specs.Bridge.{circuit_of, input_names, netlist_of, output_names}
@@ -62,7 +60,7 @@ placed name (m ∷ names) (suc k) h = elim (cases_Bool (bytes_eq name m)) [
       }
 ]
 
-no_code : (b : Bool) → code_where (not b) UnknownName ≡ None → b ≡ true
+no_code : (b : Bool) → code_if (not b) UnknownName ≡ None → b ≡ true
 no_code true e = refl
 no_code false e = absurd cc
 

@@ -1,8 +1,6 @@
 -- The jobs of modules: which one has a cell, and what their signals say by the wires of the circuit
 use Rattle.std.proofs.Common.{◌≡◌, ℕ, ◌==◌, ◌++◌, ◌&&◌, Bool, true, false, List, [], ◌∷◌, Option, Some, None, refl, sym}
-use Rattle.std.proofs.Common.{ap, subst, ◌∙◌, arith, inl, inr}
-use Rattle.std.specs.Prelude.{ℤ, slice_get, unwrap_or}
-use Rattle.std.specs.List.{All, flat_map}
+use Rattle.std.proofs.Common.{ap, subst, ◌∙◌, arith, inl, inr, ℤ, slice_get, unwrap_or, All, flat_map}
 use Rattle.std.proofs.lemmas.Bool.{cases_Bool, cond-false, true≢false}
 use Rattle.std.proofs.lemmas.List.Elements.{All-head, All-tail}
 use Rattle.std.proofs.lemmas.Option.{slice_get_within}
@@ -14,7 +12,7 @@ use Rattle.circuit.specs.declared.circuit_line.CircuitLine.{CircuitLine}
 use Rattle.pattern.specs.Layout.{Pattern}
 use Rattle.module_box.specs.Boxes.{in_box, in_ring, IsEven}
 use Rattle.module_box.specs.Locals.{LocalNet, circuit_wire}
-use Rattle.module_box.specs.LocalValues.{localized}
+use Rattle.module_box.specs.LocalValues.{values_by_local_number}
 use Rattle.module_box.specs.Schedules.{all_times_at, event_at, signal_at}
 use Rattle.module_box.specs.declared.boxes.Box2.{Box2}
 use Rattle.module_box.specs.declared.schedules.TimedSignal.{TimedSignal}
@@ -24,10 +22,10 @@ use Rattle.module_box.specs.declared.schedules.Signal.TheVariants.{Zero, One, Wi
 use Rattle.certificate_lines.specs.Entries.{ModuleLines, edges, halos}
 use Rattle.certificate_lines.specs.Settings.{setting_of}
 use Rattle.module_job.specs.Jobs.{JobView}
-use Rattle.certificate.specs.Jobs.{IsJobOf, events_of_line, all_times_of_line, line_signal, line_signals}
+use Rattle.certificate.specs.Jobs.{IsJobOf, events_of_line, all_times_of_line, one_or_named_wire, line_signals}
 use Rattle.certificate_lines.specs.Modules.{IsModule}
 use Rattle.certificate_lines.specs.Rules.{whole}
-use Rattle.module_job.specs.Signals.{is_live, Meets, renumber_signal, renumber_demand}
+use Rattle.module_job.specs.Signals.{is_live, MeetsDemand, renumber_signal, renumber_demand}
 use Rattle.certificate_lines.specs.declared.certificate_line.BorderLine.{BorderLine}
 use Rattle.module_job.specs.declared.job.Demand.{Demand}
 use Rattle.module_job.specs.declared.job.Demand.TheVariants as Demanded
@@ -40,20 +38,21 @@ use Rattle.soundness.specs.HeadlineLaws.{BelongTogether}
 -- ---- signals by the wires of the circuit
 
 live_seen : (l : LocalNet) (v : Valuation) (s : Signal) →
-    is_live (localized l v) s ≡ is_live v (renumber_signal (circuit_wire l) s)
+    is_live (values_by_local_number l v) s ≡ is_live v (renumber_signal (circuit_wire l) s)
 live_seen l v Zero = refl
 live_seen l v One = refl
 live_seen l v (Wire w) = refl
 
-pub meets_for_circuit_wires : (l : LocalNet) (v : Valuation) (d : Demand) (live : Bool) → Meets (localized l v) d live →
-    Meets v (renumber_demand (circuit_wire l) d) live
+pub meets_for_circuit_wires : (l : LocalNet) (v : Valuation) (d : Demand) (live : Bool) →
+    MeetsDemand (values_by_local_number l v) d live →
+    MeetsDemand v (renumber_demand (circuit_wire l) d) live
 meets_for_circuit_wires l v Demanded.Dead live h = h
 meets_for_circuit_wires l v Demanded.Live live h = h
 meets_for_circuit_wires l v (Demanded.Wire w) live h = h
 meets_for_circuit_wires l v Demanded.Any live h = h
 
 pub live_renumbered : (l : LocalNet) (v : Valuation) (s r : Signal) → renumber_signal (circuit_wire l) s ≡ r →
-    is_live (localized l v) s ≡ is_live v r
+    is_live (values_by_local_number l v) s ≡ is_live v r
 live_renumbered l v s r e = live_seen l v s ∙ ap (is_live v) e
 
 -- ---- the job of a module
@@ -127,19 +126,19 @@ abbrev NamesNot : ℤ → ℤ → BorderLine → Type 0
 NamesNot x y e = is_at e.cell x y ≡ false
 
 no_all_times : (c : Circuit) (es : List BorderLine) (x y : ℤ) → All (NamesNot x y) es →
-    all_times_at (flat_map (λ e. all_times_of_line e e.time (line_signal c e.signal)) es) x y ≡ None
+    all_times_at (flat_map (λ e. all_times_of_line e e.time (one_or_named_wire c e.signal)) es) x y ≡ None
 unfolding all_times_at
 no_all_times c [] x y all = refl
 no_all_times c (e ∷ es) x y all =
-    one_all_times e e.time (line_signal c e.signal) _ x y (All-head (NamesNot x y) e es all)
+    one_all_times e e.time (one_or_named_wire c e.signal) _ x y (All-head (NamesNot x y) e es all)
     (no_all_times c es x y (All-tail (NamesNot x y) e es all))
 
 no_event : (c : Circuit) (es : List BorderLine) (t : ℕ) (x y : ℤ) → All (NamesNot x y) es →
-    event_at (flat_map (λ e. events_of_line e e.time (line_signal c e.signal)) es) t x y ≡ None
+    event_at (flat_map (λ e. events_of_line e e.time (one_or_named_wire c e.signal)) es) t x y ≡ None
 unfolding event_at
 no_event c [] t x y all = refl
 no_event c (e ∷ es) t x y all =
-    one_event e e.time (line_signal c e.signal) _ t x y (All-head (NamesNot x y) e es all)
+    one_event e e.time (one_or_named_wire c e.signal) _ t x y (All-head (NamesNot x y) e es all)
     (no_event c es t x y (All-tail (NamesNot x y) e es all))
 
 pub no_signal : (c : Circuit) (es : List BorderLine) (t : ℕ) (x y : ℤ) → All (NamesNot x y) es →
@@ -161,7 +160,7 @@ pub rim_edge_dead : (lines : List CircuitLine) (p : Pattern) (ms : List ModuleLi
     (v : Valuation)
     (t : ℕ) (x y : ℤ) →
     Known lines p ms i j → in_ring (whole p.size) x y ≡ true →
-    is_live (localized j.locals v) (signal_at j.edges t x y) ≡ false
+    is_live (values_by_local_number j.locals v) (signal_at j.edges t x y) ≡ false
 rim_edge_dead lines p ms i j v t x y k rim =
     live_renumbered j.locals v (signal_at j.edges t x y) Zero
     (edge_same lines p k.of j t x y k.is_job
@@ -175,7 +174,7 @@ pub outer_halo_dead : (lines : List CircuitLine) (p : Pattern) (ms : List Module
     (v : Valuation)
     (t : ℕ) (x y : ℤ) →
     Known lines p ms i j → in_box (whole p.size) x y ≡ false →
-    is_live (localized j.locals v) (signal_at j.halos t x y) ≡ false
+    is_live (values_by_local_number j.locals v) (signal_at j.halos t x y) ≡ false
 outer_halo_dead lines p ms i j v t x y k out =
     live_renumbered j.locals v (signal_at j.halos t x y) Zero
     (halo_same lines p k.of j t x y k.is_job
@@ -186,13 +185,15 @@ outer_halo_dead lines p ms i j v t x y k out =
 pub edge_by_circuit : (lines : List CircuitLine) (p : Pattern) (ms : List ModuleLines) (i : ℕ) (j : JobView)
     (v : Valuation)
     (t : ℕ) (x y : ℤ) → (k : Known lines p ms i j) →
-    is_live (localized j.locals v) (signal_at j.edges t x y) ≡ is_live v (edge_signal (circuit_of lines) k.of t x y)
+    is_live (values_by_local_number j.locals v) (signal_at j.edges t x y)
+    ≡ is_live v (edge_signal (circuit_of lines) k.of t x y)
 edge_by_circuit lines p ms i j v t x y k =
     live_renumbered j.locals v (signal_at j.edges t x y) _ (edge_same lines p k.of j t x y k.is_job)
 
 pub halo_by_circuit : (lines : List CircuitLine) (p : Pattern) (ms : List ModuleLines) (i : ℕ) (j : JobView)
     (v : Valuation)
     (t : ℕ) (x y : ℤ) → (k : Known lines p ms i j) →
-    is_live (localized j.locals v) (signal_at j.halos t x y) ≡ is_live v (halo_signal (circuit_of lines) k.of t x y)
+    is_live (values_by_local_number j.locals v) (signal_at j.halos t x y)
+    ≡ is_live v (halo_signal (circuit_of lines) k.of t x y)
 halo_by_circuit lines p ms i j v t x y k =
     live_renumbered j.locals v (signal_at j.halos t x y) _ (halo_same lines p k.of j t x y k.is_job)

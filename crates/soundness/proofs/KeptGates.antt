@@ -1,15 +1,13 @@
 -- No gate of what is accepted is undefined
 use Rattle.std.proofs.Common.{◌≡◌, ℕ, suc, ◌<◌, eqb, true, List, [], ◌∷◌, map, length, Some, refl, sym, ap, ◌∙◌, arith}
-use Rattle.std.proofs.Common.{inl, inr}
-use Rattle.std.specs.Prelude.{slice_get}
-use Rattle.std.specs.List.{All}
+use Rattle.std.proofs.Common.{inl, inr, slice_get, All}
 use Rattle.std.proofs.lemmas.Bool.{cases_Bool, eq-eqb, eqb-true, true≢false}
 use Rattle.std.proofs.lemmas.List.Elements.{All-head, All-tail}
 use Rattle.std.proofs.lemmas.Option.{slice_get_within}
 use Rattle.circuit.specs.Bridge.{circuit_of, netlist_of}
 use Rattle.circuit.proofs.Undefined.{has_valuation, only_inverse}
 use Rattle.module_box.specs.Locals.{circuit_gate, is_among}
-use Rattle.module_box.specs.LocalValues.{localized}
+use Rattle.module_box.specs.LocalValues.{values_by_local_number}
 use Rattle.module_box.proofs.SeenValues.{choices_are_assignments, undefined_is_seen}
 use Rattle.certificate_lines.specs.Entries.{ModuleLines, keeps}
 use Rattle.module_job.specs.Jobs.{JobView}
@@ -84,7 +82,7 @@ none_is_undefined lines p ms jobs inputs k all u =
     let at : PlaceOf (circuit_gate job.locals) job.kept (length job.locals.netlist.gates) k =
     place_of (circuit_gate job.locals) job.kept (length job.locals.netlist.gates) k is_job.kept_are_used
     (ap (λ (l : List ℕ). is_among l k) is_job.kept ∙ by.keeps_it) in
-    let a = choices_are_assignments job.locals.netlist.given (localized job.locals u.values) in
+    let a = choices_are_assignments job.locals.netlist.given (values_by_local_number job.locals u.values) in
     all.accepted.no_keep_fault by.number job (record { gate = at.place; assignment = a.0 }) j.1 (record {
       in_range = a.1;
       is_kept = at.listed;

@@ -1,16 +1,16 @@
 -- The cells of a layout: their ports, the start, and the demand at the end
 use Rattle.std.proofs.Common.{◌≡◌, ℕ, zero, suc, Bool, true, false, not, ◌&&◌, ◌||◌, List, [], ◌∷◌, ◌++◌, map, Option}
-use Rattle.std.proofs.Common.{Some, None, refl, sym, ap, subst, ◌∙◌, append_assoc, append-nil}
-use Rattle.std.specs.Prelude.{ℤ, slice_get, option_map, if◌then◌else◌}
+use Rattle.std.proofs.Common.{Some, None, refl, sym, ap, subst, ◌∙◌, append_assoc, append-nil, ℤ, slice_get, option_map}
+use Rattle.std.proofs.Common.{if◌then◌else◌}
 use Rattle.std.proofs.lemmas.Bool.{false≢true, true≢false, and_parts, and_from}
 use Rattle.std.proofs.lemmas.Option.{same_Some, slice_get-map}
 use Rattle.std.specs.Option.{option_map_or}
 use Rattle.bbm_rule.specs.Plane.{is_at}
 use Rattle.bbm_rule.specs.declared.block.Cell.{Cell}
-use Rattle.section_text.specs.Codes.{code_where}
+use Rattle.section_text.specs.Codes.{code_if}
 use Rattle.circuit.specs.Meaning.{Circuit, Valuation, wire_of, values_by_name}
-use Rattle.pattern.specs.Layout.{Pattern, HaveOwnCells, in_cells, in_layout, in_rectangle, in_rectangles, in_ports_on}
-use Rattle.pattern.specs.Layout.{start, parts_of}
+use Rattle.pattern.specs.Layout.{Pattern, HaveDistinctCells, in_cells, in_layout, in_rectangle, in_rectangles}
+use Rattle.pattern.specs.Layout.{in_ports_on, start, parts_of}
 use Rattle.pattern.specs.Lines.{AreGoodAfter, begins, cell_fault, cells_of, ended, ends, holds, is_inside, is_taken}
 use Rattle.pattern.specs.Lines.{size_fault}
 use Rattle.pattern.specs.declared.layout_line.LayoutLine.{LayoutLine}
@@ -26,9 +26,10 @@ use Rattle.pattern.proofs.TakenLemmas.{is_sized}
 use Rattle.module_box.specs.Boxes.{in_box, IsEven}
 use Rattle.module_box.proofs.BoxCells.{same_some}
 use Rattle.certificate_lines.specs.PortTables.{port_at}
-use Rattle.certificate.specs.Jobs.{named_wire, signal_of, start_signal, demand_of, demand_outside_mirrors, end_demand}
+use Rattle.certificate.specs.Jobs.{wire_of_optional_name, wire_or_zero, start_signal, wire_or_dead}
+use Rattle.certificate.specs.Jobs.{demand_outside_mirrors, end_demand}
 use Rattle.certificate_lines.specs.Rules.{whole}
-use Rattle.module_job.specs.Signals.{is_live, Meets}
+use Rattle.module_job.specs.Signals.{is_live, MeetsDemand}
 use Rattle.module_job.specs.declared.job.Demand.TheVariants as Demanded
 use Rattle.module_box.specs.declared.schedules.Signal.TheVariants.{One}
 use Rattle.certificate_lines.proofs.Lists.{any_at, kept, passed, same_truth}
@@ -44,7 +45,7 @@ same_cells c d x y h k =
     let here : Cell = record { x = x; y = y } in
     cell_same c here h ∙ sym (cell_same d here k)
 
-only_port : (ports : List Port) (x y : ℤ) (name : List ℕ) → HaveOwnCells ports → port_at ports x y ≡ Some name →
+only_port : (ports : List Port) (x y : ℤ) (name : List ℕ) → HaveDistinctCells ports → port_at ports x y ≡ Some name →
     (i : ℕ) (q : Port) → slice_get ports i ≡ Some q → is_at q.cell x y ≡ true → q.name ≡ name
 only_port ports x y name own e i q at h =
     let s = port_stands ports x y name e in
@@ -57,7 +58,7 @@ abbrev is_on : (List ℕ → Bool) → Option (List ℕ) → Bool
 is_on on None = false
 is_on on (Some n) = on n
 
-on_by : (on : List ℕ → Bool) (ports : List Port) (x y : ℤ) (o : Option (List ℕ)) → HaveOwnCells ports →
+on_by : (on : List ℕ → Bool) (ports : List Port) (x y : ℤ) (o : Option (List ℕ)) → HaveDistinctCells ports →
     port_at ports x y ≡ o → in_ports_on on ports x y ≡ is_on on o
 on_by on ports x y None own e =
     let test : Port → Bool = λ q. on q.name && is_at q.cell x y in
@@ -79,7 +80,7 @@ on_by on ports x y (Some n) own e =
     any_at test ports s.number s.port s.numbered
     (and_from (on s.port.name) (is_at s.port.cell x y) (ap on s.named ∙ h) s.stands))
 
-port_is : (ports : List Port) (q : Port) (i : ℕ) (o : Option (List ℕ)) → HaveOwnCells ports →
+port_is : (ports : List Port) (q : Port) (i : ℕ) (o : Option (List ℕ)) → HaveDistinctCells ports →
     slice_get ports i ≡ Some q →
     port_at ports q.cell.x q.cell.y ≡ o → o ≡ Some q.name
 port_is ports q i None own at e = absurd (none_stands ports q.cell.x q.cell.y e i q at (cell_itself q.cell))
@@ -95,12 +96,13 @@ no_port ports x y (Some n) none e =
 
 -- ---- the start
 
-live_cases : (v : Valuation) (o : Option ℕ) → is_live v (signal_of o) ≡ option_map_or v o false
+live_cases : (v : Valuation) (o : Option ℕ) → is_live v (wire_or_zero o) ≡ option_map_or v o false
 live_cases v None = refl
 live_cases v (Some w) = refl
 
 start_cases : (c : Circuit) (v : Valuation) (m b : Bool) (o : Option (List ℕ)) →
-    is_live v (if m || b then One else signal_of (named_wire c o)) ≡ (m || b || is_on (values_by_name c v) o)
+    is_live v (if m || b then One else wire_or_zero (wire_of_optional_name c o))
+    ≡ (m || b || is_on (values_by_name c v) o)
 start_cases c v true b o = refl
 start_cases c v false true o = refl
 start_cases c v false false None = refl
@@ -157,7 +159,7 @@ record IsFree (s : LayoutHeader) (before : List LayoutLine) (q : Port) : Type 0 
   inside : in_layout s q.cell.x q.cell.y ≡ true
   free : ended before q.cell.x q.cell.y ≡ false
 
-two_tests : (a b : Bool) → code_where (not a || (b || false)) TakenCell ≡ None → (a ≡ true) × (b ≡ false)
+two_tests : (a b : Bool) → code_if (not a || (b || false)) TakenCell ≡ None → (a ≡ true) × (b ≡ false)
 two_tests true true e = absurd cc
 two_tests true false e = (refl, refl)
 two_tests false b e = absurd cc
@@ -234,34 +236,35 @@ is_output p good i q e =
 
 pub met_mirror : (c : Circuit) (p : Pattern) (v : Valuation) (x y : ℤ) (live : Bool) →
     in_rectangles p.mirrors x y ≡ true →
-    Meets v (end_demand c p x y) live → live ≡ true
+    MeetsDemand v (end_demand c p x y) live → live ≡ true
 unfolding end_demand
 met_mirror c p v x y live e h =
-    let P : Bool → Type 0 = λ b. Meets v
+    let P : Bool → Type 0 = λ b. MeetsDemand v
     (if b then Demanded.Live else demand_outside_mirrors c (port_at p.outs x y) (in_cells p.wastes x y)) live in
     subst P e h
 
-by_wire : (v : Valuation) (o : Option ℕ) (live : Bool) → Meets v (demand_of o) live → live ≡ option_map_or v o false
+by_wire : (v : Valuation) (o : Option ℕ) (live : Bool) → MeetsDemand v (wire_or_dead o) live →
+    live ≡ option_map_or v o false
 by_wire v None live h = h
 by_wire v (Some w) live h = h
 
 pub met_output : (c : Circuit) (p : Pattern) (v : Valuation) (x y : ℤ) (n : List ℕ) (live : Bool) →
     in_rectangles p.mirrors x y ≡ false →
-    port_at p.outs x y ≡ Some n → Meets v (end_demand c p x y) live → live ≡ values_by_name c v n
+    port_at p.outs x y ≡ Some n → MeetsDemand v (end_demand c p x y) live → live ≡ values_by_name c v n
 unfolding end_demand
 met_output c p v x y n live e port h =
-    let P : Bool → Type 0 = λ b. Meets v
+    let P : Bool → Type 0 = λ b. MeetsDemand v
     (if b then Demanded.Live else demand_outside_mirrors c (port_at p.outs x y) (in_cells p.wastes x y)) live in
-    let Q : Option (List ℕ) → Type 0 = λ o. Meets v (demand_outside_mirrors c o (in_cells p.wastes x y)) live in
+    let Q : Option (List ℕ) → Type 0 = λ o. MeetsDemand v (demand_outside_mirrors c o (in_cells p.wastes x y)) live in
     by_wire v (wire_of c n) live (subst Q port (subst P e h))
 
 pub met_other : (c : Circuit) (p : Pattern) (v : Valuation) (x y : ℤ) (live : Bool) →
     in_rectangles p.mirrors x y ≡ false →
-    in_ports p.outs x y ≡ false → in_cells p.wastes x y ≡ false → Meets v (end_demand c p x y) live → live ≡ false
+    in_ports p.outs x y ≡ false → in_cells p.wastes x y ≡ false → MeetsDemand v (end_demand c p x y) live → live ≡ false
 unfolding end_demand
 met_other c p v x y live e none waste h =
-    let P : Bool → Type 0 = λ b. Meets v
+    let P : Bool → Type 0 = λ b. MeetsDemand v
     (if b then Demanded.Live else demand_outside_mirrors c (port_at p.outs x y) (in_cells p.wastes x y)) live in
-    let Q : Option (List ℕ) → Type 0 = λ o. Meets v (demand_outside_mirrors c o (in_cells p.wastes x y)) live in
-    let R : Bool → Type 0 = λ b. Meets v (demand_outside_mirrors c None b) live in
+    let Q : Option (List ℕ) → Type 0 = λ o. MeetsDemand v (demand_outside_mirrors c o (in_cells p.wastes x y)) live in
+    let R : Bool → Type 0 = λ b. MeetsDemand v (demand_outside_mirrors c None b) live in
     subst R waste (subst Q (no_port p.outs x y _ none refl) (subst P e h))

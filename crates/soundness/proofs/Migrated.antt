@@ -21,12 +21,13 @@ use Rattle.module_box.specs.declared.schedules.Signal.TheVariants.{Zero, One, Wi
 use Rattle.certificate_lines.specs.Entries.{Setting, ModuleLines, edges, halos, stops, known, modules_of}
 use Rattle.certificate_lines.specs.Settings.{setting_of}
 use Rattle.module_job.specs.Jobs.{JobView, job_demand, job_start}
-use Rattle.certificate.specs.Jobs.{IsJobOf, AreJobsOf, line_signal, line_signals, line_stops, signal_of}
+use Rattle.certificate.specs.Jobs.{IsJobOf, AreJobsOf, one_or_named_wire, line_signals, stops_of_lines, wire_or_zero}
 use Rattle.certificate_lines.specs.Modules.{AreModules, IsModule}
 use Rattle.certificate_lines.specs.Rules.{is_local, is_local_wire, whole}
-use Rattle.module_job.specs.Signals.{IsBelow, renumber_signal, renumber_signals}
+use Rattle.module_job.specs.Signals.{IsSignalWireBelow, renumber_signal, renumber_signals}
 use Rattle.certificate.specs.Times.{are_all_obeyed, first_seen, last_seen, time_lines_of_gates}
-use Rattle.certificate_lines.specs.Versions.{edge_lines_beside, is_haloless, is_nonlocal_signal, lacks_wire, with_halos}
+use Rattle.certificate_lines.specs.Versions.{edge_lines_beside, is_haloless_version, is_nonlocal_signal}
+use Rattle.certificate_lines.specs.Versions.{lacks_edge_wire_beside, with_halos}
 use Rattle.certificate_lines.specs.declared.certificate_line.BorderLine.{BorderLine}
 use Rattle.certificate.proofs.FullModules.{edge_cell, edge_of, edges_rising, full_cuts, full_gates, full_keeps}
 use Rattle.certificate.proofs.FullModules.{full_edges, full_stops, full_known, full_modules, in_beside, mapped_at}
@@ -74,7 +75,7 @@ local_wire_of c local name h = by (wire_of c name) refl
     by (Some w) e = (w, e)
 
 -- the wire that stands for a wire by other numbers
-wire_behind : (f : ℕ → ℕ) (n : ℕ) (s : Signal) (w : ℕ) → IsBelow n s → renumber_signal f s ≡ Wire w →
+wire_behind : (f : ℕ → ℕ) (n : ℕ) (s : Signal) (w : ℕ) → IsSignalWireBelow n s → renumber_signal f s ≡ Wire w →
     (i : ℕ) × (i < n) × (f i ≡ w)
 wire_behind f n Zero w b e = absurd cc
 wire_behind f n One w b e = absurd cc
@@ -161,13 +162,13 @@ module _ (lines : List CircuitLine) (p : Pattern) (ms : List ModuleLines) (jobs 
       let said : edge_signal c n.0 t.0 e.cell.x e.cell.y ≡ Wire wire.0 =
       line_said c e t.0 (edges n.0) t.1 (edges_rising n.0.lines (good.each k.0 n.0 k.1).order)
       (good.each k.0 n.0 k.1).unstarred n.2
-      ∙ ap (line_signal c) is ∙ ap signal_of wire.1 in
+      ∙ ap (one_or_named_wire c) is ∙ ap wire_or_zero wire.1 in
       let halo : halo_signal c m t.0 e.cell.x e.cell.y ≡ Wire wire.0 =
       halo_is_edge i k.0 m n.0 t.0 e.cell.x e.cell.y at k.1 t.2 t.3 b.1 (edge_cell g ms good n.0 e n.1 n.2) ∙ said in
       ap not (ap (is_local_wire (known c m)) wire.1 ∙ halo_names i m t.0 e.cell.x e.cell.y wire.0 at halo)
 
-  no_strange : lacks_wire g ms ≡ false
-  unfolding lacks_wire
+  no_strange : lacks_edge_wire_beside g ms ≡ false
+  unfolding lacks_edge_wire_beside
   no_strange = none_any (λ m. list_any (λ e. is_nonlocal_signal c (known c m) e.signal) (edge_lines_beside g ms m.area))
       ms
       (λ m i.
@@ -222,11 +223,12 @@ module _ (lines : List CircuitLine) (p : Pattern) (ms : List ModuleLines) (jobs 
         demands = of_k.own.demands;
         edge_all_times = of_k.own.edge_all_times;
         edge_events = of_k.own.edge_events;
-        halo_all_times = subst (λ n. All (λ h. IsBelow n h.signal) j.halos.all_times) many of_j.own.halo_all_times;
-        halo_events = subst (λ n. All (λ e. IsBelow n e.signal) j.halos.events) many of_j.own.halo_events;
+        halo_all_times = subst (λ n. All (λ h. IsSignalWireBelow n h.signal) j.halos.all_times) many
+            of_j.own.halo_all_times;
+        halo_events = subst (λ n. All (λ e. IsSignalWireBelow n e.signal) j.halos.events) many of_j.own.halo_events;
         stops = of_k.own.stops;
       };
-      stops = of_k.stops ∙ ap (line_stops c) (full_stops g ms good m);
+      stops = of_k.stops ∙ ap (stops_of_lines c) (full_stops g ms good m);
       kept = of_k.kept ∙ full_keeps g ms good m;
       kept_are_used = of_k.kept_are_used;
     }
@@ -258,10 +260,11 @@ module _ (lines : List CircuitLine) (p : Pattern) (ms : List ModuleLines) (jobs 
         let ws = k.locals.circuit_wires in
         let different : AreDifferent ws =
         subst AreDifferent (sym (of_k.wires ∙ full_known g ms good m)) (good.each i m at).local.different in
-        let below_k : IsBelow (length ws) (signal_at k.halos t x y) =
-        subst (λ n. IsBelow n (signal_at k.halos t x y)) (sym of_k.locals.sized) (halo_below k t x y of_k.own) in
-        let below_j : IsBelow (length ws) (signal_at j.halos t x y) =
-        subst (λ n. IsBelow n (signal_at j.halos t x y)) (sym of_j.locals.sized ∙ ap length (sym same_wires))
+        let below_k : IsSignalWireBelow (length ws) (signal_at k.halos t x y) =
+        subst (λ n. IsSignalWireBelow n (signal_at k.halos t x y)) (sym of_k.locals.sized)
+        (halo_below k t x y of_k.own) in
+        let below_j : IsSignalWireBelow (length ws) (signal_at j.halos t x y) =
+        subst (λ n. IsSignalWireBelow n (signal_at j.halos t x y)) (sym of_j.locals.sized ∙ ap length (sym same_wires))
         (halo_below j t x y of_j.own) in
         signal_back ws different (signal_at k.halos t x y) (signal_at j.halos t x y) below_k below_j
         (halo_same lines p full k t x y of_k
@@ -315,7 +318,7 @@ without_halos_accepted lines p ms jobs good own ok = accepted_without lines p ms
 pub migration_accepted : MigrationIsAccepted
 migration_accepted s jobs one section own ok =
     let ms = modules_of s.entries in
-    let same : modules s ≡ ms = meant_old s.version (setting s) ms (ap is_haloless one) in
+    let same : modules s ≡ ms = meant_old s.version (setting s) ms (ap is_haloless_version one) in
     let good : AreModules (setting s) ms = section_modules (setting s) 1 s.entries section in
     let a = without_halos_accepted s.circuit s.layout ms jobs good
     (subst (λ ns. AreJobsOf (circuit_of s.circuit) s.layout ns jobs) same own)

@@ -1,8 +1,8 @@
 -- A module has one job
 use Rattle.std.proofs.Common.{◌≡◌, ℕ, suc, ◌+◌, ◌*◌, ◌<◌, ◌≤◌, true, List, [], ◌∷◌, map, length, drop, Some, refl, sym}
-use Rattle.std.proofs.Common.{ap, ap₂, subst, ◌∙◌, arith, inl, inr}
-use Rattle.std.specs.Prelude.{ℤ, IsTrue, slice_get, slice_index, slice_index_or, unwrap_or}
-use Rattle.std.specs.List.{All, range_with_len}
+use Rattle.std.proofs.Common.{ap, ap₂, subst, ◌∙◌, arith, inl, inr, ℤ, IsTrue, slice_get, slice_index, slice_index_or}
+use Rattle.std.proofs.Common.{unwrap_or, All}
+use Rattle.std.specs.List.{range_with_len}
 use Rattle.std.proofs.lemmas.Bool.{cases_Bool, cases_lt, cond-true}
 use Rattle.std.proofs.lemmas.List.Elements.{All-head, All-tail}
 use Rattle.std.proofs.lemmas.Option.{same_Some, slice_get-get_or}
@@ -24,8 +24,8 @@ use Rattle.module_box.specs.declared.schedules.Signal.TheVariants.{Zero, One, Wi
 use Rattle.certificate_lines.specs.Entries.{ModuleLines, known}
 use Rattle.module_job.specs.Jobs.{JobView, job_demand, job_start}
 use Rattle.certificate.specs.Jobs.{IsJobOf}
-use Rattle.module_job.specs.Signals.{IsBelow, IsDemandBelow, renumber_demand, renumber_event, renumber_all_times}
-use Rattle.module_job.specs.Signals.{renumber_signal, renumber_signals, renumber_stop}
+use Rattle.module_job.specs.Signals.{IsSignalWireBelow, IsDemandWireBelow, renumber_demand, renumber_event}
+use Rattle.module_job.specs.Signals.{renumber_all_times, renumber_signal, renumber_signals, renumber_stop}
 use Rattle.module_job.specs.declared.job.Demand.{Demand}
 use Rattle.module_job.specs.declared.job.Demand.TheVariants as Demanded
 use Rattle.module_job.specs.declared.job.Stop as listed
@@ -70,7 +70,7 @@ module _ (ws : List ℕ) (different : AreDifferent ws) where
   number_back a b la lb e = different a b (slice_index ws a) (slice_get-get_or ws a 0 la)
       (slice_get-get_or ws b 0 lb ∙ ap Some (sym e))
 
-  pub signal_back : (s t : Signal) → IsBelow (length ws) s → IsBelow (length ws) t →
+  pub signal_back : (s t : Signal) → IsSignalWireBelow (length ws) s → IsSignalWireBelow (length ws) t →
       renumber_signal f s ≡ renumber_signal f t → s ≡ t
   signal_back Zero Zero a b e = refl
   signal_back Zero One a b e = e
@@ -82,7 +82,7 @@ module _ (ws : List ℕ) (different : AreDifferent ws) where
   signal_back (Wire v) One a b e = absurd cc
   signal_back (Wire v) (Wire w) a b e = ap Wire (number_back v w a b (ap wire_in e))
 
-  demand_back : (s t : Demand) → IsDemandBelow (length ws) s → IsDemandBelow (length ws) t →
+  demand_back : (s t : Demand) → IsDemandWireBelow (length ws) s → IsDemandWireBelow (length ws) t →
       renumber_demand f s ≡ renumber_demand f t → s ≡ t
   demand_back Demanded.Dead Demanded.Dead a b e = refl
   demand_back Demanded.Dead Demanded.Live a b e = e
@@ -101,28 +101,29 @@ module _ (ws : List ℕ) (different : AreDifferent ws) where
   demand_back Demanded.Any (Demanded.Wire w) a b e = absurd cc
   demand_back Demanded.Any Demanded.Any a b e = refl
 
-  all_times_back : (s t : AllTimes) → IsBelow (length ws) s.signal → IsBelow (length ws) t.signal →
+  all_times_back : (s t : AllTimes) → IsSignalWireBelow (length ws) s.signal → IsSignalWireBelow (length ws) t.signal →
       renumber_all_times f s ≡ renumber_all_times f t → s ≡ t
   all_times_back s t a b e =
       let signal = signal_back s.signal t.signal a b (ap (λ (h : AllTimes). h.signal) e) in
       λ i. record { cell = ap (λ (h : AllTimes). h.cell) e i; signal = signal i }
 
-  event_back : (s t : TimedSignal) → IsBelow (length ws) s.signal → IsBelow (length ws) t.signal →
+  event_back : (s t : TimedSignal) → IsSignalWireBelow (length ws) s.signal → IsSignalWireBelow (length ws) t.signal →
       renumber_event f s ≡ renumber_event f t → s ≡ t
   event_back s t a b e =
       let signal = signal_back s.signal t.signal a b (ap (λ (h : TimedSignal). h.signal) e) in
       λ i. record { at = ap (λ (h : TimedSignal). h.at) e i; signal = signal i }
 
-  signals_back : (s t : Signals) → All (λ h. IsBelow (length ws) h.signal) s.all_times →
-      All (λ h. IsBelow (length ws) h.signal) s.events → All (λ h. IsBelow (length ws) h.signal) t.all_times →
-      All (λ h. IsBelow (length ws) h.signal) t.events →
+  signals_back : (s t : Signals) → All (λ h. IsSignalWireBelow (length ws) h.signal) s.all_times →
+      All (λ h. IsSignalWireBelow (length ws) h.signal) s.events →
+      All (λ h. IsSignalWireBelow (length ws) h.signal) t.all_times →
+      All (λ h. IsSignalWireBelow (length ws) h.signal) t.events →
       renumber_signals f s ≡ renumber_signals f t → s ≡ t
   signals_back s t sh se th te e =
       let all_times = map_back (renumber_all_times f)
-      (λ (h : AllTimes). IsBelow (length ws) h.signal) all_times_back s.all_times t.all_times sh th
+      (λ (h : AllTimes). IsSignalWireBelow (length ws) h.signal) all_times_back s.all_times t.all_times sh th
       (ap (λ (r : Signals). r.all_times) e) in
       let events = map_back (renumber_event f)
-      (λ (h : TimedSignal). IsBelow (length ws) h.signal) event_back s.events t.events se te
+      (λ (h : TimedSignal). IsSignalWireBelow (length ws) h.signal) event_back s.events t.events se te
       (ap (λ (r : Signals). r.events) e) in
       λ i. record { all_times = all_times i; events = events i }
 
@@ -243,8 +244,8 @@ module _ (c : Circuit) (p : Pattern) (m : ModuleLines) (j k : JobView) (differen
   same_start : (x y : ℤ) → job_start j x y ≡ job_start k x y
   same_start x y = elim (cases_Bool (in_box j.area x y)) [
     | inl h ↦ signal_back ws apart (job_start j x y) (job_start k x y)
-        (subst (λ n. IsBelow n (job_start j x y)) many_j (start_below j x y of_j.own))
-        (subst (λ n. IsBelow n (job_start k x y)) many_k (start_below k x y of_k.own))
+        (subst (λ n. IsSignalWireBelow n (job_start j x y)) many_j (start_below j x y of_j.own))
+        (subst (λ n. IsSignalWireBelow n (job_start k x y)) many_k (start_below k x y of_k.own))
         (of_j.start x y (inside_m x y h) ∙ sym (of_k.start x y (inside_m x y h))
         ∙ ap (λ g. renumber_signal g (job_start k x y)) wire_k)
     | inr h ↦ start_outside j x y h ∙ sym (start_outside k x y (ap (λ b. in_box b x y) (sym same_area) ∙ h))
@@ -253,20 +254,22 @@ module _ (c : Circuit) (p : Pattern) (m : ModuleLines) (j k : JobView) (differen
   same_demand : (x y : ℤ) → job_demand j x y ≡ job_demand k x y
   same_demand x y = elim (cases_Bool (in_box j.area x y)) [
     | inl h ↦ demand_back ws apart (job_demand j x y) (job_demand k x y)
-        (subst (λ n. IsDemandBelow n (job_demand j x y)) many_j (demand_below j x y of_j.own))
-        (subst (λ n. IsDemandBelow n (job_demand k x y)) many_k (demand_below k x y of_k.own))
+        (subst (λ n. IsDemandWireBelow n (job_demand j x y)) many_j (demand_below j x y of_j.own))
+        (subst (λ n. IsDemandWireBelow n (job_demand k x y)) many_k (demand_below k x y of_k.own))
         (of_j.demand x y (inside_m x y h) ∙ sym (of_k.demand x y (inside_m x y h))
         ∙ ap (λ g. renumber_demand g (job_demand k x y)) wire_k)
     | inr h ↦ demand_outside j x y h ∙ sym (demand_outside k x y (ap (λ b. in_box b x y) (sym same_area) ∙ h))
   ]
 
-  all_j : {X : Type 0} (signal : X → Signal) (xs : List X) → All (λ x. IsBelow (wires j.locals.netlist) (signal x)) xs →
-      All (λ x. IsBelow (length ws) (signal x)) xs
-  all_j signal xs all = subst (λ n. All (λ x. IsBelow n (signal x)) xs) many_j all
+  all_j : {X : Type 0} (signal : X → Signal) (xs : List X) →
+      All (λ x. IsSignalWireBelow (wires j.locals.netlist) (signal x)) xs →
+      All (λ x. IsSignalWireBelow (length ws) (signal x)) xs
+  all_j signal xs all = subst (λ n. All (λ x. IsSignalWireBelow n (signal x)) xs) many_j all
 
-  all_k : {X : Type 0} (signal : X → Signal) (xs : List X) → All (λ x. IsBelow (wires k.locals.netlist) (signal x)) xs →
-      All (λ x. IsBelow (length ws) (signal x)) xs
-  all_k signal xs all = subst (λ n. All (λ x. IsBelow n (signal x)) xs) many_k all
+  all_k : {X : Type 0} (signal : X → Signal) (xs : List X) →
+      All (λ x. IsSignalWireBelow (wires k.locals.netlist) (signal x)) xs →
+      All (λ x. IsSignalWireBelow (length ws) (signal x)) xs
+  all_k signal xs all = subst (λ n. All (λ x. IsSignalWireBelow n (signal x)) xs) many_k all
 
   same_edges : j.edges ≡ k.edges
   same_edges = signals_back ws apart j.edges k.edges

@@ -1,7 +1,6 @@
 -- The wires that signals name, by their places in a list of wires
-use Rattle.std.proofs.Common.{◌≡◌, ℕ, suc, ◌<◌, ◌==◌, Bool, true, false, if◌then◌else◌, List, [], ◌∷◌, ◌++◌}
-use Rattle.std.proofs.Common.{map, length, Option, Some, None, refl, ap, ap₂, arith}
-use Rattle.std.specs.Prelude.{◌||◌, slice_index, IsTrue, IfSome}
+use Rattle.std.proofs.Common.{◌≡◌, ℕ, suc, ◌<◌, ◌==◌, Bool, true, false, if◌then◌else◌, List, [], ◌∷◌, ◌++◌, map}
+use Rattle.std.proofs.Common.{length, Option, Some, None, refl, ap, ap₂, arith, ◌||◌, slice_index, IsTrue, IfSome}
 use Rattle.std.proofs.lemmas.Bool.{false≢true}
 use Rattle.std.proofs.lemmas.Bool.Decides.{nat_tests}
 use Rattle.circuit.specs.Meaning.{Circuit, wire_of}
@@ -11,9 +10,9 @@ use Rattle.module_box.specs.declared.schedules.TimedSignal.{TimedSignal}
 use Rattle.module_box.specs.declared.schedules.AllTimes.{AllTimes}
 use Rattle.module_box.specs.declared.schedules.Signal.{Signal}
 use Rattle.module_box.specs.declared.schedules.Signal.TheVariants.{Zero, One, Wire}
-use Rattle.certificate.specs.Jobs.{events_of_line, all_times_of_line, line_signal, line_signals, signal_of}
+use Rattle.certificate.specs.Jobs.{events_of_line, all_times_of_line, one_or_named_wire, line_signals, wire_or_zero}
 use Rattle.certificate_lines.specs.Rules.{is_local, is_local_wire}
-use Rattle.module_job.specs.Signals.{IsBelow, renumber_event, renumber_all_times, renumber_signal}
+use Rattle.module_job.specs.Signals.{IsSignalWireBelow, renumber_event, renumber_all_times, renumber_signal}
 use Rattle.certificate_lines.specs.declared.certificate_line.BorderLine.{BorderLine}
 use Rattle.certificate_lines.proofs.Pairs.{Each}
 
@@ -53,7 +52,7 @@ numbered ws (Wire w) = Wire (place_among ws w)
 
 pub record IsNumbered (ws : List ℕ) (s : Signal) : Type 0 where
   pub back : renumber_signal (slice_index ws) (numbered ws s) ≡ s
-  pub below : IsBelow (length ws) (numbered ws s)
+  pub below : IsSignalWireBelow (length ws) (numbered ws s)
 
 -- ---- the signals of lines that name local wires
 
@@ -61,13 +60,13 @@ module _ (c : Circuit) (ws : List ℕ) where
   abbrev pub IsNamed : BorderLine → Type 0
   IsNamed e = IfSome e.signal (λ name. IsTrue (is_local c ws name))
 
-  pub wire_numbered : (o : Option ℕ) → is_local_wire ws o ≡ true → IsNumbered ws (signal_of o)
+  pub wire_numbered : (o : Option ℕ) → is_local_wire ws o ≡ true → IsNumbered ws (wire_or_zero o)
   unfolding numbered
   wire_numbered None h = absurd (false≢true h)
   wire_numbered (Some w) h = let p = is_place ws w h in record { back = ap (λ v. Wire v) p.there; below = p.below }
 
   pub signal_numbered : (s : Option (List ℕ)) → IfSome s (λ name. IsTrue (is_local c ws name)) →
-      IsNumbered ws (line_signal c s)
+      IsNumbered ws (one_or_named_wire c s)
   unfolding numbered
   signal_numbered None h = record { back = refl; below = tt }
   signal_numbered (Some name) h = wire_numbered (wire_of c name) h
@@ -86,8 +85,8 @@ module _ (c : Circuit) (ws : List ℕ) where
   pub record IsBack (hs : List AllTimes) (es : List TimedSignal) : Type 0 where
     pub all_times : map (renumber_all_times (slice_index ws)) (map numbered_all_times hs) ≡ hs
     pub events : map (renumber_event (slice_index ws)) (map numbered_event es) ≡ es
-    pub all_times_below : Each (λ h. IsBelow (length ws) h.signal) (map numbered_all_times hs)
-    pub events_below : Each (λ e. IsBelow (length ws) e.signal) (map numbered_event es)
+    pub all_times_below : Each (λ h. IsSignalWireBelow (length ws) h.signal) (map numbered_all_times hs)
+    pub events_below : Each (λ e. IsSignalWireBelow (length ws) e.signal) (map numbered_event es)
 
   back_from : (e : BorderLine) (time : Option ℕ) (s : Signal) (hs : List AllTimes) (es : List TimedSignal) →
       IsNumbered ws s →
@@ -110,5 +109,5 @@ module _ (c : Circuit) (ws : List ℕ) where
       IsBack (line_signals c es).all_times (line_signals c es).events
   unfolding Each
   lines_back [] h = record { all_times = refl; events = refl; all_times_below = tt; events_below = tt }
-  lines_back (e ∷ es) h = back_from e e.time (line_signal c e.signal) _ _ (signal_numbered e.signal h.0)
+  lines_back (e ∷ es) h = back_from e e.time (one_or_named_wire c e.signal) _ _ (signal_numbered e.signal h.0)
       (lines_back es h.1)

@@ -1,11 +1,11 @@
 -- A plain certificate decides whether its layout is correct
 use Rattle.std.proofs.Common.{◌||◌, map, ◌≡◌, ◌≢◌, ℕ, zero, suc, ◌+◌, ◌<◌, ◌≤◌, ◌++◌, eqb, Bool, true, false, List, []}
 use Rattle.std.proofs.Common.{◌∷◌, length, Option, Some, None, refl, sym, ap, ap₂, subst, ◌∙◌, inl, inr, arith}
-use Rattle.std.proofs.Common.{if◌then◌else◌, not, ◌&&◌, append-nil}
-use Rattle.std.specs.Prelude.{ℤ, Contains, slice_get}
-use Rattle.std.specs.List.{All, list_all, range_with_len}
-use Rattle.std.specs.Option.{option_to_list, option_map, option_map_or}
-use Rattle.std.specs.Ordering.{nat_cmp, ordering_then}
+use Rattle.std.proofs.Common.{if◌then◌else◌, not, ◌&&◌, append-nil, ℤ, Contains, slice_get, All, option_to_list}
+use Rattle.std.proofs.Common.{option_map, nat_cmp}
+use Rattle.std.specs.List.{list_all, range_with_len}
+use Rattle.std.specs.Option.{option_map_or}
+use Rattle.std.specs.Ordering.{ordering_then}
 use Rattle.std.specs.declared.cmp.Ordering.TheVariants.{Greater}
 use Rattle.std.proofs.Props.{props}
 use Rattle.std.proofs.Math.Logic.{∥∥₁_elim}
@@ -23,7 +23,7 @@ use Rattle.circuit.proofs.Undefined.{has_valuation, undefined_has_none, only_inv
 use Rattle.pattern.specs.Layout.{Pattern}
 use Rattle.module_box.specs.Boxes.{in_box, in_ring}
 use Rattle.module_box.specs.Locals.{AreDifferent, circuit_gate, is_among}
-use Rattle.module_box.specs.LocalValues.{localized}
+use Rattle.module_box.specs.LocalValues.{values_by_local_number}
 use Rattle.module_box.specs.Moments.{cell_cmp}
 use Rattle.module_box.specs.Schedules.{signal_at}
 use Rattle.module_box.specs.declared.schedules.Signal.TheVariants.{Zero}
@@ -38,7 +38,7 @@ use Rattle.certificate_lines.proofs.Lists.{kept}
 use Rattle.certificate.specs.Jobs.{IsJobOf, line_signals}
 use Rattle.certificate.specs.Arrivals.{AreOnTime, IsFirstTime, IsLastTime, TakesSteps, IsTimeLineTrue, IsDelayGapTrue}
 use Rattle.certificate.specs.Arrivals.{IsMeetingTimeTrue}
-use Rattle.certificate.specs.Times.{all_stops, are_all_obeyed, is_obeyed, time_lines, times_of}
+use Rattle.certificate.specs.Times.{all_stops, are_all_obeyed, is_obeyed, delay_and_meet_lines, stop_times_of_wire}
 use Rattle.certificate.specs.declared.times.StopGap.{StopGap}
 use Rattle.certificate.specs.declared.times.StopGap.TheVariants.{Steps, NoStop, Before}
 use Rattle.certificate.specs.declared.times.TimeLine.{TimeLine}
@@ -63,14 +63,15 @@ use Rattle.certificate.specs.Keeps as keeping
 use Rattle.certificate.specs.Keeps.{unkept, unkept_from}
 use Rattle.soundness.specs.HeadlineLaws.{BelongTogether, HasInputNames, IsAcceptedBundle, IsInputName, IsRunOfJobs}
 use Rattle.meaning.specs.Implements.{IsCorrect, run_under}
-use Rattle.soundness.specs.FirstFaults.{HasGoodBorders, IsAsCertified, IsAssignmentOf, IsFirstFault, HasAssignment}
+use Rattle.soundness.specs.FirstFaults.{HasGoodBorders, IsAsCertified, IsAssignmentOf, IsFirstFault}
+use Rattle.soundness.specs.FirstFaults.{GivesModuleAssignment}
 use Rattle.soundness.specs.PlainCertificates.{IsPlain, IsWrongDesign, PlainCertificateDecides, PlainNoMeansWrong}
 use Rattle.soundness.specs.PlainCertificates.{TouchesRim, UntimedIsOnTime, IsLiveOnRim, LacksValues, LineMeans}
 use Rattle.soundness.specs.PlainCertificates.{DelayLineMeans, MeetLineMeans, PlainLinesHaveMeaning, Shows}
 use Rattle.soundness.specs.OnTime.{StopHolds}
-use Rattle.core_book.specs.Verdicts.{Accepts, IsToldOf, IsVerdict, AreReportLines, border_line, keep_line, lines_from}
-use Rattle.core_book.specs.Verdicts.{local_line, renumber_keep, timing_report, unkept_lines}
-use Rattle.core_book.specs.declared.verdict.Reasons.{Reasons}
+use Rattle.core_book.specs.Verdicts.{Accepts, IsToldOf, IsVerdict, AreReportLines, border_line, keep_line}
+use Rattle.core_book.specs.Verdicts.{report_lines_from, local_line, renumber_keep, timing_report, unkept_lines}
+use Rattle.core_book.specs.declared.verdict.LeastFaults.{LeastFaults}
 use Rattle.core_book.specs.declared.verdict.ReportLine.{ReportLine}
 use Rattle.core_book.specs.declared.verdict.ReportLine.TheVariants as line
 use Rattle.soundness.proofs.KeptGates.{PlaceOf, place_of}
@@ -135,14 +136,14 @@ cuts_are_inputs lines m all =
 
 last_one : (c : Circuit) (ss : List StopLine) (w s t : ℕ) → IsLastTime c ss w s → IsLastTime c ss w t → s ≡ t
 last_one c ss w s t a b =
-    let down = All-contains (λ u. u ≤ s) (times_of c ss w) t a.greatest b.seen in
-    let up = All-contains (λ u. u ≤ t) (times_of c ss w) s b.greatest a.seen in
+    let down = All-contains (λ u. u ≤ s) (stop_times_of_wire c ss w) t a.greatest b.seen in
+    let up = All-contains (λ u. u ≤ t) (stop_times_of_wire c ss w) s b.greatest a.seen in
     omega (arith, up, down)
 
 first_one : (c : Circuit) (ss : List StopLine) (w s t : ℕ) → IsFirstTime c ss w s → IsFirstTime c ss w t → s ≡ t
 first_one c ss w s t a b =
-    let down = All-contains (λ u. s ≤ u) (times_of c ss w) t a.least b.seen in
-    let up = All-contains (λ u. t ≤ u) (times_of c ss w) s b.least a.seen in
+    let down = All-contains (λ u. s ≤ u) (stop_times_of_wire c ss w) t a.least b.seen in
+    let up = All-contains (λ u. t ≤ u) (stop_times_of_wire c ss w) s b.least a.seen in
     omega (arith, up, down)
 
 -- a delay uses one wire and defines one
@@ -220,15 +221,16 @@ all_true P test (l ∷ ls) h all = and_from (test l) (list_all test ls) (h l (Al
 
 timed_is_kept : (lines : List CircuitLine) (ms : List ModuleLines) → AreOrdered (netlist_of lines).given
     (netlist_of lines).gates → AreOnTime (circuit_of lines) (all_stops ms) →
-    are_all_obeyed (time_lines (circuit_of lines) ms) ≡ true
+    are_all_obeyed (delay_and_meet_lines (circuit_of lines) ms) ≡ true
 timed_is_kept lines ms ordered timed =
-    all_true (IsTimeLineTrue (circuit_of lines) (all_stops ms)) is_obeyed (time_lines (circuit_of lines) ms) (λ l.
+    all_true (IsTimeLineTrue (circuit_of lines) (all_stops ms)) is_obeyed (delay_and_meet_lines (circuit_of lines) ms)
+    (λ l.
     kept_line lines (all_stops ms) l ordered timed) (lines_tell (circuit_of lines) ms)
 
 -- ---- the lines of a report
 
 -- what is said of the lines that a module has
-record EachLine (P : ReportLine → Type 0) (n : ℕ) (r : Reasons) (b : Option BorderFault) : Type 0 where
+record EachLine (P : ReportLine → Type 0) (n : ℕ) (r : LeastFaults) (b : Option BorderFault) : Type 0 where
   fault : (f : Fault) → r.fault ≡ Some f → P (line.Local n f)
   keep : (f : KeepFault) → r.keep ≡ Some f → P (line.Keep n f)
   border : (f : BorderFault) → b ≡ Some f → P (line.Border n f)
@@ -239,10 +241,10 @@ all_optional P f None h = All-nil P
 all_optional P f (Some x) h = All-cons P (f x) [] (h x refl) (All-nil P)
 
 -- it holds of each of the lines
-all_from : (P : ReportLine → Type 0) (n : ℕ) (fs : List Reasons) (bs : List (Option BorderFault)) →
-    ((k : ℕ) (r : Reasons) (b : Option BorderFault) → slice_get fs k ≡ Some r → slice_get bs k ≡ Some b →
-    EachLine P (n + k) r b) → All P (lines_from n fs bs)
-unfolding lines_from
+all_from : (P : ReportLine → Type 0) (n : ℕ) (fs : List LeastFaults) (bs : List (Option BorderFault)) →
+    ((k : ℕ) (r : LeastFaults) (b : Option BorderFault) → slice_get fs k ≡ Some r → slice_get bs k ≡ Some b →
+    EachLine P (n + k) r b) → All P (report_lines_from n fs bs)
+unfolding report_lines_from
 all_from P n [] bs h = All-nil P
 all_from P n (f ∷ fs) [] h = All-nil P
 all_from P n (f ∷ fs) (b ∷ bs) h =
@@ -250,7 +252,7 @@ all_from P n (f ∷ fs) (b ∷ bs) h =
     let A = option_to_list (local_line n f.fault) in
     let B = option_to_list (keep_line n f.keep) in
     let C = option_to_list (border_line n b) in
-    All-append P (A ++ B ++ C) (lines_from (n + 1) fs bs)
+    All-append P (A ++ B ++ C) (report_lines_from (n + 1) fs bs)
     (All-append P (A ++ B) C
     (All-append P A B (all_optional P (λ f. line.Local n f) f.fault here.fault)
     (all_optional P (λ f. line.Keep n f) f.keep here.keep))
@@ -320,7 +322,7 @@ module _ (lines : List CircuitLine) (p : Pattern) (m : ModuleLines) (jobs : List
   its_inputs : ℕ → Valuation
   its_inputs a = inputs_of (known c m) a
 
-  its_assignment : (a : ℕ) → HasAssignment c m (its_inputs a) a
+  its_assignment : (a : ℕ) → GivesModuleAssignment c m (its_inputs a) a
   unfolding its_inputs
   its_assignment a k n at =
       let good = b.are_modules.each 0 m refl in
@@ -354,20 +356,20 @@ module _ (lines : List CircuitLine) (p : Pattern) (m : ModuleLines) (jobs : List
       no_signal c [] t x y (All-nil _)
 
   edge_touches : (inputs v : Valuation) (t n : ℕ) (j : JobView) (x y : ℤ) → Satisfies (netlist_of lines) inputs v →
-      IsRunOfJobs lines p jobs v t → IsItsJob n j → IsEdgeFault j (localized j.locals v) t x y →
+      IsRunOfJobs lines p jobs v t → IsItsJob n j → IsEdgeFault j (values_by_local_number j.locals v) t x y →
       IsLiveOnRim lines p inputs t x y
   edge_touches inputs v t n j x y s now it f =
       let box : j.area ≡ whole p.size = it.is.area ∙ plain.box in
       let k : Known lines p (m ∷ []) 0 j =
       record { of = m; numbered = refl; is_job = it.is; good = b.are_modules.each 0 m refl } in
-      let said : is_live (localized j.locals v) (signal_at j.edges t x y) ≡ false =
+      let said : is_live (values_by_local_number j.locals v) (signal_at j.edges t x y) ≡ false =
       edge_by_circuit lines p (m ∷ []) 0 j v t x y k ∙ ap (is_live v) (no_edge_signal t x y) in
       let same = now.inside n j it.at x y (ring_inside j.area x y f.ring) in
       record {
         odd = f.odd;
         early = subst (λ n. t < n) it.is.steps f.early;
         rim = ap (λ a. in_ring a x y) (sym box) ∙ f.ring;
-        live = elim (cases_Bool (local_run j (localized j.locals v) t x y)) [
+        live = elim (cases_Bool (local_run j (values_by_local_number j.locals v) t x y)) [
           | inl live ↦ sym (inputs_decide lines p inputs v t x y named s) ∙ same ∙ live
           | inr dead ↦ absurd (f.differs (dead ∙ sym said))
         ];
@@ -397,7 +399,7 @@ module _ (lines : List CircuitLine) (p : Pattern) (m : ModuleLines) (jobs : List
         ∥∥₁_elim fault.shown nothing_prop (λ h.
         off (touches inputs f.time f.cell.x f.cell.y
         (edge_touches inputs v f.time n j f.cell.x f.cell.y s (subst (IsRunOfJobs lines p jobs v) (sym time) now) it
-        (edge_of j (localized j.locals v) f.time f.kind f.cell.x f.cell.y kind
+        (edge_of j (values_by_local_number j.locals v) f.time f.kind f.cell.x f.cell.y kind
         (seen_fault lines p m inputs v j f it.is s under h)))));
     of_modules = λ n f time. no_border n f;
   }
@@ -431,7 +433,7 @@ module _ (lines : List CircuitLine) (p : Pattern) (m : ModuleLines) (jobs : List
 
   none_under : (inputs v : Valuation) (t n : ℕ) (kind : Kind) (x y : ℤ) (j : JobView) → IsCorrect lines p → AreHeld →
       ¬ TouchesRim lines p → Satisfies (netlist_of lines) inputs v → IsItsJob n j →
-      ¬ IsFaultUnder j (localized j.locals v) t kind x y
+      ¬ IsFaultUnder j (values_by_local_number j.locals v) t kind x y
   none_under inputs v t n Edge x y j right held off s it f =
       let early = subst (λ n. t < n) it.is.steps f.early in
       off (touches inputs t x y (edge_touches inputs v t n j x y s (all_runs inputs v t off s (omega (arith, early))) it
@@ -466,7 +468,7 @@ module _ (lines : List CircuitLine) (p : Pattern) (m : ModuleLines) (jobs : List
       let agree = local_values_agree (netlist_of lines) j.locals (its_inputs f.assignment) v f.assignment is.locals
       s under.bits in
       ∥∥₁_elim fault.shown nothing_prop (λ u. undefined_has_none j.locals.netlist (bit f.assignment)
-      (localized j.locals v) f.gate is.locals.ordered u agree.is_local)
+      (values_by_local_number j.locals v) f.gate is.locals.ordered u agree.is_local)
 
   lacks : (j : JobView) (f : KeepFault) → IsJobOf c p m j → IsKeepFault j f → LacksValues lines p m f.assignment
   lacks j f is fault = record {
@@ -483,7 +485,7 @@ module _ (lines : List CircuitLine) (p : Pattern) (m : ModuleLines) (jobs : List
 
   accepts : ((n : ℕ) (j : JobView) (f : Fault) → slice_get jobs n ≡ Some j → ¬ IsFault j f) →
       ((n : ℕ) (j : JobView) (f : KeepFault) → slice_get jobs n ≡ Some j → ¬ IsKeepFault j f) →
-      are_all_obeyed (time_lines c (m ∷ [])) ≡ true → Accepts (setting_of lines p) (m ∷ []) jobs
+      are_all_obeyed (delay_and_meet_lines c (m ∷ [])) ≡ true → Accepts (setting_of lines p) (m ∷ []) jobs
   accepts none no_keep timed = record {
     no_fault = none;
     no_border_fault = no_border;
@@ -508,10 +510,10 @@ module _ (lines : List CircuitLine) (p : Pattern) (m : ModuleLines) (jobs : List
 
   edge_seen : (f : Fault) (j : JobView) (v : Valuation) → f.kind ≡ Edge → IsItsJob 0 j → IsFault j f →
       Satisfies (netlist_of lines) (its_inputs f.assignment) v →
-      IsEdgeFault j (localized j.locals v) f.time f.cell.x f.cell.y
+      IsEdgeFault j (values_by_local_number j.locals v) f.time f.cell.x f.cell.y
   edge_seen f j v e it fault s =
-      ∥∥₁_elim fault.shown (edge_prop j (localized j.locals v) f.time f.cell.x f.cell.y) (λ h.
-      edge_of j (localized j.locals v) f.time f.kind f.cell.x f.cell.y e
+      ∥∥₁_elim fault.shown (edge_prop j (values_by_local_number j.locals v) f.time f.cell.x f.cell.y) (λ h.
+      edge_of j (values_by_local_number j.locals v) f.time f.kind f.cell.x f.cell.y e
       (seen_fault lines p m (its_inputs f.assignment) v j f it.is s (induced j f.assignment v it.is fault.in_range s)
       h))
 
@@ -585,7 +587,7 @@ module _ (lines : List CircuitLine) (p : Pattern) (m : ModuleLines) (jobs : List
   its_own n j k it at = same_Some k j (sym at ∙ ap (slice_get jobs) (its_job n k at).first ∙ it.at)
 
   decide : (o : Option Fault) (q : Option KeepFault) (timed : Bool) (j : JobView) → IsItsJob 0 j → IsLeastFault j o →
-      IsLeastKeepFault j q → are_all_obeyed (time_lines c (m ∷ [])) ≡ timed →
+      IsLeastKeepFault j q → are_all_obeyed (delay_and_meet_lines c (m ∷ [])) ≡ timed →
       ¬ Accepts (setting_of lines p) (m ∷ []) jobs → IsWrongDesign lines p m
   decide (Some f) q timed j it least least_keep e not = by_kind f f.kind refl (shows f j it least.0 least.1)
   decide None (Some g) timed j it least least_keep e not = inl (λ right. no_keep right 0 j g it.at least_keep.0)
@@ -656,7 +658,7 @@ module _ (lines : List CircuitLine) (p : Pattern) (m : ModuleLines) (jobs : List
   all_mean : (report : List ReportLine) → AreReportLines (setting_of lines p) (m ∷ []) jobs report → All Means report
   all_mean report are =
       let g = setting_of lines p in
-      let each : (k : ℕ) (r : Reasons) (o : Option BorderFault) → slice_get are.faults k ≡ Some r →
+      let each : (k : ℕ) (r : LeastFaults) (o : Option BorderFault) → slice_get are.faults k ≡ Some r →
       slice_get are.borders k ≡ Some o → EachLine Means (0 + k) r o = λ k r o at at'.
       let count = are.are_least.count in
       let within = slice_get_within are.faults k r at in
@@ -681,11 +683,11 @@ module _ (lines : List CircuitLine) (p : Pattern) (m : ModuleLines) (jobs : List
       let U : All Means (unkept_lines g (m ∷ [])) =
       subst (λ (ns : List ℕ). All Means (map (λ n. line.Unkept n) ns)) (sym kept) (All-nil Means) in
       subst (All Means) (sym are.lines_are)
-      (All-append Means (lines_from 0 are.faults are.borders ++ unkept_lines g (m ∷ []))
-      (map timing_report (time_lines c (m ∷ [])))
-      (All-append Means (lines_from 0 are.faults are.borders) (unkept_lines g (m ∷ []))
+      (All-append Means (report_lines_from 0 are.faults are.borders ++ unkept_lines g (m ∷ []))
+      (map timing_report (delay_and_meet_lines c (m ∷ [])))
+      (All-append Means (report_lines_from 0 are.faults are.borders) (unkept_lines g (m ∷ []))
       (all_from Means 0 are.faults are.borders each) U)
-      (all_timed Means (IsTimeLineTrue c (all_stops (m ∷ []))) (time_lines c (m ∷ [])) time_means
+      (all_timed Means (IsTimeLineTrue c (all_stops (m ∷ []))) (delay_and_meet_lines c (m ∷ [])) time_means
       (lines_tell c (m ∷ []))))
 
 pub plain_decides : PlainCertificateDecides

@@ -1,14 +1,13 @@
 -- The ports of a layout that was read have the names that were given, and each of these has a port
 use Rattle.std.proofs.Common.{◌≡◌, ℕ, suc, ◌||◌, Bool, true, false, not, List, [], ◌∷◌, ◌++◌, ◌+◌, length, map, Some}
-use Rattle.std.proofs.Common.{None, refl, sym, ap, ap₂, subst, ◌∙◌, inl, inr}
-use Rattle.std.specs.Prelude.{slice_get, option_map}
+use Rattle.std.proofs.Common.{None, refl, sym, ap, ap₂, subst, ◌∙◌, inl, inr, slice_get, option_map}
 use Rattle.std.specs.List.{list_any, list_all}
 use Rattle.std.specs.Str.{bytes_eq}
 use Rattle.std.proofs.lemmas.Bool.{and_parts, cases_Bool, false≢true}
 use Rattle.std.proofs.lemmas.Slice.Eq.{bytes_eq-Decides}
 use Rattle.std.proofs.lemmas.List.Folds.{list_any-append}
 use Rattle.std.proofs.lemmas.Option.{slice_get-map}
-use Rattle.section_text.specs.Codes.{code_where}
+use Rattle.section_text.specs.Codes.{code_if}
 use Rattle.section_text.specs.Ports.{Named}
 use Rattle.section_text.specs.Words.{has}
 use Rattle.circuit.specs.Bridge.{input_names, output_names}
@@ -29,7 +28,7 @@ same_bool true b f g = sym (f refl)
 same_bool false true f g = g refl
 same_bool false false f g = refl
 
-pub no_code : (b : Bool) (code : RefusalCode) → code_where (not b) code ≡ None → b ≡ true
+pub no_code : (b : Bool) (code : RefusalCode) → code_if (not b) code ≡ None → b ≡ true
 no_code true code e = refl
 no_code false code e = absurd cc
 

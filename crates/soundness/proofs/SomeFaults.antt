@@ -1,9 +1,8 @@
 -- A job has a least fault or none, and so for keep faults and border faults
-use Rattle.std.proofs.Common.{◌≡◌, ◌≢◌, ◌⊎◌, ◌<◌, ◌+◌, ◌%◌, ◌∷◌, ◌∙◌, [], ℕ, Bool, true, false, List, Option}
-use Rattle.std.proofs.Common.{Some, None, refl, sym, ap, subst, map, inl, inr, arith}
-use Rattle.std.specs.Prelude.{ℤ, IsTrue, slice_get}
+use Rattle.std.proofs.Common.{◌≡◌, ◌≢◌, ◌⊎◌, ◌<◌, ◌+◌, ◌%◌, ◌∷◌, ◌∙◌, [], ℕ, Bool, true, false, List, Option, Some}
+use Rattle.std.proofs.Common.{None, refl, sym, ap, subst, map, inl, inr, arith, ℤ, IsTrue, slice_get, flat_map}
 use Rattle.std.specs.Cmp.{IsTotalOrder}
-use Rattle.std.specs.List.{flat_map, range_with_len}
+use Rattle.std.specs.List.{range_with_len}
 use Rattle.std.proofs.Props.{props}
 use Rattle.std.proofs.Math.Logic.{∥∥₁_elim}
 use Rattle.std.proofs.lemmas.Bool.{and_parts}
@@ -28,7 +27,7 @@ use Rattle.certificate_lines.proofs.BoxPlaces.{box_place}
 use Rattle.certificate_lines.proofs.LineOrder.{In, flat_in}
 use Rattle.certificate.proofs.FullModules.{stands}
 use Rattle.module_job.specs.Jobs.{IsJob, IsStopOf, JobView, job_demand}
-use Rattle.module_job.specs.Signals.{Meets, is_live}
+use Rattle.module_job.specs.Signals.{MeetsDemand, is_live}
 use Rattle.module_job.specs.declared.job.Demand.{Demand}
 use Rattle.module_job.specs.declared.job.Demand.TheVariants as Demanded
 use Rattle.module_job.specs.declared.job.Stop as listed
@@ -45,8 +44,7 @@ use Rattle.border_match.specs.BorderFaults.{IsBorderFault, IsLeastBorderFault, b
 use Rattle.border_match.specs.declared.fault.BorderFault.{BorderFault}
 use Rattle.border_match.proofs.FaultOrder.{border_total}
 use Rattle.soundness.proofs.SomeLeast.{Decided, HasOne, among_in, below_decided, bools_decided, both_decided}
-use Rattle.soundness.proofs.SomeLeast.{decided_by}
-use Rattle.soundness.proofs.SomeLeast.{IsLeastIn, in_map, in_range, least_in, not_decided, numbers_decided}
+use Rattle.soundness.proofs.SomeLeast.{decided_by, IsLeastIn, in_map, in_range, least_in, not_decided, numbers_decided}
 use Rattle.soundness.proofs.SomeLeast.{some_decided, true_decided}
 use Rattle.soundness.proofs.SomeValues.{HasStop, HasValues, values_or_stop}
 use Rattle.std.proofs.lemmas.Bool.Decides.{Decides-int_eq}
@@ -71,7 +69,7 @@ in_cells_of_box b d h = stands (box_cells b) _ d (box_place b d.x d.y h)
 -- ---- whether a job has a fault, where its wires have these values
 
 module _ (j : JobView) (u : Valuation) (t : ℕ) (x y : ℤ) where
-  meets_decided : (d : Demand) (live : Bool) → Decided (Meets u d live)
+  meets_decided : (d : Demand) (live : Bool) → Decided (MeetsDemand u d live)
   meets_decided Demanded.Dead live = bools_decided live false
   meets_decided Demanded.Live live = bools_decided live true
   meets_decided (Demanded.Wire w) live = bools_decided live (u w)

@@ -1,11 +1,10 @@
 -- A module has a job, which is computed from its lines
-use Rattle.std.proofs.Common.{◌≡◌, ◌<◌, ◌++◌, ◌∷◌, ◌∙◌, [], ℕ, suc, Bool, true, false, List, Option}
-use Rattle.std.proofs.Common.{Some, None, refl, sym, ap, ap₂, subst, map, length, get_or, arith}
-use Rattle.std.proofs.Common.{append_assoc, length-append}
+use Rattle.std.proofs.Common.{◌≡◌, ◌<◌, ◌++◌, ◌∷◌, ◌∙◌, [], ℕ, suc, Bool, true, false, List, Option, Some, None, refl}
+use Rattle.std.proofs.Common.{sym, ap, ap₂, subst, map, length, get_or, arith, append_assoc, length-append, ℤ, IsTrue}
+use Rattle.std.proofs.Common.{IfSome, slice_get, slice_index, if◌then◌else◌, ◌||◌, All, flat_map, option_map}
+use Rattle.std.proofs.Common.{option_to_list}
 use Rattle.std.proofs.lemmas.Option.{same_Some, slice_get-map}
-use Rattle.std.specs.Prelude.{ℤ, IsTrue, IfSome, slice_get, slice_index, if◌then◌else◌, ◌||◌}
-use Rattle.std.specs.List.{All, flat_map, range_with_len}
-use Rattle.std.specs.Option.{option_map, option_to_list}
+use Rattle.std.specs.List.{range_with_len}
 use Rattle.std.proofs.lemmas.List.{append-nil, get_or_at, length-map, length_push, take_all}
 use Rattle.std.proofs.lemmas.List.Elements.{All-nil, All-cons, All-head, All-tail}
 use Rattle.bbm_rule.specs.declared.block.Cell.{Cell}
@@ -28,13 +27,14 @@ use Rattle.certificate_lines.specs.declared.certificate_line.StopLine.{StopLine}
 use Rattle.certificate_lines.proofs.BoxPlaces.{cells_inside, found_at, same_count}
 use Rattle.certificate_lines.proofs.Pairs.{Each, each_of_all}
 use Rattle.module_job.specs.Jobs.{JobView}
-use Rattle.module_job.specs.Signals.{IsBelow, IsDemandBelow, renumber_demand, renumber_signal, renumber_stop}
+use Rattle.module_job.specs.Signals.{IsSignalWireBelow, IsDemandWireBelow, renumber_demand, renumber_signal}
+use Rattle.module_job.specs.Signals.{renumber_stop}
 use Rattle.module_job.specs.declared.job.Demand.{Demand}
 use Rattle.module_job.specs.declared.job.Demand.TheVariants as Demanded
 use Rattle.module_job.specs.declared.job.Stop as listed
-use Rattle.certificate.specs.Jobs.{AreJobsOf, IsJobOf, demand_outside_mirrors, demand_of, end_demand, line_signals}
-use Rattle.certificate.specs.Jobs.{line_stops}
-use Rattle.certificate.specs.Jobs.{named_wire, numbered_stop, signal_of, start_signal}
+use Rattle.certificate.specs.Jobs.{AreJobsOf, IsJobOf, demand_outside_mirrors, wire_or_dead, end_demand, line_signals}
+use Rattle.certificate.specs.Jobs.{stops_of_lines, wire_of_optional_name, stop_with_wire_number, wire_or_zero}
+use Rattle.certificate.specs.Jobs.{start_signal}
 use Rattle.certificate.proofs.FullModules.{all_of_each}
 use Rattle.certificate.proofs.JobPlaces.{demand_found, start_found}
 use Rattle.certificate.proofs.LayoutTableLemmas.{cells_have_ports}
@@ -175,9 +175,9 @@ module _ {X : Type 0} (back_by by_number : X → X) (P : X → Type 0) (f : Cell
 module _ (ws : List ℕ) where
   record IsDemanded (d : Demand) : Type 0 where
     pub back : renumber_demand (slice_index ws) (demanded ws d) ≡ d
-    pub below : IsDemandBelow (length ws) (demanded ws d)
+    pub below : IsDemandWireBelow (length ws) (demanded ws d)
 
-  demand_numbered : (o : Option ℕ) → is_local_wire ws o ≡ true → IsDemanded (demand_of o)
+  demand_numbered : (o : Option ℕ) → is_local_wire ws o ≡ true → IsDemanded (wire_or_dead o)
   unfolding demanded
   demand_numbered None h = absurd cc
   demand_numbered (Some w) h = let p = is_place ws w h in record {
@@ -193,7 +193,7 @@ module _ (ws : List ℕ) where
     pub below : All (λ s. s.wire < length ws) (map (placed_stop ws) ss)
 
   one_stop : (s : StopLine) (o : Option ℕ) (ss : List listed.Stop) → is_local_wire ws o ≡ true → StopsBack ss →
-      StopsBack (numbered_stop s o ++ ss)
+      StopsBack (stop_with_wire_number s o ++ ss)
   unfolding placed_stop
   one_stop s None ss h more = absurd cc
   one_stop s (Some w) ss h more =
@@ -204,10 +204,10 @@ module _ (ws : List ℕ) where
       }
 
   stops_back : (c : Circuit) (ss : List StopLine) → Each (λ s. is_local c ws s.wire ≡ true) ss →
-      StopsBack (line_stops c ss)
+      StopsBack (stops_of_lines c ss)
   unfolding Each
   stops_back c [] h = record { back = refl; below = All-nil (λ (s : listed.Stop). s.wire < length ws) }
-  stops_back c (s ∷ ss) h = one_stop s (wire_of c s.wire) (line_stops c ss) h.0 (stops_back c ss h.1)
+  stops_back c (s ∷ ss) h = one_stop s (wire_of c s.wire) (stops_of_lines c ss) h.0 (stops_back c ss h.1)
 
 each_at_place : {A : Type 0} (P : A → Type 0) (xs : List A) → ((k : ℕ) (x : A) → slice_get xs k ≡ Some x → P x) →
     Each P xs
@@ -239,7 +239,7 @@ module _ (c : Circuit) (p : Pattern) (m : ModuleLines) where
     demands = map (λ (d : Cell). demanded (known c m) (end_demand c p d.x d.y)) (box_cells m.area);
     edges = numbered_signals c (known c m) (line_signals c (edges m));
     halos = numbered_signals c (known c m) (line_signals c (halos m));
-    stops = map (placed_stop (known c m)) (line_stops c (stops m));
+    stops = map (placed_stop (known c m)) (stops_of_lines c (stops m));
     kept = places (gates m) (keeps m);
   }
 
@@ -273,7 +273,7 @@ module _ (lines : List CircuitLine) (p : Pattern) (m : ModuleLines)
   demands d = end_demand c p d.x d.y
 
   start_by : (b : Bool) (o : Option (List ℕ)) → IfSome o (λ name. IsTrue (is_local c ws name)) →
-      IsNumbered ws (if b then One else signal_of (named_wire c o))
+      IsNumbered ws (if b then One else wire_or_zero (wire_of_optional_name c o))
   unfolding numbered
   start_by true o h = record { back = refl; below = tt }
   start_by false None h = record { back = refl; below = tt }
@@ -302,12 +302,12 @@ module _ (lines : List CircuitLine) (p : Pattern) (m : ModuleLines)
   demand_is_numbered x y h = end_by (in_rectangles p.mirrors x y) (port_at p.outs x y) (in_cells p.wastes x y)
       ((cells_have_ports lines p m ports).1 x y h)
 
-  starts_back : CellsBack (renumber_signal (slice_index ws)) (numbered ws) (IsBelow (length ws)) starts
+  starts_back : CellsBack (renumber_signal (slice_index ws)) (numbered ws) (IsSignalWireBelow (length ws)) starts
       (box_cells m.area)
   starts_back = cells_back _ _ _ starts (box_cells m.area) (each_at_place _ (box_cells m.area) (λ k d at.
       let is = start_numbered d.x d.y (cells_inside m.area k d at) in (is.back, is.below)))
 
-  ends_back : CellsBack (renumber_demand (slice_index ws)) (demanded ws) (IsDemandBelow (length ws)) demands
+  ends_back : CellsBack (renumber_demand (slice_index ws)) (demanded ws) (IsDemandWireBelow (length ws)) demands
       (box_cells m.area)
   ends_back = cells_back _ _ _ demands (box_cells m.area) (each_at_place _ (box_cells m.area) (λ k d at.
       let is = demand_is_numbered d.x d.y (cells_inside m.area k d at) in (is.back, is.below)))
@@ -322,16 +322,17 @@ module _ (lines : List CircuitLine) (p : Pattern) (m : ModuleLines)
   halos_back = lines_back c ws (halos m)
       (each_of_all (IsNamed c ws) (halos m) (λ k d lt. (is.halo_lines k d lt).border.signal))
 
-  own_stops : StopsBack ws (line_stops c (stops m))
+  own_stops : StopsBack ws (stops_of_lines c (stops m))
   own_stops = stops_back ws c (stops m)
       (each_of_all (λ s. is_local c ws s.wire ≡ true) (stops m) (λ k d lt. (is.stop_lines k d lt).wire))
 
   own_keeps : ArePlaces (gates m) (keeps m)
   own_keeps = are_places (gates m) (keeps m) (λ k d lt. (is.keep_lines k d lt).among)
 
-  signals_below : {X : Type 0} (signal : X → Signal) (xs : List X) → Each (λ x. IsBelow (length ws) (signal x)) xs →
-      All (λ x. IsBelow (wires net.netlist) (signal x)) xs
-  signals_below signal xs h = all_of_each _ xs (subst (λ n. Each (λ x. IsBelow n (signal x)) xs) sized h)
+  signals_below : {X : Type 0} (signal : X → Signal) (xs : List X) →
+      Each (λ x. IsSignalWireBelow (length ws) (signal x)) xs →
+      All (λ x. IsSignalWireBelow (wires net.netlist) (signal x)) xs
+  signals_below signal xs h = all_of_each _ xs (subst (λ n. Each (λ x. IsSignalWireBelow n (signal x)) xs) sized h)
 
   pub is_job_of : IsJobOf c p m job
   unfolding numbered_signals places
@@ -352,8 +353,8 @@ module _ (lines : List CircuitLine) (p : Pattern) (m : ModuleLines)
     halos = ap₂ (λ a b. record { all_times = a; events = b }) halos_back.all_times halos_back.events;
     stops = own_stops.back;
     own = record {
-      starts = subst (λ n. All (IsBelow n) job.starts) sized starts_back.below;
-      demands = subst (λ n. All (IsDemandBelow n) job.demands) sized ends_back.below;
+      starts = subst (λ n. All (IsSignalWireBelow n) job.starts) sized starts_back.below;
+      demands = subst (λ n. All (IsDemandWireBelow n) job.demands) sized ends_back.below;
       edge_all_times = signals_below _ _ edges_back.all_times_below;
       edge_events = signals_below _ _ edges_back.events_below;
       halo_all_times = signals_below _ _ halos_back.all_times_below;

@@ -5,7 +5,7 @@ use Rattle.std.specs.List.{range_with_len}
 use Rattle.std.proofs.lemmas.List.{length-map}
 use Rattle.std.proofs.lemmas.List.FromFn.{get_or-map-range_with_len, length-range_with_len}
 use Rattle.circuit.specs.Bridge.{AreValues, StopsAt, read}
-use Rattle.circuit.specs.Evaluate.{first_undefined}
+use Rattle.circuit.specs.Evaluate.{first_undefined_gate}
 use Rattle.circuit.specs.Meaning.{AreOrdered, Netlist, Valuation}
 use Rattle.circuit.proofs.Undefined.{all_evaluated, stops, up_to}
 use Rattle.circuit.proofs.Valuations.{evaluated}
@@ -28,7 +28,7 @@ module _ (n : Netlist) (a : Valuation) (ordered : AreOrdered n.given n.gates) wh
   same : (i : ℕ) → i < n.given → read given i ≡ a i
   same i h = get_or-map-range_with_len a 0 n.given i i false h (omega arith)
 
-  by_first : (o : Option ℕ) → first_undefined given n.gates ≡ o → HasValues ⊎ HasStop
+  by_first : (o : Option ℕ) → first_undefined_gate given n.gates ≡ o → HasValues ⊎ HasStop
   by_first None e =
       let found = all_evaluated given n.gates (subst (λ m. AreOrdered m n.gates) (sym long) ordered) e in
       inl (found.0, evaluated n a given found.0 ordered long same found.1)
@@ -37,4 +37,4 @@ module _ (n : Netlist) (a : Valuation) (ordered : AreOrdered n.given n.gates) wh
       inr (k, found.0, stops n a given k found.0 ordered long same found.1)
 
   pub values_or_stop : HasValues ⊎ HasStop
-  values_or_stop = by_first (first_undefined given n.gates) refl
+  values_or_stop = by_first (first_undefined_gate given n.gates) refl

@@ -1,16 +1,13 @@
 -- The modules of a certificate have jobs and a verdict
 use Rattle.std.proofs.Common.{◌≡◌, ◌≤◌, ◌<◌, ◌+◌, ◌*◌, ◌^◌, ◌&&◌, ◌||◌, ◌++◌, ◌∷◌, ◌∙◌, [], ℕ, zero, suc, Bool, true}
-use Rattle.std.proofs.Common.{false, not}
-use Rattle.std.proofs.Common.{List, Option, Some, None, Vec, Global, refl, sym, ap, subst, map, length, get_or, cond}
-use Rattle.std.proofs.Common.{inl, inr, arith}
-use Rattle.std.proofs.Common.{append-nil, append_assoc, length-append}
-use Rattle.std.specs.Prelude.{nat_le, nat_lt, slice_get}
-use Rattle.std.specs.Option.{option_map, option_to_list}
+use Rattle.std.proofs.Common.{false, not, List, Option, Some, None, Vec, Global, refl, sym, ap, subst, map, length}
+use Rattle.std.proofs.Common.{get_or, cond, inl, inr, arith, append-nil, append_assoc, length-append, nat_le, nat_lt}
+use Rattle.std.proofs.Common.{slice_get, option_map, option_to_list}
 use Rattle.std.proofs.lemmas.Bool.Decides.{nat_tests}
 use Rattle.std.proofs.lemmas.List.{length-map}
 use Rattle.std.proofs.lemmas.Option.{slice_get_within}
-use Rattle.section_text.specs.Codes.{code_where, or_else}
-use Rattle.circuit.specs.Bridge.{AreGood, AreGoodAfter, circuit_of, netlist_of}
+use Rattle.section_text.specs.Codes.{code_if, or_else}
+use Rattle.circuit.specs.Bridge.{AreGoodCircuitLines, AreGoodAfter, circuit_of, netlist_of}
 use Rattle.circuit.specs.Entries.{defined}
 use Rattle.circuit.specs.declared.circuit_line.GateKind.{GateKind}
 use Rattle.circuit.specs.declared.circuit_line.GateKind.TheVariants.{Source, Fredkin, Cswap, Interact, Switch, Delay}
@@ -33,10 +30,8 @@ use Rattle.certificate.specs.Jobs.{AreJobsOf, IsJobOf}
 use Rattle.certificate.specs.Keeps.{is_kept, unkept_from}
 use Rattle.certificate.specs.StopLists.{AreStops}
 use Rattle.certificate.specs.Times.{common_time, all_stops, are_all_obeyed, delay_line_of_kind, delay_line, first_seen}
-use Rattle.certificate.specs.Times.{gap_between}
-use Rattle.certificate.specs.Times.{last_seen, last_times, time_lines_of_gates, meet_line_of_times, meet_line, numbered}
-use Rattle.certificate.specs.Times.{first_wire_time}
-use Rattle.certificate.specs.Times.{time_lines}
+use Rattle.certificate.specs.Times.{gap_between, last_seen, last_times, time_lines_of_gates, meet_line_of_times}
+use Rattle.certificate.specs.Times.{meet_line, numbered, first_wire_time, delay_and_meet_lines}
 use Rattle.certificate.specs.declared.times.StopGap.{StopGap}
 use Rattle.certificate.specs.declared.times.TimeLine.{TimeLine}
 use Rattle.certificate.specs.declared.times.TimeLine.TheVariants.{Meet}
@@ -44,11 +39,10 @@ use Rattle.certificate.proofs.JobLemmas.{within_512}
 use Rattle.certificate.proofs.StopLemmas.{stops_rise, stops_stand}
 use Rattle.border_match.specs.BorderFaults.{AreBorderFaultsOf, IsLeastBorderFault}
 use Rattle.border_match.specs.declared.fault.BorderFault.{BorderFault}
-use Rattle.soundness.specs.ModuleLaws.{ModulesHaveVerdict}
-use Rattle.core_book.specs.Verdicts.{AreLeastFaults, IsToldOf, IsVerdict, border_line, keep_line, lines_from}
-use Rattle.core_book.specs.Verdicts.{local_line}
-use Rattle.core_book.specs.Verdicts.{renumber_keep, timing_report, unkept_lines}
-use Rattle.core_book.specs.declared.verdict.Reasons.{Reasons}
+use Rattle.soundness.specs.ModuleLaws.{VerdictExists}
+use Rattle.core_book.specs.Verdicts.{AreLeastFaults, IsToldOf, IsVerdict, border_line, keep_line, report_lines_from}
+use Rattle.core_book.specs.Verdicts.{local_line, renumber_keep, timing_report, unkept_lines}
+use Rattle.core_book.specs.declared.verdict.LeastFaults.{LeastFaults}
 use Rattle.core_book.specs.declared.verdict.ReportLine.{ReportLine}
 use Rattle.core_book.specs.declared.verdict.ReportLine.TheVariants.{Unkept}
 use Rattle.core_book.specs.declared.verdict.Verdict.{Verdict}
@@ -67,8 +61,9 @@ few_of : {A : Type 0} (o : Option A) → length (option_to_list o) ≤ 1
 few_of None = omega arith
 few_of (Some a) = omega arith
 
-three_each : (n : ℕ) (fs : List Reasons) (bs : List (Option BorderFault)) → length (lines_from n fs bs) ≤ 3 * length fs
-unfolding lines_from
+three_each : (n : ℕ) (fs : List LeastFaults) (bs : List (Option BorderFault)) →
+    length (report_lines_from n fs bs) ≤ 3 * length fs
+unfolding report_lines_from
 three_each n [] bs = omega arith
 three_each n (f ∷ fs) [] = omega arith
 three_each n (f ∷ fs) (b ∷ bs) =
@@ -78,7 +73,7 @@ three_each n (f ∷ fs) (b ∷ bs) =
     let c = few_of (border_line n b) in
     let sum = length-append
     (option_to_list (local_line n f.fault) ++ option_to_list (keep_line n f.keep) ++ option_to_list
-    (border_line n b)) (lines_from (n + 1) fs bs) in
+    (border_line n b)) (report_lines_from (n + 1) fs bs) in
     let two = length-append (option_to_list (local_line n f.fault) ++ option_to_list (keep_line n f.keep))
     (option_to_list (border_line n b)) in
     let one = length-append (option_to_list (local_line n f.fault)) (option_to_list (keep_line n f.keep)) in
@@ -139,7 +134,7 @@ pub first_none : (a b : Option RefusalCode) → or_else a b ≡ None → a ≡ N
 first_none None b e = refl
 first_none (Some code) b e = absurd cc
 
-pub no_code : (b : Bool) (code : RefusalCode) → code_where b code ≡ None → b ≡ false
+pub no_code : (b : Bool) (code : RefusalCode) → code_if b code ≡ None → b ≡ false
 no_code true code e = absurd cc
 no_code false code e = refl
 
@@ -167,7 +162,7 @@ gates_below before (r ∷ rest) good h =
     subst (λ l. gate_count l ≤ 1024) (append_assoc before (r ∷ []) rest)
     (gates_below (before ++ r ∷ []) rest good.1 more)
 
-few_gates : (lines : List CircuitLine) → AreGood lines → length (netlist_of lines).gates ≤ 1024
+few_gates : (lines : List CircuitLine) → AreGoodCircuitLines lines → length (netlist_of lines).gates ≤ 1024
 few_gates lines good =
     let all = gates_below [] lines good (omega arith) in
     subst (λ n. n ≤ 1024) (sym (gates_counted (defined lines) lines)) all
@@ -200,19 +195,19 @@ nothing k a at = cc
 all_reasons : (js : List JobView) →
     ((k : ℕ) (j : JobView) → slice_get js k ≡ Some j →
     IsJob j × AreOrdered j.locals.netlist.given j.locals.netlist.gates) →
-    (fs : List Reasons) × AreLeastFaults js fs
+    (fs : List LeastFaults) × AreLeastFaults js fs
 all_reasons [] each = ([], record { count = refl; each = λ k j f at. absurd (nothing k j at) })
 all_reasons (j ∷ js) each =
     let own = each 0 j refl in
     let fault = least_fault j own.0 own.1 in
     let keep = least_keep_fault j own.0 own.1 in
-    let reasons : Reasons = record { fault = fault.0; keep = option_map (renumber_keep j) keep.0 } in
+    let reasons : LeastFaults = record { fault = fault.0; keep = option_map (renumber_keep j) keep.0 } in
     let told : IsToldOf j reasons = record { fault = fault.1; keep = keep.0; least_keep = keep.1; same = refl } in
     let more = all_reasons js (λ k. each (suc k)) in
     (reasons ∷ more.0, record { count = ap suc more.1.count; each = at_each reasons told more.0 more.1 })
   where
-    at_each : (r : Reasons) → IsToldOf j r → (fs : List Reasons) → AreLeastFaults js fs →
-        (k : ℕ) (i : JobView) (f : Reasons) → slice_get (j ∷ js) k ≡ Some i → slice_get (r ∷ fs) k ≡ Some f →
+    at_each : (r : LeastFaults) → IsToldOf j r → (fs : List LeastFaults) → AreLeastFaults js fs →
+        (k : ℕ) (i : JobView) (f : LeastFaults) → slice_get (j ∷ js) k ≡ Some i → slice_get (r ∷ fs) k ≡ Some f →
         IsToldOf i f
     at_each r is fs are zero i f at there =
         let same : j ≡ i = cc in
@@ -293,7 +288,7 @@ empty_decided : {A : Type 0} (xs : List A) → Decided (xs ≡ [])
 empty_decided [] = inl refl
 empty_decided (x ∷ xs) = inr (λ e. cc)
 
-module _ (lines : List CircuitLine) (p : Pattern) (ms : List ModuleLines) (good : AreGood lines)
+module _ (lines : List CircuitLine) (p : Pattern) (ms : List ModuleLines) (good : AreGoodCircuitLines lines)
     (limits : size_fault p.size ≡ None)
     (are : AreModules (setting_of lines p) ms) where
   abbrev g : Setting
@@ -312,13 +307,13 @@ module _ (lines : List CircuitLine) (p : Pattern) (ms : List ModuleLines) (good 
       IsJob j × AreOrdered j.locals.netlist.given j.locals.netlist.gates
   good_at = jobs_good lines p ms js limits are own_jobs
 
-  reasons : (fs : List Reasons) × AreLeastFaults js fs
+  reasons : (fs : List LeastFaults) × AreLeastFaults js fs
   reasons = all_reasons js good_at
 
   borders : (bs : List (Option BorderFault)) × AreBordersFrom g ms 0 (length ms) bs
   borders = all_borders g ms (length ms) 0
 
-  abbrev fs : List Reasons
+  abbrev fs : List LeastFaults
   fs = reasons.0
 
   abbrev bs : List (Option BorderFault)
@@ -337,7 +332,7 @@ module _ (lines : List CircuitLine) (p : Pattern) (ms : List ModuleLines) (good 
   same_count = reasons.1.count ∙ own_jobs.count ∙ sym borders.1.count
 
   abbrev all_lines : List ReportLine
-  all_lines = lines_from 0 fs bs ++ unkept_lines g ms ++ map timing_report (time_lines g.circuit ms)
+  all_lines = report_lines_from 0 fs bs ++ unkept_lines g ms ++ map timing_report (delay_and_meet_lines g.circuit ms)
 
   few_lines : length all_lines < 2 ^ 63
   few_lines =
@@ -348,17 +343,17 @@ module _ (lines : List CircuitLine) (p : Pattern) (ms : List ModuleLines) (good 
       let few_modules = are.few in
       let count = reasons.1.count ∙ own_jobs.count in
       let few = few_gates lines good in
-      let outer = length-append (lines_from 0 fs bs ++ unkept_lines g ms)
-      (map timing_report (time_lines g.circuit ms)) in
-      let inner = length-append (lines_from 0 fs bs) (unkept_lines g ms) in
-      let said = length-map (time_lines g.circuit ms) timing_report in
+      let outer = length-append (report_lines_from 0 fs bs ++ unkept_lines g ms)
+      (map timing_report (delay_and_meet_lines g.circuit ms)) in
+      let inner = length-append (report_lines_from 0 fs bs) (unkept_lines g ms) in
+      let said = length-map (delay_and_meet_lines g.circuit ms) timing_report in
       let named = length-map (unkept_from ms 0 gates) (λ n. Unkept n) in
       omega (arith, faults, unkept, times, few_modules, count, few, outer, inner, said, named)
 
   verdict : (v : Verdict) × IsVerdict g ms js v
   unfolding IsVerdict
-  verdict = elim (both_decided (empty_decided (lines_from 0 fs bs ++ unkept_lines g ms))
-      (λ _. true_decided (are_all_obeyed (time_lines g.circuit ms)))) [
+  verdict = elim (both_decided (empty_decided (report_lines_from 0 fs bs ++ unkept_lines g ms))
+      (λ _. true_decided (are_all_obeyed (delay_and_meet_lines g.circuit ms)))) [
         | inl h ↦ (Yes, accepted g ms js fs bs reasons.1 are_borders same_count h.0 h.1)
         | inr not_so ↦
             let v = vec_of all_lines few_lines in (
@@ -376,7 +371,7 @@ module _ (lines : List CircuitLine) (p : Pattern) (ms : List ModuleLines) (good 
             )
       ]
 
-pub some_verdict : ModulesHaveVerdict
+pub some_verdict : VerdictExists
 some_verdict lines p ms good limits are =
     let v = verdict lines p ms good limits are in
     record {

@@ -1,10 +1,9 @@
 -- If all stops of the jobs have a property, all stop lines have it.
-use Rattle.std.proofs.Common.{◌≡◌, ℕ, zero, suc, true, List, [], ◌∷◌, map, Option, Some, None, refl, subst}
-use Rattle.std.specs.Prelude.{slice_get}
-use Rattle.std.specs.List.{All, flat_map}
+use Rattle.std.proofs.Common.{◌≡◌, ℕ, zero, suc, true, List, [], ◌∷◌, map, Option, Some, None, refl, subst, slice_get}
+use Rattle.std.proofs.Common.{All, flat_map}
 use Rattle.std.proofs.lemmas.List.Elements.{All-nil, All-cons, All-append, All-head, All-tail}
 use Rattle.std.proofs.lemmas.Option.{same_Some}
-use Rattle.certificate.specs.Jobs.{numbered_stop}
+use Rattle.certificate.specs.Jobs.{stop_with_wire_number}
 use Rattle.certificate_lines.specs.Rules.{is_local_wire}
 use Rattle.certificate_lines.specs.declared.certificate_line.StopLine.{StopLine}
 use Rattle.module_job.specs.declared.job.Stop as listed
@@ -25,7 +24,7 @@ local_wire_is local None e = absurd cc
 local_wire_is local (Some w) e = (w, refl)
 
 pub one_said : (P : listed.Stop → Type 0) (s : StopLine) (w : ℕ) (o : Option ℕ) → o ≡ Some w →
-    All P (numbered_stop s o) → P (record { at = record { time = s.time; cell = s.cell }; wire = w })
+    All P (stop_with_wire_number s o) → P (record { at = record { time = s.time; cell = s.cell }; wire = w })
 one_said P s w None e h = absurd cc
 one_said P s w (Some u) e h =
     subst (λ n. P (record { at = record { time = s.time; cell = s.cell }; wire = n })) (same_Some u w e)

@@ -34,12 +34,12 @@ use Rattle.certificate_lines.specs.Modules.{AreModules}
 use Rattle.certificate_lines.specs.Settings.{setting_of}
 use Rattle.module_job.specs.Jobs.{IsJob, JobView, job_demand}
 use Rattle.certificate_lines.specs.Rules.{box_cells, is_inverse_gate, whole}
-use Rattle.module_job.specs.Signals.{is_live, Meets}
+use Rattle.module_job.specs.Signals.{is_live, MeetsDemand}
 use Rattle.module_job.specs.declared.job.Demand.{Demand}
 use Rattle.module_job.specs.declared.job.Demand.TheVariants as Demanded
 use Rattle.certificate.specs.Jobs.{AreJobsOf}
 use Rattle.certificate.specs.Keeps.{is_kept}
-use Rattle.certificate.specs.Times.{are_all_obeyed, time_lines}
+use Rattle.certificate.specs.Times.{are_all_obeyed, delay_and_meet_lines}
 use Rattle.certificate_lines.proofs.BoxPlaces.{box_place}
 use Rattle.local_run.specs.Faults.{IsFault, IsFaultUnder, IsKeepFault, assignments}
 use Rattle.local_run.specs.Runs.{local_run}
@@ -62,7 +62,7 @@ meets v Demanded.Live live = live
 meets v (Demanded.Wire w) live = beq live (v w)
 meets v Demanded.Any live = true
 
-pub meets_is : (v : Valuation) (d : Demand) (live : Bool) → meets v d live ≡ true → Meets v d live
+pub meets_is : (v : Valuation) (d : Demand) (live : Bool) → meets v d live ≡ true → MeetsDemand v d live
 meets_is v Demanded.Dead true e = absurd (false≢true e)
 meets_is v Demanded.Dead false e = refl
 meets_is v Demanded.Live live e = e
@@ -194,7 +194,7 @@ no_fault_under j u t Stop x y is p f =
     listed) in
     f.differs (sym (λ i. local_run j u (f.time i) (f.column i) (f.row i)) ∙ own)
 no_fault_under j u t End x y is p f =
-    f.differs (subst (λ n. Meets u (job_demand j x y) (local_run j u n x y)) (sym f.last)
+    f.differs (subst (λ n. MeetsDemand u (job_demand j x y) (local_run j u n x y)) (sym f.last)
     (meets_is u _ _ (at_every j.area _ p.end x y f.inside)))
 
 no_fault : (j : JobView) → IsJob j → AreOrdered j.locals.netlist.given j.locals.netlist.gates → job_test j ≡ true →
@@ -254,7 +254,7 @@ pub record PassTests (g : Setting) (ms : List ModuleLines) (js : List JobView) :
   pub jobs : list_all job_test js ≡ true
   pub kept : kept_test g ms ≡ true
   pub borders : at_odd_times g.size.steps (border_test g ms) ≡ true
-  pub on_time : are_all_obeyed (time_lines g.circuit ms) ≡ true
+  pub on_time : are_all_obeyed (delay_and_meet_lines g.circuit ms) ≡ true
 
 pub accepts : (lines : List CircuitLine) (p : Pattern) (ms : List ModuleLines) (js : List JobView) →
     size_fault p.size ≡ None → AreModules (setting_of lines p) ms → AreJobsOf (circuit_of lines) p ms js →

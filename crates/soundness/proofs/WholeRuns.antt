@@ -1,8 +1,6 @@
 -- The run of the whole plane is that of the jobs
 use Rattle.std.proofs.Common.{◌≡◌, ℕ, zero, suc, ◌<◌, ◌≤◌, ◌%◌, Bool, true, false, not, ◌&&◌, ◌||◌, List, Some, refl}
-use Rattle.std.proofs.Common.{sym, ap, ap₂, subst, ◌∙◌, inl, inr, arith}
-use Rattle.std.specs.Prelude.{ℤ, ◌≢◌, Contains, slice_get}
-use Rattle.std.specs.List.{All}
+use Rattle.std.proofs.Common.{sym, ap, ap₂, subst, ◌∙◌, inl, inr, arith, ℤ, ◌≢◌, Contains, slice_get, All}
 use Rattle.std.proofs.lemmas.List.Elements.{All-contains_itself}
 use Rattle.std.proofs.lemmas.Option.{slice_get-get_or, slice_get_within}
 use Rattle.std.proofs.lemmas.Bool.{and_parts, cases_Bool, false≢true, true≢false, not_from_false, not-true}
@@ -15,7 +13,7 @@ use Rattle.circuit.specs.declared.circuit_line.CircuitLine.{CircuitLine}
 use Rattle.pattern.specs.Layout.{Pattern}
 use Rattle.module_box.specs.Boxes.{in_box, some_neighbour, in_ring, in_halo}
 use Rattle.module_box.specs.Laws.{LiesInBox, SameInBox}
-use Rattle.module_box.specs.LocalValues.{localized}
+use Rattle.module_box.specs.LocalValues.{values_by_local_number}
 use Rattle.module_box.specs.Schedules.{signal_at}
 use Rattle.module_box.proofs.BoxSteps.{even_stays, even_local}
 use Rattle.module_box.proofs.Neighbours.{some_neighbour_more, block_x, block_y, block_both, halo_parts, ring_from}
@@ -30,9 +28,9 @@ use Rattle.module_job.specs.declared.job.Stop as listed
 use Rattle.certificate_lines.proofs.FlatParts.{flat_part}
 use Rattle.module_box.specs.Locals.{circuit_wire}
 use Rattle.module_job.specs.Jobs.{JobView, job_start, job_demand}
-use Rattle.certificate.specs.Jobs.{IsJobOf, end_demand, numbered_stop}
+use Rattle.certificate.specs.Jobs.{IsJobOf, end_demand, stop_with_wire_number}
 use Rattle.certificate_lines.specs.Rules.{whole}
-use Rattle.module_job.specs.Signals.{is_live, Meets, renumber_stop}
+use Rattle.module_job.specs.Signals.{is_live, MeetsDemand, renumber_stop}
 use Rattle.module_job.specs.declared.job.Demand.{Demand}
 use Rattle.module_job.specs.declared.job.Demand.TheVariants as Demanded
 use Rattle.local_run.specs.Runs.{with_halo, local_run}
@@ -50,14 +48,13 @@ use Rattle.soundness.specs.PlainCertificates.{AcceptedKeepsOffRim}
 use Rattle.soundness.specs.OnTime.{StopHolds}
 use Rattle.soundness.specs.HeadlineLaws.{BelongTogether, HasNoEndFault, HasNoFault, HasInputNames, IsAcceptedBundle}
 use Rattle.soundness.specs.HeadlineLaws.{IsRunOfJobs, PlaneStartsAsJobs, PlaneStepsAsJobs, PlaneEndsAsAsked}
-use Rattle.soundness.specs.HeadlineLaws.{AcceptedIsCorrect}
-use Rattle.soundness.specs.HeadlineLaws.{AcceptedIsOnTime}
+use Rattle.soundness.specs.HeadlineLaws.{AcceptedIsCorrect, AcceptedIsOnTime}
 use Rattle.soundness.proofs.InputRuns.{inputs_decide}
 use Rattle.soundness.proofs.StopParts.{all_flat, all_map, local_wire_is, one_said}
 use Rattle.soundness.proofs.KeptGates.{accepted_has_valuation}
 use Rattle.soundness.proofs.JobSignals.{Known, Owner, known_job, job_even, owner_of, meets_for_circuit_wires}
-use Rattle.soundness.proofs.JobSignals.{live_renumbered}
-use Rattle.soundness.proofs.JobSignals.{rim_edge_dead, outer_halo_dead, edge_by_circuit, halo_by_circuit}
+use Rattle.soundness.proofs.JobSignals.{live_renumbered, rim_edge_dead, outer_halo_dead, edge_by_circuit}
+use Rattle.soundness.proofs.JobSignals.{halo_by_circuit}
 use Rattle.soundness.proofs.LayoutCells.{live_start, start_outside, whole_inside, whole_even, mirror_inside, IsOutput}
 use Rattle.soundness.proofs.LayoutCells.{is_output, met_mirror, met_output, met_other}
 
@@ -71,7 +68,7 @@ stable true false n = absurd (n true≢false)
 stable false true n = absurd (n false≢true)
 stable false false n = refl
 
-stable_meets : (v : Valuation) (d : Demand) (b : Bool) → ¬ (¬ Meets v d b) → Meets v d b
+stable_meets : (v : Valuation) (d : Demand) (b : Bool) → ¬ (¬ MeetsDemand v d b) → MeetsDemand v d b
 stable_meets v Demanded.Dead b n = stable b false n
 stable_meets v Demanded.Live b n = stable b true n
 stable_meets v (Demanded.Wire w) b n = stable b (v w) n
@@ -110,20 +107,21 @@ fault_at t kind x y a = record { time = t; kind = kind; cell = record { x = x; y
 
 -- every job has an assignment of v
 pub its_assignment : (j : JobView) (v : Valuation) → (a : ℕ) × IsAssignmentOf j v a
-its_assignment j v = let a = choices_are_assignments j.locals.netlist.given (localized j.locals v) in
+its_assignment j v = let a = choices_are_assignments j.locals.netlist.given (values_by_local_number j.locals v) in
     (a.0, record { in_range = a.1; bits = a.2 })
 
 -- and under it, where the wires have their values in v, its faults are those of the job
 own_fault : (lines : List CircuitLine) (p : Pattern) (ms : List ModuleLines) (inputs v : Valuation) (i t a : ℕ)
     (j : JobView)
     (kind : Kind) (x y : ℤ) → Known lines p ms i j →
-    Satisfies (netlist_of lines) inputs v → IsAssignmentOf j v a → IsFaultUnder j (localized j.locals v) t kind x y →
+    Satisfies (netlist_of lines) inputs v → IsAssignmentOf j v a →
+    IsFaultUnder j (values_by_local_number j.locals v) t kind x y →
     IsFault j (fault_at t kind x y a)
 own_fault lines p ms inputs v i t a j kind x y k s is differs =
     let agree = local_values_agree (netlist_of lines) j.locals inputs v a k.is_job.locals s is.bits in
     record {
       in_range = is.in_range;
-      shown = ∣ record { values = localized j.locals v; local = agree.is_local; differs = differs } ∣₁;
+      shown = ∣ record { values = values_by_local_number j.locals v; local = agree.is_local; differs = differs } ∣₁;
     }
 
 no_edge_fault : (lines : List CircuitLine) (p : Pattern) (ms : List ModuleLines) (jobs : List JobView)
@@ -131,7 +129,8 @@ no_edge_fault : (lines : List CircuitLine) (p : Pattern) (ms : List ModuleLines)
     (i t : ℕ) (j : JobView) (x y : ℤ) →
     Setting lines p ms jobs inputs v t → slice_get jobs i ≡ Some j → t % 2 ≡ 1 → t < p.size.steps →
     in_ring j.area x y ≡ true →
-    local_run j (localized j.locals v) t x y ≡ is_live (localized j.locals v) (signal_at j.edges t x y)
+    local_run j (values_by_local_number j.locals v) t x y
+    ≡ is_live (values_by_local_number j.locals v) (signal_at j.edges t x y)
 no_edge_fault lines p ms jobs inputs v i t j x y set e odd early ring =
     let k = known_job lines p ms jobs i j set.bundle e in
     let a = its_assignment j v in
@@ -148,7 +147,8 @@ no_end_fault : (lines : List CircuitLine) (p : Pattern) (ms : List ModuleLines) 
     (i : ℕ) (j : JobView) (x y : ℤ) →
     BelongTogether lines p ms jobs → HasNoEndFault jobs → Satisfies (netlist_of lines) inputs v →
     slice_get jobs i ≡ Some j → in_box j.area x y ≡ true →
-    Meets (localized j.locals v) (job_demand j x y) (local_run j (localized j.locals v) p.size.steps x y)
+    MeetsDemand (values_by_local_number j.locals v) (job_demand j x y)
+    (local_run j (values_by_local_number j.locals v) p.size.steps x y)
 no_end_fault lines p ms jobs inputs v i j x y b right s e h =
     let k = known_job lines p ms jobs i j b e in
     let a = its_assignment j v in
@@ -183,13 +183,14 @@ even_inside : (lines : List CircuitLine) (p : Pattern) (ms : List ModuleLines) (
     (inputs v : Valuation)
     (t i : ℕ) (j : JobView) →
     Setting lines p ms jobs inputs v t → t % 2 ≡ 0 → IsRunOfJobs lines p jobs v t → slice_get jobs i ≡ Some j →
-    SameInBox j.area (run_under (circuit_of lines) p v (suc t)) (local_run j (localized j.locals v) (suc t))
+    SameInBox j.area (run_under (circuit_of lines) p v (suc t))
+    (local_run j (values_by_local_number j.locals v) (suc t))
 unfolding run local_run
 even_inside lines p ms jobs inputs v t i j set e now at x y h =
     let k = known_job lines p ms jobs i j set.bundle at in
-    even_local j.area t (run_under (circuit_of lines) p v t) (local_run j (localized j.locals v) t)
+    even_local j.area t (run_under (circuit_of lines) p v t) (local_run j (values_by_local_number j.locals v) t)
     (job_even lines p ms i j k) e (now.inside i j at) x y h
-    ∙ sym (local_even j (localized j.locals v) t _ x y e)
+    ∙ sym (local_even j (values_by_local_number j.locals v) t _ x y e)
 
 -- ---- an odd step
 
@@ -255,7 +256,7 @@ halo_agrees : (lines : List CircuitLine) (p : Pattern) (ms : List ModuleLines) (
     (t i : ℕ) (j : JobView) (x y : ℤ) →
     Setting lines p ms jobs inputs v t → t % 2 ≡ 1 → t < p.size.steps → IsRunOfJobs lines p jobs v t →
     slice_get jobs i ≡ Some j → in_halo j.area x y ≡ true →
-    run_under (circuit_of lines) p v t x y ≡ is_live (localized j.locals v) (signal_at j.halos t x y)
+    run_under (circuit_of lines) p v t x y ≡ is_live (values_by_local_number j.locals v) (signal_at j.halos t x y)
 halo_agrees lines p ms jobs inputs v t i j x y set odd early now at halo =
     let b : BelongTogether lines p ms jobs = set.bundle in
     let k = known_job lines p ms jobs i j b at in
@@ -289,10 +290,11 @@ odd_inside : (lines : List CircuitLine) (p : Pattern) (ms : List ModuleLines) (j
     (t i : ℕ) (j : JobView) →
     Setting lines p ms jobs inputs v t → t % 2 ≡ 1 → t < p.size.steps → IsRunOfJobs lines p jobs v t →
     slice_get jobs i ≡ Some j →
-    SameInBox j.area (run_under (circuit_of lines) p v (suc t)) (local_run j (localized j.locals v) (suc t))
+    SameInBox j.area (run_under (circuit_of lines) p v (suc t))
+    (local_run j (values_by_local_number j.locals v) (suc t))
 unfolding run local_run
 odd_inside lines p ms jobs inputs v t i j set odd early now at x y h =
-    let u : Valuation = localized j.locals v in
+    let u : Valuation = values_by_local_number j.locals v in
     let m : State = with_halo j u t (local_run j u t) in
     let k = known_job lines p ms jobs i j set.bundle at in
     near_step j.area t (run_under (circuit_of lines) p v t) m
@@ -334,14 +336,15 @@ met : (lines : List CircuitLine) (p : Pattern) (ms : List ModuleLines) (jobs : L
     (x y : ℤ) →
     BelongTogether lines p ms jobs → HasNoEndFault jobs → Satisfies (netlist_of lines) inputs v →
     IsRunOfJobs lines p jobs v p.size.steps → in_box (whole p.size) x y ≡ true →
-    Meets v (end_demand (circuit_of lines) p x y) (run_under (circuit_of lines) p v p.size.steps x y)
+    MeetsDemand v (end_demand (circuit_of lines) p x y) (run_under (circuit_of lines) p v p.size.steps x y)
 met lines p ms jobs inputs v x y b right s now h =
     let o : Owner lines p ms jobs x y = owner_of lines p ms jobs x y b h in
     let here : in_box o.known.of.area x y ≡ true = ap (λ a. in_box a x y) (sym o.known.is_job.area) ∙ o.owned in
     let seen = meets_for_circuit_wires o.job.locals v (job_demand o.job x y) _
     (no_end_fault lines p ms jobs inputs v o.number o.job x y b right s o.numbered o.owned) in
-    let P : Demand → Type 0 = λ d. Meets v d (local_run o.job (localized o.job.locals v) p.size.steps x y) in
-    let Q : Bool → Type 0 = λ b. Meets v (end_demand (circuit_of lines) p x y) b in
+    let P : Demand → Type 0 = λ d.
+    MeetsDemand v d (local_run o.job (values_by_local_number o.job.locals v) p.size.steps x y) in
+    let Q : Bool → Type 0 = λ b. MeetsDemand v (end_demand (circuit_of lines) p x y) b in
     subst Q (sym (now.inside o.number o.job o.numbered x y o.owned)) (subst P (o.known.is_job.demand x y here) seen)
 
 pub ends : PlaneEndsAsAsked
@@ -436,7 +439,8 @@ no_stop_fault : (lines : List CircuitLine) (p : Pattern) (ms : List ModuleLines)
     (inputs v : Valuation)
     (i : ℕ) (j : JobView) (s : listed.Stop) → Faultless lines p ms jobs inputs v →
     slice_get jobs i ≡ Some j → Contains j.stops s →
-    local_run j (localized j.locals v) s.at.time s.at.cell.x s.at.cell.y ≡ localized j.locals v s.wire
+    local_run j (values_by_local_number j.locals v) s.at.time s.at.cell.x s.at.cell.y
+    ≡ values_by_local_number j.locals v s.wire
 no_stop_fault lines p ms jobs inputs v i j s set e has =
     let k = known_job lines p ms jobs i j set.bundle e in
     let a = its_assignment j v in
@@ -452,18 +456,19 @@ no_stop_fault lines p ms jobs inputs v i j s set e has =
 
 -- the same by the wires of the circuit
 abbrev IsAsWire : JobView → Valuation → listed.Stop → Type 0
-IsAsWire j v r = local_run j (localized j.locals v) r.at.time r.at.cell.x r.at.cell.y ≡ v r.wire
+IsAsWire j v r = local_run j (values_by_local_number j.locals v) r.at.time r.at.cell.x r.at.cell.y ≡ v r.wire
 
 no_line_fault : (lines : List CircuitLine) (p : Pattern) (ms : List ModuleLines) (jobs : List JobView)
     (inputs v : Valuation)
     (i : ℕ) (m : ModuleLines) (j : JobView) (k w : ℕ) (s : StopLine) → Faultless lines p ms jobs inputs v →
     slice_get jobs i ≡ Some j → IsJobOf (circuit_of lines) p m j → slice_get (stops m) k ≡ Some s →
-    wire_of (circuit_of lines) s.wire ≡ Some w → local_run j (localized j.locals v) s.time s.cell.x s.cell.y ≡ v w
+    wire_of (circuit_of lines) s.wire ≡ Some w →
+    local_run j (values_by_local_number j.locals v) s.time s.cell.x s.cell.y ≡ v w
 no_line_fault lines p ms jobs inputs v i m j k w s set e is at named =
     let own = all_map (IsAsWire j v) (renumber_stop (circuit_wire j.locals)) j.stops
     (λ n d lt. no_stop_fault lines p ms jobs inputs v i j _ set e (All-contains_itself j.stops n d lt)) in
     one_said (IsAsWire j v) s w (wire_of (circuit_of lines) s.wire) named
-    (flat_part (IsAsWire j v) (λ r. numbered_stop r (wire_of (circuit_of lines) r.wire)) (stops m)
+    (flat_part (IsAsWire j v) (λ r. stop_with_wire_number r (wire_of (circuit_of lines) r.wire)) (stops m)
     (subst (All (IsAsWire j v)) is.stops own) k s at)
 
 stop_holds : (lines : List CircuitLine) (p : Pattern) (ms : List ModuleLines) (jobs : List JobView) →

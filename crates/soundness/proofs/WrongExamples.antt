@@ -1,6 +1,5 @@
 -- A wire from an input to an output, and a layout of no step in which the output cell is not the input cell
-use Rattle.std.proofs.Common.{◌≡◌, ℕ, true, List, [], ◌∷◌, refl, ◌∙◌, arith}
-use Rattle.std.specs.Prelude.{pos}
+use Rattle.std.proofs.Common.{◌≡◌, ℕ, true, List, [], ◌∷◌, refl, ◌∙◌, arith, pos}
 use Rattle.std.proofs.lemmas.Bool.{false≢true}
 use Rattle.bbm_rule.specs.Plane.{run}
 use Rattle.circuit.specs.Bridge.{circuit_of}

@@ -9,7 +9,7 @@ use Rattle.pattern.specs.declared.layout_line.LayoutHeader.{LayoutHeader}
 use Rattle.certificate.specs.Grammars.{CertView}
 use Rattle.module_job.specs.Jobs.{JobView}
 use Rattle.certificate_lines.specs.Modules.{AreModules}
-use Rattle.core_book.specs.Concluding.{AreOwnJobs, modules, port_names_of, setting}
+use Rattle.core_book.specs.Concluding.{AreJobsOfCertificate, modules, port_names_of, setting}
 use Rattle.soundness.specs.HeadlineLaws.{BelongTogether, IsAcceptedBundle}
 use Rattle.meaning.specs.Implements.{IsCorrect}
 use Rattle.soundness.specs.OnTime.{IsOnTime}
@@ -30,7 +30,8 @@ pub record IsRead (s : CertView) (size : LayoutHeader) : Type 0 where
   pub named : AreNamed (Some (port_names_of s.circuit)) (parts_of s.layout)
 
 -- it belongs together with the jobs of its modules
-pub bundle_read : (s : CertView) (size : LayoutHeader) (jobs : List JobView) → IsRead s size → AreOwnJobs s jobs →
+pub bundle_read : (s : CertView) (size : LayoutHeader) (jobs : List JobView) → IsRead s size →
+    AreJobsOfCertificate s jobs →
     BelongTogether s.circuit s.layout (modules s) jobs
 bundle_read s size jobs is own = record {
   ordered = is.ordered;
@@ -40,20 +41,23 @@ bundle_read s size jobs is own = record {
   are_jobs = own;
 }
 
-accepted_bundle : (s : CertView) (size : LayoutHeader) (jobs : List JobView) → IsRead s size → AreOwnJobs s jobs →
+accepted_bundle : (s : CertView) (size : LayoutHeader) (jobs : List JobView) → IsRead s size →
+    AreJobsOfCertificate s jobs →
     IsVerdict (setting s) (modules s) jobs Yes →
     IsAcceptedBundle s.circuit s.layout (modules s) jobs
 unfolding IsVerdict
 accepted_bundle s size jobs is own accepted = record { bundle = bundle_read s size jobs is own; accepted = accepted }
 
-pub yes_means-correct : (s : CertView) (size : LayoutHeader) (jobs : List JobView) → IsRead s size → AreOwnJobs s jobs →
+pub yes_means-correct : (s : CertView) (size : LayoutHeader) (jobs : List JobView) → IsRead s size →
+    AreJobsOfCertificate s jobs →
     IsVerdict (setting s) (modules s) jobs Yes →
     IsCorrect s.circuit s.layout
 yes_means-correct s size jobs is own judged =
     correct s.circuit s.layout (modules s) jobs (read_layout-names s.circuit s.layout is.inputs is.named)
     (read_layout-is_named s.circuit s.layout is.named) (accepted_bundle s size jobs is own judged)
 
-pub yes_means-on_time : (s : CertView) (size : LayoutHeader) (jobs : List JobView) → IsRead s size → AreOwnJobs s jobs →
+pub yes_means-on_time : (s : CertView) (size : LayoutHeader) (jobs : List JobView) → IsRead s size →
+    AreJobsOfCertificate s jobs →
     IsVerdict (setting s) (modules s) jobs Yes →
     IsOnTime (circuit_of s.circuit) s.layout (modules s)
 yes_means-on_time s size jobs is own judged =

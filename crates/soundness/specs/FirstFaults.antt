@@ -10,12 +10,12 @@ use Rattle.circuit.specs.Bridge.{circuit_of, netlist_of}
 use Rattle.circuit.specs.Meaning.{Circuit, Satisfies, Valuation, values_by_name}
 use Rattle.circuit.specs.declared.circuit_line.CircuitLine.{CircuitLine}
 use Rattle.pattern.specs.Layout.{Pattern}
-use Rattle.module_box.specs.LocalValues.{localized}
+use Rattle.module_box.specs.LocalValues.{values_by_local_number}
 use Rattle.certificate_lines.specs.Entries.{ModuleLines, cuts, stops}
 use Rattle.certificate_lines.specs.Settings.{setting_of}
 use Rattle.certificate_lines.specs.declared.certificate_line.StopLine.{StopLine}
 use Rattle.module_job.specs.Jobs.{JobView}
-use Rattle.module_job.specs.Signals.{is_live, Meets}
+use Rattle.module_job.specs.Signals.{is_live, MeetsDemand}
 use Rattle.certificate.specs.Jobs.{end_demand}
 use Rattle.local_run.specs.Faults.{IsFault, assignments}
 use Rattle.local_run.specs.declared.fault.Fault.{Fault}
@@ -35,7 +35,7 @@ use Rattle.core_book.specs.declared.verdict.ReportLine.TheVariants.{Local, Borde
 -- the assignment gives each cut of the job the value that its wire has in v
 pub record IsAssignmentOf (j : JobView) (v : Valuation) (a : ℕ) : Type 0 where
   pub in_range : a < assignments j
-  pub bits : (k : ℕ) → k < j.locals.netlist.given → bit a k ≡ localized j.locals v k
+  pub bits : (k : ℕ) → k < j.locals.netlist.given → bit a k ≡ values_by_local_number j.locals v k
 
 -- At time t no job has an edge fault under the assignment that v gives its cuts, and no module has a border fault. Such
 -- faults are at odd times alone.
@@ -61,7 +61,7 @@ abbrev pub IsAsCertified : Circuit → Pattern → ModuleLines → Valuation →
 IsAsCertified c p m v t Edge x y = run_under c p v t x y ≡ is_live v (edge_signal c m t x y)
 IsAsCertified c p m v t Stop x y = (s : StopLine) → Contains (stops m) s → s.time ≡ t → s.cell.x ≡ x → s.cell.y ≡ y →
     run_under c p v t x y ≡ values_by_name c v s.wire
-IsAsCertified c p m v t End x y = Meets v (end_demand c p x y) (run_under c p v t x y)
+IsAsCertified c p m v t End x y = MeetsDemand v (end_demand c p x y) (run_under c p v t x y)
 
 -- A fault of module i under the assignment that v gives its cuts, if the borders are good at all times before it
 pub record IsFirstFault (lines : List CircuitLine) (p : Pattern) (ms : List ModuleLines) (jobs : List JobView)
@@ -107,8 +107,9 @@ EarliestLineIsFirstFault = (lines : List CircuitLine) (p : Pattern) (ms : List M
 -- ---- what a line says of the whole plane
 
 -- The values v of the circuit's wires give module m the assignment a: cut k has the value of bit k.
-abbrev pub HasAssignment : Circuit → ModuleLines → Valuation → ℕ → Type 0
-HasAssignment c m v a = (k : ℕ) (name : List ℕ) → slice_get (cuts m) k ≡ Some name → values_by_name c v name ≡ bit a k
+abbrev pub GivesModuleAssignment : Circuit → ModuleLines → Valuation → ℕ → Type 0
+GivesModuleAssignment c m v a =
+    (k : ℕ) (name : List ℕ) → slice_get (cuts m) k ≡ Some name → values_by_name c v name ≡ bit a k
 
 -- The fault of module m is one of the whole plane, if the inputs have these values and the wires the values v: there
 -- the cell is not as certified. If it is a fault at the end, the plane does not look as asked after the last step, so
@@ -126,4 +127,4 @@ EarliestLineIsReal = (lines : List CircuitLine) (p : Pattern) (ms : List ModuleL
     (report : Vec ReportLine Global) (inputs v : Valuation) (i : ℕ) (m : ModuleLines) (f : Fault) →
     HasInputNames lines p → BelongTogether lines p ms jobs → IsVerdict (setting_of lines p) ms jobs (No report) →
     IsEarliestLine report.items i f → slice_get ms i ≡ Some m → Satisfies (netlist_of lines) inputs v →
-    HasAssignment (circuit_of lines) m v f.assignment → IsReal lines p m inputs v f
+    GivesModuleAssignment (circuit_of lines) m v f.assignment → IsReal lines p m inputs v f

@@ -8,7 +8,7 @@ use Rattle.pattern.specs.Layout.{Pattern, parts_of}
 use Rattle.pattern.specs.Lines.{AreGoodAfter, AreNamed, size_fault}
 use Rattle.pattern.specs.declared.layout_line.Port.{Port}
 use Rattle.module_box.specs.Boxes.{in_box}
-use Rattle.module_box.specs.LocalValues.{localized}
+use Rattle.module_box.specs.LocalValues.{values_by_local_number}
 use Rattle.certificate_lines.specs.Entries.{ModuleLines}
 use Rattle.certificate_lines.specs.Settings.{setting_of}
 use Rattle.module_job.specs.Jobs.{JobView}
@@ -58,7 +58,7 @@ pub record IsRunOfJobs (lines : List CircuitLine) (p : Pattern) (jobs : List Job
     (t : ℕ) : Type 0 where
   pub outside : (x y : ℤ) → IsFalse (in_box (whole p.size) x y) → IsFalse (run_under (circuit_of lines) p v t x y)
   pub inside : (i : ℕ) (j : JobView) → slice_get jobs i ≡ Some j → (x y : ℤ) → IsTrue (in_box j.area x y) →
-      run_under (circuit_of lines) p v t x y ≡ local_run j (localized j.locals v) t x y
+      run_under (circuit_of lines) p v t x y ≡ local_run j (values_by_local_number j.locals v) t x y
 
 -- it is so at the start
 abbrev pub PlaneStartsAsJobs : Type 0

@@ -10,14 +10,14 @@ use Rattle.module_job.specs.Jobs.{JobView}
 use Rattle.certificate.specs.Jobs.{AreJobsOf}
 use Rattle.certificate.specs.Laws.{IsSectionOf}
 use Rattle.certificate_lines.specs.Modules.{AreModules}
-use Rattle.certificate_lines.specs.Versions.{lacks_wire, with_halos}
-use Rattle.core_book.specs.Concluding.{AreOwnJobs, modules, setting}
+use Rattle.certificate_lines.specs.Versions.{lacks_edge_wire_beside, with_halos}
+use Rattle.core_book.specs.Concluding.{AreJobsOfCertificate, modules, setting}
 use Rattle.core_book.specs.Verdicts.{Accepts}
 
 -- The modules and their jobs are accepted. Then no edge line names a wire that a module beside it lacks. With the edge
 -- lines beside them in place of their own halo lines the modules are accepted too.
 pub record IsAcceptedWithoutHalos (lines : List CircuitLine) (p : Pattern) (ms : List ModuleLines) : Type 0 where
-  pub complete : lacks_wire (setting_of lines p) ms ≡ false
+  pub complete : lacks_edge_wire_beside (setting_of lines p) ms ≡ false
   pub accepted : (jobs : List JobView) →
       AreJobsOf (circuit_of lines) p (map (with_halos (setting_of lines p) ms) ms) jobs →
       Accepts (setting_of lines p) (map (with_halos (setting_of lines p) ms) ms) jobs
@@ -33,9 +33,10 @@ AcceptedWithoutHalos = (lines : List CircuitLine) (p : Pattern) (ms : List Modul
 -- A certificate without its halo lines is one of version 2, and its modules are accepted.
 pub record IsAcceptedMigration (c : CertView) : Type 0 where
   pub section : IsSectionOf (setting c) 2 (migrated c).entries
-  pub accepted : (jobs : List JobView) → AreOwnJobs (migrated c) jobs → Accepts (setting c) (modules (migrated c)) jobs
+  pub accepted : (jobs : List JobView) → AreJobsOfCertificate (migrated c) jobs →
+      Accepts (setting c) (modules (migrated c)) jobs
 
 -- what version 1 accepts, its migration accepts
 abbrev pub MigrationIsAccepted : Type 0
 MigrationIsAccepted = (c : CertView) (jobs : List JobView) → c.version ≡ 1 → IsSectionOf (setting c) 1 c.entries →
-    AreOwnJobs c jobs → Accepts (setting c) (modules c) jobs → IsAcceptedMigration c
+    AreJobsOfCertificate c jobs → Accepts (setting c) (modules c) jobs → IsAcceptedMigration c

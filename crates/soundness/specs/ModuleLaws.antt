@@ -1,6 +1,6 @@
 -- A module has one job, and the modules of a certificate have one verdict
 use Rattle.std.specs.Prelude.{◌≡◌, List, None}
-use Rattle.circuit.specs.Bridge.{AreGood, circuit_of, netlist_of}
+use Rattle.circuit.specs.Bridge.{AreGoodCircuitLines, circuit_of, netlist_of}
 use Rattle.circuit.specs.Meaning.{AreOrdered, Circuit}
 use Rattle.circuit.specs.declared.circuit_line.CircuitLine.{CircuitLine}
 use Rattle.pattern.specs.Layout.{Pattern}
@@ -33,7 +33,7 @@ pub record HasVerdict (lines : List CircuitLine) (p : Pattern) (ms : List Module
   pub judged : IsVerdict (setting_of lines p) ms jobs verdict
 
 -- the modules of a certificate have a verdict, if circuit, layout and modules are as the grammars ask
-abbrev pub ModulesHaveVerdict : Type 0
-ModulesHaveVerdict = (lines : List CircuitLine) (p : Pattern) (ms : List ModuleLines) → AreGood lines →
+abbrev pub VerdictExists : Type 0
+VerdictExists = (lines : List CircuitLine) (p : Pattern) (ms : List ModuleLines) → AreGoodCircuitLines lines →
     size_fault p.size ≡ None →
     AreModules (setting_of lines p) ms → HasVerdict lines p ms

@@ -19,12 +19,12 @@ use Rattle.certificate_lines.specs.Rules.{whole}
 use Rattle.certificate_lines.specs.Settings.{setting_of}
 use Rattle.module_job.specs.Jobs.{JobView}
 use Rattle.certificate_lines.specs.declared.certificate_line.StopLine.{StopLine}
-use Rattle.certificate.specs.Arrivals.{AreOnTime, IsDelay, TakesSteps, IsDelayGapTrue, IsMeetingTimeTrue}
+use Rattle.certificate.specs.Arrivals.{AreOnTime, IsDelayBetweenWires, TakesSteps, IsDelayGapTrue, IsMeetingTimeTrue}
 use Rattle.certificate.specs.declared.times.StopGap.{StopGap}
 use Rattle.certificate.specs.declared.times.StopGap.TheVariants.{Steps}
 use Rattle.local_run.specs.declared.fault.Fault.{Fault}
 use Rattle.local_run.specs.declared.fault.Kind.TheVariants.{Edge, Stop}
-use Rattle.soundness.specs.FirstFaults.{HasAssignment, IsReal}
+use Rattle.soundness.specs.FirstFaults.{GivesModuleAssignment, IsReal}
 use Rattle.soundness.specs.HeadlineLaws.{BelongTogether, HasInputNames, IsInputName}
 use Rattle.meaning.specs.Implements.{IsCorrect, IsNamed, run_under}
 use Rattle.soundness.specs.OnTime.{IsOnTime, StopHolds}
@@ -93,7 +93,7 @@ PlainNoMeansWrong = (lines : List CircuitLine) (p : Pattern) (m : ModuleLines) (
 -- stop is wrong. If it is an end line, the layout does not compute the circuit (`IsReal`).
 pub record Shows (lines : List CircuitLine) (p : Pattern) (m : ModuleLines) (f : Fault) : Type 0 where
   pub inputs : Valuation
-  pub under : HasAssignment (circuit_of lines) m inputs f.assignment
+  pub under : GivesModuleAssignment (circuit_of lines) m inputs f.assignment
   pub values : Valuation
   pub satisfied : Satisfies (netlist_of lines) inputs values
   pub real : IsReal lines p m inputs values f
@@ -104,7 +104,7 @@ pub record Shows (lines : List CircuitLine) (p : Pattern) (m : ModuleLines) (f :
 -- layout does not compute it.
 pub record LacksValues (lines : List CircuitLine) (p : Pattern) (m : ModuleLines) (assignment : ℕ) : Type 0 where
   pub inputs : Valuation
-  pub under : HasAssignment (circuit_of lines) m inputs assignment
+  pub under : GivesModuleAssignment (circuit_of lines) m inputs assignment
   pub lacks : (v : Valuation) → ¬ Satisfies (netlist_of lines) inputs v
   pub incorrect : ¬ IsCorrect lines p
 
@@ -115,7 +115,7 @@ pub record DelayLineMeans (lines : List CircuitLine) (ss : List StopLine) (numbe
     (gap : StopGap) : Type 0 where
   pub used : ℕ
   pub made : ℕ
-  pub is_delay : IsDelay (circuit_of lines) number wanted used made
+  pub is_delay : IsDelayBetweenWires (circuit_of lines) number wanted used made
   pub takes : IsDelayGapTrue (circuit_of lines) ss gap used made
   pub wrong : gap ≢ Steps wanted → ¬ TakesSteps (circuit_of lines) ss wanted used made
   pub late : gap ≢ Steps wanted → ¬ AreOnTime (circuit_of lines) ss

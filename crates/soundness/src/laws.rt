@@ -2,7 +2,7 @@
 ghost use Rattle.soundness.specs.HeadlineLaws.{AcceptedHasValuation, AcceptedIsCorrect, AcceptedIsOnTime, PlaneEndsAsAsked, Example, InputsDecideTheRun, AcceptedHasNoUndefinedGate, ReadLayoutHasInputNames, ReadLayoutHasPortNames, PlaneStartsAsJobs, PlaneStepsAsJobs, WrongExample};
 ghost use Rattle.soundness.specs.FirstFaults.{EarliestLineIsFirstFault, EarliestLineIsReal, EndFaultMeansIncorrect, FirstFaultIsReal, StepsWithGoodBorders};
 ghost use Rattle.soundness.specs.PlainCertificates.{AcceptedKeepsOffRim, PlainCertificateDecides, PlainLinesHaveMeaning, PlainNoMeansWrong, UntimedIsOnTime};
-ghost use Rattle.soundness.specs.ModuleLaws.{ModuleHasOneJob, ModuleHasSomeJob, ModulesHaveVerdict};
+ghost use Rattle.soundness.specs.ModuleLaws.{ModuleHasOneJob, ModuleHasSomeJob, VerdictExists};
 ghost use Rattle.soundness.specs.MigrationLaws.{AcceptedWithoutHalos, MigrationIsAccepted};
 
 /// States that the plane at the start is every job's own run in its box, and dead outside the rectangle.
@@ -107,6 +107,6 @@ pub fn module_has_one_job()
 {}
 
 /// States that the modules of a certificate have a verdict, if circuit, layout and modules are as the grammars ask.
-pub fn modules_have_verdict()
-    ensures { ModulesHaveVerdict }
+pub fn verdict_exists()
+    ensures { VerdictExists }
 {}

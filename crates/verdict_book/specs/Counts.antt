@@ -1,6 +1,6 @@
 -- The counts of a share
 use Rattle.std.specs.Prelude.{ℕ, ◌+◌}
-use Rattle.core_book.specs.Book.{count_after}
+use Rattle.core_book.specs.Book.{accepted_count_after}
 use Rattle.core_book.specs.declared.reply.Reply.{Reply}
 
 -- the replies, and those of them that were `Accepted`
@@ -14,4 +14,4 @@ no_counts = record { filed = 0; accepted = 0 }
 
 -- after one reply more
 abbrev pub counted : Counts → Reply → Counts
-counted c r = record { filed = c.filed + 1; accepted = count_after c.accepted r }
+counted c r = record { filed = c.filed + 1; accepted = accepted_count_after c.accepted r }

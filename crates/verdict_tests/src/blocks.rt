@@ -34,12 +34,12 @@ fn lanes(word: u64) -> [u64; 17] {
 }
 
 // whether the first of these are the word's lanes, so many of them
-fn are_lanes(found: &[u64; 17], word: u64, count: usize) -> bool {
+fn are_rotations_of_word(found: &[u64; 17], word: u64, count: usize) -> bool {
     lanes(word).iter().take(count).eq(found.iter().take(count))
 }
 
 // whether so many lanes of each bit are turned
-fn are_turned(count: usize) -> bool
+fn are_rotated_blocks_turned(count: usize) -> bool
     requires { count ≤ 17 }
 {
     let [mut a, mut b, mut c, mut d] = BLOCKS.map(lanes);
@@ -50,16 +50,16 @@ fn are_turned(count: usize) -> bool
         &mut d[..count],
     );
     let [one, two, three, four] = TURNED_BLOCKS;
-    are_lanes(&a, one, count)
-        & are_lanes(&b, two, count)
-        & are_lanes(&c, three, count)
-        & are_lanes(&d, four, count)
+    are_rotations_of_word(&a, one, count)
+        & are_rotations_of_word(&b, two, count)
+        & are_rotations_of_word(&c, three, count)
+        & are_rotations_of_word(&d, four, count)
 }
 
 // as many lanes as fill no vector, and up to four vectors and one more
 #[test]
-fn turns_lanes(rt: HostRuntime) {
+fn turn_lanes_at_each_length(rt: HostRuntime) {
     for count in 0..18usize {
-        assert!(rt; are_turned(count), "{count}");
+        assert!(rt; are_rotated_blocks_turned(count), "{count}");
     }
 }

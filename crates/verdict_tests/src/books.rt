@@ -58,7 +58,7 @@ fn last_entry(book: &BookState) -> Option<LogEntry> {
 
 /// The owner of a digest or a job.
 #[derive(Clone, Copy)]
-enum Of {
+enum OwnerOf {
     /// The book's certificate.
     Own,
     /// The certificate whose first module has other lines.
@@ -67,94 +67,136 @@ enum Of {
 
 /// The work on two certificates.
 #[derive(Drop)]
-struct Works {
+struct TwoWorks {
     own: Work,
     other: Work,
 }
 
-impl Works {
-    fn new(rt: &impl Abort, alloc: Global) -> Works {
-        Works {
+impl TwoWorks {
+    fn new(rt: &impl Abort, alloc: Global) -> TwoWorks {
+        TwoWorks {
             own: work_of(alloc, GOOD).expect(rt, "work"),
             other: work_of(alloc, ALONE).expect(rt, "work"),
         }
     }
 
-    fn of(&self, of: Of) -> &Work {
+    fn of(&self, of: OwnerOf) -> &Work {
         match of {
-            Of::Own => &self.own,
-            Of::Other => &self.other,
+            OwnerOf::Own => &self.own,
+            OwnerOf::Other => &self.other,
         }
     }
 }
 
 /// Digest and number of a finding, the place of its job, whether that is the book's job of the number, the reply, and
 /// how many are held then.
-type Turn = ((Of, usize), (Of, usize), bool, Reply, usize);
+type Turn = ((OwnerOf, usize), (OwnerOf, usize), bool, Reply, usize);
 
 const TURNS: [Turn; 15] = [
-    ((Of::Own, 2), (Of::Own, 2), true, Reply::Accepted, 1),
-    ((Of::Own, 2), (Of::Own, 2), true, Reply::Double(2), 1),
     (
-        (Of::Other, 1),
-        (Of::Own, 1),
+        (OwnerOf::Own, 2),
+        (OwnerOf::Own, 2),
+        true,
+        Reply::Accepted,
+        1,
+    ),
+    (
+        (OwnerOf::Own, 2),
+        (OwnerOf::Own, 2),
+        true,
+        Reply::Double(2),
+        1,
+    ),
+    (
+        (OwnerOf::Other, 1),
+        (OwnerOf::Own, 1),
         true,
         Reply::Stranger(Mismatch::Digest),
         1,
     ),
     (
-        (Of::Own, 9),
-        (Of::Own, 1),
+        (OwnerOf::Own, 9),
+        (OwnerOf::Own, 1),
         false,
         Reply::Stranger(Mismatch::Number),
         1,
     ),
     (
-        (Of::Own, 4),
-        (Of::Own, 1),
+        (OwnerOf::Own, 4),
+        (OwnerOf::Own, 1),
         false,
         Reply::Stranger(Mismatch::Number),
         1,
     ),
     (
-        (Of::Own, 3),
-        (Of::Own, 1),
+        (OwnerOf::Own, 3),
+        (OwnerOf::Own, 1),
         false,
         Reply::Stranger(Mismatch::Content),
         1,
     ),
     // the first that applies
     (
-        (Of::Other, 9),
-        (Of::Own, 2),
+        (OwnerOf::Other, 9),
+        (OwnerOf::Own, 2),
         false,
         Reply::Stranger(Mismatch::Digest),
         1,
     ),
     (
-        (Of::Own, 2),
-        (Of::Own, 0),
+        (OwnerOf::Own, 2),
+        (OwnerOf::Own, 0),
         false,
         Reply::Stranger(Mismatch::Content),
         1,
     ),
-    ((Of::Own, 3), (Of::Own, 3), true, Reply::Accepted, 2),
+    (
+        (OwnerOf::Own, 3),
+        (OwnerOf::Own, 3),
+        true,
+        Reply::Accepted,
+        2,
+    ),
     // another certificate's job
     (
-        (Of::Own, 0),
-        (Of::Other, 0),
+        (OwnerOf::Own, 0),
+        (OwnerOf::Other, 0),
         false,
         Reply::Stranger(Mismatch::Content),
         2,
     ),
-    ((Of::Own, 0), (Of::Own, 0), true, Reply::Accepted, 3),
-    // the second module has the same job in both
-    ((Of::Own, 1), (Of::Other, 1), true, Reply::Accepted, 4),
-    ((Of::Own, 1), (Of::Own, 1), true, Reply::Double(1), 4),
-    ((Of::Own, 0), (Of::Own, 0), true, Reply::Double(0), 4),
     (
-        (Of::Other, 0),
-        (Of::Other, 0),
+        (OwnerOf::Own, 0),
+        (OwnerOf::Own, 0),
+        true,
+        Reply::Accepted,
+        3,
+    ),
+    // the second module has the same job in both
+    (
+        (OwnerOf::Own, 1),
+        (OwnerOf::Other, 1),
+        true,
+        Reply::Accepted,
+        4,
+    ),
+    (
+        (OwnerOf::Own, 1),
+        (OwnerOf::Own, 1),
+        true,
+        Reply::Double(1),
+        4,
+    ),
+    (
+        (OwnerOf::Own, 0),
+        (OwnerOf::Own, 0),
+        true,
+        Reply::Double(0),
+        4,
+    ),
+    (
+        (OwnerOf::Other, 0),
+        (OwnerOf::Other, 0),
         false,
         Reply::Stranger(Mismatch::Digest),
         4,
@@ -162,13 +204,19 @@ const TURNS: [Turn; 15] = [
 ];
 
 /// Returns whether the last filing has this reply, this entry and this count.
-fn is_told(book: &BookState, told: Reply, entry: Filing, held: usize) -> bool {
+fn is_last_filing_as(book: &BookState, told: Reply, entry: Filing, held: usize) -> bool {
     let last = Some(LogEntry::Filed(entry));
     told == entry.reply && last_entry(book) == last && book.accepted() == held
 }
 
 /// Files what a turn says, and sees what it says of it.
-fn play(rt: &impl Abort, alloc: Global, works: &Works, book: &mut BookState, turn: &Turn) -> bool {
+fn file_turn_and_compare(
+    rt: &impl Abort,
+    alloc: Global,
+    works: &TwoWorks,
+    book: &mut BookState,
+    turn: &Turn,
+) -> bool {
     let ((under, number), (jobs, place), same, wanted, held) = *turn;
     let digest = works.of(under).digest;
     let finding = finding(rt, alloc, digest, number, &works.of(jobs).jobs, place);
@@ -179,11 +227,11 @@ fn play(rt: &impl Abort, alloc: Global, works: &Works, book: &mut BookState, tur
         same,
         reply: wanted,
     };
-    is_told(book, told, entry, held)
+    is_last_filing_as(book, told, entry, held)
 }
 
 /// Returns an open book of the four modules, in which nothing is held.
-fn book_of_four(rt: &impl Abort, alloc: Global) -> BookState {
+fn book_of_four_modules(rt: &impl Abort, alloc: Global) -> BookState {
     let Work { digest, jobs } = work_of(alloc, GOOD).expect(rt, "work");
     BookState::new(alloc, digest, jobs).expect(rt, "a book")
 }
@@ -203,23 +251,26 @@ fn close(rt: &impl Abort, book: &mut BookState, entries: usize) {
 }
 
 /// Plays all turns in a new book, and closes it.
-fn played(rt: &impl Abort, alloc: Global, works: &Works) -> BookState {
-    let mut book = book_of_four(rt, alloc);
+fn played(rt: &impl Abort, alloc: Global, works: &TwoWorks) -> BookState {
+    let mut book = book_of_four_modules(rt, alloc);
     for (number, turn) in TURNS.iter().enumerate() {
         assert!(rt; is_at(&book, number, false));
-        assert!(rt; play(rt, alloc, works, &mut book, turn), "turn {number}");
+        assert!(rt;
+            file_turn_and_compare(rt, alloc, works, &mut book, turn),
+            "turn {number}"
+        );
     }
     close(rt, &mut book, TURNS.len());
     book
 }
 
 #[test]
-fn book_with_its_history(rt: HostRuntime) {
-    let works = Works::new(&rt, rt.alloc());
+fn turns_make_replies_and_history(rt: HostRuntime) {
+    let works = TwoWorks::new(&rt, rt.alloc());
     let mut book = played(&rt, rt.alloc(), &works);
     assert!(rt; is_at(&book, 16, true) && last_entry(&book) == Some(LogEntry::Closing));
-    let late = ((Of::Own, 0), (Of::Own, 0), true, Reply::Closed, 4);
-    assert!(rt; play(&rt, rt.alloc(), &works, &mut book, &late));
+    let late = ((OwnerOf::Own, 0), (OwnerOf::Own, 0), true, Reply::Closed, 4);
+    assert!(rt; file_turn_and_compare(&rt, rt.alloc(), &works, &mut book, &late));
     assert!(rt; is_at(&book, 17, true));
 }
 
@@ -232,22 +283,22 @@ fn holds(book: &BookState, number: usize) -> bool {
 }
 
 #[test]
-fn what_a_book_holds(rt: HostRuntime) {
-    let works = Works::new(&rt, rt.alloc());
-    let mut book = book_of_four(&rt, rt.alloc());
+fn book_holds_filed_finding_only(rt: HostRuntime) {
+    let works = TwoWorks::new(&rt, rt.alloc());
+    let mut book = book_of_four_modules(&rt, rt.alloc());
     assert!(rt; book.digest() == works.own.digest && book.jobs().len() == 4);
     assert!(rt; book.found(2).is_none() && book.found(4).is_none());
-    assert!(rt; play(&rt, rt.alloc(), &works, &mut book, &TURNS[0]));
+    assert!(rt; file_turn_and_compare(&rt, rt.alloc(), &works, &mut book, &TURNS[0]));
     assert!(rt; holds(&book, 2) && book.found(1).is_none());
 }
 
 #[test]
 fn a_book_without_jobs_holds_nothing(rt: HostRuntime) {
-    let works = Works::new(&rt, rt.alloc());
+    let works = TwoWorks::new(&rt, rt.alloc());
     let none = Vec::new(rt.alloc());
     let mut book = BookState::new(rt.alloc(), works.own.digest, none).expect(&rt, "a book");
     let wanted = Reply::Stranger(Mismatch::Number);
-    let turn = ((Of::Own, 0), (Of::Own, 0), false, wanted, 0);
-    assert!(rt; play(&rt, rt.alloc(), &works, &mut book, &turn));
+    let turn = ((OwnerOf::Own, 0), (OwnerOf::Own, 0), false, wanted, 0);
+    assert!(rt; file_turn_and_compare(&rt, rt.alloc(), &works, &mut book, &turn));
     assert!(rt; book.found(0).is_none());
 }

@@ -4,7 +4,7 @@ use bbm_rule::Cell;
 use module_box::Box2;
 
 // `#` for a cell of the ring, `.` for another cell of the box, `o` for a cell of the halo, and a space for any other
-fn sign(area: Box2, cell: Cell) -> u8 {
+fn ring_halo_sign_of_cell(area: Box2, cell: Cell) -> u8 {
     if area.in_ring(cell) {
         b'#'
     } else if area.in_halo(cell) {
@@ -74,7 +74,10 @@ fn ring_and_halo_of_a_box(rt: HostRuntime) {
                     x: x as i32 - 3,
                     y: y as i32 - 3,
                 };
-                assert!(rt; sign(area, cell) == picture[y][x], "{cell:?}");
+                assert!(rt;
+                    ring_halo_sign_of_cell(area, cell) == picture[y][x],
+                    "{cell:?}"
+                );
             }
         }
     }

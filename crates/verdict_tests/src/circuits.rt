@@ -29,7 +29,7 @@ end
 ";
 
 /// Returns whether these are the wires of gate 3, which is the switch.
-fn is_the_switch(circuit: &Circuit) -> bool {
+fn is_gate_3_the_switch(circuit: &Circuit) -> bool {
     if circuit.gates() <= 3 {
         return false;
     }
@@ -38,7 +38,7 @@ fn is_the_switch(circuit: &Circuit) -> bool {
         && gate.outs() == [WireNo::of(5), WireNo::of(6), WireNo::of(7)].as_slice()
 }
 
-fn are_words(names: &[Name], words: &[&str]) -> bool {
+fn are_names_equal_to(names: &[Name], words: &[&str]) -> bool {
     for (name, word) in names.iter().zip(words) {
         if name.bytes() != word.as_bytes() {
             return false;
@@ -47,21 +47,22 @@ fn are_words(names: &[Name], words: &[&str]) -> bool {
     names.len() == words.len()
 }
 
-fn are_ports(ports: &PortNames) -> bool {
+fn are_port_names_of_kinds(ports: &PortNames) -> bool {
     match ports {
         PortNames::Only { ins, outs } => {
-            are_words(ins, &["end", "p"]) && are_words(outs, &["j", "y", "k", "l", "m"])
+            are_names_equal_to(ins, &["end", "p"])
+                && are_names_equal_to(outs, &["j", "y", "k", "l", "m"])
         }
         PortNames::Any => false,
     }
 }
 
 #[test]
-fn circuit_of_all_kinds(rt: HostRuntime) {
+fn all_gate_kinds_are_reprinted(rt: HostRuntime) {
     let circuit = circuit_of(rt.alloc(), KINDS).expect(&rt, "a circuit");
     let printed = print_circuit(rt.alloc(), &circuit).expect(&rt, "a text");
-    assert!(rt; printed.as_slice() == KINDS.as_bytes() && is_the_switch(&circuit));
-    assert!(rt; are_ports(&port_names(rt.alloc(), &circuit).expect(&rt, "names")));
+    assert!(rt; printed.as_slice() == KINDS.as_bytes() && is_gate_3_the_switch(&circuit));
+    assert!(rt; are_port_names_of_kinds(&port_names(rt.alloc(), &circuit).expect(&rt, "names")));
 }
 
 fn name(rt: &impl Abort, word: &[u8]) -> Name {
@@ -79,20 +80,20 @@ fn lines(rt: &impl Abort, alloc: Global) -> Draft {
 }
 
 /// Returns whether a draft is finished with a wire that is spilled.
-fn is_finished_by_spilling(mut draft: Draft, wire: Name) -> bool {
+fn is_finished_after_spill(mut draft: Draft, wire: Name) -> bool {
     draft.add_spill(wire).is_ok() && draft.finish().is_ok()
 }
 
 #[test]
-fn first_unused_wire(rt: HostRuntime) {
+fn unused_wire_is_named(rt: HostRuntime) {
     let unused = lines(&rt, rt.alloc()).finish().err();
     let Unused { draft, wire } = unused.expect(&rt, "an unused wire");
-    assert!(rt; wire.bytes() == b"q".as_slice() && is_finished_by_spilling(draft, wire));
+    assert!(rt; wire.bytes() == b"q".as_slice() && is_finished_after_spill(draft, wire));
 }
 
 /// A line that is added to a draft, with its names: those that it consumes, and those that it defines.
 #[derive(Clone, Copy)]
-enum Added {
+enum AddedLine {
     Input(&'static str),
     Source(&'static str),
     Interact(
@@ -107,45 +108,45 @@ enum Added {
 const ADDED_TEXT: &str =
     "circuit\ninput p\ninput q\nsource 1 -> s\ninteract p q -> a b c d\ninteract a s -> e f g h\noutput b\noutput c\noutput d\noutput e\nspill f\nspill g\nspill h\nend\n";
 
-const ADDED: [Added; 12] = [
-    Added::Input("p"),
-    Added::Input("q"),
-    Added::Source("s"),
-    Added::Interact(("p", "q"), ("a", "b", "c", "d")),
-    Added::Interact(("a", "s"), ("e", "f", "g", "h")),
-    Added::Output("b"),
-    Added::Output("c"),
-    Added::Output("d"),
-    Added::Output("e"),
-    Added::Spill("f"),
-    Added::Spill("g"),
-    Added::Spill("h"),
+const ADDED: [AddedLine; 12] = [
+    AddedLine::Input("p"),
+    AddedLine::Input("q"),
+    AddedLine::Source("s"),
+    AddedLine::Interact(("p", "q"), ("a", "b", "c", "d")),
+    AddedLine::Interact(("a", "s"), ("e", "f", "g", "h")),
+    AddedLine::Output("b"),
+    AddedLine::Output("c"),
+    AddedLine::Output("d"),
+    AddedLine::Output("e"),
+    AddedLine::Spill("f"),
+    AddedLine::Spill("g"),
+    AddedLine::Spill("h"),
 ];
 
 /// Adds a line once.
-fn add_once(rt: &impl Abort, draft: &mut Draft, line: Added) -> Result<(), LineFault> {
+fn add_line_once(rt: &impl Abort, draft: &mut Draft, line: AddedLine) -> Result<(), LineFault> {
     match line {
-        Added::Input(word) => {
+        AddedLine::Input(word) => {
             assert!(rt; draft.takes_inputs());
             draft.add_input(name(rt, word.as_bytes()))
         }
-        Added::Source(word) => draft.add_source(true, name(rt, word.as_bytes())),
-        Added::Interact((p, q), (a, b, c, d)) => {
+        AddedLine::Source(word) => draft.add_source(true, name(rt, word.as_bytes())),
+        AddedLine::Interact((p, q), (a, b, c, d)) => {
             let ins = [p, q].map(|word| name(rt, word.as_bytes()));
             let outs = [a, b, c, d].map(|word| name(rt, word.as_bytes()));
             draft.add_gate(GateKind::Interact, &ins, &outs)
         }
-        Added::Output(word) => draft.add_output(name(rt, word.as_bytes())),
-        Added::Spill(word) => draft.add_spill(name(rt, word.as_bytes())),
+        AddedLine::Output(word) => draft.add_output(name(rt, word.as_bytes())),
+        AddedLine::Spill(word) => draft.add_spill(name(rt, word.as_bytes())),
     }
 }
 
 /// Adds a line: at the second time, if no memory was found at the first.
-fn add(rt: &impl Abort, draft: &mut Draft, line: Added) {
-    if let Err(fault) = add_once(rt, draft, line) {
+fn add(rt: &impl Abort, draft: &mut Draft, line: AddedLine) {
+    if let Err(fault) = add_line_once(rt, draft, line) {
         assert!(rt; fault == LineFault::Memory, "refused");
         assert!(rt;
-            add_once(rt, draft, line).is_ok(),
+            add_line_once(rt, draft, line).is_ok(),
             "not added at the second try"
         );
     }
@@ -154,7 +155,7 @@ fn add(rt: &impl Abort, draft: &mut Draft, line: Added) {
 /// Returns whether the draft is the circuit of `ADDED_TEXT`.
 ///
 /// It is printed a second time, if no memory was found for the first.
-fn is_what_was_added(rt: &impl Abort, alloc: Global, draft: Draft) -> bool {
+fn is_circuit_of_added_text(rt: &impl Abort, alloc: Global, draft: Draft) -> bool {
     let Ok(circuit) = draft.finish() else {
         return false;
     };
@@ -172,5 +173,5 @@ fn lines_added_at_the_second_try(rt: HostRuntime) {
     for line in ADDED {
         add(&rt, &mut draft, line);
     }
-    assert!(rt; is_what_was_added(&rt, rt.alloc(), draft));
+    assert!(rt; is_circuit_of_added_text(&rt, rt.alloc(), draft));
 }

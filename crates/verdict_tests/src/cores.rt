@@ -4,14 +4,14 @@
 //! N`), and the sequence must still end as it should.
 
 use crate::books::finding;
-use crate::verdicts::is_missing;
+use crate::verdicts::is_first_missing;
 use core_book::*;
 use std::alloc::Global;
 use std::process::Abort;
 use test_support::{GOOD, Work, work_of};
 
 /// Returns the core's answer to an event of one of its seats.
-fn happen(rt: &impl Abort, core: &mut Core, event: Event) -> Result<Answer, NotApplied> {
+fn apply_event(rt: &impl Abort, core: &mut Core, event: Event) -> Result<Answer, NotApplied> {
     match event {
         Event::Claim(seat) => {
             assert!(rt; seat < core.seats(), "no such seat");
@@ -25,7 +25,7 @@ fn happen(rt: &impl Abort, core: &mut Core, event: Event) -> Result<Answer, NotA
 /// Returns the core's answer to an event: the second one, if no memory was found at the first.
 fn answer(rt: &impl Abort, core: &mut Core, event: Event) -> Answer {
     let before = (core.next(), core.book().history().len());
-    let event = match happen(rt, core, event) {
+    let event = match apply_event(rt, core, event) {
         Ok(answer) => return answer,
         Err(NotApplied { event }) => event,
     };
@@ -33,7 +33,7 @@ fn answer(rt: &impl Abort, core: &mut Core, event: Event) -> Answer {
         (core.next(), core.book().history().len()) == before,
         "changed"
     );
-    match happen(rt, core, event) {
+    match apply_event(rt, core, event) {
         Ok(answer) => answer,
         Err(NotApplied { event: _ }) => panic!(rt; "no memory at the second try"),
     }
@@ -48,7 +48,7 @@ enum Step {
     Lose(usize),
 }
 
-fn event_of(rt: &impl Abort, alloc: Global, work: &Work, step: Step) -> Event {
+fn event_of_step(rt: &impl Abort, alloc: Global, work: &Work, step: Step) -> Event {
     match step {
         Step::Claim(seat) => Event::Claim(seat),
         Step::File(number) => {
@@ -83,7 +83,7 @@ fn new_core(rt: &impl Abort, alloc: Global, work: Work) -> Core {
 fn played(rt: &impl Abort, alloc: Global, work: &Work) -> Core {
     let mut core = new_core(rt, alloc, work_of(alloc, GOOD).expect(rt, "work"));
     for (number, (step, wanted)) in STEPS.iter().enumerate() {
-        let event = event_of(rt, alloc, work, *step);
+        let event = event_of_step(rt, alloc, work, *step);
         assert!(rt; answer(rt, &mut core, event) == *wanted, "step {number}");
     }
     core
@@ -100,7 +100,7 @@ fn filed(digest: [u8; 32], number: usize, reply: Reply) -> LogEntry {
 }
 
 /// Returns whether the history has the three filings alone.
-fn are_filings(history: &[LogEntry], digest: [u8; 32]) -> bool {
+fn are_the_three_filings(history: &[LogEntry], digest: [u8; 32]) -> bool {
     let filings = [
         filed(digest, 1, Reply::Accepted),
         filed(digest, 1, Reply::Double(1)),
@@ -110,13 +110,13 @@ fn are_filings(history: &[LogEntry], digest: [u8; 32]) -> bool {
 }
 
 #[test]
-fn core_of_two_seats(rt: HostRuntime) {
+fn steps_of_core_with_two_seats(rt: HostRuntime) {
     let work = work_of(rt.alloc(), GOOD).expect(&rt, "work");
     let core = played(&rt, rt.alloc(), &work);
     assert!(rt; core.next() == 6 && core.seats() == 2);
     assert!(rt; core.draws(0) == [0, 2, 3, 4].as_slice());
     assert!(rt; core.draws(1) == [1, 5].as_slice());
     let book = core.book();
-    assert!(rt; are_filings(book.history(), work.digest) && book.accepted() == 2);
-    assert!(rt; is_missing(&rt, rt.alloc(), book, 2));
+    assert!(rt; are_the_three_filings(book.history(), work.digest) && book.accepted() == 2);
+    assert!(rt; is_first_missing(&rt, rt.alloc(), book, 2));
 }

@@ -31,7 +31,7 @@ fn order(place: usize, other: usize) -> Option<Ordering> {
 }
 
 #[test]
-fn faults_are_in_order(rt: HostRuntime) {
+fn compare_orders_faults(rt: HostRuntime) {
     for place in 0..6usize {
         for other in 0..6usize {
             let wanted = Some(place.cmp(&other));

@@ -3,7 +3,7 @@
 //! A call that finds no memory is made once more. So each growth can be refused in turn (`rt try --test --fail-alloc
 //! N`), and the books must still be full in the end.
 
-use crate::verdicts::{book_of, is_yes};
+use crate::verdicts::{book_with_filed_numbers, is_yes};
 use core_book::*;
 use std::alloc::Global;
 use std::process::Abort;
@@ -12,7 +12,13 @@ use test_support::{ALONE, GOOD, Work, work_of};
 /// Fills a book up: by the second call, if no memory was found at the first.
 ///
 /// A book that is not replaced, and has `entries` entries, then loses none.
-fn fill_up(rt: &impl Abort, alloc: Global, book: &mut BookState, work: &Work, entries: usize) {
+fn fill_at_second_try(
+    rt: &impl Abort,
+    alloc: Global,
+    book: &mut BookState,
+    work: &Work,
+    entries: usize,
+) {
     if fill(alloc, book, work.digest, &work.jobs).is_ok() {
         return;
     }
@@ -35,7 +41,7 @@ fn accepted(digest: [u8; 32], number: usize) -> LogEntry {
 
 /// Returns whether findings of these numbers were accepted in this order, in a book that is open, and nothing else was
 /// filed.
-fn was_filled(book: &BookState, digest: [u8; 32], numbers: &[usize]) -> bool {
+fn were_accepted_in_order(book: &BookState, digest: [u8; 32], numbers: &[usize]) -> bool {
     if book.is_closed()
         || book.accepted() != numbers.len()
         || book.history().len() != numbers.len()
@@ -51,38 +57,41 @@ fn was_filled(book: &BookState, digest: [u8; 32], numbers: &[usize]) -> bool {
 }
 
 /// Returns the work on the four modules.
-fn work_of_four(rt: &impl Abort, alloc: Global) -> Work {
+fn work_of_four_modules(rt: &impl Abort, alloc: Global) -> Work {
     work_of(alloc, GOOD).expect(rt, "work")
 }
 
 #[test]
 fn fills_up_what_is_left(rt: HostRuntime) {
-    let work = work_of_four(&rt, rt.alloc());
-    let mut book = book_of(&rt, rt.alloc(), work.digest, GOOD, &[1, 3]);
-    fill_up(&rt, rt.alloc(), &mut book, &work, 2);
-    assert!(rt; was_filled(&book, work.digest, &[1, 3, 0, 2]));
+    let work = work_of_four_modules(&rt, rt.alloc());
+    let mut book = book_with_filed_numbers(&rt, rt.alloc(), work.digest, GOOD, &[1, 3]);
+    fill_at_second_try(&rt, rt.alloc(), &mut book, &work, 2);
+    assert!(rt; were_accepted_in_order(&book, work.digest, &[1, 3, 0, 2]));
     assert!(rt; is_yes(&rt, rt.alloc(), GOOD, &book));
-    fill_up(&rt, rt.alloc(), &mut book, &work, 4);
-    assert!(rt; was_filled(&book, work.digest, &[1, 3, 0, 2]));
+    fill_at_second_try(&rt, rt.alloc(), &mut book, &work, 4);
+    assert!(rt; were_accepted_in_order(&book, work.digest, &[1, 3, 0, 2]));
 }
 
 #[test]
 fn fills_up_in_place_of_a_closed_book(rt: HostRuntime) {
-    let work = work_of_four(&rt, rt.alloc());
-    let mut book = book_of(&rt, rt.alloc(), work.digest, GOOD, &[1, 3]);
+    let work = work_of_four_modules(&rt, rt.alloc());
+    let mut book = book_with_filed_numbers(&rt, rt.alloc(), work.digest, GOOD, &[1, 3]);
     assert!(rt; book.close().is_ok(), "no memory");
-    fill_up(&rt, rt.alloc(), &mut book, &work, 0);
-    assert!(rt; was_filled(&book, work.digest, &[0, 1, 2, 3]));
+    fill_at_second_try(&rt, rt.alloc(), &mut book, &work, 0);
+    assert!(rt; were_accepted_in_order(&book, work.digest, &[0, 1, 2, 3]));
 }
 
 /// Fills a book up in place of another one, which has another digest, or another job 0 under the same digest.
 #[test]
 fn fills_up_in_place_of_another_book(rt: HostRuntime) {
-    let work = work_of_four(&rt, rt.alloc());
+    let work = work_of_four_modules(&rt, rt.alloc());
     for (digest, text) in [([7; 32], GOOD), (work.digest, ALONE)] {
-        let mut book = book_of(&rt, rt.alloc(), digest, text, &[1, 3]);
-        fill_up(&rt, rt.alloc(), &mut book, &work, 0);
-        assert!(rt; was_filled(&book, work.digest, &[0, 1, 2, 3]), "{text}");
+        let mut book = book_with_filed_numbers(&rt, rt.alloc(), digest, text, &[1, 3]);
+        fill_at_second_try(&rt, rt.alloc(), &mut book, &work, 0);
+        assert!(rt;
+            were_accepted_in_order(&book, work.digest, &[0, 1, 2, 3]),
+            "{text}"
+        );
     }
 }
 
@@ -93,8 +102,8 @@ const TWINS: &str =
 #[test]
 fn fills_up_modules_of_one_shape(rt: HostRuntime) {
     let work = work_of(rt.alloc(), TWINS).expect(&rt, "work");
-    let mut book = book_of(&rt, rt.alloc(), work.digest, TWINS, &[]);
-    fill_up(&rt, rt.alloc(), &mut book, &work, 0);
-    assert!(rt; was_filled(&book, work.digest, &[0, 1]));
+    let mut book = book_with_filed_numbers(&rt, rt.alloc(), work.digest, TWINS, &[]);
+    fill_at_second_try(&rt, rt.alloc(), &mut book, &work, 0);
+    assert!(rt; were_accepted_in_order(&book, work.digest, &[0, 1]));
     assert!(rt; is_yes(&rt, rt.alloc(), TWINS, &book));
 }

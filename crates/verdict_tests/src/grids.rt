@@ -31,7 +31,7 @@ fn shows(grid: &Grid, cells: &[(i32, i32)]) -> bool {
 
 // each corner of the grid is alone in its block of an odd step, and no even step moves it out
 #[test]
-fn a_lone_ball_leaves(rt: HostRuntime) {
+fn corner_ball_leaves_grid(rt: HostRuntime) {
     for (x, y) in [(0, 0), (5, 0), (0, 3), (5, 3)] {
         let mut grid = Grid::new(rt.alloc(), 6, 4).expect(&rt, "a grid");
         put(&mut grid, &[(x, y), (3, 1), (3, 2)]);
@@ -54,7 +54,7 @@ fn the_largest_grid_steps(rt: HostRuntime) {
 
 // a grid, and a layout of its size
 #[test]
-fn holds_its_cells_alone(rt: HostRuntime) {
+fn grid_and_layout_hold_own_cells(rt: HostRuntime) {
     let grid = Grid::new(rt.alloc(), 6, 4).expect(&rt, "a grid");
     let size = LayoutHeader {
         w: 6,

@@ -56,7 +56,7 @@ fn is_only_port(job: &Job, port: Cell, start: Signal, demand: Demand) -> bool {
 }
 
 /// Returns whether a cell carries this at a time, as edge and as halo.
-fn has_borders(job: &Job, time: u32, cell: Cell, edge: Signal, halo: Signal) -> bool
+fn carries_edge_and_halo(job: &Job, time: u32, cell: Cell, edge: Signal, halo: Signal) -> bool
     requires { IsInShiftRange cell }
 {
     job.edge(time, cell) == edge && job.halo(time, cell) == halo
@@ -66,15 +66,15 @@ fn has_borders(job: &Job, time: u32, cell: Cell, edge: Signal, halo: Signal) -> 
 fn carries(job: &Job, edges: [Signal; 2], halos: [Signal; 2]) -> bool {
     let first = Cell { x: 3, y: 3 };
     let second = Cell { x: 4, y: 4 };
-    has_borders(job, 1, first, edges[0], halos[0])
-        && has_borders(job, 1, second, edges[1], halos[1])
-        && has_borders(job, 3, first, ZERO, ZERO)
-        && has_borders(job, 3, second, ZERO, ZERO)
+    carries_edge_and_halo(job, 1, first, edges[0], halos[0])
+        && carries_edge_and_halo(job, 1, second, edges[1], halos[1])
+        && carries_edge_and_halo(job, 3, first, ZERO, ZERO)
+        && carries_edge_and_halo(job, 3, second, ZERO, ZERO)
 }
 
 /// Returns whether a job is of three steps in a box of 4 by 4 cells, with six wires of which two are cut, and has the
 /// rest.
-fn is_quarter(job: &Job, wanted: &Quarter) -> bool {
+fn is_job_of_quarter(job: &Job, wanted: &Quarter) -> bool {
     let ((x, y), (column, row), start, demand, edges, halos) = *wanted;
     let port = Cell { x: column, y: row };
     job.area() == Box2 { x, y, w: 4, h: 4 }
@@ -86,7 +86,7 @@ fn is_quarter(job: &Job, wanted: &Quarter) -> bool {
 }
 
 /// Returns whether jobs at the same place are equal, and no others.
-fn are_compared(jobs: &[Arc<Job>], again: &[Arc<Job>]) -> bool {
+fn are_equal_at_same_place_only(jobs: &[Arc<Job>], again: &[Arc<Job>]) -> bool {
     for (number, job) in jobs.iter().enumerate() {
         for (other, second) in again.iter().enumerate() {
             if (**job == **second) != (number == other) {
@@ -102,10 +102,10 @@ fn jobs_of_four_modules(rt: HostRuntime) {
     let jobs = work_of(rt.alloc(), GOOD).expect(&rt, "work").jobs;
     assert!(rt; jobs.len() == 4);
     for (number, (job, wanted)) in jobs.iter().zip(&MODULES).enumerate() {
-        assert!(rt; is_quarter(job, wanted), "{number}");
+        assert!(rt; is_job_of_quarter(job, wanted), "{number}");
     }
     let again = work_of(rt.alloc(), GOOD).expect(&rt, "work").jobs;
-    assert!(rt; are_compared(&jobs, &again));
+    assert!(rt; are_equal_at_same_place_only(&jobs, &again));
 }
 
 /// A mirror across the border of two modules, a ball, a waste cell, and a wire that is cut in one of them.
@@ -124,7 +124,7 @@ const MIRROR_CELLS: [(usize, (i32, i32), Signal, Demand, Signal, Signal); 6] = [
 ];
 
 #[test]
-fn mirrors_balls_and_wastes(rt: HostRuntime) {
+fn jobs_with_mirror_ball_waste(rt: HostRuntime) {
     let jobs = work_of(rt.alloc(), MIRROR).expect(&rt, "work").jobs;
     assert!(rt; jobs.len() == 2);
     for (module, (x, y), start, demand, edge, halo) in MIRROR_CELLS {
@@ -132,7 +132,7 @@ fn mirrors_balls_and_wastes(rt: HostRuntime) {
         let cell = Cell { x, y };
         assert!(rt; 0 <= x && x < 8 && 0 <= y && y < 8);
         let is_as_told = is_at(job, cell, start, demand)
-            && has_borders(job, 1, cell, edge, halo)
+            && carries_edge_and_halo(job, 1, cell, edge, halo)
             && job.wiring().cuts() == module;
         assert!(rt; is_as_told, "{cell:?} of {module}");
     }
@@ -143,7 +143,7 @@ const EQUAL: &str =
     "circuit\ninput a\ninput b\noutput a\noutput b\nend\nlayout 8 4 2\nin a 0 0\nin b 4 0\nout a 2 2\nout b 6 2\nend\ncertificate 1\nmodule 0 0 4 4\ncut a\nmodule 4 0 4 4\ncut b\nend\n";
 
 #[test]
-fn jobs_of_one_shape(rt: HostRuntime) {
+fn equal_shapes_are_one_group(rt: HostRuntime) {
     for (text, wanted) in [(EQUAL, [0, 0].as_slice()), (GOOD, [0, 1, 2, 3].as_slice())] {
         let jobs = work_of(rt.alloc(), text).expect(&rt, "work").jobs;
         let groups = job_groups(rt.alloc(), &jobs).expect(&rt, "groups");
@@ -174,7 +174,7 @@ fn groups_of_one_key(
 }
 
 #[test]
-fn one_key_for_all(rt: HostRuntime) {
+fn equal_keys_keep_shapes_apart(rt: HostRuntime) {
     let jobs = work_of(rt.alloc(), GOOD).expect(&rt, "work").jobs;
     let shapes = shapes(rt.alloc(), &jobs).expect(&rt, "shapes");
     let groups = groups_of_one_key(rt.alloc(), &shapes, [0; 32]).expect(&rt, "groups");

@@ -25,7 +25,7 @@ fn is_reprinted(rt: &impl Abort, alloc: Global, text: &[u8]) -> bool {
 }
 
 /// Returns a text whose balls fill the upper half of a layout.
-fn half_full(alloc: Global) -> Result<Vec<u8>, AllocError> {
+fn text_of_half_full_layout(alloc: Global) -> Result<Vec<u8>, AllocError> {
     let mut text = format!(in alloc; "layout 512 512 0\n")?;
     for place in 0..131_072_u32 {
         text.push_str(&format!(in alloc; "ball {} {}\n", place % 512, place / 512)?)?;
@@ -35,11 +35,11 @@ fn half_full(alloc: Global) -> Result<Vec<u8>, AllocError> {
 }
 
 #[test]
-fn prints_what_was_read(rt: HostRuntime) {
+fn layouts_are_reprinted(rt: HostRuntime) {
     for text in TEXTS {
         assert!(rt; is_reprinted(&rt, rt.alloc(), text.as_bytes()), "{text}");
     }
-    let text = half_full(rt.alloc()).expect(&rt, "a text");
+    let text = text_of_half_full_layout(rt.alloc()).expect(&rt, "a text");
     assert!(rt; is_reprinted(&rt, rt.alloc(), &text));
 }
 
@@ -86,7 +86,7 @@ fn are_cells(cells: &[Cell], wanted: &[(i32, i32)]) -> bool {
 }
 
 #[test]
-fn cells_of_the_start(rt: HostRuntime) {
+fn start_cells_of_layouts(rt: HostRuntime) {
     for (text, words, wanted) in STARTS {
         let layout = layout_of(rt.alloc(), text.as_bytes()).expect(&rt, "a layout");
         let on = names(&rt, rt.alloc(), words);

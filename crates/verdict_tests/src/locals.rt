@@ -122,7 +122,7 @@ fn have(rows: &[u64], words: usize, bits: u32, digits: &str) -> bool
 }
 
 // whether a module's wires have the values of a table, under one assignment at a time and under many at once
-fn has_values(
+fn has_values_of_table(
     alloc: Global,
     wiring: &Wiring,
     words: usize,
@@ -151,19 +151,21 @@ fn only_job(rt: &impl Abort, alloc: Global, text: &str) -> Arc<Job> {
 }
 
 #[test]
-fn values_by_the_tables(rt: HostRuntime) {
+fn wires_have_values_of_table(rt: HostRuntime) {
     let job = only_job(&rt, rt.alloc(), GATES);
     let wiring = job.wiring();
-    assert!(rt; has_values(rt.alloc(), wiring, 16, &TABLE) == Ok(true) && wiring.wires() == 25);
+    assert!(rt;
+        has_values_of_table(rt.alloc(), wiring, 16, &TABLE) == Ok(true) && wiring.wires() == 25
+    );
     for wire in 0..25 {
         assert!(rt; job.wire(wire).number() == wire, "{wire}");
     }
 }
 
 #[test]
-fn modules_without_cuts(rt: HostRuntime) {
+fn values_without_cuts(rt: HostRuntime) {
     let job = only_job(&rt, rt.alloc(), NO_CUTS);
-    assert!(rt; has_values(rt.alloc(), job.wiring(), 1, &NO_CUTS_TABLE) == Ok(true));
+    assert!(rt; has_values_of_table(rt.alloc(), job.wiring(), 1, &NO_CUTS_TABLE) == Ok(true));
     let same = only_job(&rt, rt.alloc(), NO_CUTS);
     let other = only_job(&rt, rt.alloc(), OTHER_DELAY);
     assert!(rt; job.wiring() == same.wiring() && job.wiring() != other.wiring());
@@ -183,10 +185,12 @@ const BACK_TABLE: [(u32, &str); 4] = [
 ];
 
 #[test]
-fn where_a_gate_has_no_row(rt: HostRuntime) {
+fn assignments_without_row(rt: HostRuntime) {
     let job = only_job(&rt, rt.alloc(), BACK);
     let wiring = job.wiring();
-    assert!(rt; has_values(rt.alloc(), wiring, 1, &BACK_TABLE) == Ok(true) && wiring.gates() == 3);
+    assert!(rt;
+        has_values_of_table(rt.alloc(), wiring, 1, &BACK_TABLE) == Ok(true) && wiring.gates() == 3
+    );
     for (bits, place) in [
         (2, 0),
         (5, 0),
@@ -211,7 +215,7 @@ fn where_a_gate_has_no_row(rt: HostRuntime) {
 }
 
 #[test]
-fn numbers_of_gates(rt: HostRuntime) {
+fn wiring_in_numbers(rt: HostRuntime) {
     let job = only_job(&rt, rt.alloc(), NO_CUTS);
     let numbers = job.wiring().numbers(rt.alloc()).expect(&rt, "numbers");
     // no cut and three gates: a source of 1 that defines wire 0, a delay of 3 from there to wire 1, a source of 0 that

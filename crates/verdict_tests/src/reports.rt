@@ -47,7 +47,7 @@ fn verdict(alloc: Global) -> Result<Verdict, AllocError> {
 }
 
 #[test]
-fn report_of_a_no(rt: HostRuntime) {
+fn report_text_of_a_no(rt: HostRuntime) {
     let mut feed = fed(rt.alloc(), BUNDLE.as_bytes()).expect(&rt, "a text");
     let (circuit, layout) = sections(rt.alloc(), &mut feed).expect(&rt, "two sections");
     let certificate = read_certificate(rt.alloc(), &mut feed, &circuit, &layout);

@@ -36,7 +36,7 @@ const CARRIED: [(u32, i32, i32, Signal); 7] = [
 ];
 
 #[test]
-fn all_times_event_or_zero(rt: HostRuntime) {
+fn schedule_signals_at_times(rt: HostRuntime) {
     let apart = schedule(&rt, rt.alloc(), 3, APART);
     for (t, x, y, signal) in CARRIED {
         assert!(rt; apart.at(t, Cell { x, y }) == signal, "at {t}, {x}, {y}");

@@ -49,7 +49,7 @@ fn has_words(feed: &Feed, line: &Line, words: &[&str]) -> bool
 }
 
 /// Takes a line, and says whether it has these words.
-fn takes(feed: &mut Feed, words: &[&str]) -> bool {
+fn takes_line_of_words(feed: &mut Feed, words: &[&str]) -> bool {
     if !feed.closed() || feed.fault().is_some() {
         return false;
     }
@@ -60,7 +60,7 @@ fn takes(feed: &mut Feed, words: &[&str]) -> bool {
 }
 
 #[test]
-fn words_of_lines(rt: HostRuntime) {
+fn feed_splits_lines_into_words(rt: HostRuntime) {
     let text = b"list 3\nitem 10  x\n\n end\nlast \nthe rest";
     let lines: [&[&str]; 5] = [
         &["list", "3"],
@@ -71,7 +71,7 @@ fn words_of_lines(rt: HostRuntime) {
     ];
     let mut feed = fed(&rt, rt.alloc(), text);
     for words in lines {
-        assert!(rt; takes(&mut feed, words), "{words:?}");
+        assert!(rt; takes_line_of_words(&mut feed, words), "{words:?}");
     }
     assert!(rt; feed.closed());
     let fault = feed.take().err();
@@ -85,7 +85,7 @@ fn is_name(word: &[u8]) -> bool {
     }
 }
 
-fn is_read_as(word: &[u8], number: Option<u32>, named: bool) -> bool {
+fn is_number_and_name(word: &[u8], number: Option<u32>, named: bool) -> bool {
     read_number(word) == number && is_name(word) == named
 }
 
@@ -119,12 +119,15 @@ const WORDS: [(&str, Option<u32>, bool); 23] = [
 #[test]
 fn numbers_and_names(rt: HostRuntime) {
     for (word, number, named) in WORDS {
-        assert!(rt; is_read_as(word.as_bytes(), number, named), "{word}");
+        assert!(rt;
+            is_number_and_name(word.as_bytes(), number, named),
+            "{word}"
+        );
     }
 }
 
 #[test]
-fn written_words(rt: HostRuntime) {
+fn words_are_printed_after_space(rt: HostRuntime) {
     let mut out = Vec::new(rt.alloc());
     assert!(rt; print_word(&mut out, b"cut").is_ok() && print_word(&mut out, b"").is_ok());
     for number in [0, 4_294_967_295] {
@@ -134,9 +137,9 @@ fn written_words(rt: HostRuntime) {
 }
 
 /// Random bytes that are all the same.
-struct Same(u8);
+struct SameBytes(u8);
 
-impl RandomSource for Same {
+impl RandomSource for SameBytes {
     fn fill_bytes(&self, buf: &mut [u8]) -> io::Result<()> {
         for byte in buf {
             *byte = self.0;
@@ -146,28 +149,36 @@ impl RandomSource for Same {
 }
 
 /// No random bytes.
-struct Nothing;
+struct NoRandomBytes;
 
-impl RandomSource for Nothing {
+impl RandomSource for NoRandomBytes {
     fn fill_bytes(&self, _: &mut [u8]) -> io::Result<()> {
         Err(io::Error::from(io::ErrorKind::Unsupported))
     }
 }
 
 /// Returns the hash of a byte by the seed.
-fn hash_by(seed: Seed) -> u64 {
+fn hash_of_p_by_seed(seed: Seed) -> u64 {
     let mut hasher = seed.build_hasher();
     hasher.write(b"p");
     hasher.finish()
 }
 
 #[test]
-fn a_feed_has_the_seed_that_was_drawn(rt: HostRuntime) {
-    let (one, two) = (Seed::drawn(&Same(1)), Seed::drawn(&Same(2)));
-    assert!(rt; hash_by(one) != hash_by(two), "the bytes change nothing");
-    assert!(rt; hash_by(one) != hash_by(Seed::known()));
-    assert!(rt; hash_by(Seed::drawn(&Nothing)) == hash_by(Seed::known()));
+fn feed_keeps_drawn_seed(rt: HostRuntime) {
+    let (one, two) = (Seed::drawn(&SameBytes(1)), Seed::drawn(&SameBytes(2)));
+    assert!(rt;
+        hash_of_p_by_seed(one) != hash_of_p_by_seed(two),
+        "the bytes change nothing"
+    );
+    assert!(rt; hash_of_p_by_seed(one) != hash_of_p_by_seed(Seed::known()));
+    assert!(rt; hash_of_p_by_seed(Seed::drawn(&NoRandomBytes)) == hash_of_p_by_seed(Seed::known()));
     let feed = Feed::seeded(rt.alloc(), one);
-    assert!(rt; hash_by(feed.seed()) == hash_by(one), "another seed");
-    assert!(rt; hash_by(Feed::new(rt.alloc()).seed()) == hash_by(Seed::known()));
+    assert!(rt;
+        hash_of_p_by_seed(feed.seed()) == hash_of_p_by_seed(one),
+        "another seed"
+    );
+    assert!(rt;
+        hash_of_p_by_seed(Feed::new(rt.alloc()).seed()) == hash_of_p_by_seed(Seed::known())
+    );
 }

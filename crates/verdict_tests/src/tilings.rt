@@ -32,7 +32,7 @@ const QUARTERS: [Box2; 4] = [
     },
 ];
 
-fn owner_by_quarters(alloc: Global, cell: Cell) -> Option<usize> {
+fn owner_among_quarters(alloc: Global, cell: Cell) -> Option<usize> {
     let whole = Box2 {
         x: 0,
         y: 0,
@@ -53,14 +53,14 @@ fn quarters_tile(rt: HostRuntime) {
                 x: x as i32,
                 y: y as i32,
             };
-            let owner = owner_by_quarters(rt.alloc(), cell);
+            let owner = owner_among_quarters(rt.alloc(), cell);
             assert!(rt; owner == Some(2 * (y / 4) + x / 4), "{x} {y}");
         }
     }
 }
 
 // what is wrong with the first three quarters and one more box of their size
-fn fault_with(alloc: Global, x: u32, y: u32) -> Option<TileFault>
+fn tile_fault_with_fourth_box(alloc: Global, x: u32, y: u32) -> Option<TileFault>
     requires { (x % 2 ≡ 0) × (y % 2 ≡ 0) }
 {
     let mut boxes = QUARTERS;
@@ -69,13 +69,13 @@ fn fault_with(alloc: Global, x: u32, y: u32) -> Option<TileFault>
 }
 
 #[test]
-fn first_fault_is_found(rt: HostRuntime) {
+fn tile_faults_are_found(rt: HostRuntime) {
     let gap = owner_table(rt.alloc(), 8, 8, &[]).err();
     assert!(rt; gap == Some(TileFault::Gap(Cell { x: 0, y: 0 })));
     let gap = owner_table(rt.alloc(), 8, 8, &QUARTERS[..3]).err();
     assert!(rt; gap == Some(TileFault::Gap(Cell { x: 4, y: 4 })));
-    let overlap = fault_with(rt.alloc(), 2, 4);
+    let overlap = tile_fault_with_fourth_box(rt.alloc(), 2, 4);
     assert!(rt; overlap == Some(TileFault::Overlap(Cell { x: 2, y: 4 })));
-    let outside = fault_with(rt.alloc(), 6, 4);
+    let outside = tile_fault_with_fourth_box(rt.alloc(), 6, 4);
     assert!(rt; outside == Some(TileFault::Outside(3)));
 }

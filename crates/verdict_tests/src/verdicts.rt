@@ -43,7 +43,7 @@ fn conclusion(
 const DIGEST: [u8; 32] = [7; 32];
 
 /// Returns a book of a bundle's jobs under a digest, in which the findings of these numbers are filed in this order.
-pub(crate) fn book_of(
+pub(crate) fn book_with_filed_numbers(
     rt: &impl Abort,
     alloc: Global,
     digest: [u8; 32],
@@ -61,7 +61,7 @@ pub(crate) fn book_of(
 }
 
 /// Returns whether this is a no with these lines, or a yes if there are none.
-fn is_verdict(found: &Result<Verdict, Unfinished>, lines: &[ReportLine]) -> bool {
+fn is_yes_or_no_with_lines(found: &Result<Verdict, Unfinished>, lines: &[ReportLine]) -> bool {
     match found {
         Ok(Verdict::Yes) => lines.is_empty(),
         Ok(Verdict::No(said)) => !lines.is_empty() && said.as_slice() == lines,
@@ -71,7 +71,7 @@ fn is_verdict(found: &Result<Verdict, Unfinished>, lines: &[ReportLine]) -> bool
 
 /// Returns whether a book concludes with a yes on a bundle's certificate.
 pub(crate) fn is_yes(rt: &impl Abort, alloc: Global, text: &str, book: &BookState) -> bool {
-    is_verdict(&conclusion(rt, alloc, text, book), &[])
+    is_yes_or_no_with_lines(&conclusion(rt, alloc, text, book), &[])
 }
 
 /// Under q alone nothing comes back to (2, 2), and module 3 says that q is at (4, 4).
@@ -127,12 +127,12 @@ const VERDICTS: [(&str, &[ReportLine]); 3] = [
 ];
 
 #[test]
-fn verdicts_in_whatever_order(rt: HostRuntime) {
+fn verdict_ignores_filing_order(rt: HostRuntime) {
     for (text, lines) in &VERDICTS {
         for numbers in &ORDERS {
-            let book = book_of(&rt, rt.alloc(), DIGEST, text, numbers);
+            let book = book_with_filed_numbers(&rt, rt.alloc(), DIGEST, text, numbers);
             let found = conclusion(&rt, rt.alloc(), text, &book);
-            assert!(rt; is_verdict(&found, lines), "{text}");
+            assert!(rt; is_yes_or_no_with_lines(&found, lines), "{text}");
         }
     }
 }
@@ -146,14 +146,22 @@ const MISSING: [(&str, &[usize], usize); 3] = [
 ];
 
 /// Returns whether the first module without a finding is this one, in the verdict on the four modules by a book.
-pub(crate) fn is_missing(rt: &impl Abort, alloc: Global, book: &BookState, number: usize) -> bool {
+pub(crate) fn is_first_missing(
+    rt: &impl Abort,
+    alloc: Global,
+    book: &BookState,
+    number: usize,
+) -> bool {
     conclusion(rt, alloc, GOOD, book) == Err(Unfinished::Missing(number))
 }
 
 #[test]
-fn missing_findings(rt: HostRuntime) {
+fn first_missing_number_is_named(rt: HostRuntime) {
     for (text, numbers, missing) in &MISSING {
-        let book = book_of(&rt, rt.alloc(), DIGEST, text, numbers);
-        assert!(rt; is_missing(&rt, rt.alloc(), &book, *missing), "{missing}");
+        let book = book_with_filed_numbers(&rt, rt.alloc(), DIGEST, text, numbers);
+        assert!(rt;
+            is_first_missing(&rt, rt.alloc(), &book, *missing),
+            "{missing}"
+        );
     }
 }

@@ -1,8 +1,7 @@
 -- The cells so far are printed.
-use Rattle.std.proofs.Common.{◌≡◌, ◌++◌, take}
-use Rattle.std.specs.List.{flat_map}
-use Rattle.answers.specs.RunText.{cell_line}
+use Rattle.std.proofs.Common.{◌≡◌, ◌++◌, take, flat_map}
+use Rattle.answers.specs.RunText.{live_cell_line}
 use Rattle.answers.proofs.run.print_cells.Given as goal
 
 abbrev pub invariant-loop-cell : goal.invariant-loop-cell
-invariant-loop-cell l = l.out.items ≡ l.fn.out.items ++ flat_map cell_line (take l.cell-index l.cells)
+invariant-loop-cell l = l.out.items ≡ l.fn.out.items ++ flat_map live_cell_line (take l.cell-index l.cells)

@@ -1,6 +1,5 @@
 use Rattle.std.proofs.Common.{arith, rules, ◌≡◌, ◌++◌, ◌∷◌, [], ℕ, Bool, List, map, length, refl, ap, ◌∙◌, subst, inl}
-use Rattle.std.proofs.Common.{inr}
-use Rattle.std.specs.Prelude.{codes}
+use Rattle.std.proofs.Common.{inr, codes}
 use Rattle.std.specs.Fmt.{decimal}
 use Rattle.std.proofs.lemmas.List.{length-map}
 use Rattle.section_text.specs.Spelling.{line_text}
@@ -18,8 +17,8 @@ values-requires c =
     ap length bits ∙ length-map c.deref.result.now _ ∙ ap length (c.deref.ensures.value ∙ c.in_ok-ins.ensures.names)
     ∙ c.input_list.ensures.count
 
-pub undefined_text-requires : goal.undefined_text-requires
-undefined_text-requires c =
+pub undefined_gate_text-requires : goal.undefined_gate_text-requires
+undefined_gate_text-requires c =
     let same : c.in-Err-OutOfDomain.field-0 ≡ OutOfDomain c.in-Err-OutOfDomain.gate c.in-Err-OutOfDomain.before =
     search rules in
     let stops : StopsAt (netlist_of c.args.circuit.now)

@@ -3,9 +3,9 @@ use Rattle.std.specs.Vec.{vec_len}
 use Rattle.std.specs.Arc.{arc_value}
 use Rattle.std.proofs.lemmas.Bool.{and_from, and_parts}
 use Rattle.module_job.specs.Jobs.{JobView}
-use Rattle.certificate.specs.Times.{are_all_obeyed, time_lines}
+use Rattle.certificate.specs.Times.{are_all_obeyed, delay_and_meet_lines}
 use Rattle.core_book.specs.Concluding.{modules, setting}
-use Rattle.core_book.specs.Verdicts.{lines_from, timing_report, unkept_lines}
+use Rattle.core_book.specs.Verdicts.{report_lines_from, timing_report, unkept_lines}
 use Rattle.core_book.specs.declared.verdict.ReportLine.TheVariants.{Unkept}
 use Rattle.audit_core.proofs.Conclusions.{AreAllFaults, verdict-yes, verdict-no, is_empty_list}
 use Rattle.soundness.proofs.YesMeansCorrect.{IsRead, yes_means-correct, yes_means-on_time}
@@ -25,15 +25,15 @@ all c =
 -- the test of the lines of delays and meetings
 kept_is : (c : After-is_empty) →
     c.are_all_obeyed-obeyed.result
-    ≡ are_all_obeyed (time_lines (setting c.args.cert.now).circuit (modules c.args.cert.now))
+    ≡ are_all_obeyed (delay_and_meet_lines (setting c.args.cert.now).circuit (modules c.args.cert.now))
 kept_is c = c.are_all_obeyed-obeyed.ensures ∙ ap are_all_obeyed (c.deref-2.ensures.value ∙ c.in_ok-times.ensures)
 
 -- the lines on the modules, and on gates that are not kept
 lines_are : (c : After-is_empty) →
-    c.in_ok-lines.lines.items ≡ lines_from 0 c.args.faults.now c.args.borders.now
+    c.in_ok-lines.lines.items ≡ report_lines_from 0 c.args.faults.now c.args.borders.now
     ++ unkept_lines (setting c.args.cert.now) (modules c.args.cert.now)
 lines_are c = c.in_ok-lines.ensures
-    ∙ ap (λ ns. lines_from 0 c.args.faults.now c.args.borders.now ++ map (λ n. Unkept n) ns)
+    ∙ ap (λ ns. report_lines_from 0 c.args.faults.now c.args.borders.now ++ map (λ n. Unkept n) ns)
     (c.deref.ensures.value ∙ c.in_ok-unkept.ensures)
 
 pub returns-then-obeyed-is_empty-clause-verdict : goal.returns-then-obeyed-is_empty-clause-verdict
@@ -76,10 +76,10 @@ returns-then-obeyed-is_empty-clause-on_time c is named =
 pub returns-clause-verdict : goal.returns-clause-verdict
 returns-clause-verdict c =
     let d = (goal.at.returns-clause-verdict c).After-is_empty in
-    let m = map timing_report (time_lines (setting c.args.cert.now).circuit (modules c.args.cert.now)) in
+    let m = map timing_report (delay_and_meet_lines (setting c.args.cert.now).circuit (modules c.args.cert.now)) in
     verdict-no c.args.cert.now (map arc_value c.args.jobs.now) c.args.faults.now c.args.borders.now
-    c.push_times.new.lines (all d)
-    (c.in_ok-push_times.ensures ∙ ap (λ ts. c.in_ok-lines.lines.items ++ map timing_report ts)
+    c.push_time_lines.new.lines (all d)
+    (c.in_ok-push_time_lines.ensures ∙ ap (λ ts. c.in_ok-lines.lines.items ++ map timing_report ts)
     (c.deref-3.ensures.value ∙ c.in_ok-times.ensures) ∙ ap (λ xs. xs ++ m) (lines_are d))
     (λ e.
     let none : length c.in_ok-lines.lines.items ≡ 0 = ap length (lines_are d ∙ e.0) in

@@ -1,6 +1,6 @@
 use Rattle.std.proofs.Common.{arith, refl, sym, false, inl, inr, ℕ, ◌≡◌, ◌+◌, ◌-◌, ◌*◌, ◌/◌, ◌%◌}
 use Rattle.std.proofs.lemmas.Bool.{OnTrue_from, ltb-true}
-use Rattle.bbm_rule.specs.Rows.{is_inner}
+use Rattle.bbm_rule.specs.Rows.{is_inside_margin}
 use Rattle.bbm_rule.proofs.BoardLemmas.{not_inner_column, not_inner_first_row, not_inner_row}
 use Rattle.bbm_rule.proofs.cells.is_margin_live.Goals.{then-is_live_in-via-then-is_live_in}
 use Rattle.bbm_rule.proofs.cells.is_margin_live.Goals.{then-is_live_in-via-else-is_live_in+then-is_live_in-2}
@@ -43,7 +43,7 @@ returns-clause-live c = OnTrue_from _ _ (λ h.
           rw e (c.next_marked.ensures.marked found);
     })
   where
-    outer : (x : ℕ) → is_inner c.args.width c.args.height x c.args.y ≡ false
+    outer : (x : ℕ) → is_inside_margin c.args.width c.args.height x c.args.y ≡ false
     outer x = elim c.else-y-gt0.either [
       | inl over ↦ not_inner_row c.args.width c.args.height x c.args.y over.1
       | inr le ↦ let e : c.args.y ≡ 0 = omega (arith, le) in

@@ -28,11 +28,11 @@ returns-then-version-eq2 c =
     let own = modules_of s.entries in
     let second : s.version ≡ 2 = sym c.version.ensures.version ∙ c.if-version-eq2.true in
     let meant_so : modules_in s ≡ map (with_halos g own) own = ap (λ (v : ℕ). modules_by_version v g own) second in
-    told c.no_faults.result (λ faults e.
+    told c.no_fault_for_each.result (λ faults e.
     subst (λ (ms : List ModuleLines). AreBorderFaultsOf g ms faults.items) (sym meant_so)
     (subst (AreBorderFaultsOf g (map (with_halos g own) own))
     (sym (e ∙ ap (λ n. replicate n None) c.modules-count.ensures.count))
-    (none_for_each g own c.modules-count.ensures.written))) c.no_faults.ensures
+    (none_for_each g own c.modules-count.ensures.written))) c.no_fault_for_each.ensures
 
 pub least_fault-requires : goal.least_fault-requires
 least_fault-requires c =

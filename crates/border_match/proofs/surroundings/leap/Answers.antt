@@ -4,5 +4,6 @@ use Rattle.border_match.proofs.surroundings.leap.Goals as goal
 
 pub returns-clause-far : goal.returns-clause-far
 returns-clause-far c = far_to c.args.window.now c.args.events.now c.args.place c.find_first_not_before-next.result _
-    c.next_after-target.result c.requires.rising c.requires.within c.requires.far c.next_after-target.ensures.passed
+    c.next_moment_near-target.result c.requires.rising c.requires.within c.requires.far
+    c.next_moment_near-target.ensures.passed
     c.find_first_not_before-next.ensures.passed

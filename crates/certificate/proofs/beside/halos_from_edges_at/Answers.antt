@@ -1,9 +1,8 @@
-use Rattle.std.proofs.Common.{◌∙◌, List, subst, rules}
+use Rattle.std.proofs.Common.{◌∙◌, List, subst, rules, is_lt}
 use Rattle.std.specs.List.Sorted.{IsPermutation}
-use Rattle.std.specs.Ordering.{is_lt}
 use Rattle.std.proofs.lemmas.List.Sorted.{answers_always, ranks_by}
 use Rattle.certificate_lines.specs.Entries.{modules_of}
-use Rattle.certificate_lines.specs.Versions.{edge_lines_beside, line_order}
+use Rattle.certificate_lines.specs.Versions.{edge_lines_beside, border_line_cmp}
 use Rattle.certificate_lines.specs.declared.certificate_line.BorderLine.{BorderLine}
 use Rattle.certificate.proofs.FullModules.{distinct_beside}
 use Rattle.certificate_lines.proofs.LineOrder.{line_total}
@@ -17,5 +16,5 @@ returns c g area good are =
     subst (λ (l : List BorderLine). IsPermutation l c.sort_by.new.self.items) (c.in_ok-halos.ensures ∙ are)
     c.sort_by.ensures.permutation in
     sorted_lines lines c.sort_by.new.self.items (distinct_beside g (modules_of c.args.entries.now) good area) same
-    (c.in_ok-sort_by.ensures.sorted (λ a b. is_lt (line_order a b)) (ranks_by line_total (λ e. e))
+    (c.in_ok-sort_by.ensures.sorted (λ a b. is_lt (border_line_cmp a b)) (ranks_by line_total (λ e. e))
     (answers_always _ _ _ (λ f a r g k. search rules)))

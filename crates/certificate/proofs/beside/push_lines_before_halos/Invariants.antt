@@ -1,5 +1,4 @@
-use Rattle.std.proofs.Common.{◌≡◌, ◌++◌, take}
-use Rattle.std.specs.List.{filter}
+use Rattle.std.proofs.Common.{◌≡◌, ◌++◌, take, filter}
 use Rattle.certificate_lines.specs.Versions.{precedes_halos}
 use Rattle.certificate.proofs.beside.push_lines_before_halos.Given as goal
 

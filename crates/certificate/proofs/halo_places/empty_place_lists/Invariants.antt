@@ -1,10 +1,10 @@
 -- The lists so far are empty.
 use Rattle.std.proofs.Common.{◌≡◌, [], ℕ, length, map}
-use Rattle.certificate.specs.HaloPlaces.{list_at}
+use Rattle.certificate.specs.HaloPlaces.{list_at_or_empty}
 use Rattle.certificate.proofs.halo_places.empty_place_lists.Given as goal
 
 abbrev pub invariant-boxes : goal.invariant-boxes
 invariant-boxes l = record {
   count : length l.lists.items ≡ l._number;
-  empty : (i : ℕ) → list_at (map (λ l. l.items) l.lists.items) i ≡ [];
+  empty : (i : ℕ) → list_at_or_empty (map (λ l. l.items) l.lists.items) i ≡ [];
 }

@@ -1,6 +1,4 @@
-use Rattle.std.proofs.Common.{◌≡◌, ◌∙◌, ◌<◌, ◌≤◌, List, length, map, sym, ap, subst, arith}
-use Rattle.std.specs.Prelude.{slice_get}
-use Rattle.std.specs.List.{All, flat_map}
+use Rattle.std.proofs.Common.{◌≡◌, ◌∙◌, ◌<◌, ◌≤◌, List, length, map, sym, ap, subst, arith, slice_get, All, flat_map}
 use Rattle.std.proofs.lemmas.List.{length-map}
 use Rattle.module_box.specs.Tiling.{AreOwners}
 use Rattle.module_box.specs.declared.boxes.Box2.{Box2}

@@ -1,5 +1,4 @@
-use Rattle.std.proofs.Common.{◌≡◌, ◌∙◌, ◌+◌, ◌++◌, List, map, drop, sym, ap, subst, append_assoc}
-use Rattle.std.specs.List.{All, flat_map}
+use Rattle.std.proofs.Common.{◌≡◌, ◌∙◌, ◌+◌, ◌++◌, List, map, drop, sym, ap, subst, append_assoc, All, flat_map}
 use Rattle.std.proofs.lemmas.List.{length-map}
 use Rattle.module_box.specs.Tiling.{rectangle}
 use Rattle.certificate_lines.specs.Entries.{edge_in, edges, modules_of}

@@ -1,5 +1,4 @@
-use Rattle.std.proofs.Common.{◌∙◌, map, take, Some, sym, ap, subst}
-use Rattle.std.specs.List.{flat_map}
+use Rattle.std.proofs.Common.{◌∙◌, map, take, Some, sym, ap, subst, flat_map}
 use Rattle.std.proofs.lemmas.List.{length-map}
 use Rattle.std.proofs.lemmas.Option.{slice_get-get_or}
 use Rattle.module_box.specs.Tiling.{rectangle}

@@ -1,12 +1,11 @@
-use Rattle.std.proofs.Common.{◌≡◌, ◌∙◌, ◌++◌, ◌∷◌, [], ◌<◌, length, map, sym, ap, subst, arith}
-use Rattle.std.specs.Prelude.{Some, slice_get}
+use Rattle.std.proofs.Common.{◌≡◌, ◌∙◌, ◌++◌, ◌∷◌, [], ◌<◌, length, map, sym, ap, subst, arith, Some, slice_get}
 use Rattle.std.specs.List.{list_any}
 use Rattle.std.proofs.lemmas.List.{length-map}
 use Rattle.std.proofs.lemmas.Option.{slice_get_within}
 use Rattle.bbm_rule.specs.declared.block.Cell.{Cell}
 use Rattle.module_box.specs.Boxes.{in_box}
 use Rattle.module_box.specs.Tiling.{owner_of}
-use Rattle.certificate.specs.HaloPlaces.{list_at}
+use Rattle.certificate.specs.HaloPlaces.{list_at_or_empty}
 use Rattle.certificate.proofs.HaloLists.{no_place, one_place, owner_within}
 use Rattle.certificate.proofs.halo_places.push_place_for_owner.Goals as goal
 
@@ -45,6 +44,6 @@ returns c =
     (λ b. list_any (λ (d : Cell). in_box b d.x d.y) c.args.others.now) c.box_at-area.result own c.args.place
     old new (sym c.holds_any.ensures ∙ c.if-holds_any.false)
     (length-map after (λ l. l.items) ∙ c.in_ok-push_place.ensures.count ∙ sym (length-map before (λ l. l.items)))
-    (subst (λ n. list_at new n ≡ list_at old n ++ c.args.place ∷ []) c.owner-number.ensures
+    (subst (λ n. list_at_or_empty new n ≡ list_at_or_empty old n ++ c.args.place ∷ []) c.owner-number.ensures
     c.in_ok-push_place.ensures.here)
     (λ i ne. c.in_ok-push_place.ensures.others i (λ e. ne (e ∙ c.owner-number.ensures)))

@@ -1,12 +1,11 @@
-use Rattle.std.proofs.Common.{◌≡◌, ◌&&◌, ◌∙◌, List, true, false, map, sym, ap, subst}
-use Rattle.std.specs.Prelude.{IfOk}
+use Rattle.std.proofs.Common.{◌≡◌, ◌&&◌, ◌∙◌, List, true, false, map, sym, ap, subst, IfOk}
 use Rattle.std.specs.Arc.{arc_value}
 use Rattle.circuit.specs.Bridge.{circuit_of}
 use Rattle.certificate_lines.specs.Entries.{ModuleLines, modules_of}
 use Rattle.certificate_lines.specs.Settings.{setting_of}
 use Rattle.certificate.specs.Jobs.{AreJobsOf}
 use Rattle.certificate_lines.specs.Modules.{AreModules}
-use Rattle.certificate_lines.specs.Versions.{is_haloless, lacks_wire, with_halos}
+use Rattle.certificate_lines.specs.Versions.{is_haloless_version, lacks_edge_wire_beside, with_halos}
 use Rattle.certificate.proofs.FullModules.{meant_new, meant_old}
 use Rattle.certificate.proofs.jobs.jobs_of_version.Goals as goal
 
@@ -18,15 +17,17 @@ jobs_with_implied_halos-requires-clause-modules c =
 pub jobs_with_implied_halos-requires-clause-complete : goal.jobs_with_implied_halos-requires-clause-complete
 jobs_with_implied_halos-requires-clause-complete c =
     let g = setting_of c.args.tables.now.circuit c.args.tables.now.layout in
-    let new : is_haloless c.args.version ≡ true = sym c.is_haloless.ensures ∙ c.if-is_haloless.true in
-    subst (λ ms. lacks_wire g ms ≡ false) (sym c.requires.parts)
-    (ap (λ b. b && lacks_wire g (modules_of c.args.entries.now)) (sym new) ∙ c.requires.complete)
+    let new : is_haloless_version c.args.version ≡ true =
+    sym c.is_haloless_version.ensures ∙ c.if-is_haloless_version.true in
+    subst (λ ms. lacks_edge_wire_beside g ms ≡ false) (sym c.requires.parts)
+    (ap (λ b. b && lacks_edge_wire_beside g (modules_of c.args.entries.now)) (sym new) ∙ c.requires.complete)
 
-pub returns-then-is_haloless : goal.returns-then-is_haloless
-returns-then-is_haloless c =
+pub returns-then-is_haloless_version : goal.returns-then-is_haloless_version
+returns-then-is_haloless_version c =
     let p = c.args.tables.now in
     let g = setting_of p.circuit p.layout in
-    let new : is_haloless c.args.version ≡ true = sym c.is_haloless.ensures ∙ c.if-is_haloless.true in
+    let new : is_haloless_version c.args.version ≡ true =
+    sym c.is_haloless_version.ensures ∙ c.if-is_haloless_version.true in
     subst (λ ms. IfOk c.jobs_with_implied_halos.result
     (λ js. AreJobsOf (circuit_of p.circuit) p.layout ms (map arc_value js.items)))
     (sym (meant_new c.args.version g (modules_of c.args.entries.now) new))
@@ -44,7 +45,8 @@ pub returns : goal.returns
 returns c =
     let p = c.args.tables.now in
     let g = setting_of p.circuit p.layout in
-    let old : is_haloless c.args.version ≡ false = sym c.is_haloless.ensures ∙ c.if-is_haloless.false in
+    let old : is_haloless_version c.args.version ≡ false =
+    sym c.is_haloless_version.ensures ∙ c.if-is_haloless_version.false in
     subst (λ ms. IfOk c.jobs_as_written.result
     (λ js. AreJobsOf (circuit_of p.circuit) p.layout ms (map arc_value js.items)))
     (c.requires.parts ∙ sym (meant_old c.args.version g (modules_of c.args.entries.now) old))

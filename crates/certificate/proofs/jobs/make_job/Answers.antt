@@ -1,13 +1,11 @@
 use Rattle.std.proofs.Common.{◌≡◌, ◌<◌, ◌≤◌, ℕ, List, length, map, true, get_or, arith, sym, ap, subst, ◌∙◌, refl}
-use Rattle.std.specs.Prelude.{slice_index}
+use Rattle.std.proofs.Common.{slice_index, All}
 use Rattle.std.specs.Arc.{arc_value}
-use Rattle.std.specs.List.{All}
 use Rattle.circuit.specs.Bridge.{circuit_of, netlist_of}
 use Rattle.circuit.specs.Meaning.{Netlist, wires}
 use Rattle.certificate_lines.specs.Entries.{gates, keeps, ModuleLines, edges, halos, stops}
 use Rattle.certificate.proofs.JobLemmas.{keeps_used, within_512, within_layout, edges_named, halos_named, lists_local}
-use Rattle.certificate.proofs.JobLemmas.{wires_known}
-use Rattle.certificate.proofs.JobLemmas.{cut_count}
+use Rattle.certificate.proofs.JobLemmas.{wires_known, cut_count}
 use Rattle.module_box.specs.Boxes.{in_box}
 use Rattle.module_box.specs.Locals.{AreLocalsOf}
 use Rattle.module_box.specs.Moves.{IsInShiftRange}
@@ -16,9 +14,9 @@ use Rattle.module_box.specs.declared.boxes.Box2.{Box2}
 use Rattle.module_box.specs.declared.schedules.Signal.{Signal}
 use Rattle.certificate_lines.specs.Settings.{setting_of}
 use Rattle.module_job.specs.Jobs.{IsJob}
-use Rattle.certificate.specs.Jobs.{IsJobOf, line_signals, line_stops}
+use Rattle.certificate.specs.Jobs.{IsJobOf, line_signals, stops_of_lines}
 use Rattle.certificate_lines.specs.Rules.{is_local}
-use Rattle.module_job.specs.Shapes.{ShapeView, placed, stops_from_corner}
+use Rattle.module_job.specs.Shapes.{ShapeView, placed, stops_in_plane}
 use Rattle.certificate.specs.Timetables.{HasLocalWire}
 use Rattle.module_job.specs.declared.job.Demand.{Demand}
 use Rattle.module_job.specs.declared.job.Stop.{Stop}
@@ -28,14 +26,14 @@ use Rattle.certificate.proofs.LayoutTableLemmas.{locals_have_ports}
 use Rattle.certificate.proofs.StopLemmas.{stops_named, stops_rise, stops_stand}
 use Rattle.certificate.proofs.jobs.make_job.Goals as goal
 
-pub module_locals-requires-clause-lines : goal.module_locals-requires-clause-lines
-module_locals-requires-clause-lines c =
+pub locals_and_kept_places-requires-clause-lines : goal.locals_and_kept_places-requires-clause-lines
+locals_and_kept_places-requires-clause-lines c =
     let m : ModuleLines = record { area = c.args.area; lines = c.args.lines.now } in
     lists_local _ c.args.tables.now.circuit c.args.tables.now.layout m _ _ c.circuit-circuit.ensures refl refl
     c.requires.module
 
-pub module_locals-requires-clause-kept : goal.module_locals-requires-clause-kept
-module_locals-requires-clause-kept c =
+pub locals_and_kept_places-requires-clause-kept : goal.locals_and_kept_places-requires-clause-kept
+locals_and_kept_places-requires-clause-kept c =
     let m : ModuleLines = record { area = c.args.area; lines = c.args.lines.now } in
     keeps_used (setting_of c.args.tables.now.circuit c.args.tables.now.layout) m (gates m) refl c.requires.module
 
@@ -155,7 +153,7 @@ invariant_of-result c =
     let wires_are = c.into_parts-wiring.ensures.wires in
     let gates_are = c.into_parts-wiring.ensures.gates in
     let m : ModuleLines = record { area = area; lines = c.args.lines.now } in
-    let placed_stops = stops_from_corner area c.in_ok-stops.stops.items in
+    let placed_stops = stops_in_plane area c.in_ok-stops.stops.items in
     let job : IsJob (placed area.x area.y l.circuit_wires l.circuit_gates s) = record {
       even = c.requires.module.even;
       width = (c.requires.module.wide.0, c.requires.module.wide.1, limits.0);
@@ -231,7 +229,7 @@ returns c =
         halo_events = c.in_ok-edges.ensures.halo_events;
         stops = c.in_ok-stops.ensures.said.own;
       };
-      stops = c.in_ok-stops.ensures.said.same ∙ ap (λ ls. line_stops (circuit_of ls) (stops m)) circuit_is;
+      stops = c.in_ok-stops.ensures.said.same ∙ ap (λ ls. stops_of_lines (circuit_of ls) (stops m)) circuit_is;
       kept = subst (λ (us : List ℕ). map (slice_index us) c.in_ok-locals.kept.items ≡ keeps m)
           (sym c.in_ok-locals.ensures.gates) c.in_ok-locals.ensures.kept;
       kept_are_used = subst (λ (u : ℕ). All (λ k. k < u) c.in_ok-locals.kept.items)

@@ -1,5 +1,4 @@
-use Rattle.std.proofs.Common.{◌≡◌, ℕ, ℤ, arith, to_z, of_z, w32, sym, ap, ap₂, subst, ◌∙◌}
-use Rattle.std.specs.List.{All, flat_map}
+use Rattle.std.proofs.Common.{◌≡◌, ℕ, ℤ, arith, to_z, of_z, w32, sym, ap, ap₂, subst, ◌∙◌, All, flat_map}
 use Rattle.std.proofs.lemmas.Int.{ints}
 use Rattle.circuit.specs.Bridge.{circuit_of}
 use Rattle.circuit.specs.Meaning.{wires}
@@ -9,8 +8,8 @@ use Rattle.module_box.specs.Moves.{IsInShiftRange, IsSmallShift, moved_signals}
 use Rattle.module_box.specs.Schedules.{Signals}
 use Rattle.module_box.specs.declared.boxes.Box2.{Box2}
 use Rattle.module_box.specs.declared.schedules.TimedSignal.{TimedSignal}
-use Rattle.module_job.specs.Shapes.{shift_to_origin, signals_from_corner}
-use Rattle.module_job.specs.Signals.{IsBelow, renumber_signals}
+use Rattle.module_job.specs.Shapes.{shift_to_origin, signals_in_plane}
+use Rattle.module_job.specs.Signals.{IsSignalWireBelow, renumber_signals}
 use Rattle.certificate.specs.Timetables.{borders_in}
 use Rattle.certificate.proofs.NearLines.{low_all_times, low_events, near_all_times, near_events, near_moved}
 use Rattle.module_job.proofs.ShapeParts.{placed_again}
@@ -47,8 +46,8 @@ moved_back x y dx dy s own e p f q is =
 
 -- and so is counted from the corner of the box
 there : (b : Box2) (s own : Signals) → own ≡ moved_signals (shift_to_origin b.x) (shift_to_origin b.y) s →
-    signals_from_corner b own ≡ s
-there b s own is = ap (signals_from_corner b) is ∙ placed_again b.x b.y s
+    signals_in_plane b own ≡ s
+there b s own is = ap (signals_in_plane b) is ∙ placed_again b.x b.y s
 
 pub returns-clause-same_signals : goal.returns-clause-same_signals
 returns-clause-same_signals c =
@@ -63,7 +62,7 @@ returns-clause-same_signals c =
 pub returns-clause-all_times : goal.returns-clause-all_times
 returns-clause-all_times c =
     let s = c.in_ok-signals.signals in
-    subst (λ (t : Signals). All (λ h. IsBelow (wires c.args.locals.now.netlist) h.signal) t.all_times)
+    subst (λ (t : Signals). All (λ h. IsSignalWireBelow (wires c.args.locals.now.netlist) h.signal) t.all_times)
     (sym (there c.args.area s c.moved.result (moved_back c.args.area.x c.args.area.y _ _ s c.moved.result
     c.shift_to_origin.ensures.distance_is_exact c.shift_to_origin.ensures.small
     c.shift_to_origin-2.ensures.distance_is_exact c.shift_to_origin-2.ensures.small c.moved.ensures)))
@@ -72,7 +71,7 @@ returns-clause-all_times c =
 pub returns-clause-events : goal.returns-clause-events
 returns-clause-events c =
     let s = c.in_ok-signals.signals in
-    subst (λ (t : Signals). All (λ e. IsBelow (wires c.args.locals.now.netlist) e.signal) t.events)
+    subst (λ (t : Signals). All (λ e. IsSignalWireBelow (wires c.args.locals.now.netlist) e.signal) t.events)
     (sym (there c.args.area s c.moved.result (moved_back c.args.area.x c.args.area.y _ _ s c.moved.result
     c.shift_to_origin.ensures.distance_is_exact c.shift_to_origin.ensures.small
     c.shift_to_origin-2.ensures.distance_is_exact c.shift_to_origin-2.ensures.small c.moved.ensures)))

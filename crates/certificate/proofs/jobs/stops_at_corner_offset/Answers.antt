@@ -1,6 +1,4 @@
-use Rattle.std.specs.Prelude.{pos}
-use Rattle.std.proofs.Common.{◌≡◌, ℕ, ℤ, List, map, arith, to_z, of_z, w32, sym, ap, subst, ◌∙◌}
-use Rattle.std.specs.List.{All, flat_map}
+use Rattle.std.proofs.Common.{◌≡◌, ℕ, ℤ, List, map, arith, to_z, of_z, w32, sym, ap, subst, ◌∙◌, pos, All, flat_map}
 use Rattle.std.proofs.lemmas.Int.{ints}
 use Rattle.std.proofs.lemmas.Result.{IfOk-weaker}
 use Rattle.circuit.specs.Bridge.{circuit_of}
@@ -10,7 +8,7 @@ use Rattle.certificate_lines.specs.declared.certificate_line.StopLine.{StopLine}
 use Rattle.module_box.specs.Moves.{IsInShiftRange, IsSmallShift}
 use Rattle.module_box.specs.declared.boxes.Box2.{Box2}
 use Rattle.certificate_lines.specs.Entries.{stop_in}
-use Rattle.module_job.specs.Shapes.{shift_to_origin, moved_stop, stops_from_corner}
+use Rattle.module_job.specs.Shapes.{shift_to_origin, moved_stop, stops_in_plane}
 use Rattle.certificate.specs.StopLists.{AreStops}
 use Rattle.certificate.specs.Timetables.{IsLow}
 use Rattle.module_job.specs.declared.job.Stop.{Stop}
@@ -47,8 +45,8 @@ moved_back x y dx dy ss given own e p f q same is =
 
 -- and so is counted from the corner of the box
 there : (b : Box2) (ss own : List Stop) → own ≡ map (moved_stop (shift_to_origin b.x) (shift_to_origin b.y)) ss →
-    stops_from_corner b own ≡ ss
-there b ss own is = ap (stops_from_corner b) is
+    stops_in_plane b own ≡ ss
+there b ss own is = ap (stops_in_plane b) is
     ∙ stops_back (shift_to_origin b.x) (shift_to_origin b.y) (pos b.x) (pos b.y) ss (back_forth b.x) (back_forth b.y)
 
 pub returns-clause-said : goal.returns-clause-said

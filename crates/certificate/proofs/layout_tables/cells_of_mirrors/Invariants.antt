@@ -1,6 +1,5 @@
 -- The cells of the mirrors so far.
-use Rattle.std.proofs.Common.{◌≡◌, take}
-use Rattle.std.specs.List.{flat_map}
+use Rattle.std.proofs.Common.{◌≡◌, take, flat_map}
 use Rattle.pattern.specs.Layout.{rectangle_cells}
 use Rattle.certificate.proofs.layout_tables.cells_of_mirrors.Given as goal
 

@@ -1,5 +1,4 @@
-use Rattle.std.proofs.Common.{◌≡◌, sym, subst}
-use Rattle.std.specs.List.{flat_map}
+use Rattle.std.proofs.Common.{◌≡◌, sym, subst, flat_map}
 use Rattle.certificate_lines.specs.Entries.{edge_in, halo_in}
 use Rattle.certificate.specs.Timetables.{borders_in}
 use Rattle.certificate.proofs.KindLemmas.{only_edges, only_halos}

@@ -1,6 +1,5 @@
 -- The lines so far are printed.
-use Rattle.std.proofs.Common.{◌≡◌, ◌++◌, take}
-use Rattle.std.specs.List.{flat_map}
+use Rattle.std.proofs.Common.{◌≡◌, ◌++◌, take, flat_map}
 use Rattle.certificate.specs.Text.{entry_text}
 use Rattle.certificate.proofs.printing.print_entries.Given as goal
 

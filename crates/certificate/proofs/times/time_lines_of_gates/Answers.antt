@@ -1,5 +1,4 @@
-use Rattle.std.proofs.Common.{◌≡◌, ◌++◌, ◌≤◌, ap, sym, ◌∙◌, length, Some, arith}
-use Rattle.std.specs.Prelude.{slice_get}
+use Rattle.std.proofs.Common.{◌≡◌, ◌++◌, ◌≤◌, ap, sym, ◌∙◌, length, Some, arith, slice_get}
 use Rattle.circuit.specs.Bridge.{netlist_of}
 use Rattle.circuit.specs.Wiring.{gate_of}
 use Rattle.certificate.specs.Times.{delay_line, meet_line, numbered}

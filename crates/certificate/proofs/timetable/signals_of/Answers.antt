@@ -1,10 +1,9 @@
-use Rattle.std.proofs.Common.{sym, ap, ◌∙◌, subst, map}
-use Rattle.std.specs.List.{All, flat_map}
+use Rattle.std.proofs.Common.{sym, ap, ◌∙◌, subst, map, All, flat_map}
 use Rattle.circuit.specs.Bridge.{circuit_of}
 use Rattle.circuit.specs.Meaning.{wires}
 use Rattle.module_box.specs.Locals.{circuit_wire}
 use Rattle.certificate.specs.Jobs.{line_signals}
-use Rattle.module_job.specs.Signals.{IsBelow, renumber_all_times, renumber_event}
+use Rattle.module_job.specs.Signals.{IsSignalWireBelow, renumber_all_times, renumber_event}
 use Rattle.certificate.specs.Timetables.{HasLocalWire, borders_in}
 use Rattle.certificate_lines.proofs.FlatParts.{flat_at}
 use Rattle.certificate.proofs.TimetableLemmas.{no_lines, no_names, next_table, all_lines, table_all_times_rises}
@@ -60,10 +59,10 @@ returns-clause-same_signals c =
 
 pub returns-clause-all_times : goal.returns-clause-all_times
 returns-clause-all_times c =
-    subst (All (λ h. IsBelow (wires c.args.locals.now.netlist) h.signal))
+    subst (All (λ h. IsSignalWireBelow (wires c.args.locals.now.netlist) h.signal))
     (sym c.new-2.ensures.all_times) c.lines.invariant.own_all_times
 
 pub returns-clause-events : goal.returns-clause-events
 returns-clause-events c =
-    subst (All (λ e. IsBelow (wires c.args.locals.now.netlist) e.signal))
+    subst (All (λ e. IsSignalWireBelow (wires c.args.locals.now.netlist) e.signal))
     (sym c.new-2.ensures.events) c.lines.invariant.own_events

@@ -1,6 +1,5 @@
 -- What the lines so far say.
-use Rattle.std.proofs.Common.{take}
-use Rattle.std.specs.List.{flat_map}
+use Rattle.std.proofs.Common.{take, flat_map}
 use Rattle.circuit.specs.Bridge.{circuit_of}
 use Rattle.certificate.specs.Timetables.{AreSignalLists, borders_in}
 use Rattle.certificate.proofs.timetable.signals_of.Given as goal

@@ -1,5 +1,4 @@
-use Rattle.std.proofs.Common.{◌≡◌, ◌-◌, ◌∙◌, length, rules}
-use Rattle.std.specs.Prelude.{slice_get}
+use Rattle.std.proofs.Common.{◌≡◌, ◌-◌, ◌∙◌, length, rules, slice_get}
 use Rattle.certificate_lines.proofs.Growing.{last_by_place}
 use Rattle.certificate_lines.proofs.counts.last_counts.Goals as goal
 

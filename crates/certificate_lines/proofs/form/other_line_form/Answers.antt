@@ -1,7 +1,6 @@
-use Rattle.std.proofs.Common.{◌∙◌, ◌∷◌, [], refl, ap, sym, option_map}
-use Rattle.std.specs.Prelude.{codes}
+use Rattle.std.proofs.Common.{◌∙◌, ◌∷◌, [], refl, ap, sym, option_map, codes}
 use Rattle.section_text.specs.Feeds.{line_bytes}
-use Rattle.section_text.specs.Listed.{five_listed}
+use Rattle.section_text.specs.Listed.{list_of_five_words}
 use Rattle.section_text.specs.Words.{words_of}
 use Rattle.certificate_lines.proofs.BorderLines.{five_words_are, long_form_is, short_form_is}
 use Rattle.certificate_lines.proofs.BorderText.{other_first}
@@ -14,7 +13,7 @@ five_word_line_form-requires-clause-no_edge c =
     c.requires.no_edge
     w.first.now w.second.now (w.third.now ∷ w.fourth.now ∷ w.fifth.now ∷ [])
     (five_words_are (words_of (line_bytes c.args.feed.now c.args.line.now)) w
-    (ap (option_map five_listed) (sym c.in-Some.is) ∙ c.five_words.ensures))
+    (ap (option_map list_of_five_words) (sym c.in-Some.is) ∙ c.five_words.ensures))
 
 pub five_word_line_form-requires-clause-no_halo : goal.five_word_line_form-requires-clause-no_halo
 five_word_line_form-requires-clause-no_halo c =
@@ -23,7 +22,7 @@ five_word_line_form-requires-clause-no_halo c =
     c.requires.no_halo
     w.first.now w.second.now (w.third.now ∷ w.fourth.now ∷ w.fifth.now ∷ [])
     (five_words_are (words_of (line_bytes c.args.feed.now c.args.line.now)) w
-    (ap (option_map five_listed) (sym c.in-Some.is) ∙ c.five_words.ensures))
+    (ap (option_map list_of_five_words) (sym c.in-Some.is) ∙ c.five_words.ensures))
 
 pub five_word_line_form-requires-clause-no_stop : goal.five_word_line_form-requires-clause-no_stop
 five_word_line_form-requires-clause-no_stop c =
@@ -32,13 +31,14 @@ five_word_line_form-requires-clause-no_stop c =
     c.requires.no_stop
     w.first.now w.second.now (w.third.now ∷ w.fourth.now ∷ w.fifth.now ∷ [])
     (five_words_are (words_of (line_bytes c.args.feed.now c.args.line.now)) w
-    (ap (option_map five_listed) (sym c.in-Some.is) ∙ c.five_words.ensures))
+    (ap (option_map list_of_five_words) (sym c.in-Some.is) ∙ c.five_words.ensures))
 
 pub returns-in-None : goal.returns-in-None
-returns-in-None c = c.short_form.ensures ∙ short_form_is (words_of (line_bytes c.args.feed.now c.args.line.now))
-    (ap (option_map five_listed) (sym c.in-None.is) ∙ c.five_words.ensures)
+returns-in-None c = c.not_five_words_line_form.ensures
+    ∙ short_form_is (words_of (line_bytes c.args.feed.now c.args.line.now))
+    (ap (option_map list_of_five_words) (sym c.in-None.is) ∙ c.five_words.ensures)
 
 pub returns-in-Some : goal.returns-in-Some
 returns-in-Some c = c.five_word_line_form.ensures
     ∙ long_form_is (words_of (line_bytes c.args.feed.now c.args.line.now)) c.in-Some.words
-    (ap (option_map five_listed) (sym c.in-Some.is) ∙ c.five_words.ensures)
+    (ap (option_map list_of_five_words) (sym c.in-Some.is) ∙ c.five_words.ensures)

@@ -1,7 +1,5 @@
 -- The gates that the lines so far keep.
-use Rattle.std.proofs.Common.{◌≡◌, ◌<◌, length, map, take}
-use Rattle.std.specs.Prelude.{slice_index}
-use Rattle.std.specs.List.{All, flat_map}
+use Rattle.std.proofs.Common.{◌≡◌, ◌<◌, length, map, take, slice_index, All, flat_map}
 use Rattle.certificate_lines.specs.Entries.{keep_in}
 use Rattle.certificate_lines.proofs.lines.kept_places.Given as goal
 

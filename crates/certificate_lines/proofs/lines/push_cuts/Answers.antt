@@ -1,7 +1,5 @@
-use Rattle.std.proofs.Common.{◌++◌, List, ℕ, sym, ap, take, append_assoc, ◌∙◌}
+use Rattle.std.proofs.Common.{◌++◌, List, ℕ, sym, ap, take, append_assoc, ◌∙◌, flat_map, option_to_list}
 use Rattle.std.proofs.lemmas.Grind.{flat_map-append}
-use Rattle.std.specs.List.{flat_map}
-use Rattle.std.specs.Option.{option_to_list}
 use Rattle.circuit.specs.Bridge.{circuit_of}
 use Rattle.circuit.specs.Meaning.{wire_of}
 use Rattle.certificate_lines.specs.Entries.{cut_in}

@@ -2,7 +2,7 @@ use Rattle.std.proofs.Common.{◌≡◌, ◌∙◌, ℕ, ◌+◌, ◌<◌, ◌�
 use Rattle.std.specs.Prelude.{slice_get}
 use Rattle.std.proofs.lemmas.Option.{slice_get-get_or}
 use Rattle.std.proofs.Math.Seq.{take-length}
-use Rattle.pattern.specs.Layout.{HaveOwnCells}
+use Rattle.pattern.specs.Layout.{HaveDistinctCells}
 use Rattle.pattern.specs.Lines.{size_fault}
 use Rattle.pattern.specs.declared.layout_line.LayoutHeader.{LayoutHeader}
 use Rattle.pattern.specs.declared.layout_line.Port.{Port}
@@ -48,7 +48,8 @@ entry_place-requires-clause-small c =
     (small_sides c.args.size c.requires.limits c.whole_of-area.result c.whole_of-area.ensures).0
 
 -- a port at a place among the numbers has a number that fits
-few : (s : LayoutHeader) → size_fault s ≡ None → (b : Box2) → b ≡ whole s → (ports : List Port) → HaveOwnCells ports →
+few : (s : LayoutHeader) → size_fault s ≡ None → (b : Box2) → b ≡ whole s → (ports : List Port) →
+    HaveDistinctCells ports →
     AreOnBoard s ports → (rows : List ℕ) (count : ℕ) → AreNumberedRows b ports rows count → (k : ℕ) (p : Port) →
     slice_get ports k ≡ Some p → (place : ℕ) → entry_place b rows p.cell.x p.cell.y ≡ Some place → (numbers : List ℕ) →
     IsFilling b ports rows count k numbers → k + 1 < 4294967296

@@ -1,7 +1,7 @@
 -- The book is filled up behind what the workers filed, and closed.
 use Rattle.std.proofs.Common.{◌∙◌, ap, arith, map, subst, sym}
 use Rattle.std.specs.Arc.{arc_value}
-use Rattle.core_book.specs.Concluding.{AreOwnJobs}
+use Rattle.core_book.specs.Concluding.{AreJobsOfCertificate}
 use Rattle.core_book.proofs.Fillings.{clones-same}
 use Rattle.check_main.proofs.Closings.{audit_of, completed_closed, many_filings, no_history, own_digest, own_jobs}
 use Rattle.check_main.proofs.auditing.audit_opening.Goals as goal
@@ -27,7 +27,7 @@ pub returns-clause-full : goal.returns-clause-full
 returns-clause-full g c =
     let copied = clones-same arc_value c.args.opening.jobs.items c.in_ok-copies.copies.items
     c.in_ok-copies.ensures.cases.0 in
-    let own = subst (AreOwnJobs c.args.cert.now)
+    let own = subst (AreJobsOfCertificate c.args.cert.now)
     (sym (ap (map arc_value) c.deref-4.ensures.value ∙ copied)) c.requires.own_jobs in
     audit_of c.args.cert.now c.args.opening.digest
     (map arc_value c.deref-4.result.now) c.in_ok-audited.audited.state c.complete.new.state c.requires.own_digest own

@@ -40,8 +40,8 @@ ran_for {source} {sink} {messages} asked wanted old new status same ran =
 
 pub returns-in-Ok-clause-ran : goal.returns-in-Ok-clause-ran
 returns-in-Ok-clause-ran g c accepted = ran_for _ _ _ _ _ c.in-Ok.ensures.request (record {
-  ended = c.serve-ended.result;
-  served = c.serve-ended.ensures.serves;
+  ended = c.run_request-ended.result;
+  served = c.run_request-ended.ensures.serves;
   status_of_end = c.status_of.ensures.status;
   said = c.status_of.ensures.said;
   quiet = c.status_of.ensures.quiet;
@@ -58,28 +58,29 @@ promised ended status is promise = record {
 }
 
 pub returns-in-Ok-clause-in_full : goal.returns-in-Ok-clause-in_full
-returns-in-Ok-clause-in_full g c check = promised c.serve-ended.result c.status_of.result c.status_of.ensures.status
-    (c.serve-ended.ensures.in_full (c.in-Ok.ensures.request ∙ check.asked))
+returns-in-Ok-clause-in_full g c check =
+    promised c.run_request-ended.result c.status_of.result c.status_of.ensures.status
+    (c.run_request-ended.ensures.in_full (c.in-Ok.ensures.request ∙ check.asked))
 
 pub returns-in-Ok-clause-wrong : goal.returns-in-Ok-clause-wrong
 returns-in-Ok-clause-wrong g c check one =
-    c.serve-ended.ensures.wrong (c.in-Ok.ensures.request ∙ check.asked)
-    (outcome_of No c.serve-ended.result (sym c.status_of.ensures.status ∙ one))
+    c.run_request-ended.ensures.wrong (c.in-Ok.ensures.request ∙ check.asked)
+    (outcome_of No c.run_request-ended.result (sym c.status_of.ensures.status ∙ one))
 
 pub returns-in-Ok-clause-lines : goal.returns-in-Ok-clause-lines
 returns-in-Ok-clause-lines g c check one =
-    c.serve-ended.ensures.lines (c.in-Ok.ensures.request ∙ check.asked)
-    (outcome_of No c.serve-ended.result (sym c.status_of.ensures.status ∙ one))
+    c.run_request-ended.ensures.lines (c.in-Ok.ensures.request ∙ check.asked)
+    (outcome_of No c.run_request-ended.result (sym c.status_of.ensures.status ∙ one))
 
 pub returns-in-Ok-clause-small : goal.returns-in-Ok-clause-small
 returns-in-Ok-clause-small g c check three =
-    c.serve-ended.ensures.small (c.in-Ok.ensures.request ∙ check.asked)
-    (outcome_of Refused c.serve-ended.result (sym c.status_of.ensures.status ∙ three))
+    c.run_request-ended.ensures.small (c.in-Ok.ensures.request ∙ check.asked)
+    (outcome_of Refused c.run_request-ended.result (sym c.status_of.ensures.status ∙ three))
 
 pub returns-in-Err-clause-ran : goal.returns-in-Err-clause-ran
 returns-in-Err-clause-ran g c accepted =
-    let five = c.explain.ensures.memory (of_memory _ c.in-Err.error accepted c.in-Err.ensures.fails) in
-    let starved = c.explain.ensures.explains.out_of_memory five in
+    let five = c.write_help_or_word_fault.ensures.memory (of_memory _ c.in-Err.error accepted c.in-Err.ensures.fails) in
+    let starved = c.write_help_or_word_fault.ensures.explains.out_of_memory five in
     record {
       ended = Err Memory;
       served = record {
@@ -99,7 +100,7 @@ returns-in-Err-clause-ran g c accepted =
 pub returns-in-Err-clause-explained : goal.returns-in-Err-clause-explained
 returns-in-Err-clause-explained g c refused =
     let fails = c.in-Err.ensures.fails in
-    let explains = c.explain.ensures.explains in
+    let explains = c.write_help_or_word_fault.ensures.explains in
     record {
       unread = refl;
       by_status = record {
@@ -108,7 +109,8 @@ returns-in-Err-clause-explained g c refused =
             (help_is_asked _ c.in-Err.error shown.0 fails, shown.1, shown.2);
         refused = λ two. let said = explains.refused two in (
           (λ alone. elim fails [
-            | inl memory ↦ let five = c.explain.ensures.memory memory in absurd (omega (arith, five, two))
+            | inl memory ↦ let five = c.write_help_or_word_fault.ensures.memory memory in
+                absurd (omega (arith, five, two))
             | inr among ↦ said.0 (alone (kind_of c.in-Err.error) among)
           ]),
           said.1,
@@ -121,8 +123,9 @@ returns-in-Err-clause-explained g c refused =
 
 pub returns-in-Err-clause-in_full : goal.returns-in-Err-clause-in_full
 returns-in-Err-clause-in_full g c check =
-    let five = c.explain.ensures.memory (of_memory _ c.in-Err.error check.accepted c.in-Err.ensures.fails) in
+    let five = c.write_help_or_word_fault.ensures.memory
+    (of_memory _ c.in-Err.error check.accepted c.in-Err.ensures.fails) in
     nothing_promised IsRightInFull _ (g.R.Source.left c.args.streams.now.reader)
-    (g.W.Sink.written_bytes c.args.streams.now.writer) (g.W.Sink.written_bytes c.explain.new.writer)
+    (g.W.Sink.written_bytes c.args.streams.now.writer) (g.W.Sink.written_bytes c.write_help_or_word_fault.new.writer)
     (λ zero. absurd (omega (arith, five, zero)))
-    (ap g.W.Sink.written_bytes (c.explain.ensures.explains.out_of_memory five).0)
+    (ap g.W.Sink.written_bytes (c.write_help_or_word_fault.ensures.explains.out_of_memory five).0)

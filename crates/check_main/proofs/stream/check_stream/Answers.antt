@@ -2,7 +2,7 @@
 use Rattle.std.proofs.Common.{refl}
 use Rattle.headline.specs.RightInFull.{IsRightInFull}
 use Rattle.headline.specs.Plain.{IsWrongIfPlain}
-use Rattle.headline.specs.SmallDesigns.{IsNoSmallDesign}
+use Rattle.headline.specs.SmallDesigns.{IsNoSmallDesignText}
 use Rattle.headline.specs.ReportLines.{LinesHaveMeaning}
 use Rattle.answers.specs.declared.outcome.Outcome.TheVariants.{No, Refused}
 use Rattle.check_main.proofs.RightStreams.{nothing_promised, outcome_means, outcome_tells, yes_promised}
@@ -42,7 +42,7 @@ returns-clause-lines g c is =
 
 pub returns-clause-small : goal.returns-clause-small
 returns-clause-small g c is =
-    outcome_means IsNoSmallDesign Refused (g.R.Source.left c.args.reader.now)
+    outcome_means IsNoSmallDesignText Refused (g.R.Source.left c.args.reader.now)
     (g.R.Source.left c.read_text.new.reader) c.in_ok-feed.feed.text c.in_ok-answered.answered.outcome
     c.in_ok-answered.ensures.small c.in_ok-feed.ensures.read_all c.write_answer.result is
     c.write_answer.ensures.outcome

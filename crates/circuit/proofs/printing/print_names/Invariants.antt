@@ -1,7 +1,6 @@
-use Rattle.std.proofs.Common.{◌≡◌, ◌++◌, take}
-use Rattle.std.specs.List.{flat_map}
-use Rattle.section_text.specs.Spelling.{spaced}
+use Rattle.std.proofs.Common.{◌≡◌, ◌++◌, take, flat_map}
+use Rattle.section_text.specs.Spelling.{space_and_word}
 use Rattle.circuit.proofs.printing.print_names.Given as goal
 
 abbrev pub invariant-loop-name : goal.invariant-loop-name
-invariant-loop-name l = l.out.items ≡ l.fn.out.items ++ flat_map spaced (take l.name-index l.names)
+invariant-loop-name l = l.out.items ≡ l.fn.out.items ++ flat_map space_and_word (take l.name-index l.names)

@@ -7,18 +7,18 @@ loop-number-init c = none_done c.in_ok-values.values.items c.args.given.now (sea
 
 pub loop-number-preserved : goal.loop-number-preserved
 loop-number-preserved c =
-    let pushed : c.in_ok-push_outs.field-0 ≡ true = search rules in
-    values_more c.args.given.now c.loop-number.values.items c.push_outs.new.values.items c.args.gates.now
+    let pushed : c.in_ok-push_out_values.field-0 ≡ true = search rules in
+    values_more c.args.given.now c.loop-number.values.items c.push_out_values.new.values.items c.args.gates.now
     c.loop-number.number c.index-gates-number.result (omega arith) c.index-gates-number.is
-    (c.in_ok-push_outs.ensures.found (ap Ok pushed)) c.loop-number.invariant
+    (c.in_ok-push_out_values.ensures.found (ap Ok pushed)) c.loop-number.invariant
 
 pub returns-then-not-branch-clause-fault : goal.returns-then-not-branch-clause-fault
 returns-then-not-branch-clause-fault c =
-    let none : c.in_ok-push_outs.field-0 ≡ false = search rules in
-    values_stop c.args.given.now c.loop-number.values.items c.push_outs.new.values.items c.args.gates.now
+    let none : c.in_ok-push_out_values.field-0 ≡ false = search rules in
+    values_stop c.args.given.now c.loop-number.values.items c.push_out_values.new.values.items c.args.gates.now
     c.loop-number.number c.index-gates-number.result (omega arith) c.index-gates-number.is
-    (c.in_ok-push_outs.ensures.values_unchanged (ap Ok none))
-    (c.in_ok-push_outs.ensures.none (ap Ok none)) c.loop-number.invariant
+    (c.in_ok-push_out_values.ensures.values_unchanged (ap Ok none))
+    (c.in_ok-push_out_values.ensures.none (ap Ok none)) c.loop-number.invariant
 
 pub returns-clause-values : goal.returns-clause-values
 returns-clause-values c = values_all c.args.given.now c.loop-number.values.items c.args.gates.now c.loop-number.number

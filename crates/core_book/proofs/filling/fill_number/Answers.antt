@@ -1,5 +1,4 @@
-use Rattle.std.proofs.Common.{◌≡◌, sym, subst, inl, refl, true, false, OnOk, rules}
-use Rattle.std.specs.Prelude.{is_some}
+use Rattle.std.proofs.Common.{◌≡◌, sym, subst, inl, refl, true, false, OnOk, rules, is_some}
 use Rattle.std.specs.Arc.{arc_value}
 use Rattle.core_book.specs.Book.{found_in}
 use Rattle.core_book.specs.Filling.{IsHeldOrFiled}

@@ -8,7 +8,7 @@ use Rattle.job_pool.specs.declared.desk.DeskSeat.{DeskSeat}
 use Rattle.job_pool.specs.declared.worker.Worker.{Worker}
 use Rattle.job_pool.specs.Seats.{IsSeatOf, drawn_by}
 use Rattle.core_book.specs.Filling.{shapes_of}
-use Rattle.job_pool.specs.Work.{filed_by, seats_of, shares_of}
+use Rattle.job_pool.specs.Work.{sum_of_filed, seats_of, shares_of}
 use Rattle.job_pool.proofs.Members.{groups_below}
 use Rattle.job_pool.proofs.Filed.{all_seats, every_number_was_filed, whole}
 use Rattle.job_pool.proofs.Risen.{all_have}
@@ -18,8 +18,10 @@ use Rattle.job_pool.proofs.pool.work.Goals as goal
 enough : (n count all room : ℕ) → n ≡ all → count ≡ all → count ≤ room → n ≤ room
 enough n count all room is asked fits = omega arith
 
-pub dismiss-seats-requires-clause-room_for_seats : goal.dismiss-seats-requires-clause-room_for_seats
-dismiss-seats-requires-clause-room_for_seats g c = let hired = c.hire-workers.ensures.count in let room =
+pub take_workers_apart-seats-requires-clause-room_for_seats :
+    goal.take_workers_apart-seats-requires-clause-room_for_seats
+take_workers_apart-seats-requires-clause-room_for_seats g c = let hired = c.make_workers-workers.ensures.count in
+    let room =
     c.in-Ok.ensures.room_for_all in
     (enough _ _ _ _ hired c.len.ensures room.1, enough _ _ _ _ hired c.len.ensures room.2)
 
@@ -27,19 +29,21 @@ pub close-requires : goal.close-requires
 close-requires g c = let desk = c.in-Ok.desk in let before = c.as_mut_slice.result.now in let now =
     c.run_all.new.workers in
     let len : length now ≡ length before = search rules in
-    let same : take c.hire-workers.result.len (now ++ drop (length now) c.hire-workers.result.items) ≡ now =
-    whole _ now c.hire-workers.result.items (len ∙ ap length c.as_mut_slice.ensures.value) (search rules) in
-    subst {A = List DeskSeat} (All (IsSeatOf desk)) (sym (c.dismiss-seats.ensures.seats ∙ ap seats_of same))
+    let same : take c.make_workers-workers.result.len (now ++ drop (length now) c.make_workers-workers.result.items)
+    ≡ now =
+    whole _ now c.make_workers-workers.result.items (len ∙ ap length c.as_mut_slice.ensures.value) (search rules) in
+    subst {A = List DeskSeat} (All (IsSeatOf desk)) (sym (c.take_workers_apart-seats.ensures.seats ∙ ap seats_of same))
     (all_seats desk c.args.groups.now before now len c.run_all.ensures)
 
 pub returns-clause-filed : goal.returns-clause-filed
 returns-clause-filed g c = λ fed. let desk = c.in-Ok.desk in let before = c.as_mut_slice.result.now in let now =
     c.run_all.new.workers in
     let len : length now ≡ length before = search rules in
-    let same : take c.hire-workers.result.len (now ++ drop (length now) c.hire-workers.result.items) ≡ now =
-    whole _ now c.hire-workers.result.items (len ∙ ap length c.as_mut_slice.ensures.value) (search rules) in
+    let same : take c.make_workers-workers.result.len (now ++ drop (length now) c.make_workers-workers.result.items)
+    ≡ now =
+    whole _ now c.make_workers-workers.result.items (len ∙ ap length c.as_mut_slice.ensures.value) (search rules) in
     let P : Worker g.row.F.Denot g.row.A.Denot → Type 0 = λ w. w.starved ≡ false in
-    let quiet : All P now = All-same P _ _ (sym same) (c.dismiss-seats.ensures.starved fed) in
+    let quiet : All P now = All-same P _ _ (sym same) (c.take_workers_apart-seats.ensures.starved fed) in
     let some_worker : 0 < length before = search rules in
     let jobs = map arc_value c.args.jobs.now in
     let long = length-map jobs shape_of in
@@ -50,22 +54,25 @@ returns-clause-filed g c = λ fed. let desk = c.in-Ok.desk in let before = c.as_
     (groups_below (shapes_of jobs) c.args.groups.now c.requires.groups) in
     let closed = c.in-Ok-close.ensures in
     let sum = every_number_was_filed desk c.args.groups.now before now len c.run_all.ensures _ _ some_worker quiet
-    (closed.draws ∙ ap (map drawn_by) (c.dismiss-seats.ensures.seats ∙ ap seats_of same)) closed.all.drawn below in
-    let start = ap filed_by (ap shares_of c.as_mut_slice.ensures.value ∙ c.hire-workers.ensures.shares) in
-    let back = ap filed_by (c.dismiss-seats.ensures.shares ∙ ap shares_of same) in
+    (closed.draws ∙ ap (map drawn_by) (c.take_workers_apart-seats.ensures.seats ∙ ap seats_of same)) closed.all.drawn
+    below in
+    let start = ap sum_of_filed (ap shares_of c.as_mut_slice.ensures.value ∙ c.make_workers-workers.ensures.shares) in
+    let back = ap sum_of_filed (c.take_workers_apart-seats.ensures.shares ∙ ap shares_of same) in
     omega (arith, back, sum, start, long, many, c.requires.groups.count)
 
 pub returns-clause-shares : goal.returns-clause-shares
 returns-clause-shares g c = let before = c.as_mut_slice.result.now in let now = c.run_all.new.workers in
     let len : length now ≡ length before = search rules in
-    all_have c.in-Ok.desk c.args.groups.now c.hire-workers.result.len c.hire-workers.result.items before now _ _
-    c.hire-workers.result.ok.0 c.as_mut_slice.ensures.value len c.hire-workers.ensures.shares
-    c.dismiss-seats.ensures.shares c.run_all.ensures
+    all_have c.in-Ok.desk c.args.groups.now c.make_workers-workers.result.len c.make_workers-workers.result.items before
+    now _ _
+    c.make_workers-workers.result.ok.0 c.as_mut_slice.ensures.value len c.make_workers-workers.ensures.shares
+    c.take_workers_apart-seats.ensures.shares c.run_all.ensures
 
 pub returns-in_default-close-clause-shares : goal.returns-in_default-close-clause-shares
 returns-in_default-close-clause-shares g c = let before = c.as_mut_slice.result.now in let now =
     c.run_all.new.workers in
     let len : length now ≡ length before = search rules in
-    all_have c.in-Ok.desk c.args.groups.now c.hire-workers.result.len c.hire-workers.result.items before now _ _
-    c.hire-workers.result.ok.0 c.as_mut_slice.ensures.value len c.hire-workers.ensures.shares
-    c.dismiss-seats.ensures.shares c.run_all.ensures
+    all_have c.in-Ok.desk c.args.groups.now c.make_workers-workers.result.len c.make_workers-workers.result.items before
+    now _ _
+    c.make_workers-workers.result.ok.0 c.as_mut_slice.ensures.value len c.make_workers-workers.ensures.shares
+    c.take_workers_apart-seats.ensures.shares c.run_all.ensures

@@ -1,10 +1,9 @@
-use Rattle.std.proofs.Common.{◌≡◌, ◌≢◌, ℕ, Option, Some, None, arith, ap, ◌∙◌, true, not}
-use Rattle.std.specs.Option.{is_some}
+use Rattle.std.proofs.Common.{◌≡◌, ◌≢◌, ℕ, Option, Some, None, arith, ap, ◌∙◌, true, not, is_some}
 use Rattle.std.proofs.lemmas.Grind.{common_steps}
 use Rattle.module_job.specs.Signals.{is_live}
 use Rattle.local_run.specs.Faults.{assignments}
 use Rattle.local_run.specs.Lanes.{lane}
-use Rattle.local_run.specs.Scans.{IsLeastBelow, is_defined, valuation}
+use Rattle.local_run.specs.Scans.{IsLeastBelow, is_defined_under, valuation}
 use Rattle.local_run.proofs.Silence.{between_edges, right_edge}
 use Rattle.local_run.proofs.border.is_edge_correct.Goals as goal
 
@@ -18,7 +17,7 @@ returns-then-y-area c = grind (arith, common_steps, between_edges)
 pub returns : goal.returns
 returns c = λ h. right_edge c.args.job.now c.args.values.now c.args.marked_planes.now.planes c.args.time c.args.x
     c.args.y c.edge_signal-signal.result c.requires.shows c.edge_signal-signal.ensures.signal_is_exact
-    (none_from (assignments c.args.job.now) (λ a. (is_defined c.args.values.now a ≡ true)
+    (none_from (assignments c.args.job.now) (λ a. (is_defined_under c.args.values.now a ≡ true)
     × (lane c.args.marked_planes.now.planes a c.args.x c.args.y
     ≢ is_live (valuation c.args.values.now a) c.edge_signal-signal.result)) c.first_difference.result
     (c.is_none.ensures ∙ ap not h) (rw (c.planes.ensures, c.requires.ready.count) at c.first_difference.ensures))

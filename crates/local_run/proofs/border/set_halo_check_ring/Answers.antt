@@ -1,12 +1,11 @@
-use Rattle.std.proofs.Common.{arith, ℕ, ◌<◌, ◌≤◌, ◌+◌, ◌*◌, ◌/◌, ◌%◌, ◌≡◌, ◌∙◌, ap, ap₂, subst, sym, vec_items}
-use Rattle.std.specs.Prelude.{ℤ}
+use Rattle.std.proofs.Common.{arith, ℕ, ◌<◌, ◌≤◌, ◌+◌, ◌*◌, ◌/◌, ◌%◌, ◌≡◌, ◌∙◌, ap, ap₂, subst, sym, vec_items, ℤ}
 use Rattle.std.proofs.lemmas.Bool.{and_parts}
 use Rattle.bbm_rule.proofs.BitLemmas.{by_lt_or_le}
-use Rattle.local_run.specs.Borders.{AreSkippable}
+use Rattle.local_run.specs.Borders.{AreSkippableBetween}
 use Rattle.local_run.proofs.MarkSearch.{whole_zero}
 use Rattle.local_run.specs.Places.{box_coord, halo_coord}
 use Rattle.local_run.specs.Quiet.{AreLines, number_at}
-use Rattle.local_run.specs.Scans.{IsDefinedFault}
+use Rattle.local_run.specs.Scans.{IsFaultWhereDefined}
 use Rattle.local_run.specs.declared.fault.Kind.TheVariants.{Edge}
 use Rattle.local_run.specs.declared.planes.Planes.{Planes}
 use Rattle.local_run.proofs.Firsts.{free_from}
@@ -15,15 +14,16 @@ use Rattle.local_run.proofs.Silence.{passed_edges, passed_halo}
 use Rattle.local_run.proofs.Stepping.{outer_inner}
 use Rattle.local_run.proofs.border.set_halo_check_ring.Goals as goal
 
-pub set_or_test_word-is_right-requires-clause-passed : goal.set_or_test_word-is_right-requires-clause-passed
-set_or_test_word-is_right-requires-clause-passed c = λ u e none.
+pub set_halo_test_ring_in_word-is_right-requires-clause-passed :
+    goal.set_halo_test_ring_in_word-is_right-requires-clause-passed
+set_halo_test_ring_in_word-is_right-requires-clause-passed c = λ u e none.
     c.border_word-word.ensures.passed u (omega (arith, e)) none
 
 pub words-preserved : goal.words-preserved
 words-preserved c =
     let j = c.args.job.now in
     let m = c.words.invariant in
-    let e = c.set_or_test_word-is_right.ensures in
+    let e = c.set_halo_test_ring_in_word-is_right.ensures in
     record {
       shows = e.shows;
       lines = e.lines ∙ m.lines;
@@ -42,7 +42,7 @@ words-preserved-then-word-eq0 c =
     let p = c.words.marked_planes in
     let lines = subst (λ m. AreLines j c.args.time (vec_items m)) (sym m.lines) c.requires.lines in
     let passed : (n : ℕ) → 64 * c.words.k ≤ n → n < 64 * (c.words.k + 1) →
-    AreSkippable n (n + 1) p.line_marks.items p.planes =
+    AreSkippableBetween n (n + 1) p.line_marks.items p.planes =
     λ n g h. c.border_word-word.ensures.passed n (omega arith) (whole_zero _ (n % 64) c.if-word-eq0.true) in
     record {
       shows = m.shows;
@@ -73,8 +73,8 @@ returns-clause-edges c = λ h.
     let j = c.args.job.now in
     let vs = c.args.values.now in
     free_from j vs c.args.time Edge c.requires.sought (λ x y a lx ly la.
-    subst (λ (z : ℤ). ¬ IsDefinedFault j vs a c.args.time Edge z (box_coord j.area.y y)) (outer_inner j.area.x x)
-    (subst (λ (z : ℤ). ¬ IsDefinedFault j vs a c.args.time Edge (halo_coord j.area.x (1 + x)) z)
+    subst (λ (z : ℤ). ¬ IsFaultWhereDefined j vs a c.args.time Edge z (box_coord j.area.y y)) (outer_inner j.area.x x)
+    (subst (λ (z : ℤ). ¬ IsFaultWhereDefined j vs a c.args.time Edge (halo_coord j.area.x (1 + x)) z)
     (outer_inner j.area.y y)
     (c.words.invariant.right h (1 + x) (1 + y) (omega arith) (omega arith)
     (below (1 + x) (1 + y) (omega arith) (omega arith)) a la)))

@@ -1,5 +1,4 @@
-use Rattle.std.proofs.Common.{◌≡◌, true, false, rules, arith, ap, ◌∙◌, length}
-use Rattle.std.specs.Prelude.{IsTrue}
+use Rattle.std.proofs.Common.{◌≡◌, true, false, rules, arith, ap, ◌∙◌, length, IsTrue}
 use Rattle.std.proofs.lemmas.Grind.{common_steps}
 use Rattle.circuit.specs.Meaning.{Netlist}
 use Rattle.module_box.specs.Locals.{is_among}

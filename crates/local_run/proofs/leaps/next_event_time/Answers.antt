@@ -6,8 +6,8 @@ use Rattle.local_run.proofs.leaps.next_event_time.Goals as goal
 
 pub returns-then-next-end-clause-range : goal.returns-then-next-end-clause-range
 returns-then-next-end-clause-range c = (
-  above_at c.args.events.now _ _ _ _ c.first_event-first.ensures.first (omega arith)
-      (slice_get-get_or c.args.events.now c.first_event-first.result _ c.if-first-events.true),
+  above_at c.args.events.now _ _ _ _ c.first_event_place-first.ensures.first (omega arith)
+      (slice_get-get_or c.args.events.now c.first_event_place-first.result _ c.if-first-events.true),
   omega (arith, c.if-next-end.true),
 )
 
@@ -16,9 +16,9 @@ returns-then-next-end-clause-none c = grind (arith, common_steps, none_before, s
 
 pub returns-else-next-end-clause-none : goal.returns-else-next-end-clause-none
 returns-else-next-end-clause-none c =
-    none_until c.args.events.now _ _ _ _ _ c.requires.rising c.first_event-first.ensures.first (omega arith)
-    (slice_get-get_or c.args.events.now c.first_event-first.result _ c.if-first-events.true) c.if-next-end.false
+    none_until c.args.events.now _ _ _ _ _ c.requires.rising c.first_event_place-first.ensures.first (omega arith)
+    (slice_get-get_or c.args.events.now c.first_event_place-first.result _ c.if-first-events.true) c.if-next-end.false
 
 pub returns-else-first-events-clause-none : goal.returns-else-first-events-clause-none
 returns-else-first-events-clause-none c =
-    none_at_all c.args.events.now _ _ _ _ c.first_event-first.ensures.first c.if-first-events.false
+    none_at_all c.args.events.now _ _ _ _ c.first_event_place-first.ensures.first c.if-first-events.false

@@ -1,7 +1,7 @@
 use Rattle.std.proofs.Common.{arith, subst, sym}
 use Rattle.std.proofs.lemmas.Grind.{common_steps}
 use Rattle.circuit.specs.Meaning.{wires}
-use Rattle.module_job.specs.Signals.{IsBelow}
+use Rattle.module_job.specs.Signals.{IsSignalWireBelow}
 use Rattle.local_run.proofs.OwnWires.{edge_below}
 use Rattle.local_run.proofs.QuietLemmas.{inner_signal}
 use Rattle.local_run.proofs.places.edge_at.Goals as goal
@@ -10,6 +10,6 @@ pub returns-clause-signal_is_exact : goal.returns-clause-signal_is_exact
 returns-clause-signal_is_exact c = grind (arith, common_steps, inner_signal)
 
 pub returns-clause-below : goal.returns-clause-below
-returns-clause-below c = subst (IsBelow (wires c.args.job.now.locals.netlist))
+returns-clause-below c = subst (IsSignalWireBelow (wires c.args.job.now.locals.netlist))
     (sym (returns-clause-signal_is_exact c))
     (edge_below c.args.job.now c.args.time _ _ c.area-area.ensures.good.own)

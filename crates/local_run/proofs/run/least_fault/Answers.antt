@@ -1,5 +1,5 @@
 use Rattle.std.proofs.Common.{◌≡◌, arith, subst, sym, ℕ}
-use Rattle.local_run.specs.Calm.{AreDead}
+use Rattle.local_run.specs.Calm.{AreAllCellsDead}
 use Rattle.local_run.specs.Scans.{IsFirst, HasNoFaultOfKind}
 use Rattle.local_run.specs.declared.fault.Kind.TheVariants.{Stop}
 use Rattle.local_run.proofs.Leasts.{AreFreeBefore, early_least, end_least_fault, last_stop_least}
@@ -7,14 +7,14 @@ use Rattle.local_run.proofs.LeapRuns.{next_run}
 use Rattle.local_run.proofs.run.least_fault.Goals as goal
 
 pub put_start-requires-clause-dead : goal.put_start-requires-clause-dead
-put_start-requires-clause-dead c = subst AreDead (sym c.in_ok-marked_planes.ensures) c.in_ok-planes.ensures.dead
+put_start-requires-clause-dead c = subst AreAllCellsDead (sym c.in_ok-marked_planes.ensures) c.in_ok-planes.ensures.dead
 
 pub times-preserved : goal.times-preserved
 times-preserved c =
     let one = c.one_step-changed.ensures in
     let next = c.next_time-time.ensures in
     let range = rw c.steps-steps.ensures at next.range in
-    next_run c.args.job.now c.args.values.now c.times.time c.next_time-time.result c.times.next c.time_fault.new.next
+    next_run c.args.job.now c.args.values.now c.times.time c.next_time-time.result c.times.next c.fault_at_time.new.next
     c.times.marked_planes.planes c.one_step-changed.new.marked_planes.planes c.times.changed c.one_step-changed.result
     c.requires c.times.invariant (omega (arith, range)) c.in_default.ensures.fault one.next one.stays range next.leap
     next.next

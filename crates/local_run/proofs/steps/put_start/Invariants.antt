@@ -1,7 +1,7 @@
 use Rattle.std.proofs.Common.{◌≡◌, ℕ, ◌<◌, ◌≤◌, ◌+◌, ◌-◌, ◌*◌, ◌/◌, false}
 use Rattle.local_run.specs.Runs.{local_run}
 use Rattle.local_run.specs.Places.{box_coord}
-use Rattle.local_run.specs.Lanes.{lane, HasSize}
+use Rattle.local_run.specs.Lanes.{lane, HasWordsStrideRows}
 use Rattle.local_run.specs.Faults.{assignments}
 use Rattle.local_run.specs.Scans.{valuation}
 use Rattle.local_run.proofs.steps.put_start.Given as goal
@@ -9,7 +9,7 @@ use Rattle.local_run.proofs.steps.put_start.Given as goal
 -- the cells of the rows so far are as the run begins, and all others are dead
 abbrev pub invariant-rows : goal.invariant-rows
 invariant-rows l = record {
-  size : HasSize l.values.words (l.job.area.w / 2 + 1) (l.job.area.h / 2 + 1) l.marked_planes.planes;
+  size : HasWordsStrideRows l.values.words (l.job.area.w / 2 + 1) (l.job.area.h / 2 + 1) l.marked_planes.planes;
   above : (a x y : ℕ) → a < assignments l.job → x < l.job.area.w → y < l.y →
       lane l.marked_planes.planes a (1 + x) (1 + y)
       ≡ local_run l.job (valuation l.values a) 0 (box_coord l.job.area.x x) (box_coord l.job.area.y y);
@@ -20,7 +20,7 @@ invariant-rows l = record {
 -- so are those of the row up to a column
 abbrev pub invariant-cells : goal.invariant-cells
 invariant-cells l = record {
-  size : HasSize l.values.words (l.job.area.w / 2 + 1) (l.job.area.h / 2 + 1) l.marked_planes.planes;
+  size : HasWordsStrideRows l.values.words (l.job.area.w / 2 + 1) (l.job.area.h / 2 + 1) l.marked_planes.planes;
   above : (a x y : ℕ) → a < assignments l.job → x < l.job.area.w → y < l.y →
       lane l.marked_planes.planes a (1 + x) (1 + y)
       ≡ local_run l.job (valuation l.values a) 0 (box_coord l.job.area.x x) (box_coord l.job.area.y y);

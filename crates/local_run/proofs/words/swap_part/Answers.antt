@@ -10,5 +10,5 @@ fours-preserved c =
       first_long = omega (arith, m.first_long);
       second_long = omega (arith, m.second_long);
       swap = swaps_more c.args.a c.args.b c.fours.k 4 c.args.first.now c.args.second.now c.fours.first c.fours.second
-          c.swap_four.new.first c.swap_four.new.second m.swap c.swap_four.ensures;
+          c.swap_four_words.new.first c.swap_four_words.new.second m.swap c.swap_four_words.ensures;
     }

@@ -7,7 +7,7 @@ use Rattle.circuit.specs.Meaning.{Gate, Netlist}
 use Rattle.module_box.specs.declared.locals.LocalGate.{LocalGate}
 use Rattle.circuit.specs.Bridge.{netlist_of}
 use Rattle.circuit.specs.Wiring.{gate_of}
-use Rattle.module_box.specs.LocalGates.{as_gate}
+use Rattle.module_box.specs.LocalGates.{gate_of_local_gate}
 use Rattle.module_box.specs.Locals.{AreDifferent}
 use Rattle.module_box.proofs.WireLists.{different_front}
 use Rattle.module_box.proofs.LocalNets.{IsOver, IsPart, part_none, part_more, part_all, next_known, known_ins, next_new}
@@ -20,7 +20,8 @@ add_wires-requires-clause-different c =
 
 pub gates-init : goal.gates-init
 gates-init c =
-    let none : map as_gate c.in_ok-made.made.items ≡ [] = ap (map as_gate) c.in_ok-made.ensures.items in
+    let none : map gate_of_local_gate c.in_ok-made.made.items ≡ [] =
+    ap (map gate_of_local_gate) c.in_ok-made.ensures.items in
     subst (λ (done : List Gate). IsPart
     (netlist_of c.args.circuit.now) c.args.cuts.now c.args.gates.now 0 c.add_wires.new.known done) (sym none)
     (part_none (netlist_of c.args.circuit.now) c.args.cuts.now c.args.gates.now c.add_wires.new.known
@@ -52,18 +53,19 @@ pub gates-preserved : goal.gates-preserved
 gates-preserved c =
     let n : Netlist = netlist_of c.args.circuit.now in
     let local : LocalGate = c.local_gate-local.result in
-    let over : IsOver c.gates.known (gate_of c.gate-gate.result) (as_gate local) = record {
+    let over : IsOver c.gates.known (gate_of c.gate-gate.result) (gate_of_local_gate local) = record {
       kind = c.local_gate-local.ensures.kind;
       within = c.local_gate-local.ensures.within;
       ins = c.local_gate-local.ensures.ins;
-      outs = ap (λ m. range_with_len m (defines (as_gate local).kind)) c.local_gate-local.ensures.first;
+      outs = ap (λ m. range_with_len m (defines (gate_of_local_gate local).kind)) c.local_gate-local.ensures.first;
     } in
-    let done : map as_gate c.push.new.self.items ≡ map as_gate c.gates.made.items ++ as_gate local ∷ [] =
-    ap (map as_gate) c.in_ok-push.ensures.items ∙ map_push as_gate c.gates.made.items local in
+    let done : map gate_of_local_gate c.push.new.self.items
+    ≡ map gate_of_local_gate c.gates.made.items ++ gate_of_local_gate local ∷ [] =
+    ap (map gate_of_local_gate) c.in_ok-push.ensures.items ∙ map_push gate_of_local_gate c.gates.made.items local in
     subst (λ (done : List Gate). IsPart n c.args.cuts.now c.args.gates.now
     (c.gates.used-index + 1) c.add_wires-in-gates.new.known done) (sym done)
     (part_more n c.args.cuts.now c.args.gates.now c.gates.used-index c.used-item.result c.gates.known
-    c.add_wires-in-gates.new.known _ (gate_of c.gate-gate.result) (as_gate local)
+    c.add_wires-in-gates.new.known _ (gate_of c.gate-gate.result) (gate_of_local_gate local)
     c.gates-gate_count.ensures.ordered c.gates.invariant c.gates-test.true c.used-item.is c.gate-gate.ensures over
     (c.in_ok-add_wires-2.ensures ∙ ap (λ (l : List ℕ). c.gates.known ++ l) c.outs.ensures))
 

@@ -1,9 +1,9 @@
 use Rattle.std.proofs.Common.{map}
 use Rattle.circuit.specs.Bridge.{netlist_of}
-use Rattle.module_box.specs.LocalGates.{as_gate}
+use Rattle.module_box.specs.LocalGates.{gate_of_local_gate}
 use Rattle.module_box.proofs.LocalNets.{IsPart}
 use Rattle.module_box.proofs.locals.number_cuts_and_gates.Given as goal
 
 abbrev pub invariant-gates : goal.invariant-gates
 invariant-gates l = IsPart (netlist_of l.circuit) l.cuts l.fn.gates l.used-index l.known
-    (map as_gate l.made.items)
+    (map gate_of_local_gate l.made.items)

@@ -1,5 +1,4 @@
-use Rattle.std.proofs.Common.{◌≡◌, ℕ, ◌*◌, ◌/◌, ◌<◌, length, get_or, take, arith, refl, ap, ◌∙◌}
-use Rattle.std.specs.Prelude.{slice_index}
+use Rattle.std.proofs.Common.{◌≡◌, ℕ, ◌*◌, ◌/◌, ◌<◌, length, get_or, take, arith, refl, ap, ◌∙◌, slice_index}
 use Rattle.std.proofs.lemmas.List.{with_items_is}
 use Rattle.std.proofs.lemmas.Option.{slice_get-get_or}
 use Rattle.module_box.specs.Tiling.{Owning, IsTable}
@@ -7,13 +6,13 @@ use Rattle.module_box.proofs.Tilings.{all_inside, bad_block, filled_from, owners
 use Rattle.module_box.proofs.Tilings.{taken_gap, taken_all_times, taken_twice}
 use Rattle.module_box.proofs.tile.owner_table.Goals as goal
 
-pub take_box-kept-requires-clause-even : goal.take_box-kept-requires-clause-even
-take_box-kept-requires-clause-even c =
+pub fill_box_until_taken-kept-requires-clause-even : goal.fill_box_until_taken-kept-requires-clause-even
+fill_box_until_taken-kept-requires-clause-even c =
     c.requires.even c.boxes.number _ (slice_get-get_or c.args.boxes.now c.boxes.number _ c.boxes-test.true)
 
-pub take_box-kept-requires-clause-fits : goal.take_box-kept-requires-clause-fits
-take_box-kept-requires-clause-fits c =
-    let inside = c.first_outside-outside.ensures.before c.boxes.number
+pub fill_box_until_taken-kept-requires-clause-fits : goal.fill_box_until_taken-kept-requires-clause-fits
+fill_box_until_taken-kept-requires-clause-fits c =
+    let inside = c.first_box_outside-outside.ensures.before c.boxes.number
     (get_or c.args.boxes.now c.boxes.number (record { x = 0; y = 0; w = 0; h = 0 })) (omega arith)
     (slice_get-get_or c.args.boxes.now c.boxes.number _ c.boxes-test.true) in
     let right = inside.right in
@@ -27,28 +26,29 @@ take_box-kept-requires-clause-fits c =
 
 pub boxes-preserved : goal.boxes-preserved
 boxes-preserved c =
-    let takes = rw c.deref_mut.ensures.value at c.take_box-kept.ensures in
-    let long : length c.take_box-kept.new.table ≡ length c.boxes.numbers.items =
+    let takes = rw c.deref_mut.ensures.value at c.fill_box_until_taken-kept.ensures in
+    let long : length c.fill_box_until_taken-kept.new.table ≡ length c.boxes.numbers.items =
     omega (arith, ap length c.deref_mut.ensures.value) in
-    let items = with_items_is c.boxes.numbers c.take_box-kept.new.table (omega (arith, c.boxes.numbers.ok.0)) in
+    let items = with_items_is c.boxes.numbers c.fill_box_until_taken-kept.new.table
+    (omega (arith, c.boxes.numbers.ok.0)) in
     taken_by_next (c.args.width / 2)
-    (c.args.height / 2 * (c.args.width / 2)) c.boxes.number c.take_box-kept.result c.args.boxes.now _
-    c.boxes.numbers.items c.take_box-kept.new.table c.truncate.new.self.items
+    (c.args.height / 2 * (c.args.width / 2)) c.boxes.number c.fill_box_until_taken-kept.result c.args.boxes.now _
+    c.boxes.numbers.items c.fill_box_until_taken-kept.new.table c.truncate.new.self.items
     c.boxes.invariant c.boxes-test.true (slice_get-get_or c.args.boxes.now c.boxes.number _ c.boxes-test.true) takes
-    (c.truncate.ensures.items ∙ ap (take c.take_box-kept.result) items)
+    (c.truncate.ensures.items ∙ ap (take c.fill_box_until_taken-kept.result) items)
 
 pub returns-then-gap-len : goal.returns-then-gap-len
 returns-then-gap-len c =
     let columns = c.args.width / 2 in
     let blocks = c.args.height / 2 * (c.args.width / 2) in
-    let place = c.first_free-gap.result in
+    let place = c.first_free_place-gap.result in
     let table = c.boxes.numbers.items in
-    let free = rw c.deref.ensures.value at c.first_free-gap.ensures in
+    let free = rw c.deref.ensures.value at c.first_free_place-gap.ensures in
     let t = taken_by_all columns blocks c.boxes.number c.args.boxes.now table c.boxes.invariant (omega arith) in
     let lt : place < length table = omega (arith, c.boxes.numbers.ok.0) in
     let within : place < blocks = (let b = t.bound in omega (arith, b, lt)) in (
       bad_block c.args.width c.args.height _ place c.args.boxes.now c.corner.result
-          c.first_outside-outside.ensures.before c.if-outside-boxes.false within
+          c.first_box_outside-outside.ensures.before c.if-outside-boxes.false within
           (taken_all_times columns blocks place c.args.boxes.now table t (omega (arith, lt)) free.before)
           c.corner.ensures,
       taken_gap columns blocks place c.args.boxes.now table c.corner.result t lt (free.found lt) c.corner.ensures,
@@ -60,14 +60,14 @@ returns-then-len-blocks c =
     let blocks = c.args.height / 2 * (c.args.width / 2) in
     let place = c.len-then-len-blocks.result in
     let table = c.boxes.numbers.items in
-    let free = rw c.deref.ensures.value at c.first_free-gap.ensures in
+    let free = rw c.deref.ensures.value at c.first_free_place-gap.ensures in
     let t = taken_by_all columns blocks c.boxes.number c.args.boxes.now table c.boxes.invariant (omega arith) in
     let long : place ≡ length table = omega (arith, c.boxes.numbers.ok.0) in
     let within : place < blocks = omega arith in
     let full : (k : ℕ) → k < place → ¬ (slice_index table k ≡ length c.args.boxes.now) =
     λ k p. free.before k (omega arith) in (
       bad_block c.args.width c.args.height _ place c.args.boxes.now c.corner-then-len-blocks.result
-          c.first_outside-outside.ensures.before c.if-outside-boxes.false within
+          c.first_box_outside-outside.ensures.before c.if-outside-boxes.false within
           (taken_all_times columns blocks place c.args.boxes.now table t (omega (arith, long)) full)
           c.corner-then-len-blocks.ensures,
       taken_twice columns blocks place c.args.boxes.now table c.corner-then-len-blocks.result t long within
@@ -76,9 +76,9 @@ returns-then-len-blocks c =
 
 pub invariant_of-result : goal.invariant_of-result
 invariant_of-result c =
-    let free = rw c.deref.ensures.value at c.first_free-gap.ensures in
+    let free = rw c.deref.ensures.value at c.first_free_place-gap.ensures in
     let filled = filled_from (c.args.width / 2)
-    (c.args.height / 2 * (c.args.width / 2)) c.boxes.number c.first_free-gap.result c.args.boxes.now
+    (c.args.height / 2 * (c.args.width / 2)) c.boxes.number c.first_free_place-gap.result c.args.boxes.now
     c.boxes.numbers.items c.boxes.invariant (omega arith)
     (omega (arith, c.boxes.numbers.ok.0)) (omega (arith, c.boxes.numbers.ok.0)) free.before in
     record { width = c.requires.width; height = c.requires.height; sized = filled.sized }
@@ -87,9 +87,9 @@ pub returns : goal.returns
 returns c =
     let owners_view : Owning =
     record { width = c.args.width; height = c.args.height; numbers = c.boxes.numbers.items } in
-    let free = rw c.deref.ensures.value at c.first_free-gap.ensures in
+    let free = rw c.deref.ensures.value at c.first_free_place-gap.ensures in
     let filled = filled_from (c.args.width / 2)
-    (c.args.height / 2 * (c.args.width / 2)) c.boxes.number c.first_free-gap.result c.args.boxes.now
+    (c.args.height / 2 * (c.args.width / 2)) c.boxes.number c.first_free_place-gap.result c.args.boxes.now
     c.boxes.numbers.items c.boxes.invariant (omega arith)
     (omega (arith, c.boxes.numbers.ok.0)) (omega (arith, c.boxes.numbers.ok.0)) free.before in
     let table : IsTable owners_view =
@@ -97,5 +97,5 @@ returns c =
       refl,
       refl,
       owners_from owners_view c.args.boxes.now table c.requires.even filled
-          (all_inside _ _ _ _ c.first_outside-outside.ensures.before c.if-outside-boxes.false),
+          (all_inside _ _ _ _ c.first_box_outside-outside.ensures.before c.if-outside-boxes.false),
     )

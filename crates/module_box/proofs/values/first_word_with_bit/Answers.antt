@@ -1,5 +1,4 @@
-use Rattle.std.proofs.Common.{◌≡◌, rules, false, arith}
-use Rattle.std.specs.Prelude.{slice_index}
+use Rattle.std.proofs.Common.{◌≡◌, rules, false, arith, slice_index}
 use Rattle.bbm_rule.specs.Bits.{bit}
 use Rattle.module_box.proofs.LocalRows.{clear_more}
 use Rattle.module_box.proofs.values.first_word_with_bit.Goals as goal

@@ -4,7 +4,8 @@ use Rattle.module_box.proofs.values.value_words.Goals as goal
 
 pub gates-preserved : goal.gates-preserved
 gates-preserved c =
-    column_more c.args.given.now c.args.gates.now c.gates.gate-index _ c.gates.words.items c.push_outs.new.words.items
+    column_more c.args.given.now c.args.gates.now c.gates.gate-index _ c.gates.words.items
+    c.push_out_words.new.words.items
     c.gates.undefined.items c.push.new.self.items c.gates.defined _ _ _ (omega arith)
     c.in_ok-none.ensures (search rules) c.in_ok-push.ensures.items (search rules) c.gates.invariant
 

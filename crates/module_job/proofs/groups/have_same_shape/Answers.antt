@@ -1,5 +1,4 @@
-use Rattle.std.proofs.Common.{◌≡◌, map, Some, sym, ap, ◌∙◌}
-use Rattle.std.specs.Prelude.{slice_get}
+use Rattle.std.proofs.Common.{◌≡◌, map, Some, sym, ap, ◌∙◌, slice_get}
 use Rattle.std.specs.Arc.{arc_value}
 use Rattle.module_job.specs.Shapes.{shape_of}
 use Rattle.module_job.proofs.EqualJobs.{shapes_decide}

@@ -1,6 +1,5 @@
 -- The lines so far are printed.
-use Rattle.std.proofs.Common.{◌≡◌, ◌++◌, take}
-use Rattle.std.specs.List.{flat_map}
+use Rattle.std.proofs.Common.{◌≡◌, ◌++◌, take, flat_map}
 use Rattle.section_text.specs.Spelling.{line_text}
 use Rattle.pattern.specs.Text.{cell_words}
 use Rattle.pattern.proofs.printing.print_cells.Given as goal

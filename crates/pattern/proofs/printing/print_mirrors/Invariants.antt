@@ -1,7 +1,5 @@
 -- The lines so far are printed.
-use Rattle.std.proofs.Common.{◌≡◌, ◌++◌, take}
-use Rattle.std.specs.Prelude.{codes}
-use Rattle.std.specs.List.{flat_map}
+use Rattle.std.proofs.Common.{◌≡◌, ◌++◌, take, codes, flat_map}
 use Rattle.section_text.specs.Spelling.{line_text}
 use Rattle.pattern.specs.Text.{rectangle_words}
 use Rattle.pattern.proofs.printing.print_mirrors.Given as goal

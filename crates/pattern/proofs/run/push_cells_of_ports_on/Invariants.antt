@@ -1,5 +1,4 @@
-use Rattle.std.proofs.Common.{◌≡◌, ◌++◌, take, map}
-use Rattle.std.specs.List.{filter}
+use Rattle.std.proofs.Common.{◌≡◌, ◌++◌, take, map, filter}
 use Rattle.section_text.specs.Words.{has}
 use Rattle.pattern.proofs.run.push_cells_of_ports_on.Given as goal
 

@@ -12,21 +12,22 @@ pub returns-in-Some : goal.returns-in-Some
 returns-in-Some c =
     let on = has c.args.on.now in
     let g = c.in_ok-grid.grid in
-    let taken_at_start = subst (λ (p : Pattern). (x y : ℤ) → live g x y ≡ start p on x y)
+    let cells_taken_at_start = subst (λ (p : Pattern). (x y : ℤ) → live g x y ≡ start p on x y)
     (sym c.layout.view_is) c.in_ok-grid.ensures.cells in
     subst (λ (p : Pattern). LeavesAt p on c.in-Some.step) c.layout.view_is
-    (leaves_at (pattern_of c.layout.inside) on g _ taken_at_start c.in-Some.ensures.run)
+    (leaves_at (pattern_of c.layout.inside) on g _ cells_taken_at_start c.in-Some.ensures.run)
 
-pub live_list-requires-clause-small : goal.live_list-requires-clause-small
-live_list-requires-clause-small c = let sides = size_sides c.layout.inside.size c.layout.invariant.size in
+pub live_cells_in_order-requires-clause-small : goal.live_cells_in_order-requires-clause-small
+live_cells_in_order-requires-clause-small c = let sides = size_sides c.layout.inside.size c.layout.invariant.size in
     (sides.0.most, sides.1.most)
 
 pub returns : goal.returns
 returns c =
     let on = has c.args.on.now in
     let g = c.in_ok-grid.grid in
-    let taken_at_start = subst (λ (p : Pattern). (x y : ℤ) → live g x y ≡ start p on x y)
+    let cells_taken_at_start = subst (λ (p : Pattern). (x y : ℤ) → live g x y ≡ start p on x y)
     (sym c.layout.view_is) c.in_ok-grid.ensures.cells in
-    subst (λ (p : Pattern). EndsWith p on c.in_ok-live_list-in-None.field-0.items) c.layout.view_is
-    (ends_with (pattern_of c.layout.inside) on g c.run_all.new.grid _ taken_at_start c.in-None.ensures.run
-    c.in_ok-live_list-in-None.ensures)
+    subst (λ (p : Pattern). EndsWith p on c.in_ok-live_cells_in_order-in-None.field-0.items) c.layout.view_is
+    (ends_with (pattern_of c.layout.inside) on g c.run_until_leaving.new.grid _ cells_taken_at_start
+    c.in-None.ensures.run
+    c.in_ok-live_cells_in_order-in-None.ensures)

@@ -6,13 +6,13 @@ use Rattle.pattern.specs.declared.layout_line.Port.{Port}
 use Rattle.pattern.specs.Layout.{Pattern, in_cells, rectangle_cells}
 use Rattle.pattern.specs.LayoutView.{pattern_of}
 use Rattle.section_text.specs.Words.{has}
-use Rattle.pattern.specs.Run.{start_list}
+use Rattle.pattern.specs.Run.{start_cells_in_order}
 use Rattle.pattern.proofs.InsideLemmas.{size_sides, begins_inside, mirrors_fit}
 use Rattle.pattern.proofs.StartLemmas.{in_start_list, start_list_made}
 use Rattle.pattern.proofs.run.start_cells.Goals as goal
 
-pub push_mirrors-requires : goal.push_mirrors-requires
-push_mirrors-requires c =
+pub push_mirror_cells-requires : goal.push_mirror_cells-requires
+push_mirror_cells-requires c =
     let p : Pattern = pattern_of c.layout.inside in
     let sides = size_sides p.size c.layout.invariant.size in
     let all = begins_inside p c.layout.invariant.parts in
@@ -21,27 +21,27 @@ push_mirrors-requires c =
     (sym c.as_slice.ensures.value)
     (mirrors_fit p.size p.mirrors all.mirrors sides.0.most sides.1.most)
 
-five_listed : (c : goal.In_ok-push_ports_on) →
-    c.push_ports_on.new.out.items ≡ start_list c.args.layout.now (has c.args.on.now)
-five_listed c =
+list_of_five_words : (c : goal.In_ok-push_ports_on) →
+    c.push_ports_on.new.out.items ≡ start_cells_in_order c.args.layout.now (has c.args.on.now)
+list_of_five_words c =
     let p : Pattern = pattern_of c.layout.inside in
     let ports = λ (qs : List Port). map (λ (q : Port). q.cell) (filter (λ (q : Port). has c.args.on.now q.name) qs) in
-    let mirrors : c.push_mirrors.new.out.items ≡ flat_map rectangle_cells p.mirrors =
-    c.in_ok-push_mirrors.ensures ∙ ap
+    let mirrors : c.push_mirror_cells.new.out.items ≡ flat_map rectangle_cells p.mirrors =
+    c.in_ok-push_mirror_cells.ensures ∙ ap
     (λ (l : List Cell). l ++ flat_map rectangle_cells c.as_slice.result.now) c.new-cells.ensures.items
     ∙ ap (flat_map rectangle_cells) c.as_slice.ensures.value in
-    let balls : c.extend_from_slice.new.self.items ≡ c.push_mirrors.new.out.items ++ p.balls =
+    let balls : c.extend_from_slice.new.self.items ≡ c.push_mirror_cells.new.out.items ++ p.balls =
     c.in_ok-extend_from_slice.ensures.items
-    ∙ ap (λ (l : List Cell). c.push_mirrors.new.out.items ++ l) c.as_slice-2.ensures.value in
+    ∙ ap (λ (l : List Cell). c.push_mirror_cells.new.out.items ++ l) c.as_slice-2.ensures.value in
     let ins : c.push_ports_on.new.out.items ≡ c.extend_from_slice.new.self.items ++ ports p.ins =
     c.in_ok-push_ports_on.ensures
     ∙ ap (λ (l : List Port). c.extend_from_slice.new.self.items ++ ports l) c.as_slice-3.ensures.value in
-    subst (λ (p : Pattern). c.push_ports_on.new.out.items ≡ start_list p (has c.args.on.now)) c.layout.view_is
+    subst (λ (p : Pattern). c.push_ports_on.new.out.items ≡ start_cells_in_order p (has c.args.on.now)) c.layout.view_is
     (start_list_made p (has c.args.on.now) _ _ _ mirrors balls ins)
 
 pub returns-clause-order : goal.returns-clause-order
-returns-clause-order c = five_listed c
+returns-clause-order c = list_of_five_words c
 
 pub returns-clause-cells : goal.returns-clause-cells
-returns-clause-cells c = λ x y. ap (λ (l : List Cell). in_cells l x y) (five_listed c)
+returns-clause-cells c = λ x y. ap (λ (l : List Cell). in_cells l x y) (list_of_five_words c)
     ∙ in_start_list c.args.layout.now (has c.args.on.now) x y

@@ -1,5 +1,4 @@
-use Rattle.std.proofs.Common.{◌≡◌, true, ℤ, arith, ap, ◌∙◌, sym}
-use Rattle.std.specs.Prelude.{All}
+use Rattle.std.proofs.Common.{◌≡◌, true, ℤ, arith, ap, ◌∙◌, sym, All}
 use Rattle.std.proofs.lemmas.List.Elements.{All-same}
 use Rattle.bbm_rule.specs.Board.{is_inside}
 use Rattle.bbm_rule.specs.declared.block.Cell.{Cell}
@@ -24,10 +23,10 @@ make_live-requires c =
     let on = has c.args.on.now in
     let grid = c.in_ok-grid.grid in
     let cells = c.in_ok-cells.cells.items in
-    let taken_at_start : (x y : ℤ) → in_cells cells x y ≡ true → start p on x y ≡ true =
+    let cells_taken_at_start : (x y : ℤ) → in_cells cells x y ≡ true → start p on x y ≡ true =
     λ x y e. ap (λ (q : Pattern). start q on x y) c.layout.view_is ∙ sym (c.in_ok-cells.ensures.cells x y) ∙ e in
     let inside : (x y : ℤ) → in_cells cells x y ≡ true → is_inside grid x y ≡ true =
     λ x y e. inside_is_layout grid p.size c.in_ok-grid.ensures.size.0 c.in_ok-grid.ensures.size.1 x y
-    ∙ start_inside p on (begins_inside p c.layout.invariant.parts) x y (taken_at_start x y e) in
+    ∙ start_inside p on (begins_inside p c.layout.invariant.parts) x y (cells_taken_at_start x y e) in
     let all : All (λ (q : Cell). is_inside grid q.x q.y ≡ true) cells = λ k d lt. inside _ _ (among cells k d lt) in
     All-same (λ (q : Cell). is_inside grid q.x q.y ≡ true) _ cells c.as_slice.ensures.value all

@@ -1,6 +1,5 @@
 -- The lines so far are printed.
-use Rattle.std.proofs.Common.{◌≡◌, ◌++◌, take}
-use Rattle.std.specs.List.{flat_map}
+use Rattle.std.proofs.Common.{◌≡◌, ◌++◌, take, flat_map}
 use Rattle.report.specs.ReportText.{report_line_text}
 use Rattle.report.proofs.printing.print_lines.Given as goal
 

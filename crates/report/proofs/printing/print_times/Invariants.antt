@@ -1,5 +1,4 @@
-use Rattle.std.proofs.Common.{◌≡◌, ◌++◌, take}
-use Rattle.std.specs.List.{flat_map}
+use Rattle.std.proofs.Common.{◌≡◌, ◌++◌, take, flat_map}
 use Rattle.core_book.specs.Verdicts.{timing_report}
 use Rattle.report.specs.ReportText.{report_line_text}
 use Rattle.report.proofs.printing.print_times.Given as goal

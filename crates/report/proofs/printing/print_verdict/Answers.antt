@@ -1,10 +1,9 @@
-use Rattle.std.proofs.Common.{◌≡◌, ◌++◌, ◌∙◌, [], ◌∷◌, List, ℕ, ap, ap₂, sym, subst, append_assoc, codes}
-use Rattle.std.specs.List.{flat_map}
+use Rattle.std.proofs.Common.{◌≡◌, ◌++◌, ◌∙◌, [], ◌∷◌, List, ℕ, ap, ap₂, sym, subst, append_assoc, codes, flat_map}
 use Rattle.std.specs.Result.{OnOk}
 use Rattle.section_text.specs.Spelling.{line_text}
 use Rattle.circuit.specs.Bridge.{circuit_of}
 use Rattle.certificate.specs.Grammars.{modules_in}
-use Rattle.certificate.specs.Times.{time_lines}
+use Rattle.certificate.specs.Times.{delay_and_meet_lines}
 use Rattle.certificate.specs.declared.times.TimeLine.{TimeLine}
 use Rattle.core_book.specs.Verdicts.{timing_report}
 use Rattle.core_book.specs.declared.verdict.Verdict.{Verdict}
@@ -16,7 +15,7 @@ returns-in_ok-times-in-Yes c =
     let old = c.args.text.now.items in
     let yes : List ℕ = line_text (codes "verdict") (codes "yes" ∷ []) in
     let lines : List TimeLine → List ℕ = λ ts. flat_map (λ t. report_line_text (timing_report t)) ts in
-    let times = time_lines (circuit_of c.args.cert.now.circuit) (modules_in c.args.cert.now) in
+    let times = delay_and_meet_lines (circuit_of c.args.cert.now.circuit) (modules_in c.args.cert.now) in
     subst (λ xs. OnOk c.print_times.result (c.print_times.new.text.items ≡ xs))
     (ap₂ (λ xs ts. xs ++ lines ts) c.in_ok-extend_from_slice-in-Yes.ensures.items
     (c.deref.ensures.value ∙ c.in_ok-times-in-Yes.ensures)

@@ -1,9 +1,7 @@
-use Rattle.std.proofs.Common.{◌≡◌, ◌∙◌, ◌+◌, true, false, sym, ap, drop, rules}
-use Rattle.std.specs.Prelude.{codes}
+use Rattle.std.proofs.Common.{◌≡◌, ◌∙◌, ◌+◌, true, false, sym, ap, drop, rules, codes, option_copied}
 use Rattle.std.specs.Str.{bytes_eq}
-use Rattle.std.specs.Option.{option_copied}
 use Rattle.std.proofs.lemmas.List.{drop-drop}
-use Rattle.section_text.specs.Words.{words_of, words_left}
+use Rattle.section_text.specs.Words.{words_of, words_of_rest}
 use Rattle.section_text.proofs.WordsLeft.{names_are, names_from, no_arrow, no_names_after, no_names_before, no_word_at}
 use Rattle.section_text.proofs.WordsLeft.{no_word_between, one_further, word_at, words_after}
 use Rattle.section_text.proofs.words.names_beside_arrow_in.Goals as goal
@@ -21,14 +19,14 @@ returns-in_err-rest c =
     ∙ drop-drop c.args.before c.args.from ws in
     rw c.from_residual-in_err-rest.ensures (no_word_between ws c.args.from c.args.before c.args.after
     (no_word_at ws (c.args.from + c.args.before)
-    (ap (λ r. words_left (option_copied r)) (sym c.in_err-rest.was) ∙ behind)))
+    (ap (λ r. words_of_rest (option_copied r)) (sym c.in_err-rest.was) ∙ behind)))
 
 pub returns-then-ne : goal.returns-then-ne
 returns-then-ne c =
     let ws = words_of c.args.line.now in
     let behind = c.in_ok-ins.ensures.left ∙ ap (drop c.args.before) c.words_from.ensures
     ∙ drop-drop c.args.before c.args.from ws in
-    let here = sym c.next_word.ensures ∙ ap (λ r. words_left (option_copied r)) (sym c.in_ok-rest.was) ∙ behind in
+    let here = sym c.next_word.ensures ∙ ap (λ r. words_of_rest (option_copied r)) (sym c.in_ok-rest.was) ∙ behind in
     let other : bytes_eq c.next_word.result.0.now (codes "->") ≡ false = search rules in
     no_arrow ws c.args.from c.args.before c.args.after c.next_word.result.0.now
     (word_at ws (c.args.from + c.args.before) _ _ here) other
@@ -38,7 +36,7 @@ returns-in_err-outs c =
     let ws = words_of c.args.line.now in
     let behind = c.in_ok-ins.ensures.left ∙ ap (drop c.args.before) c.words_from.ensures
     ∙ drop-drop c.args.before c.args.from ws in
-    let here = sym c.next_word.ensures ∙ ap (λ r. words_left (option_copied r)) (sym c.in_ok-rest.was) ∙ behind in
+    let here = sym c.next_word.ensures ∙ ap (λ r. words_of_rest (option_copied r)) (sym c.in_ok-rest.was) ∙ behind in
     let after = one_further ws (c.args.from + c.args.before) _ _ here in
     rw c.from_residual-in_err-outs.ensures (no_names_after ws c.args.from c.args.before c.args.after
     (c.in_err-outs.ensures.names ∙ names_from ws _ (c.args.from + c.args.before + 1) c.args.after after))
@@ -48,10 +46,10 @@ returns-in-Some c =
     let ws = words_of c.args.line.now in
     let behind = c.in_ok-ins.ensures.left ∙ ap (drop c.args.before) c.words_from.ensures
     ∙ drop-drop c.args.before c.args.from ws in
-    let here = sym c.next_word.ensures ∙ ap (λ r. words_left (option_copied r)) (sym c.in_ok-rest.was) ∙ behind in
+    let here = sym c.next_word.ensures ∙ ap (λ r. words_of_rest (option_copied r)) (sym c.in_ok-rest.was) ∙ behind in
     let after = one_further ws (c.args.from + c.args.before) _ _ here in
     words_after ws c.args.from c.args.before c.args.after c.in-Some.field-0.now
-    (ap (λ r. words_left (option_copied r)) (sym c.in-Some.is)
+    (ap (λ r. words_of_rest (option_copied r)) (sym c.in-Some.is)
     ∙ c.in_ok-outs.ensures.left ∙ ap (drop c.args.after) after
     ∙ drop-drop c.args.after (c.args.from + c.args.before + 1) ws)
 
@@ -60,13 +58,13 @@ returns-in-None c =
     let ws = words_of c.args.line.now in
     let behind = c.in_ok-ins.ensures.left ∙ ap (drop c.args.before) c.words_from.ensures
     ∙ drop-drop c.args.before c.args.from ws in
-    let here = sym c.next_word.ensures ∙ ap (λ r. words_left (option_copied r)) (sym c.in_ok-rest.was) ∙ behind in
+    let here = sym c.next_word.ensures ∙ ap (λ r. words_of_rest (option_copied r)) (sym c.in_ok-rest.was) ∙ behind in
     let after = one_further ws (c.args.from + c.args.before) _ _ here in
     let arrow : bytes_eq c.next_word.result.0.now (codes "->") ≡ true = search rules in
     names_are ws c.args.from c.args.before c.args.after c.next_word.result.0.now _ _
     (word_at ws (c.args.from + c.args.before) _ _ here) arrow
     (c.in_ok-ins.ensures.names ∙ names_from ws _ c.args.from c.args.before c.words_from.ensures)
     (c.in_ok-outs.ensures.names ∙ names_from ws _ (c.args.from + c.args.before + 1) c.args.after after)
-    (ap (λ r. words_left (option_copied r)) (sym c.in-None.is)
+    (ap (λ r. words_of_rest (option_copied r)) (sym c.in-None.is)
     ∙ c.in_ok-outs.ensures.left ∙ ap (drop c.args.after) after
     ∙ drop-drop c.args.after (c.args.from + c.args.before + 1) ws)

@@ -1,24 +1,23 @@
-use Rattle.std.proofs.Common.{◌≡◌, ◌∙◌, ◌+◌, sym, ap, drop, arith}
-use Rattle.std.specs.Option.{option_copied}
+use Rattle.std.proofs.Common.{◌≡◌, ◌∙◌, ◌+◌, sym, ap, drop, arith, option_copied}
 use Rattle.std.proofs.lemmas.List.{length_push}
-use Rattle.section_text.specs.Words.{words_left, names_at}
+use Rattle.section_text.specs.Words.{words_of_rest, names_at}
 use Rattle.section_text.proofs.NamesAt.{goes_on, stops, is_done}
 use Rattle.section_text.proofs.WordsLeft.{name_by_word, no_name_at, one_further}
 use Rattle.section_text.proofs.words.take_names.Goals as goal
 
 pub returns-in_err-rest-clause-names : goal.returns-in_err-rest-clause-names
-returns-in_err-rest-clause-names c = let ws = words_left (option_copied c.args.left) in
+returns-in_err-rest-clause-names c = let ws = words_of_rest (option_copied c.args.left) in
     let none = stops ws c.loop-i.names 0 c.args.count c.loop-i.i (names_at ws 0 c.args.count)
     (omega arith) (no_name_at ws (0 + c.loop-i.i)
-    (ap (λ o. words_left (option_copied o)) (sym c.in_err-rest.was) ∙ c.loop-i.invariant.rest))
+    (ap (λ o. words_of_rest (option_copied o)) (sym c.in_err-rest.was) ∙ c.loop-i.invariant.rest))
     c.loop-i.invariant.so_far in
     rw c.from_residual.ensures (sym none)
 
 pub returns-in_err-of-clause-names : goal.returns-in_err-of-clause-names
-returns-in_err-of-clause-names c = let ws = words_left (option_copied c.args.left) in
+returns-in_err-of-clause-names c = let ws = words_of_rest (option_copied c.args.left) in
     let none = stops ws c.loop-i.names 0 c.args.count c.loop-i.i (names_at ws 0 c.args.count)
     (omega arith) (name_by_word ws (0 + c.loop-i.i) _ _
-    (sym c.next_word.ensures ∙ ap (λ o. words_left (option_copied o)) (sym c.in_ok-rest.was)
+    (sym c.next_word.ensures ∙ ap (λ o. words_of_rest (option_copied o)) (sym c.in_ok-rest.was)
     ∙ c.loop-i.invariant.rest) ∙ sym c.of.ensures ∙ c.in_err-of.was) c.loop-i.invariant.so_far in
     rw c.from_residual-in_err-of.ensures (sym none)
 
@@ -26,8 +25,8 @@ pub push-requires : goal.push-requires
 push-requires c = omega (arith, c.loop-i.invariant.as_many)
 
 pub loop-i-preserved : goal.loop-i-preserved
-loop-i-preserved c = let ws = words_left (option_copied c.args.left) in
-    let here = sym c.next_word.ensures ∙ ap (λ o. words_left (option_copied o)) (sym c.in_ok-rest.was)
+loop-i-preserved c = let ws = words_of_rest (option_copied c.args.left) in
+    let here = sym c.next_word.ensures ∙ ap (λ o. words_of_rest (option_copied o)) (sym c.in_ok-rest.was)
     ∙ c.loop-i.invariant.rest in
     let more = goes_on ws c.loop-i.names 0 c.args.count c.loop-i.i
     (names_at ws 0 c.args.count) c.in_ok-of.field-0 (omega arith)
@@ -42,11 +41,11 @@ loop-i-preserved c = let ws = words_left (option_copied c.args.left) in
     }
 
 pub returns-clause-names : goal.returns-clause-names
-returns-clause-names c = let ws = words_left (option_copied c.args.left) in
+returns-clause-names c = let ws = words_of_rest (option_copied c.args.left) in
     sym (is_done ws c.loop-i.names 0 c.args.count c.loop-i.i (names_at ws 0 c.args.count)
     (omega arith) c.loop-i.invariant.so_far)
 
 pub returns-clause-left : goal.returns-clause-left
 returns-clause-left c =
     let all : 0 + c.loop-i.i ≡ c.args.count = omega arith in
-    c.loop-i.invariant.rest ∙ ap (λ k. drop k (words_left (option_copied c.args.left))) all
+    c.loop-i.invariant.rest ∙ ap (λ k. drop k (words_of_rest (option_copied c.args.left))) all

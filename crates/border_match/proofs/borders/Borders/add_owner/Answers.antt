@@ -1,6 +1,5 @@
 -- The cells of the box have one owner, whose number is there.
-use Rattle.std.proofs.Common.{◌≡◌, ◌∙◌, ◌+◌, ◌≤◌, ◌<◌, ℕ, Some, length, subst, sym}
-use Rattle.std.specs.Prelude.{slice_get}
+use Rattle.std.proofs.Common.{◌≡◌, ◌∙◌, ◌+◌, ◌≤◌, ◌<◌, ℕ, Some, length, subst, sym, slice_get}
 use Rattle.std.specs.Arc.{arc_value}
 use Rattle.module_box.specs.declared.boxes.Box2.{Box2}
 use Rattle.module_job.specs.Jobs.{IsJob, JobView}
@@ -31,8 +30,8 @@ returns c =
     let number = c.owner-number.result in
     let owner = c.deref.result.now in
     let near = c.args.near.now.items in
-    let new = c.add_number.new.near.items in
-    let is = c.in_ok-add_number.ensures in
+    let new = c.add_number_once.new.near.items in
+    let is = c.in_ok-add_number_once.ensures in
     let lt : number < length b.jobs.now =
     subst (λ (n : ℕ). n < length b.jobs.now) (sym c.owner-number.ensures)
     (owner_within b x y c.requires.ready c.requires.inside) in

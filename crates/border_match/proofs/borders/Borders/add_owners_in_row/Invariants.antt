@@ -1,13 +1,13 @@
 -- The cells of the columns so far are noted, as far down as the boxes of their owners.
 use Rattle.std.proofs.Common.{◌<◌, ◌-◌}
-use Rattle.border_match.specs.Boards.{AreColumnOwnersListed, AreModuleNumbers, KeepsNumbers}
+use Rattle.border_match.specs.Boards.{AreOwnersListedToColumn, AreModuleNumbers, KeepsAllNumbers}
 use Rattle.border_match.proofs.borders.Borders.add_owners_in_row.Given as goal
 
 abbrev pub invariant-columns : goal.invariant-columns
 invariant-columns l = record {
-  noted : AreColumnOwnersListed l.self l.near.items l.y l.next l.x;
+  noted : AreOwnersListedToColumn l.self l.near.items l.y l.next l.x;
   after : l.y < l.next;
-  kept : KeepsNumbers l.fn.near.items l.near.items;
+  kept : KeepsAllNumbers l.fn.near.items l.near.items;
   below : AreModuleNumbers l.self l.near.items;
 }
 

@@ -1,8 +1,8 @@
 use Rattle.border_match.proofs.Cells.{owned_near}
 use Rattle.border_match.proofs.borders.Borders.halo_event_differs.Goals as goal
 
-pub event_signal-requires-clause-near : goal.event_signal-requires-clause-near
-event_signal-requires-clause-near c =
+pub signal_at_event-requires-clause-near : goal.signal_at_event-requires-clause-near
+signal_at_event-requires-clause-near c =
     owned_near c.args.self.now c.args.event.at.cell c.owner-owner.result.now c.requires.ready c.requires.inside
     c.owner-owner.ensures c.area-area.ensures.good
 

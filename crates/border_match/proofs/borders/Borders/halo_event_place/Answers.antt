@@ -1,5 +1,4 @@
-use Rattle.std.proofs.Common.{◌≡◌, ℕ, Option, None, Some, SFits, w32, rules, of_z, to_z, to_z-of_z, ap, ◌∙◌}
-use Rattle.std.specs.Prelude.{IfSome}
+use Rattle.std.proofs.Common.{◌≡◌, ℕ, Option, None, Some, SFits, w32, rules, of_z, to_z, to_z-of_z, ap, ◌∙◌, IfSome}
 use Rattle.module_box.specs.declared.boxes.Box2.{Box2}
 use Rattle.module_job.specs.Shapes.{ShapeView, shift_to_origin}
 use Rattle.border_match.proofs.Marks.{local_place}
@@ -20,7 +19,8 @@ returns c =
     simp to_z-of_z (c.shift_to_origin.ensures.distance_is_exact ∙ left) in
     let ey : to_z w32 (of_z w32 c.shift_to_origin-2.result) ≡ shift_to_origin j.area.y =
     simp to_z-of_z (c.shift_to_origin-2.ensures.distance_is_exact ∙ top) in
-    told c.place_of.result (λ k is. local_place j.area.x j.area.y _ _ c.moved_cell.result j.halos c.halos.result.now
+    told c.find_event_place.result
+    (λ k is. local_place j.area.x j.area.y _ _ c.moved_cell.result j.halos c.halos.result.now
     c.events.result.now c.args.at k ex ey c.moved_cell.ensures c.events.ensures.same_list
     (c.halos.ensures ∙ ap (λ (s : ShapeView). s.halos) (c.deref-shape.ensures ∙ c.shape.ensures)) is)
-    c.place_of.ensures
+    c.find_event_place.ensures

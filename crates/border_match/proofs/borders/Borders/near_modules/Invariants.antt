@@ -1,11 +1,11 @@
 -- The cells of the rows so far are noted.
 use Rattle.std.proofs.Common.{◌-◌}
-use Rattle.border_match.specs.Boards.{AreModuleNumbers, AreRowOwnersListed}
+use Rattle.border_match.specs.Boards.{AreModuleNumbers, AreOwnersListedInRows}
 use Rattle.border_match.proofs.borders.Borders.near_modules.Given as goal
 
 abbrev pub invariant-rows : goal.invariant-rows
 invariant-rows l = record {
-  noted : AreRowOwnersListed l.self l.near.items (l.self.job.now.area.y - 1) l.y;
+  noted : AreOwnersListedInRows l.self l.near.items (l.self.job.now.area.y - 1) l.y;
   below : AreModuleNumbers l.self l.near.items;
 }
 

@@ -1,5 +1,4 @@
-use Rattle.std.proofs.Common.{◌≡◌, ℕ, ◌+◌, List, Some, ap, subst, ◌∙◌, arith}
-use Rattle.std.specs.Prelude.{pos, slice_get}
+use Rattle.std.proofs.Common.{◌≡◌, ℕ, ◌+◌, List, Some, ap, subst, ◌∙◌, arith, pos, slice_get}
 use Rattle.std.proofs.lemmas.Int.{ints}
 use Rattle.module_box.specs.Moments.{moment_cmp}
 use Rattle.module_box.specs.Schedules.{IsRising, Signals, moment_of}
@@ -8,8 +7,8 @@ use Rattle.module_box.specs.declared.boxes.Box2.{Box2}
 use Rattle.module_box.specs.declared.schedules.TimedSignal.{TimedSignal}
 use Rattle.module_job.specs.Jobs.{JobView}
 use Rattle.module_job.specs.Shapes.{ShapeView, shape_of, shift_to_origin}
-use Rattle.border_match.specs.Boards.{AreReadyBorders, IsSearchedFault, IsNamedBelow, jobs_of}
-use Rattle.border_match.specs.Candidates.{IsCandidateAtMost}
+use Rattle.border_match.specs.Boards.{AreReadyBorders, IsFaultOfSearchedJob, IsNamedBelow, jobs_of}
+use Rattle.border_match.specs.Candidates.{HasCandidateAtMost}
 use Rattle.border_match.specs.Surroundings.{AreEventsFar, IsWindow}
 use Rattle.border_match.specs.declared.borders.Borders.{Borders}
 use Rattle.border_match.specs.declared.fault.BorderFault.{BorderFault}
@@ -22,7 +21,7 @@ use Rattle.border_match.proofs.borders.Borders.with_edge_events.Goals as goal
 -- the events that the search passes over are no faults
 passed : (b : Borders) (other : JobView) (a corner : Box2) (w : Window) (es : List TimedSignal) (s : Signals)
     (sv : ShapeView) (i next : ℕ) (f : BorderFault) → a ≡ b.job.now.area → corner ≡ other.area → IsWindow a corner w →
-    es ≡ s.events → s ≡ sv.edges → sv ≡ shape_of other → AreEventsFar w es i next → IsSearchedFault b f →
+    es ≡ s.events → s ≡ sv.edges → sv ≡ shape_of other → AreEventsFar w es i next → IsFaultOfSearchedJob b f →
     IsNamedBelow next other.edges.events f → IsNamedBelow i other.edges.events f
 passed b other a corner w es s sv i next f ea ec is same are shape far g h =
     far_step b other a corner w es i next f ea ec is
@@ -34,7 +33,7 @@ events-init c = record {
       c.events-events.result.now c.edges.result.now _ 0 _ h c.area.ensures.area c.area-2.ensures.area
       c.around-window.ensures c.events-events.ensures.same_list c.edges.ensures
       (c.deref-shape.ensures ∙ c.shape.ensures)
-      c.next_near-place.ensures.far f r in let lt = k.below in omega (arith, lt));
+      c.next_place_near-place.ensures.far f r in let lt = k.below in omega (arith, lt));
   marked = c.requires.marked;
 }
 
@@ -50,7 +49,7 @@ events-preserved c = record {
       c.events-events.result.now c.edges.result.now _ (c.events.place + 1) _ h c.area.ensures.area c.area-2.ensures.area
       c.around-window.ensures c.events-events.ensures.same_list c.edges.ensures
       (c.deref-shape.ensures ∙ c.shape.ensures)
-      c.next_near-place-in-events.ensures.far f r));
+      c.next_place_near-place-in-events.ensures.far f r));
   marked = c.with_edge_event-least.ensures.marked;
 }
 
@@ -89,7 +88,7 @@ returns-then-not-is_less c =
     let rising : R other.edges.events =
     events_unmoved (shift_to_origin other.area.x) (shift_to_origin other.area.y) (pos other.area.x) (pos other.area.y)
     other.edges (omega (arith, ints)) (omega (arith, ints)) (subst R are c.events-events.ensures.rising) in
-    let covered = subst (IsCandidateAtMost c.events.least)
+    let covered = subst (HasCandidateAtMost c.events.least)
     (same_fault _ _ c.fault_at.result c.fault_at.ensures.time c.fault_at.ensures.cell)
     (c.is_less.ensures c.if-not-is_less.true) in
     let better = better_rest _ _ _ _ _ c.events.invariant.better (λ h r. rest_covered other.edges.events c.events.place

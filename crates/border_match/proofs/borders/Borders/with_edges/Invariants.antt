@@ -1,11 +1,12 @@
 -- The faults that the edges of the modules so far name are covered.
 use Rattle.std.proofs.Common.{take}
-use Rattle.border_match.specs.Boards.{AreMarked, IsSearchedFault, IsAtEdgeEventOfAny}
+use Rattle.border_match.specs.Boards.{AreMarked, IsFaultOfSearchedJob, IsAtEdgeEventOfAny}
 use Rattle.border_match.specs.Candidates.{IsBetter}
 use Rattle.border_match.proofs.borders.Borders.with_edges.Given as goal
 
 abbrev pub invariant-modules : goal.invariant-modules
 invariant-modules l = record {
-  better : IsBetter (IsSearchedFault l.self) (IsAtEdgeEventOfAny (take l.number-index l.near) l.self) l.fn.best l.least;
+  better : IsBetter (IsFaultOfSearchedJob l.self)
+      (IsAtEdgeEventOfAny (take l.number-index l.near) l.self) l.fn.best l.least;
   marked : AreMarked l.self l.seen;
 }

@@ -1,8 +1,8 @@
 use Rattle.std.proofs.Common.{◌≡◌, ◌<◌}
-use Rattle.border_match.specs.Boards.{IsSearchedFault}
+use Rattle.border_match.specs.Boards.{IsFaultOfSearchedJob}
 use Rattle.border_match.specs.declared.fault.BorderFault.{BorderFault}
 use Rattle.border_match.proofs.borders.Borders.with_first_fault_of.Given as goal
 
 -- The cell has no fault before.
 abbrev pub invariant-times : goal.invariant-times
-invariant-times l = (h : BorderFault) → IsSearchedFault l.self h → h.cell ≡ l.cell → h.time < l.time → ⊥
+invariant-times l = (h : BorderFault) → IsFaultOfSearchedJob l.self h → h.cell ≡ l.cell → h.time < l.time → ⊥

@@ -9,6 +9,6 @@ returns c =
     let own = job_signals c.args.border j in
     let are = stars_of j.area.x j.area.y own c.schedule.result.now c.all_times.result.now
     c.all_times.ensures.same_list c.schedule.ensures in
-    better_for _ _ _ _ _ c.with_stars.ensures
+    better_for _ _ _ _ _ c.with_faults_at_stars.ensures
     (λ h f r. starred_back c.args.self.now j.area c.area-corner.result c.all_times.result.now own.all_times h
     c.area-corner.ensures.area are r)

@@ -1,5 +1,4 @@
-use Rattle.std.proofs.Common.{◌≡◌, ◌&&◌, false, map, sym, ap, subst, ◌∙◌}
-use Rattle.std.specs.Prelude.{IfOk}
+use Rattle.std.proofs.Common.{◌≡◌, ◌&&◌, false, map, sym, ap, subst, ◌∙◌, IfOk}
 use Rattle.std.specs.Arc.{arc_value}
 use Rattle.circuit.specs.Bridge.{circuit_of}
 use Rattle.certificate_lines.specs.Entries.{modules_of}
@@ -8,7 +7,7 @@ use Rattle.certificate_lines.specs.Settings.{setting_of}
 use Rattle.certificate.specs.Jobs.{AreJobsOf}
 use Rattle.certificate_lines.specs.Modules.{AreModules}
 use Rattle.certificate.specs.LayoutTablesView.{LayoutTablesView}
-use Rattle.certificate_lines.specs.Versions.{is_haloless, lacks_wire, modules_by_version}
+use Rattle.certificate_lines.specs.Versions.{is_haloless_version, lacks_edge_wire_beside, modules_by_version}
 use Rattle.certificate.proofs.cert.Cert.jobs.Goals as goal
 
 pub jobs_of_version-requires-clause-modules : goal.jobs_of_version-requires-clause-modules
@@ -31,12 +30,13 @@ jobs_of_version-requires-clause-complete c =
     c.as_slice.ensures.value ∙ ap (λ (t : CertView). t.entries) c.self.view_is in
     let plan_is : c.in_ok-tables.tables ≡ record { circuit = s.circuit; layout = s.layout } =
     c.in_ok-tables.ensures ∙ ap (λ (t : CertView). record { circuit = t.circuit; layout = t.layout }) c.self.view_is in
-    subst (λ (q : LayoutTablesView). (is_haloless c.self.inside.version
-    && lacks_wire (setting_of q.circuit q.layout) (modules_of c.as_slice.result.now)) ≡ false) (sym plan_is)
-    (subst (λ xs. (is_haloless c.self.inside.version && lacks_wire (setting_of s.circuit s.layout) (modules_of xs))
+    subst (λ (q : LayoutTablesView). (is_haloless_version c.self.inside.version
+    && lacks_edge_wire_beside (setting_of q.circuit q.layout) (modules_of c.as_slice.result.now)) ≡ false) (sym plan_is)
+    (subst (λ xs. (is_haloless_version c.self.inside.version
+    && lacks_edge_wire_beside (setting_of s.circuit s.layout) (modules_of xs))
     ≡ false) (sym entries_are)
-    (subst (λ (t : CertView). (is_haloless c.self.inside.version
-    && lacks_wire (setting_of t.circuit t.layout) (modules_of t.entries)) ≡ false) c.self.view_is
+    (subst (λ (t : CertView). (is_haloless_version c.self.inside.version
+    && lacks_edge_wire_beside (setting_of t.circuit t.layout) (modules_of t.entries)) ≡ false) c.self.view_is
     c.self.invariant.complete))
 
 pub returns : goal.returns

@@ -1,11 +1,10 @@
-use Rattle.std.proofs.Common.{◌≡◌, ◌∙◌, map, sym, ap, ap₂, subst}
-use Rattle.std.specs.Prelude.{IfOk}
+use Rattle.std.proofs.Common.{◌≡◌, ◌∙◌, map, sym, ap, ap₂, subst, IfOk}
 use Rattle.circuit.specs.Bridge.{circuit_of}
 use Rattle.certificate_lines.specs.Entries.{modules_of}
 use Rattle.certificate.specs.Grammars.{CertView}
 use Rattle.certificate.specs.SliceLines.{slice_lines}
 use Rattle.certificate_lines.specs.Settings.{setting_of}
-use Rattle.certificate.specs.Times.{time_lines}
+use Rattle.certificate.specs.Times.{delay_and_meet_lines}
 use Rattle.certificate.proofs.MeantLines.{times_meant}
 use Rattle.certificate.proofs.cert.Cert.times.Goals as goal
 
@@ -15,6 +14,6 @@ returns c =
     let modules_are = ap (map slice_lines) c.deref.ensures.value ∙ c.in_ok-parts.ensures.modules in
     let circuit_is = ap (λ (t : CertView). t.circuit) c.self.view_is in
     subst (λ ls. IfOk c.lines_of.result (λ lines. lines.items ≡ ls))
-    (ap₂ (λ cs ms. time_lines (circuit_of cs) ms) circuit_is modules_are
+    (ap₂ (λ cs ms. delay_and_meet_lines (circuit_of cs) ms) circuit_is modules_are
     ∙ sym (times_meant s.version (setting_of s.circuit s.layout) (circuit_of s.circuit) (modules_of s.entries)))
     c.lines_of.ensures

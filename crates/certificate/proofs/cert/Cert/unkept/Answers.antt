@@ -27,10 +27,11 @@ gates-preserved c =
     ∙ ap (λ (ms : List ModuleLines). is_kept ms c.gates.number)
     (ap (map slice_lines) c.deref.ensures.value ∙ c.in_ok-parts.ensures.modules) in
     unkept_more (unkept (setting_of s.circuit s.layout) (modules_of s.entries)) c.gates.gates.items
-    c.push_unkept.new.gates.items (modules_of s.entries) gs c.gates.number
+    c.push_if_unkept_inverse.new.gates.items (modules_of s.entries) gs c.gates.number
     (gate_of c.gate-gate.result) c.is_inverse.result c.is_kept-keeps.result
     (let test = c.gates-test.true in omega (arith, test, count)) at
-    (c.is_inverse.ensures ∙ ap is_inverse c.kind.ensures.same_kind) kept c.in_ok-push_unkept.ensures c.gates.invariant
+    (c.is_inverse.ensures ∙ ap is_inverse c.kind.ensures.same_kind) kept c.in_ok-push_if_unkept_inverse.ensures
+    c.gates.invariant
 
 pub returns : goal.returns
 returns c =

@@ -1,11 +1,10 @@
-use Rattle.std.proofs.Common.{◌≡◌, ◌∙◌, ℕ, List, Option, Some, None, ap, subst, sym}
-use Rattle.std.specs.Prelude.{IsTrue, IfSome}
+use Rattle.std.proofs.Common.{◌≡◌, ◌∙◌, ℕ, List, Option, Some, None, ap, subst, sym, IsTrue, IfSome}
 use Rattle.circuit.specs.Bridge.{circuit_of}
 use Rattle.pattern.specs.declared.layout_line.Port.{Port}
 use Rattle.module_box.specs.Locals.{circuit_wire}
 use Rattle.certificate_lines.specs.PortTables.{port_at}
-use Rattle.certificate.specs.Jobs.{demand_of, demand_outside_mirrors, end_demand}
-use Rattle.certificate.specs.LayoutTablesView.{LayoutTablesView, KnowsPort}
+use Rattle.certificate.specs.Jobs.{wire_or_dead, demand_outside_mirrors, end_demand}
+use Rattle.certificate.specs.LayoutTablesView.{LayoutTablesView, IsPortWireLocalAt}
 use Rattle.certificate_lines.specs.Rules.{is_local}
 use Rattle.module_job.specs.declared.job.Demand.TheVariants.{Live, Wire, Any, Dead}
 use Rattle.certificate.proofs.LayoutTableLemmas.{end_live, end_port}
@@ -25,7 +24,7 @@ local_wire_by_name-requires c =
     subst (λ (o : Option (List ℕ)).
     IfSome o (λ name. IsTrue (is_local (circuit_of c.self.inside.circuit.now) c.args.locals.now.circuit_wires name)))
     (sym port)
-    (subst (λ (s : LayoutTablesView). KnowsPort
+    (subst (λ (s : LayoutTablesView). IsPortWireLocalAt
     (circuit_of s.circuit) c.args.locals.now.circuit_wires s.layout.outs c.args.cell.x c.args.cell.y)
     (sym c.self.view_is) c.requires)
 
@@ -33,7 +32,7 @@ pub returns-in-Some-clause-same_demand : goal.returns-in-Some-clause-same_demand
 returns-in-Some-clause-same_demand c =
     subst (λ (s : LayoutTablesView). Wire (circuit_wire c.args.locals.now c.local_wire_by_name.result)
     ≡ end_demand (circuit_of s.circuit) s.layout c.args.cell.x c.args.cell.y) c.self.view_is
-    (ap demand_of (sym c.local_wire_by_name.ensures.same_wire)
+    (ap wire_or_dead (sym c.local_wire_by_name.ensures.same_wire)
     ∙ end_port (circuit_of c.self.inside.circuit.now) c.self.inside.layout.now c.args.cell.x c.args.cell.y
     c.is_live.result (c.is_live.ensures ∙ c.self.invariant.mirrors c.args.cell.x c.args.cell.y) c.if-is_live.false
     (Some c.in-Some.name) (c.in-Some.ensures

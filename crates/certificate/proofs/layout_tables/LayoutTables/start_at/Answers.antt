@@ -1,12 +1,11 @@
-use Rattle.std.proofs.Common.{◌≡◌, ◌∙◌, ℕ, List, Option, Some, None, ap, subst, sym}
-use Rattle.std.specs.Prelude.{IsTrue, IfSome}
+use Rattle.std.proofs.Common.{◌≡◌, ◌∙◌, ℕ, List, Option, Some, None, ap, subst, sym, IsTrue, IfSome}
 use Rattle.circuit.specs.Bridge.{circuit_of}
 use Rattle.pattern.specs.declared.layout_line.Port.{Port}
 use Rattle.module_box.specs.Locals.{circuit_wire}
 use Rattle.module_box.specs.declared.schedules.Signal.TheVariants.{Zero, One, Wire}
 use Rattle.certificate_lines.specs.PortTables.{port_at}
-use Rattle.certificate.specs.Jobs.{signal_of, start_signal}
-use Rattle.certificate.specs.LayoutTablesView.{LayoutTablesView, KnowsPort}
+use Rattle.certificate.specs.Jobs.{wire_or_zero, start_signal}
+use Rattle.certificate.specs.LayoutTablesView.{LayoutTablesView, IsPortWireLocalAt}
 use Rattle.certificate_lines.specs.Rules.{is_local}
 use Rattle.certificate.proofs.LayoutTableLemmas.{start_one, start_port}
 use Rattle.certificate.proofs.layout_tables.LayoutTables.start_at.Goals as goal
@@ -27,7 +26,7 @@ local_wire_by_name-requires c =
     subst (λ (o : Option (List ℕ)).
     IfSome o (λ name. IsTrue (is_local (circuit_of c.self.inside.circuit.now) c.args.locals.now.circuit_wires name)))
     (sym port)
-    (subst (λ (s : LayoutTablesView). KnowsPort
+    (subst (λ (s : LayoutTablesView). IsPortWireLocalAt
     (circuit_of s.circuit) c.args.locals.now.circuit_wires s.layout.ins c.args.cell.x c.args.cell.y)
     (sym c.self.view_is) c.requires)
 
@@ -35,7 +34,7 @@ pub returns-in-Some-clause-same_signal : goal.returns-in-Some-clause-same_signal
 returns-in-Some-clause-same_signal c =
     subst (λ (s : LayoutTablesView). Wire (circuit_wire c.args.locals.now c.local_wire_by_name.result)
     ≡ start_signal (circuit_of s.circuit) s.layout c.args.cell.x c.args.cell.y) c.self.view_is
-    (ap signal_of (sym c.local_wire_by_name.ensures.same_wire)
+    (ap wire_or_zero (sym c.local_wire_by_name.ensures.same_wire)
     ∙ start_port (circuit_of c.self.inside.circuit.now) c.self.inside.layout.now c.args.cell.x c.args.cell.y
     c.is_live-mirror.result c.is_live-ball.result
     (c.is_live-mirror.ensures ∙ c.self.invariant.mirrors c.args.cell.x c.args.cell.y)

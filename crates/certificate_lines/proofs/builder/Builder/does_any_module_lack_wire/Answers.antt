@@ -9,8 +9,8 @@ use Rattle.certificate_lines.specs.BuilderView.{BuilderView, lacks_edge_wire}
 use Rattle.certificate_lines.specs.Entries.{ModuleLines, counts_of, edge_in, modules_of}
 use Rattle.certificate_lines.proofs.builder.Builder.does_any_module_lack_wire.Goals as goal
 
-pub returns-then-lacks_wire_in : goal.returns-then-lacks_wire_in
-returns-then-lacks_wire_in c =
+pub returns-then-lacks_edge_wire_in : goal.returns-then-lacks_edge_wire_in
+returns-then-lacks_edge_wire_in c =
     let ms = modules_of c.args.self.now.entries in
     let k = c.modules.number in
     let none : ModuleLines = record { area = c.args.area; lines = [] } in
@@ -20,7 +20,8 @@ returns-then-lacks_wire_in c =
     let below = c.modules-test.true in let count = c.len-number-end.ensures in
     let lt : k < length ms = omega (arith, below, count, counted) in
     sym (list_any_at (lacks_edge_wire c.args.self.now.setting.circuit (flat_map edge_in c.args.lines.now)) ms k none lt
-    (sym (c.lacks_wire_in.ensures (get_or ms k none) (slice_get-get_or ms k none lt)) ∙ c.if-lacks_wire_in.true))
+    (sym (c.lacks_edge_wire_in.ensures (get_or ms k none) (slice_get-get_or ms k none lt))
+    ∙ c.if-lacks_edge_wire_in.true))
 
 pub modules-preserved : goal.modules-preserved
 modules-preserved c =
@@ -37,4 +38,5 @@ modules-preserved c =
     ap (λ n. list_any test (take n ms)) one ∙ ap (list_any test) (take-suc ms k none lt)
     ∙ list_any-append test (take k ms) (get_or ms k none ∷ [])
     ∙ ap₂ (λ a b. a || (b || false)) c.modules.invariant
-    (sym (c.lacks_wire_in.ensures (get_or ms k none) (slice_get-get_or ms k none lt)) ∙ c.if-lacks_wire_in.false)
+    (sym (c.lacks_edge_wire_in.ensures (get_or ms k none) (slice_get-get_or ms k none lt))
+    ∙ c.if-lacks_edge_wire_in.false)

@@ -1,5 +1,4 @@
-use Rattle.std.proofs.Common.{◌∙◌, ap, sym}
-use Rattle.std.specs.Option.{option_map}
+use Rattle.std.proofs.Common.{◌∙◌, ap, sym, option_map}
 use Rattle.certificate_lines.specs.Entries.{modules_of}
 use Rattle.certificate_lines.proofs.OddBlocks.{lacked_constant}
 use Rattle.certificate_lines.proofs.builder.Builder.does_neighbour_lack_wire.Goals as goal

@@ -4,7 +4,7 @@ use Rattle.bbm_rule.specs.Plane.{partner}
 use Rattle.module_box.specs.Boxes.{in_box}
 use Rattle.module_box.specs.Tiling.{rectangle_of}
 use Rattle.module_box.specs.declared.boxes.Box2.{Box2}
-use Rattle.certificate_lines.specs.BuilderView.{is_nonlocal_outside}
+use Rattle.certificate_lines.specs.BuilderView.{is_outside_and_nonlocal}
 use Rattle.certificate_lines.specs.Entries.{ModuleLines, modules_of}
 use Rattle.certificate_lines.proofs.OddBlocks.{lacked_beside, low_cell}
 use Rattle.certificate_lines.proofs.builder.Builder.is_nonlocal_in_neighbour.Goals as goal
@@ -38,15 +38,17 @@ returns-clause-lacked c =
     let px : c.odd_partner-column.result ≡ partner 1 cell.x = simp to_z-of_z at c.odd_partner-column.ensures in
     let py : c.odd_partner-row.result ≡ partner 1 cell.y = simp to_z-of_z at c.odd_partner-row.ensures in
     let asks : ℤ → ℤ → Bool = λ x y.
-    list_any (λ (m : ModuleLines). in_box m.area x y && is_nonlocal_outside v.setting.circuit cell c.args.wire m) ms in
+    list_any (λ (m : ModuleLines). in_box m.area x y && is_outside_and_nonlocal v.setting.circuit cell c.args.wire m)
+    ms in
     let fc : SFits w32 c.odd_partner-column.result = search rules in
     let fr : SFits w32 c.odd_partner-row.result = search rules in
-    let beside : c.is_nonlocal_at_owner-beside.result ≡ asks c.odd_partner-column.result cell.y =
-    simp to_z-of_z at c.is_nonlocal_at_owner-beside.ensures.lacked in
-    let above : c.is_nonlocal_at_owner-above.result ≡ asks cell.x c.odd_partner-row.result =
-    simp to_z-of_z at c.is_nonlocal_at_owner-above.ensures.lacked in
-    let corner : c.is_nonlocal_at_owner-corner.result ≡ asks c.odd_partner-column.result c.odd_partner-row.result =
-    simp to_z-of_z at c.is_nonlocal_at_owner-corner.ensures.lacked in
+    let beside : c.is_nonlocal_at_other_owner-beside.result ≡ asks c.odd_partner-column.result cell.y =
+    simp to_z-of_z at c.is_nonlocal_at_other_owner-beside.ensures.lacked in
+    let above : c.is_nonlocal_at_other_owner-above.result ≡ asks cell.x c.odd_partner-row.result =
+    simp to_z-of_z at c.is_nonlocal_at_other_owner-above.ensures.lacked in
+    let corner : c.is_nonlocal_at_other_owner-corner.result
+    ≡ asks c.odd_partner-column.result c.odd_partner-row.result =
+    simp to_z-of_z at c.is_nonlocal_at_other_owner-corner.ensures.lacked in
     ap₂ (λ a b. a || b)
     (ap₂ (λ a b. a || b) (beside ∙ ap (λ x. asks x cell.y) px) (above ∙ ap (asks cell.x) py))
     (corner ∙ ap₂ asks px py)

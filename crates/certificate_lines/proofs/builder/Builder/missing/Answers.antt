@@ -5,38 +5,40 @@ use Rattle.pattern.proofs.InsideLemmas.{size_sides}
 use Rattle.pattern.specs.declared.layout_line.LayoutHeader.{LayoutHeader}
 use Rattle.module_box.specs.Tiling.{rectangle_of}
 use Rattle.certificate_lines.specs.Entries.{modules_of, areas, last_module}
-use Rattle.certificate_lines.specs.Rules.{box_cells, end_fault, is_incomplete}
+use Rattle.certificate_lines.specs.Rules.{box_cells, end_fault, is_last_module_incomplete}
 use Rattle.certificate_lines.specs.BuilderView.{BuilderView}
 use Rattle.certificate_lines.proofs.BuiltLemmas.{live_gap, missing_none, missing_some}
 use Rattle.certificate_lines.proofs.builder.Builder.missing.Goals as goal
 use Rattle.section_text.specs.declared.code.RefusalCode.TheVariants.{SomethingMissing}
 
-pub is_full-full-requires-clause-small : goal.is_full-full-requires-clause-small
-is_full-full-requires-clause-small c = let s = size_sides c.size-size.result c.size-size.ensures.limits in
+pub are_all_cells_live-full-requires-clause-small : goal.are_all_cells_live-full-requires-clause-small
+are_all_cells_live-full-requires-clause-small c = let s = size_sides c.size-size.result c.size-size.ensures.limits in
     (s.0.most, s.1.most)
 
 pub returns-then-lacks-full : goal.returns-then-lacks-full
 returns-then-lacks-full c =
     let es = c.self.inside.entries.items in
-    let full = ap not (c.is_full-full.ensures
+    let full = ap not (c.are_all_cells_live-full.ensures
     ∙ ap (λ (s : LayoutHeader). list_all (λ d. live c.self.inside.covered d.x d.y) (box_cells (rectangle_of s.w s.h)))
     c.size-size.ensures.size) in
-    let lacks = subst (λ (s : BuilderView). c.lacks_port-lacks.result ≡ is_incomplete s.setting (last_module s.entries))
-    (sym c.self.view_is) c.lacks_port-lacks.ensures in
+    let lacks = subst (λ (s : BuilderView).
+    c.has_nonlocal_port-lacks.result ≡ is_last_module_incomplete s.setting (last_module s.entries))
+    (sym c.self.view_is) c.has_nonlocal_port-lacks.ensures in
     subst (λ (s : BuilderView). Some SomethingMissing ≡ end_fault s.setting s.entries) c.self.view_is
-    (missing_some c.self.inside.tables es c.lacks_port-lacks.result c.is_full-full.result lacks
+    (missing_some c.self.inside.tables es c.has_nonlocal_port-lacks.result c.are_all_cells_live-full.result lacks
     (full ∙ live_gap c.self.inside.tables.size
     (areas (modules_of es)) c.self.inside.covered c.self.invariant.kept.built.cells) c.if-lacks-full.true)
 
 pub returns-else-lacks-full : goal.returns-else-lacks-full
 returns-else-lacks-full c =
     let es = c.self.inside.entries.items in
-    let full = ap not (c.is_full-full.ensures
+    let full = ap not (c.are_all_cells_live-full.ensures
     ∙ ap (λ (s : LayoutHeader). list_all (λ d. live c.self.inside.covered d.x d.y) (box_cells (rectangle_of s.w s.h)))
     c.size-size.ensures.size) in
-    let lacks = subst (λ (s : BuilderView). c.lacks_port-lacks.result ≡ is_incomplete s.setting (last_module s.entries))
-    (sym c.self.view_is) c.lacks_port-lacks.ensures in
+    let lacks = subst (λ (s : BuilderView).
+    c.has_nonlocal_port-lacks.result ≡ is_last_module_incomplete s.setting (last_module s.entries))
+    (sym c.self.view_is) c.has_nonlocal_port-lacks.ensures in
     subst (λ (s : BuilderView). None ≡ end_fault s.setting s.entries) c.self.view_is
-    (missing_none c.self.inside.tables es c.lacks_port-lacks.result c.is_full-full.result lacks
+    (missing_none c.self.inside.tables es c.has_nonlocal_port-lacks.result c.are_all_cells_live-full.result lacks
     (full ∙ live_gap c.self.inside.tables.size
     (areas (modules_of es)) c.self.inside.covered c.self.invariant.kept.built.cells) c.if-lacks-full.false)

@@ -1,6 +1,5 @@
 use Rattle.std.proofs.Common.{◌≡◌, ◌∙◌, List, Some, None, Option, get_or, ℕ, zero, suc, true, ◌<◌, ◌-◌, refl, ap, sym}
-use Rattle.std.proofs.Common.{subst}
-use Rattle.std.proofs.Common.{arith}
+use Rattle.std.proofs.Common.{subst, arith}
 use Rattle.pattern.specs.declared.layout_line.Port.{Port}
 use Rattle.certificate_lines.specs.PortTables.{port_at, IsPortTable, entry_place, number_at}
 use Rattle.certificate_lines.specs.declared.ports.PortTable.TheInside.{Inside}

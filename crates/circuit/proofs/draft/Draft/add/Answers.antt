@@ -5,8 +5,8 @@ use Rattle.circuit.specs.declared.circuit_line.CircuitLine.{CircuitLine}
 use Rattle.circuit.specs.Entries.{defined}
 use Rattle.circuit.specs.Rules.{consumed, consume, define, exceeds_limit}
 use Rattle.circuit.specs.Meaning.{number}
-use Rattle.circuit.specs.Bridge.{InputsFirst}
-use Rattle.circuit.specs.Wiring.{gate_of, gate_at, marked}
+use Rattle.circuit.specs.Bridge.{IsNoInputAfterGate}
+use Rattle.circuit.specs.Wiring.{gate_of, gate_with_outs_from, with_marks_set}
 use Rattle.circuit.proofs.Drafts.{added}
 use Rattle.circuit.proofs.WireMarks.{marks_reach}
 use Rattle.circuit.proofs.draft.Draft.add.Goals as goal
@@ -40,8 +40,8 @@ invariant_of-self-then-is_gate c =
     let outs_pass : define c.self.inside.wires.keys c.args.entry.outs ≡ None = search rules in
     let wired : map gate_of c.push_line_and_gate.new.wired.items
     ≡ map gate_of c.self.inside.wired.items
-    ++ gate_at c.args.entry.kind c.in-Ok.ins (length c.self.inside.wires.keys) = search rules in
-    let used : c.mark_wires.new.consumed.items ≡ marked (take (length c.args.entry.ins) c.in-Ok.ins)
+    ++ gate_with_outs_from c.args.entry.kind c.in-Ok.ins (length c.self.inside.wires.keys) = search rules in
+    let used : c.mark_wires.new.consumed.items ≡ with_marks_set (take (length c.args.entry.ins) c.in-Ok.ins)
     (c.self.inside.consumed.items ++ map (λ (n : List ℕ). false) c.args.entry.outs) = search rules in
     let entries_are = sym c.self.view_is in
     added c.self.inside _ c.args.entry c.in-Ok.ins c.self.invariant (record {
@@ -54,7 +54,8 @@ invariant_of-self-then-is_gate c =
           entries_are (search rules);
       outs_pass = outs_pass;
       fits = c.requires.fits;
-      inputs_first = subst (λ (l : List CircuitLine). InputsFirst l c.args.entry) entries_are c.requires.inputs_first;
+      inputs_first = subst (λ (l : List CircuitLine). IsNoInputAfterGate l c.args.entry) entries_are
+          c.requires.inputs_first;
       numbered = subst (λ (l : List CircuitLine).
           take (length c.args.entry.ins) c.in-Ok.ins ≡ map (number (defined l)) c.args.entry.ins)
           entries_are (search rules);
@@ -70,8 +71,8 @@ invariant_of-self-else-is_gate c =
     let outs_pass : define c.self.inside.wires.keys c.args.entry.outs ≡ None = search rules in
     let wired : map gate_of c.push_line_and_gate.new.wired.items
     ≡ map gate_of c.self.inside.wired.items
-    ++ gate_at c.args.entry.kind c.in-Ok.ins (length c.self.inside.wires.keys) = search rules in
-    let used : c.mark_wires.new.consumed.items ≡ marked (take (length c.args.entry.ins) c.in-Ok.ins)
+    ++ gate_with_outs_from c.args.entry.kind c.in-Ok.ins (length c.self.inside.wires.keys) = search rules in
+    let used : c.mark_wires.new.consumed.items ≡ with_marks_set (take (length c.args.entry.ins) c.in-Ok.ins)
     (c.self.inside.consumed.items ++ map (λ (n : List ℕ). false) c.args.entry.outs) = search rules in
     let entries_are = sym c.self.view_is in
     added c.self.inside _ c.args.entry c.in-Ok.ins c.self.invariant (record {
@@ -84,7 +85,8 @@ invariant_of-self-else-is_gate c =
           entries_are (search rules);
       outs_pass = outs_pass;
       fits = c.requires.fits;
-      inputs_first = subst (λ (l : List CircuitLine). InputsFirst l c.args.entry) entries_are c.requires.inputs_first;
+      inputs_first = subst (λ (l : List CircuitLine). IsNoInputAfterGate l c.args.entry) entries_are
+          c.requires.inputs_first;
       numbered = subst (λ (l : List CircuitLine).
           take (length c.args.entry.ins) c.in-Ok.ins ≡ map (number (defined l)) c.args.entry.ins)
           entries_are (search rules);

@@ -4,7 +4,7 @@ use Rattle.circuit.specs.Entries.{defined}
 use Rattle.circuit.specs.declared.circuit_line.CircuitLine.{CircuitLine}
 use Rattle.circuit.specs.Wiring.{gate_of}
 use Rattle.circuit.specs.Rules.{consumed, gate_count}
-use Rattle.circuit.specs.Bridge.{AreGood, AreGoodAfter, gates_of}
+use Rattle.circuit.specs.Bridge.{AreGoodCircuitLines, AreGoodAfter, gates_of}
 use Rattle.circuit.proofs.draft.Draft.seeded.Goals as goal
 
 pub invariant_of-result : goal.invariant_of-result
@@ -18,6 +18,6 @@ invariant_of-result c =
       gates = ap gate_count entries;
       few_gates = omega arith;
       few_wires = omega (arith, ap (λ (l : List CircuitLine). length (defined l)) entries);
-      good = subst AreGood entries tt;
+      good = subst AreGoodCircuitLines entries tt;
       wired = ap (map gate_of) wired ∙ ap (λ (l : List CircuitLine). gates_of (defined l) l) entries;
     }

@@ -1,8 +1,7 @@
-use Rattle.std.proofs.Common.{◌≡◌, ◌∙◌, List, length, get_or, subst, ap, ap₂, refl}
+use Rattle.std.proofs.Common.{◌≡◌, ◌∙◌, List, length, get_or, subst, ap, ap₂, refl, ℕ}
 use Rattle.std.proofs.lemmas.Option.{slice_get_read}
-use Rattle.std.proofs.Common.{ℕ}
 use Rattle.circuit.specs.Entries.{defined}
-use Rattle.circuit.specs.Bridge.{AreGood}
+use Rattle.circuit.specs.Bridge.{AreGoodCircuitLines}
 use Rattle.circuit.proofs.Naming.{names_are_own}
 use Rattle.circuit.proofs.netlist.Circuit.name.Goals as goal
 
@@ -15,5 +14,5 @@ returns-clause-own_wire c =
     c.index-as_slice-number.is ∙ ap₂
     (λ (l : List (List ℕ)) k. get_or l k c.index-as_slice-number.result) same c.number.ensures in
     names_are_own c.args.self.now c.args.wire c.index-as_slice-number.result
-    (subst AreGood c.self.view_is c.self.invariant.good)
+    (subst AreGoodCircuitLines c.self.view_is c.self.invariant.good)
     (slice_get_read names (length names) c.args.wire c.index-as_slice-number.result refl c.requires is)

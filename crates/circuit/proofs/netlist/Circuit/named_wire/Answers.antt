@@ -1,5 +1,4 @@
-use Rattle.std.proofs.Common.{◌∙◌, Some, sym, ap}
-use Rattle.std.specs.Option.{option_map}
+use Rattle.std.proofs.Common.{◌∙◌, Some, sym, ap, option_map}
 use Rattle.circuit.specs.Entries.{defined}
 use Rattle.circuit.specs.Meaning.{place_of}
 use Rattle.circuit.proofs.Naming.{place_position}

@@ -1,7 +1,7 @@
 use Rattle.std.proofs.Common.{◌≡◌, ◌<◌, ◌∙◌, Some, length, subst, sym, ap, arith}
 use Rattle.circuit.specs.Entries.{defined}
 use Rattle.circuit.specs.Meaning.{place_of, wires}
-use Rattle.circuit.specs.Bridge.{AreGood, netlist_of}
+use Rattle.circuit.specs.Bridge.{AreGoodCircuitLines, netlist_of}
 use Rattle.circuit.proofs.Naming.{place_position, wires_are_named}
 use Rattle.circuit.proofs.netlist.Circuit.wire.Goals as goal
 
@@ -21,7 +21,7 @@ pub returns-clause-below : goal.returns-clause-below
 returns-clause-below c =
     let count : length c.self.inside.wires.keys ≡ wires (netlist_of c.args.self.now) =
     ap length (c.self.invariant.wires ∙ ap defined c.self.view_is)
-    ∙ wires_are_named c.args.self.now (subst AreGood c.self.view_is c.self.invariant.good) in
+    ∙ wires_are_named c.args.self.now (subst AreGoodCircuitLines c.self.view_is c.self.invariant.good) in
     let within : c.in_ok-index.index < length c.self.inside.wires.keys = c.in_ok-index.ensures.within in
     let same = c.of.ensures in
     omega (arith, count, within, same)

@@ -2,7 +2,7 @@ use Rattle.std.proofs.Common.{◌≡◌, ◌∙◌, ◌<◌, ℕ, List, ap, sym,
 use Rattle.std.specs.Arc.{arc_value}
 use Rattle.std.proofs.lemmas.List.{length-map, length-set, map-set}
 use Rattle.std.proofs.Math.Seq.{map-set_same}
-use Rattle.core_book.specs.Claims.{claim_draws, claim_next}
+use Rattle.core_book.specs.Claims.{draws_after_claim, next_after_claim}
 use Rattle.core_book.specs.Core.{CoreView, IsCore, after_claim, draws_of, job_count_of}
 use Rattle.core_book.specs.CoreView.{core_view, lists_of}
 use Rattle.core_book.proofs.CoreSteps.{claim-core, drawn-at, left-claim, next-few}
@@ -57,9 +57,9 @@ returns-in_default-clause-unchanged c =
 
 -- what a claim leaves
 left : (c : After-next_claim) (next : ℕ) →
-    next ≡ claim_next (length c.jobs-count.result.now) c.index_mut.result.now.items c.self.inside.next
+    next ≡ next_after_claim (length c.jobs-count.result.now) c.index_mut.result.now.items c.self.inside.next
     → c.next_claim.new.drawn.items
-    ≡ claim_draws (length c.jobs-count.result.now) c.index_mut.result.now.items c.self.inside.next
+    ≡ draws_after_claim (length c.jobs-count.result.now) c.index_mut.result.now.items c.self.inside.next
     → record (core_view c.self.inside)
     { next = next; draws = lists_of (set c.self.inside.draws.items c.args.seat c.next_claim.new.drawn) }
     ≡ after_claim (core_view c.self.inside) c.args.seat

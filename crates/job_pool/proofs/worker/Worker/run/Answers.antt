@@ -22,12 +22,12 @@ pub loop-number-preserved : goal.loop-number-preserved
 loop-number-preserved g c = let i = c.loop-number.invariant in let a = c.in-Number.ensures.answer in
     let groups = c.args.shared_work.now.groups.now in
     let drawn = due_more groups c.in-Number.number (drawn_by c.loop-number.self.seat) (drawn_by c.claim.new.seat) a.2 in
-    let more : c.run_group.new.share.filed ≡ c.loop-number.self.share.filed + times c.in-Number.number groups =
+    let more : c.run_group_if_first.new.share.filed ≡ c.loop-number.self.share.filed + times c.in-Number.number groups =
     search rules in
     record {
       seat = c.claim.ensures.seat;
       starved = i.starved;
-      risen = risen_on _ _ _ i.risen c.run_group.ensures.risen;
+      risen = risen_on _ _ _ i.risen c.run_group_if_first.ensures.risen;
       filed = let w = i.filed in omega arith;
     }
 
@@ -55,7 +55,7 @@ pub returns-in-Err : goal.returns-in-Err
 returns-in-Err g c = let i = c.loop-number.invariant in
     record {
       seat = c.claim.ensures.seat;
-      risen = risen_on _ _ _ i.risen c.run_group.ensures.risen;
+      risen = risen_on _ _ _ i.risen c.run_group_if_first.ensures.risen;
       filed = λ fed. absurd cc;
       ended = λ fed. absurd cc;
     }

@@ -7,7 +7,7 @@ use Rattle.local_run.proofs.marked_planes.MarkedPlanes.border_word.Goals as goal
 pub returns : goal.returns
 returns c =
     let f = c.args.self.now in
-    let says = rw (c.deref.ensures.value, c.deref-2.ensures.value) at c.word_marked_in.ensures in
+    let says = rw (c.deref.ensures.value, c.deref-2.ensures.value) at c.marked_in_first_and_other.ensures in
     record {
       passed = λ u e none column row lc lr after before.
           let s = f.planes.stride in

@@ -1,7 +1,7 @@
 use Rattle.std.proofs.Common.{◌≡◌, ◌*◌, ◌%◌, false, arith, subst, get_or}
 use Rattle.std.proofs.lemmas.List.{get_or_read}
 use Rattle.bbm_rule.specs.Bits.{bit}
-use Rattle.local_run.specs.Sweeps.{IsInnerNumberNotInRest}
+use Rattle.local_run.specs.Sweeps.{IsInRangeNotInWordNorRowEnd}
 use Rattle.local_run.proofs.FieldLemmas.{even_none}
 use Rattle.local_run.proofs.MarkSearch.{lacks_own}
 use Rattle.local_run.proofs.marked_planes.MarkedPlanes.even_blocks_to_turn.Goals as goal
@@ -13,7 +13,7 @@ returns c =
     get_or_read f.even_marks.items _ _ (omega (arith, f.even_marks.ok.0)) c.index.ensures 0 in
     record {
       calm = λ end short within. even_none f.planes f.even_marks.items
-          (IsInnerNumberNotInRest f.planes.stride (64 * c.args.k) end c.index.result.now) f.even_calm
+          (IsInRangeNotInWordNorRowEnd f.planes.stride (64 * c.args.k) end c.index.result.now) f.even_calm
           (λ n is. (
             omega (arith, is.0.1),
             is.1,

@@ -2,7 +2,7 @@ use Rattle.std.proofs.Common.{◌≡◌, ◌+◌, ◌*◌, inl, inr, List, ℕ, 
 use Rattle.local_run.proofs.FieldLemmas.{odd_all, odd_below_all, odd_more, odd_more_none, none_more}
 use Rattle.std.proofs.lemmas.List.{with_items_is}
 use Rattle.bbm_rule.proofs.BitLemmas.{by_lt_or_le}
-use Rattle.local_run.specs.Calm.{AreEvenBlocksStable, AreOddBlocksStable}
+use Rattle.local_run.specs.Calm.{AreUnmarkedEvenBlocksStable, AreUnmarkedOddBlocksStable}
 use Rattle.local_run.proofs.marked_planes.MarkedPlanes.odd_step.Goals as goal
 
 pub turn_marked_odd_blocks-changed-requires-clause-calm : goal.turn_marked_odd_blocks-changed-requires-clause-calm
@@ -59,7 +59,8 @@ invariant_of-self-clause-odd_calm c =
     let v = c.deref_mut.ensures.value in
     let items = with_items_is f.odd_marks c.mark_active_blocks.new.odd_marks
     (omega (arith, ap length v, f.odd_marks.ok.0)) in
-    subst (λ (m : List ℕ). AreOddBlocksStable m c.odd_step.new.planes) (sym items) c.mark_active_blocks.ensures.odd
+    subst (λ (m : List ℕ). AreUnmarkedOddBlocksStable m c.odd_step.new.planes)
+    (sym items) c.mark_active_blocks.ensures.odd
 
 pub invariant_of-self-clause-even_calm : goal.invariant_of-self-clause-even_calm
 invariant_of-self-clause-even_calm c =
@@ -67,4 +68,5 @@ invariant_of-self-clause-even_calm c =
     let v = c.deref_mut-then-self-gt0.ensures.value in
     let items = with_items_is f.even_marks c.mark_active_blocks.new.even_marks
     (omega (arith, ap length v, f.even_marks.ok.0)) in
-    subst (λ (m : List ℕ). AreEvenBlocksStable m c.odd_step.new.planes) (sym items) c.mark_active_blocks.ensures.even
+    subst (λ (m : List ℕ). AreUnmarkedEvenBlocksStable m c.odd_step.new.planes)
+    (sym items) c.mark_active_blocks.ensures.even

@@ -2,7 +2,7 @@ use Rattle.std.proofs.Common.{◌≡◌, ◌≤◌, ◌+◌, ◌*◌, ◌/◌, L
 use Rattle.std.proofs.lemmas.List.{with_items_is}
 use Rattle.std.proofs.Math.Nat.{mul-le-mul_left}
 use Rattle.bbm_rule.specs.Marks.{IsUnmarked}
-use Rattle.local_run.specs.Calm.{AreOddBlocksStable, AreEvenBlocksStable}
+use Rattle.local_run.specs.Calm.{AreUnmarkedOddBlocksStable, AreUnmarkedEvenBlocksStable}
 use Rattle.local_run.specs.declared.frozen.FrozenBlocks.{FrozenBlocks}
 use Rattle.local_run.proofs.CalmLemmas.{odd_kept_by_odd, even_kept_by_odd}
 use Rattle.local_run.proofs.LiveLemmas.{cells_dead}
@@ -16,7 +16,7 @@ invariant_of-self-clause-odd_calm c =
     let items = with_items_is f.odd_marks c.mark.new.marks (omega (arith, ap length v, f.odd_marks.ok.0)) in
     let marks = rw (v, c.stride-stride.ensures.stride_is_exact) at c.mark.ensures in
     let e = c.put.ensures in
-    subst (λ (m : List ℕ). AreOddBlocksStable m c.put.new.planes) (sym items)
+    subst (λ (m : List ℕ). AreUnmarkedOddBlocksStable m c.put.new.planes) (sym items)
     (odd_kept_by_odd _ _ _ f.odd_marks.items c.mark.new.marks f.planes c.put.new.planes e.put.size e.cells marks
     f.odd_calm)
 
@@ -33,7 +33,7 @@ invariant_of-self-clause-even_calm c =
       c.of_cell-changes.ensures.anti,
     ) at c.mark_even_neighbours.ensures in
     let e = c.put.ensures in
-    subst (λ (m : List ℕ). AreEvenBlocksStable m c.put.new.planes) (sym items)
+    subst (λ (m : List ℕ). AreUnmarkedEvenBlocksStable m c.put.new.planes) (sym items)
     (even_kept_by_odd _ _ _ f.even_marks.items c.mark_even_neighbours.new.marks f.planes c.put.new.planes e.put.size
     e.cells marks f.even_calm)
 
@@ -54,14 +54,14 @@ pub invariant_of-self-clause-freezes : goal.invariant_of-self-clause-freezes
 invariant_of-self-clause-freezes c =
     let f = c.args.self.now in
     let e = c.put.ensures in
-    let kept = c.give_up_at.ensures in
-    freezes_put _ _ _ c.give_up_at.new.self f.planes c.put.new.planes e.put.size e.cells
+    let kept = c.give_up_if_frozen.ensures in
+    freezes_put _ _ _ c.give_up_if_frozen.new.self f.planes c.put.new.planes e.put.size e.cells
     (λ found. let k = kept found in subst (λ (b : FrozenBlocks). IsUnmarked b.odd.items
     (f.planes.stride * (c.args.y / 2) + c.args.x / 2)) (sym k.0) (rw c.stride-stride.ensures.stride_is_exact at k.1))
-    (given_up f.frozen c.give_up_at.new.self _ f.planes kept f.freezes)
+    (given_up f.frozen c.give_up_if_frozen.new.self _ f.planes kept f.freezes)
 
-pub give_up_at-requires : goal.give_up_at-requires
-give_up_at-requires c = record {
+pub give_up_if_frozen-requires : goal.give_up_if_frozen-requires
+give_up_if_frozen-requires c = record {
   room = λ found.
       let f = c.args.self.now in
       let room = room_found f.frozen f.planes f.freezes found in

@@ -1,14 +1,13 @@
 use Rattle.std.proofs.Common.{◌≢◌, ◌≤◌, ◌<◌, ◌+◌, ◌%◌, arith, ◌∙◌}
-use Rattle.local_run.proofs.FieldLemmas.{even_past, even_renamed, one_past}
-use Rattle.local_run.specs.Sweeps.{IsInnerNumberNotInRest}
-use Rattle.local_run.proofs.FieldLemmas.{past_all, past_before}
+use Rattle.local_run.proofs.FieldLemmas.{even_past, even_renamed, one_past, past_all, past_before}
+use Rattle.local_run.specs.Sweeps.{IsInRangeNotInWordNorRowEnd}
 use Rattle.local_run.proofs.marked_planes.MarkedPlanes.turn_marked_even_blocks.Goals as goal
 
 pub returns-then-u-end-clause-turned : goal.returns-then-u-end-clause-turned
 returns-then-u-end-clause-turned c =
     let a = c.args in
     let s = a.self.now.planes.stride in
-    even_renamed a.self.now.planes c.marked.self.planes (IsInnerNumberNotInRest s a.first a.end c.marked.rest)
+    even_renamed a.self.now.planes c.marked.self.planes (IsInRangeNotInWordNorRowEnd s a.first a.end c.marked.rest)
     (λ n. (a.first ≤ n) × (n < a.end) × ((n + 1) % s ≢ 0))
     (λ n l. (
       past_before a.first a.end c.marked.rest c.take_first-place.result.0 n (omega arith) (omega arith)
@@ -21,16 +20,16 @@ pub returns-clause-turned : goal.returns-clause-turned
 returns-clause-turned c =
     let a = c.args in
     let s = a.self.now.planes.stride in
-    even_renamed a.self.now.planes c.marked.self.planes (IsInnerNumberNotInRest s a.first a.end c.marked.rest)
+    even_renamed a.self.now.planes c.marked.self.planes (IsInRangeNotInWordNorRowEnd s a.first a.end c.marked.rest)
     (λ n. (a.first ≤ n) × (n < a.end) × ((n + 1) % s ≢ 0))
     (λ n l. (past_all a.first a.end c.marked.rest n (omega arith) l.0 l.1, l.2))
     (λ n is. (is.0.0, is.0.1, is.1)) c.marked.invariant.turned
 
-pub marked-preserved-then-turn_even : goal.marked-preserved-then-turn_even
-marked-preserved-then-turn_even c =
+pub marked-preserved-then-turn_even_block : goal.marked-preserved-then-turn_even_block
+marked-preserved-then-turn_even_block c =
     let a = c.args in
     let m = c.marked.invariant in
-    let t = c.turn_even.ensures in
+    let t = c.turn_even_block.ensures in
     let taken = c.take_first-place.ensures in
     let one = one_past a.first a.end c.marked.rest c.take_first-place.result.1 c.take_first-place.result.0
     (omega arith) (omega arith) taken.first.0 (omega arith) taken.first.1 taken.rest.0 taken.rest.1 in
@@ -38,7 +37,7 @@ marked-preserved-then-turn_even c =
       size = (t.size.0 ∙ m.size.0, t.size.1 ∙ m.size.1, t.size.2 ∙ m.size.2);
       stays = λ e. absurd (omega (arith, e));
       count = (omega arith, omega arith);
-      turned = even_past a.self.now.planes c.marked.self.planes c.turn_even.new.self.planes
+      turned = even_past a.self.now.planes c.marked.self.planes c.turn_even_block.new.self.planes
           (a.first + c.take_first-place.result.0) a.first a.end c.marked.rest c.take_first-place.result.1 one m.size
           m.turned t.part t.last;
     }
@@ -47,15 +46,15 @@ pub marked-preserved : goal.marked-preserved
 marked-preserved c =
     let a = c.args in
     let m = c.marked.invariant in
-    let t = c.turn_even.ensures in
+    let t = c.turn_even_block.ensures in
     let taken = c.take_first-place.ensures in
     let one = one_past a.first a.end c.marked.rest c.take_first-place.result.1 c.take_first-place.result.0
     (omega arith) (omega arith) taken.first.0 (omega arith) taken.first.1 taken.rest.0 taken.rest.1 in
     record {
       size = (t.size.0 ∙ m.size.0, t.size.1 ∙ m.size.1, t.size.2 ∙ m.size.2);
-      stays = λ e. t.stays c.if-turn_even.false ∙ m.stays e;
+      stays = λ e. t.stays c.if-turn_even_block.false ∙ m.stays e;
       count = (omega arith, omega arith);
-      turned = even_past a.self.now.planes c.marked.self.planes c.turn_even.new.self.planes
+      turned = even_past a.self.now.planes c.marked.self.planes c.turn_even_block.new.self.planes
           (a.first + c.take_first-place.result.0) a.first a.end c.marked.rest c.take_first-place.result.1 one m.size
           m.turned t.part t.last;
     }

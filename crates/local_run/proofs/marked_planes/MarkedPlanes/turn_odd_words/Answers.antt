@@ -1,6 +1,6 @@
 use Rattle.std.proofs.Common.{List, ℕ, length, ap, arith, sym, subst}
 use Rattle.std.proofs.lemmas.List.{with_items_is}
-use Rattle.local_run.specs.Calm.{AreOddBlocksStable, AreEvenBlocksStable}
+use Rattle.local_run.specs.Calm.{AreUnmarkedOddBlocksStable, AreUnmarkedEvenBlocksStable}
 use Rattle.local_run.proofs.TurnLemmas.{calm_block}
 use Rattle.local_run.proofs.CalmLemmas.{odd_cells, odd_kept_by_odd, even_kept_by_odd, odd_unmarked}
 use Rattle.local_run.proofs.LiveLemmas.{cells_dead}
@@ -13,18 +13,18 @@ invariant_of-self-clause-odd_calm c =
     let v = c.deref_mut.ensures.value in
     let items = with_items_is f.odd_marks c.unmark.new.marks (omega (arith, ap length v, f.odd_marks.ok.0)) in
     let sets = rw v at c.unmark.ensures in
-    subst (λ (m : List ℕ). AreOddBlocksStable m f.planes) (sym items)
+    subst (λ (m : List ℕ). AreUnmarkedOddBlocksStable m f.planes) (sym items)
     (odd_unmarked c.args.u f.odd_marks.items c.unmark.new.marks f.planes sets (
-      c.odd_changes-changes.ensures.main (c.is_none.ensures.main c.if-is_none.true),
-      c.odd_changes-changes.ensures.anti (c.is_none.ensures.anti c.if-is_none.true),
+      c.odd_block_changes-changes.ensures.main (c.is_none.ensures.main c.if-is_none.true),
+      c.odd_block_changes-changes.ensures.anti (c.is_none.ensures.anti c.if-is_none.true),
     ) f.odd_calm)
 
 pub returns-then-is_none-clause-part : goal.returns-then-is_none-clause-part
 returns-then-is_none-clause-part c =
     let p = c.args.self.now.planes in
     calm_block p.words c.args.u c.args.u c.args.u c.args.u p.odd.items p.right.items p.down.items p.even.items (
-      c.odd_changes-changes.ensures.main (c.is_none.ensures.main c.if-is_none.true),
-      c.odd_changes-changes.ensures.anti (c.is_none.ensures.anti c.if-is_none.true),
+      c.odd_block_changes-changes.ensures.main (c.is_none.ensures.main c.if-is_none.true),
+      c.odd_block_changes-changes.ensures.anti (c.is_none.ensures.anti c.if-is_none.true),
     )
 
 pub invariant_of-self-2-clause-odd_calm : goal.invariant_of-self-2-clause-odd_calm
@@ -33,13 +33,13 @@ invariant_of-self-2-clause-odd_calm c =
     let v = c.deref_mut-2.ensures.value in
     let items = with_items_is f.odd_marks c.mark.new.marks (omega (arith, ap length v, f.odd_marks.ok.0)) in
     let marks = rw v at c.mark.ensures in
-    let e = c.turn_odd.ensures in
-    let main = c.odd_changes-changes.result.main in
-    let anti = c.odd_changes-changes.result.anti in
-    subst (λ (m : List ℕ). AreOddBlocksStable m c.turn_odd.new.self) (sym items)
-    (odd_kept_by_odd main anti c.args.u f.odd_marks.items c.mark.new.marks f.planes c.turn_odd.new.self e.size
-    (odd_cells main anti c.args.u f.planes c.turn_odd.new.self c.odd_changes-changes.ensures.main
-    c.odd_changes-changes.ensures.anti e.part) marks f.odd_calm)
+    let e = c.turn_odd_block.ensures in
+    let main = c.odd_block_changes-changes.result.main in
+    let anti = c.odd_block_changes-changes.result.anti in
+    subst (λ (m : List ℕ). AreUnmarkedOddBlocksStable m c.turn_odd_block.new.self) (sym items)
+    (odd_kept_by_odd main anti c.args.u f.odd_marks.items c.mark.new.marks f.planes c.turn_odd_block.new.self e.size
+    (odd_cells main anti c.args.u f.planes c.turn_odd_block.new.self c.odd_block_changes-changes.ensures.main
+    c.odd_block_changes-changes.ensures.anti e.part) marks f.odd_calm)
 
 pub invariant_of-self-2-clause-even_calm : goal.invariant_of-self-2-clause-even_calm
 invariant_of-self-2-clause-even_calm c =
@@ -48,30 +48,31 @@ invariant_of-self-2-clause-even_calm c =
     let items = with_items_is f.even_marks c.mark_even_neighbours.new.marks
     (omega (arith, ap length v, f.even_marks.ok.0)) in
     let marks = rw (v, c.stride-stride.ensures.stride_is_exact) at c.mark_even_neighbours.ensures in
-    let e = c.turn_odd.ensures in
-    let main = c.odd_changes-changes.result.main in
-    let anti = c.odd_changes-changes.result.anti in
-    subst (λ (m : List ℕ). AreEvenBlocksStable m c.turn_odd.new.self) (sym items)
+    let e = c.turn_odd_block.ensures in
+    let main = c.odd_block_changes-changes.result.main in
+    let anti = c.odd_block_changes-changes.result.anti in
+    subst (λ (m : List ℕ). AreUnmarkedEvenBlocksStable m c.turn_odd_block.new.self) (sym items)
     (even_kept_by_odd main anti c.args.u f.even_marks.items c.mark_even_neighbours.new.marks f.planes
-    c.turn_odd.new.self e.size
-    (odd_cells main anti c.args.u f.planes c.turn_odd.new.self c.odd_changes-changes.ensures.main
-    c.odd_changes-changes.ensures.anti e.part) marks f.even_calm)
+    c.turn_odd_block.new.self e.size
+    (odd_cells main anti c.args.u f.planes c.turn_odd_block.new.self c.odd_block_changes-changes.ensures.main
+    c.odd_block_changes-changes.ensures.anti e.part) marks f.even_calm)
 
 pub invariant_of-self-2-clause-all_dead : goal.invariant_of-self-2-clause-all_dead
 invariant_of-self-2-clause-all_dead c =
     let f = c.args.self.now in
-    let e = c.turn_odd.ensures in
+    let e = c.turn_odd_block.ensures in
     let l = c.mark_cells.ensures in
     let u = c.args.u in
-    let main = c.odd_changes-changes.result.main in
-    let anti = c.odd_changes-changes.result.anti in
-    cells_dead main anti u u u u f.live_marks c.mark_cells.new.self f.planes c.turn_odd.new.self e.size
-    (odd_cells main anti u f.planes c.turn_odd.new.self c.odd_changes-changes.ensures.main
-    c.odd_changes-changes.ensures.anti e.part) l.odd l.right l.down l.even f.all_dead
+    let main = c.odd_block_changes-changes.result.main in
+    let anti = c.odd_block_changes-changes.result.anti in
+    cells_dead main anti u u u u f.live_marks c.mark_cells.new.self f.planes c.turn_odd_block.new.self e.size
+    (odd_cells main anti u f.planes c.turn_odd_block.new.self c.odd_block_changes-changes.ensures.main
+    c.odd_block_changes-changes.ensures.anti e.part) l.odd l.right l.down l.even f.all_dead
 
 pub invariant_of-self-2-clause-freezes : goal.invariant_of-self-2-clause-freezes
 invariant_of-self-2-clause-freezes c =
     let f = c.args.self.now in
-    let e = c.turn_odd.ensures in
-    freezes_odd f.frozen f.planes c.turn_odd.new.self e.size (odd_part_may f.planes c.turn_odd.new.self c.args.u e.part)
+    let e = c.turn_odd_block.ensures in
+    freezes_odd f.frozen f.planes c.turn_odd_block.new.self e.size
+    (odd_part_may f.planes c.turn_odd_block.new.self c.args.u e.part)
     f.freezes

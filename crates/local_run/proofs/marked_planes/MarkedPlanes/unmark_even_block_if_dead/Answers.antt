@@ -1,6 +1,6 @@
 use Rattle.std.proofs.Common.{List, ℕ, length, ap, arith, sym, subst}
 use Rattle.std.proofs.lemmas.List.{with_items_is}
-use Rattle.local_run.specs.Calm.{AreEvenBlocksStable}
+use Rattle.local_run.specs.Calm.{AreUnmarkedEvenBlocksStable}
 use Rattle.local_run.proofs.CalmLemmas.{even_unmarked}
 use Rattle.local_run.proofs.LiveLemmas.{dead_block}
 use Rattle.local_run.proofs.marked_planes.MarkedPlanes.unmark_even_block_if_dead.Goals as goal
@@ -13,7 +13,7 @@ invariant_of-self-clause-even_calm c =
     let v = c.deref_mut.ensures.value in
     let items = with_items_is f.even_marks c.unmark.new.marks (omega (arith, ap length v, f.even_marks.ok.0)) in
     let sets = rw v at c.unmark.ensures in
-    subst (λ (m : List ℕ). AreEvenBlocksStable m p) (sym items)
+    subst (λ (m : List ℕ). AreUnmarkedEvenBlocksStable m p) (sym items)
     (even_unmarked n f.even_marks.items c.unmark.new.marks p sets
     (dead_block n f.live_marks p c.requires f.all_dead (c.is_even_block_dead.ensures c.if-is_even_block_dead.true))
     f.even_calm)

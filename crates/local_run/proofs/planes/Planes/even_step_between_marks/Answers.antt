@@ -2,7 +2,7 @@ use Rattle.std.proofs.Common.{◌≢◌, ℕ, ◌<◌, ◌≤◌, ◌+◌, ◌-�
 use Rattle.std.proofs.lemmas.Bool.{false≢true}
 use Rattle.std.proofs.lemmas.Grind.{common_steps}
 use Rattle.bbm_rule.proofs.BitLemmas.{by_lt_or_le}
-use Rattle.local_run.specs.Lanes.{HasSize}
+use Rattle.local_run.specs.Lanes.{HasWordsStrideRows}
 use Rattle.local_run.proofs.FieldLemmas.{even_join}
 use Rattle.local_run.proofs.RunLemmas.{even_nothing, even_part, even_skip, first_join, first_none, first_part}
 use Rattle.local_run.proofs.planes.Planes.even_step_between_marks.Goals as goal
@@ -20,7 +20,7 @@ runs-preserved c =
     let r = c.turn_even_range.new.self in
     let at = c.runs.at in
     let end = c.next_marked-end.result in
-    let size : HasSize p.words p.stride p.rows r =
+    let size : HasWordsStrideRows p.words p.stride p.rows r =
     (e.size.0 ∙ m.size.0, e.size.1 ∙ m.size.1, e.size.2 ∙ m.size.2) in
     let inside : (n : ℕ) → at ≤ n → n < end → (n + 1) % q.stride ≢ 0 = λ n g h z.
     absurd (false≢true (sym (c.next_marked-end.ensures.passed n g h)

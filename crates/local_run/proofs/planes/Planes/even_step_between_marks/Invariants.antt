@@ -1,17 +1,17 @@
 use Rattle.std.proofs.Common.{◌-◌, ◌<◌, ◌≤◌}
 use Rattle.bbm_rule.specs.Marks.{IsUnmarked}
 use Rattle.local_run.specs.Frozen.{KeepsFirst}
-use Rattle.local_run.specs.Lanes.{HasSize}
-use Rattle.local_run.specs.Sweeps.{TurnsEven}
+use Rattle.local_run.specs.Lanes.{HasWordsStrideRows}
+use Rattle.local_run.specs.Sweeps.{TurnsEvenBlocksBetween}
 use Rattle.local_run.proofs.planes.Planes.even_step_between_marks.Given as goal
 
 -- the blocks so far are turned, and the next one has no mark
 abbrev pub invariant-runs : goal.invariant-runs
 invariant-runs l = record {
-  size : HasSize l.fn.self.words l.fn.self.stride l.fn.self.rows l.self;
+  size : HasWordsStrideRows l.fn.self.words l.fn.self.stride l.fn.self.rows l.self;
   within : l.at ≤ l.cells;
   unmarked : l.at < l.cells → IsUnmarked l.marks l.at;
-  turned : TurnsEven 0 l.at l.fn.self l.self;
+  turned : TurnsEvenBlocksBetween 0 l.at l.fn.self l.self;
   first : KeepsFirst l.fn.self l.self;
 }
 

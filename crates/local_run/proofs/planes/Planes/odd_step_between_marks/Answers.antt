@@ -2,7 +2,7 @@ use Rattle.std.proofs.Common.{◌-◌, refl, arith, ◌∙◌}
 use Rattle.std.proofs.lemmas.Bool.{false≢true}
 use Rattle.std.proofs.lemmas.Grind.{common_steps}
 use Rattle.bbm_rule.proofs.BitLemmas.{by_lt_or_le}
-use Rattle.local_run.specs.Lanes.{HasSize}
+use Rattle.local_run.specs.Lanes.{HasWordsStrideRows}
 use Rattle.local_run.proofs.FieldLemmas.{odd_join}
 use Rattle.local_run.proofs.RunLemmas.{odd_nothing, odd_part, odd_skip}
 use Rattle.local_run.proofs.planes.Planes.odd_step_between_marks.Goals as goal
@@ -29,7 +29,7 @@ runs-preserved c =
     let r = c.turn_odd_range.new.self in
     let at = c.runs.at in
     let end = c.next_marked-end.result in
-    let size : HasSize p.words p.stride p.rows r =
+    let size : HasWordsStrideRows p.words p.stride p.rows r =
     (e.size.0 ∙ m.size.0, e.size.1 ∙ m.size.1, e.size.2 ∙ m.size.2) in
     let run = odd_part q r at (end - at) end (omega arith) e.part in
     record {

@@ -1,7 +1,7 @@
 use Rattle.std.proofs.Common.{◌≡◌, ℕ, ◌<◌, ◌*◌, false}
-use Rattle.local_run.specs.Scans.{is_defined}
+use Rattle.local_run.specs.Scans.{is_defined_under}
 use Rattle.local_run.proofs.values.Values.is_some_defined.Given as goal
 
 -- some used gate lacks a row under the assignments so far
 abbrev pub invariant-loop-k : goal.invariant-loop-k
-invariant-loop-k l = (a : ℕ) → a < 64 * l.k → is_defined l.self a ≡ false
+invariant-loop-k l = (a : ℕ) → a < 64 * l.k → is_defined_under l.self a ≡ false

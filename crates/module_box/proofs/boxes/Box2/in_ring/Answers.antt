@@ -7,4 +7,5 @@ returns c =
     let fx : SFits w32 c.args.cell.x = search rules in
     let fy : SFits w32 c.args.cell.y = search rules in
     ring_read c.args.self c.args.cell.x c.args.cell.y _ _ _ c.holds-inside.ensures
-    (simp to_z-of_z at c.is_inside_range-inner_x.ensures) (simp to_z-of_z at c.is_inside_range-inner_y.ensures)
+    (simp to_z-of_z at c.are_neighbours_in_range-inner_x.ensures)
+    (simp to_z-of_z at c.are_neighbours_in_range-inner_y.ensures)

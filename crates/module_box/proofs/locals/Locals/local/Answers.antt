@@ -1,5 +1,4 @@
-use Rattle.std.proofs.Common.{◌≡◌, ℕ, get_or, ap, subst, ◌∙◌}
-use Rattle.std.specs.Prelude.{is_some, IfSome}
+use Rattle.std.proofs.Common.{◌≡◌, ℕ, get_or, ap, subst, ◌∙◌, is_some, IfSome}
 use Rattle.module_box.specs.Locals.{LocalNet, circuit_wire, is_among}
 use Rattle.module_box.proofs.WireLists.{place_among, place_holds}
 use Rattle.module_box.proofs.locals.Locals.local.Goals as goal

@@ -1,7 +1,7 @@
 use Rattle.std.proofs.Common.{◌≡◌, ℕ, ◌+◌, ◌*◌, subst, sym, ap, ◌∙◌, List, length, map}
 use Rattle.std.proofs.lemmas.List.{length-map}
 use Rattle.circuit.specs.Meaning.{Gate, Netlist, wires, wires_after}
-use Rattle.module_box.specs.LocalGates.{as_gate}
+use Rattle.module_box.specs.LocalGates.{gate_of_local_gate}
 use Rattle.module_box.specs.WiringView.{wiring_net}
 use Rattle.module_box.specs.LocalValues.{IsColumnAt, SaysColumn}
 use Rattle.module_box.proofs.LocalRows.{column_at}
@@ -10,14 +10,15 @@ use Rattle.module_box.proofs.wiring.Wiring.column.Goals as goal
 pub returns-clause-values : goal.returns-clause-values
 returns-clause-values c = λ b h.
     let words : List ℕ = c.in_ok-given.given.items in
-    let says : SaysColumn words (map as_gate c.self.inside.gates.items) c.in_ok-column.column.words.items
+    let says : SaysColumn words (map gate_of_local_gate c.self.inside.gates.items) c.in_ok-column.column.words.items
     c.in_ok-column.column.undefined.items c.in_ok-column.column.defined b =
     subst (λ (ws : List ℕ). SaysColumn ws
-    (map as_gate c.self.inside.gates.items) c.in_ok-column.column.words.items c.in_ok-column.column.undefined.items
+    (map gate_of_local_gate c.self.inside.gates.items) c.in_ok-column.column.words.items
+    c.in_ok-column.column.undefined.items
     c.in_ok-column.column.defined b) c.as_slice.ensures.value
     (subst (λ (gs : List Gate). SaysColumn c.as_slice.result.now gs c.in_ok-column.column.words.items
     c.in_ok-column.column.undefined.items c.in_ok-column.column.defined b)
-    (ap (map as_gate) c.as_slice-2.ensures.value) (c.in_ok-column.ensures.says b h)) in
+    (ap (map gate_of_local_gate) c.as_slice-2.ensures.value) (c.in_ok-column.ensures.says b h)) in
     subst (λ (l : Netlist). IsColumnAt l
     (64 * c.args.chunk + b) c.in_ok-column.column.words.items c.in_ok-column.column.undefined.items
     c.in_ok-column.column.defined b) c.self.view_is
@@ -29,11 +30,12 @@ pub returns-clause-count : goal.returns-clause-count
 returns-clause-count c =
     let given : length c.as_slice.result.now ≡ c.self.inside.given =
     ap length c.as_slice.ensures.value ∙ c.in_ok-given.ensures.count in
-    c.in_ok-column.ensures.long ∙ ap (λ n. wires_after n (map as_gate c.as_slice-2.result.now)) given
-    ∙ ap (λ gs. wires_after c.self.inside.given (map as_gate gs)) c.as_slice-2.ensures.value
+    c.in_ok-column.ensures.long ∙ ap (λ n. wires_after n (map gate_of_local_gate c.as_slice-2.result.now)) given
+    ∙ ap (λ gs. wires_after c.self.inside.given (map gate_of_local_gate gs)) c.as_slice-2.ensures.value
     ∙ ap (λ (l : Netlist). wires l) c.self.view_is
 
 pub returns-clause-gates : goal.returns-clause-gates
 returns-clause-gates c =
     c.in_ok-column.ensures.count ∙ ap length c.as_slice-2.ensures.value
-    ∙ sym (length-map c.self.inside.gates.items as_gate) ∙ ap (λ (l : Netlist). length l.gates) c.self.view_is
+    ∙ sym (length-map c.self.inside.gates.items gate_of_local_gate)
+    ∙ ap (λ (l : Netlist). length l.gates) c.self.view_is

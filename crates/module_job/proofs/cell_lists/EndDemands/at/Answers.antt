@@ -1,7 +1,6 @@
-use Rattle.std.proofs.Common.{◌<◌, ap, arith, subst, sym, ◌∙◌}
-use Rattle.std.specs.Prelude.{slice_get, unwrap_or}
+use Rattle.std.proofs.Common.{◌<◌, ap, arith, subst, sym, ◌∙◌, slice_get, unwrap_or}
 use Rattle.module_job.specs.declared.job.Demand.TheVariants.{Dead}
-use Rattle.module_job.specs.CellLists.{numbered_demand}
+use Rattle.module_job.specs.CellLists.{demand_from_number}
 use Rattle.module_job.proofs.NumberedCells.{below, demand_found}
 use Rattle.module_job.proofs.cell_lists.EndDemands.at.Goals as goal
 
@@ -12,5 +11,5 @@ decode_number-requires c =
 
 pub returns : goal.returns
 returns c =
-    c.decode_number.ensures ∙ ap numbered_demand c.at.ensures ∙ demand_found c.self.inside.numbers c.args.place
+    c.decode_number.ensures ∙ ap demand_from_number c.at.ensures ∙ demand_found c.self.inside.numbers c.args.place
     ∙ ap (λ cells. unwrap_or (slice_get cells c.args.place) Dead) c.self.view_is

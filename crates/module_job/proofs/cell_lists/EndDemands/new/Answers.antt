@@ -1,11 +1,10 @@
-use Rattle.std.proofs.Common.{◌<◌, ap, map, subst, sym}
-use Rattle.std.specs.List.{All}
+use Rattle.std.proofs.Common.{◌<◌, ap, map, subst, sym, All}
 use Rattle.std.proofs.lemmas.List.Elements.{All-nil}
-use Rattle.module_job.specs.CellLists.{numbered_demand}
+use Rattle.module_job.specs.CellLists.{demand_from_number}
 use Rattle.module_job.proofs.cell_lists.EndDemands.new.Goals as goal
 
 pub invariant_of-result : goal.invariant_of-result
 invariant_of-result c = subst (All (λ n. n < 65539)) (sym c.in_ok-new.ensures) (All-nil (λ n. n < 65539))
 
 pub returns : goal.returns
-returns c = ap (λ ns. map numbered_demand ns) c.in_ok-new.ensures
+returns c = ap (λ ns. map demand_from_number ns) c.in_ok-new.ensures

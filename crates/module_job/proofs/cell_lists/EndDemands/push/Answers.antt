@@ -1,7 +1,6 @@
-use Rattle.std.proofs.Common.{◌<◌, ◌++◌, [], ◌∷◌, ap, map, subst, sym, ◌∙◌}
-use Rattle.std.specs.List.{All}
+use Rattle.std.proofs.Common.{◌<◌, ◌++◌, [], ◌∷◌, ap, map, subst, sym, ◌∙◌, All}
 use Rattle.std.proofs.lemmas.List.Elements.{All-push}
-use Rattle.module_job.specs.CellLists.{numbered_demand}
+use Rattle.module_job.specs.CellLists.{demand_from_number}
 use Rattle.module_job.proofs.NumberedCells.{demand_pushed}
 use Rattle.module_job.proofs.cell_lists.EndDemands.push.Goals as goal
 
@@ -16,7 +15,7 @@ invariant_of-self-2 c =
 
 pub returns : goal.returns
 returns c =
-    ap (λ ns. map numbered_demand ns) (c.in_ok-push.ensures.added
+    ap (λ ns. map demand_from_number ns) (c.in_ok-push.ensures.added
     ∙ ap (λ n. c.self.inside.numbers ++ n ∷ []) c.demand_number.ensures.number_is_exact)
     ∙ demand_pushed c.self.inside.numbers c.args.demand
     ∙ ap (λ cells. cells ++ c.args.demand ∷ []) c.self.view_is

@@ -1,7 +1,6 @@
-use Rattle.std.proofs.Common.{◌<◌, ◌++◌, ap, arith, map, replicate, subst, sym, ◌∙◌}
-use Rattle.std.specs.List.{All}
+use Rattle.std.proofs.Common.{◌<◌, ◌++◌, ap, arith, map, replicate, subst, sym, ◌∙◌, All}
 use Rattle.module_job.specs.declared.job.Demand.TheVariants.{Dead}
-use Rattle.module_job.specs.CellLists.{numbered_demand}
+use Rattle.module_job.specs.CellLists.{demand_from_number}
 use Rattle.module_job.proofs.NumberedCells.{dead_demands_pushed, zeros_below}
 use Rattle.module_job.proofs.cell_lists.EndDemands.push_dead.Goals as goal
 
@@ -15,6 +14,6 @@ invariant_of-self-2 c =
 
 pub returns : goal.returns
 returns c =
-    ap (λ ns. map numbered_demand ns) c.in_ok-push_zeros.ensures.added
+    ap (λ ns. map demand_from_number ns) c.in_ok-push_zeros.ensures.added
     ∙ dead_demands_pushed c.self.inside.numbers c.args.count
     ∙ ap (λ cells. cells ++ replicate c.args.count Dead) c.self.view_is

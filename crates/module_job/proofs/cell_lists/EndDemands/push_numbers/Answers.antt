@@ -1,5 +1,5 @@
 use Rattle.std.proofs.Common.{◌++◌, ap, sym, ◌∙◌}
-use Rattle.module_job.specs.Keys.{cell_list_numbers, demand_number}
+use Rattle.module_job.specs.Keys.{sparse_list_numbers, demand_number}
 use Rattle.module_job.proofs.NumberedCells.{demand_numbers}
 use Rattle.module_job.proofs.cell_lists.EndDemands.push_numbers.Goals as goal
 
@@ -7,4 +7,4 @@ pub returns : goal.returns
 returns c =
     c.in_ok-push_entries.ensures
     ∙ ap (λ ns. c.args.numbers.now.items ++ ns)
-    (sym (demand_numbers c.self.inside.numbers) ∙ ap (cell_list_numbers demand_number) c.self.view_is)
+    (sym (demand_numbers c.self.inside.numbers) ∙ ap (sparse_list_numbers demand_number) c.self.view_is)

@@ -1,11 +1,10 @@
-use Rattle.std.proofs.Common.{ap, sym, ◌∙◌}
-use Rattle.std.specs.Prelude.{slice_get, unwrap_or}
+use Rattle.std.proofs.Common.{ap, sym, ◌∙◌, slice_get, unwrap_or}
 use Rattle.module_job.specs.declared.job.Demand.TheVariants.{Dead}
-use Rattle.module_job.specs.CellLists.{numbered_demand}
+use Rattle.module_job.specs.CellLists.{demand_from_number}
 use Rattle.module_job.proofs.NumberedCells.{demand_found}
 use Rattle.module_job.proofs.cell_lists.EndDemands.skip_dead.Goals as goal
 
 pub returns-clause-dead : goal.returns-clause-dead
 returns-clause-dead c u from before =
     sym (ap (λ cells. unwrap_or (slice_get cells u) Dead) c.self.view_is) ∙ sym (demand_found c.self.inside.numbers u)
-    ∙ ap numbered_demand (c.skip_zeros.ensures.zeros u from before)
+    ∙ ap demand_from_number (c.skip_zeros.ensures.zeros u from before)

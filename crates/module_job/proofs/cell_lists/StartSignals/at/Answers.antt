@@ -1,7 +1,6 @@
-use Rattle.std.proofs.Common.{◌<◌, ap, arith, subst, sym, ◌∙◌}
-use Rattle.std.specs.Prelude.{slice_get, unwrap_or}
+use Rattle.std.proofs.Common.{◌<◌, ap, arith, subst, sym, ◌∙◌, slice_get, unwrap_or}
 use Rattle.module_box.specs.declared.schedules.Signal.TheVariants.{Zero}
-use Rattle.module_job.specs.CellLists.{numbered_signal}
+use Rattle.module_job.specs.CellLists.{signal_from_number}
 use Rattle.module_job.proofs.NumberedCells.{below, start_found}
 use Rattle.module_job.proofs.cell_lists.StartSignals.at.Goals as goal
 
@@ -12,5 +11,5 @@ decode_number-requires c =
 
 pub returns : goal.returns
 returns c =
-    c.decode_number.ensures ∙ ap numbered_signal c.at.ensures ∙ start_found c.self.inside.numbers c.args.place
+    c.decode_number.ensures ∙ ap signal_from_number c.at.ensures ∙ start_found c.self.inside.numbers c.args.place
     ∙ ap (λ cells. unwrap_or (slice_get cells c.args.place) Zero) c.self.view_is

@@ -1,11 +1,10 @@
-use Rattle.std.proofs.Common.{◌<◌, ap, map, subst, sym}
-use Rattle.std.specs.List.{All}
+use Rattle.std.proofs.Common.{◌<◌, ap, map, subst, sym, All}
 use Rattle.std.proofs.lemmas.List.Elements.{All-nil}
-use Rattle.module_job.specs.CellLists.{numbered_signal}
+use Rattle.module_job.specs.CellLists.{signal_from_number}
 use Rattle.module_job.proofs.cell_lists.StartSignals.new.Goals as goal
 
 pub invariant_of-result : goal.invariant_of-result
 invariant_of-result c = subst (All (λ n. n < 65538)) (sym c.in_ok-new.ensures) (All-nil (λ n. n < 65538))
 
 pub returns : goal.returns
-returns c = ap (λ ns. map numbered_signal ns) c.in_ok-new.ensures
+returns c = ap (λ ns. map signal_from_number ns) c.in_ok-new.ensures

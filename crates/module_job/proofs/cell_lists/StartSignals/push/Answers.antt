@@ -1,7 +1,6 @@
-use Rattle.std.proofs.Common.{◌<◌, ◌++◌, [], ◌∷◌, ap, map, subst, sym, ◌∙◌}
-use Rattle.std.specs.List.{All}
+use Rattle.std.proofs.Common.{◌<◌, ◌++◌, [], ◌∷◌, ap, map, subst, sym, ◌∙◌, All}
 use Rattle.std.proofs.lemmas.List.Elements.{All-push}
-use Rattle.module_job.specs.CellLists.{numbered_signal}
+use Rattle.module_job.specs.CellLists.{signal_from_number}
 use Rattle.module_job.proofs.NumberedCells.{start_pushed}
 use Rattle.module_job.proofs.cell_lists.StartSignals.push.Goals as goal
 
@@ -16,7 +15,7 @@ invariant_of-self-2 c =
 
 pub returns : goal.returns
 returns c =
-    ap (λ ns. map numbered_signal ns) (c.in_ok-push.ensures.added
+    ap (λ ns. map signal_from_number ns) (c.in_ok-push.ensures.added
     ∙ ap (λ n. c.self.inside.numbers ++ n ∷ []) c.signal_number.ensures.number_is_exact)
     ∙ start_pushed c.self.inside.numbers c.args.start
     ∙ ap (λ cells. cells ++ c.args.start ∷ []) c.self.view_is

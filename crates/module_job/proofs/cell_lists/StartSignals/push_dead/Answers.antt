@@ -1,7 +1,6 @@
-use Rattle.std.proofs.Common.{◌<◌, ◌++◌, ap, arith, map, replicate, subst, sym, ◌∙◌}
-use Rattle.std.specs.List.{All}
+use Rattle.std.proofs.Common.{◌<◌, ◌++◌, ap, arith, map, replicate, subst, sym, ◌∙◌, All}
 use Rattle.module_box.specs.declared.schedules.Signal.TheVariants.{Zero}
-use Rattle.module_job.specs.CellLists.{numbered_signal}
+use Rattle.module_job.specs.CellLists.{signal_from_number}
 use Rattle.module_job.proofs.NumberedCells.{dead_pushed, zeros_below}
 use Rattle.module_job.proofs.cell_lists.StartSignals.push_dead.Goals as goal
 
@@ -15,5 +14,6 @@ invariant_of-self-2 c =
 
 pub returns : goal.returns
 returns c =
-    ap (λ ns. map numbered_signal ns) c.in_ok-push_zeros.ensures.added ∙ dead_pushed c.self.inside.numbers c.args.count
+    ap (λ ns. map signal_from_number ns) c.in_ok-push_zeros.ensures.added
+    ∙ dead_pushed c.self.inside.numbers c.args.count
     ∙ ap (λ cells. cells ++ replicate c.args.count Zero) c.self.view_is

@@ -1,11 +1,10 @@
-use Rattle.std.proofs.Common.{ap, sym, ◌∙◌}
-use Rattle.std.specs.Prelude.{slice_get, unwrap_or}
+use Rattle.std.proofs.Common.{ap, sym, ◌∙◌, slice_get, unwrap_or}
 use Rattle.module_box.specs.declared.schedules.Signal.TheVariants.{Zero}
-use Rattle.module_job.specs.CellLists.{numbered_signal}
+use Rattle.module_job.specs.CellLists.{signal_from_number}
 use Rattle.module_job.proofs.NumberedCells.{start_found}
 use Rattle.module_job.proofs.cell_lists.StartSignals.skip_dead.Goals as goal
 
 pub returns-clause-dead : goal.returns-clause-dead
 returns-clause-dead c u from before =
     sym (ap (λ cells. unwrap_or (slice_get cells u) Zero) c.self.view_is) ∙ sym (start_found c.self.inside.numbers u)
-    ∙ ap numbered_signal (c.skip_zeros.ensures.zeros u from before)
+    ∙ ap signal_from_number (c.skip_zeros.ensures.zeros u from before)

@@ -1,5 +1,4 @@
-use Rattle.std.proofs.Common.{◌≡◌, ◌+◌, ◌*◌, ◌/◌, ◌<◌, ap, arith, length, sym, ◌∙◌}
-use Rattle.std.specs.Prelude.{slice_get, unwrap_or}
+use Rattle.std.proofs.Common.{◌≡◌, ◌+◌, ◌*◌, ◌/◌, ◌<◌, ap, arith, length, sym, ◌∙◌, slice_get, unwrap_or}
 use Rattle.std.proofs.lemmas.List.{get_or_read}
 use Rattle.std.proofs.lemmas.Option.{unwrap_or-slice_get}
 use Rattle.bbm_rule.specs.Rows.{cell_at}
@@ -31,15 +30,16 @@ returns-then-index-place c =
     let ns = sparse_view a in
     let lt : c.args.place < length ns =
     omega (arith, c.if-self-place.false, count_numbers a.count 0 a.entries.items) in
-    let start : 2 * c.entries_before-at.result ≡ rank c.args.place ns =
-    c.entries_before-at.ensures.length_prefixed ns (c.deref-2.ensures.value ∙ c.self.invariant.entries) in
+    let start : 2 * c.count_entries_before-at.result ≡ rank c.args.place ns =
+    c.count_entries_before-at.ensures.length_prefixed ns (c.deref-2.ensures.value ∙ c.self.invariant.entries) in
     let size = ap length c.deref-2.ensures.value in
-    let long : 2 * c.entries_before-at.result + 1 < length a.entries.items =
+    let long : 2 * c.count_entries_before-at.result + 1 < length a.entries.items =
     omega (arith, size, c.deref-2.ensures.len, c.len-2.ensures, c.if-at-len.true) in
     let here = get_or_read a.entries.items _ _ (omega (arith, long)) c.index.ensures 0 in
     let next = get_or_read a.entries.items _ _ long c.index-then-index-place.ensures 0 in
     next
-    ∙ number_found c.args.place (2 * c.entries_before-at.result) ns a.entries.items lt c.self.invariant.entries start
+    ∙ number_found c.args.place (2 * c.count_entries_before-at.result) ns a.entries.items lt c.self.invariant.entries
+    start
     (sym here ∙ c.if-index-place.true)
     ∙ ap (λ l. unwrap_or (slice_get l c.args.place) 0) c.self.view_is
 
@@ -49,18 +49,20 @@ returns c =
     let ns = sparse_view a in
     let lt : c.args.place < length ns =
     omega (arith, c.if-self-place.false, count_numbers a.count 0 a.entries.items) in
-    let start : 2 * c.entries_before-at.result ≡ rank c.args.place ns =
-    c.entries_before-at.ensures.length_prefixed ns (c.deref-2.ensures.value ∙ c.self.invariant.entries) in
+    let start : 2 * c.count_entries_before-at.result ≡ rank c.args.place ns =
+    c.count_entries_before-at.ensures.length_prefixed ns (c.deref-2.ensures.value ∙ c.self.invariant.entries) in
     let size = ap length c.deref-2.ensures.value in
     let none : 0 ≡ unwrap_or (slice_get ns c.args.place) 0 = elim c.else-at-len.branch [
       | else-at-len-via-then-at-len+else-index-place w ↦
-          let long : 2 * c.entries_before-at.result + 1 < length a.entries.items =
+          let long : 2 * c.count_entries_before-at.result + 1 < length a.entries.items =
           omega (arith, size, c.deref-2.ensures.len, c.len-2.ensures, w.if-at-len.true) in
           let here = get_or_read a.entries.items _ _ (omega (arith, long)) w.index.ensures 0 in
-          none_there c.args.place (2 * c.entries_before-at.result) ns a.entries.items lt c.self.invariant.entries start
+          none_there c.args.place (2 * c.count_entries_before-at.result) ns a.entries.items lt c.self.invariant.entries
+          start
           (λ e. w.if-index-place.false (here ∙ e))
       | else-at-len-via-else-at-len w ↦
-          none_left c.args.place (2 * c.entries_before-at.result) ns a.entries.items lt c.self.invariant.entries start
+          none_left c.args.place (2 * c.count_entries_before-at.result) ns a.entries.items lt c.self.invariant.entries
+          start
           (omega (arith, size, c.deref-2.ensures.len, c.len-2.ensures, w.if-at-len.false))
     ] in
     none ∙ ap (λ l. unwrap_or (slice_get l c.args.place) 0) c.self.view_is

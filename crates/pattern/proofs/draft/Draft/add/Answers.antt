@@ -11,7 +11,7 @@ pub take_cells_if-requires : goal.take_cells_if-requires
 take_cells_if-requires c =
     let inside = subst (λ (p : Pattern). is_inside p.size c.args.part ≡ true)
     (sym c.self.view_is) c.in_ok-cells.ensures.inside in
-    cells_on_board c.self.inside.taken_at_start c.self.inside.layout.size c.self.invariant.begun_width
+    cells_on_board c.self.inside.cells_taken_at_start c.self.inside.layout.size c.self.invariant.begun_width
     c.self.invariant.begun_height c.args.part c.deref.result.now
     (c.deref.ensures.value ∙ c.in_ok-cells.ensures.cells) inside
 
@@ -32,11 +32,13 @@ invariant_of-self-2 c =
       begun_height = c.take_cells_if.ensures.size.1 ∙ c.self.invariant.begun_height ∙ high;
       ended_width = c.take_cells_if-2.ensures.size.0 ∙ c.self.invariant.ended_width ∙ size;
       ended_height = c.take_cells_if-2.ensures.size.1 ∙ c.self.invariant.ended_height ∙ high;
-      taken_at_start = begun_more c.self.inside.taken_at_start c.take_cells_if.new.grid (parts_of c.self.inside.layout)
+      cells_taken_at_start = begun_more c.self.inside.cells_taken_at_start c.take_cells_if.new.grid
+          (parts_of c.self.inside.layout)
           (parts_of c.add.new.self) c.args.part c.deref.result.now
-          (c.deref.ensures.value ∙ c.in_ok-cells.ensures.cells) c.in-Ok.ensures.parts c.self.invariant.taken_at_start
+          (c.deref.ensures.value ∙ c.in_ok-cells.ensures.cells) c.in-Ok.ensures.parts
+          c.self.invariant.cells_taken_at_start
           (λ x y. c.take_cells_if.ensures.taken x y
-          ∙ ap (λ b. live c.self.inside.taken_at_start x y || (b && in_cells c.deref.result.now x y))
+          ∙ ap (λ b. live c.self.inside.cells_taken_at_start x y || (b && in_cells c.deref.result.now x y))
           c.begins-begins.ensures);
       ended = ended_more c.self.inside.ended c.take_cells_if-2.new.grid (parts_of c.self.inside.layout)
           (parts_of c.add.new.self) c.args.part c.deref-2.result.now

@@ -20,7 +20,7 @@ these_cells c = c.deref.ensures.value ∙ c.in-Ok.ensures
 
 pub is_any_taken-requires-clause-one : goal.is_any_taken-requires-clause-one
 is_any_taken-requires-clause-one c =
-    cells_on_board c.self.inside.taken_at_start c.self.inside.layout.size c.self.invariant.begun_width
+    cells_on_board c.self.inside.cells_taken_at_start c.self.inside.layout.size c.self.invariant.begun_width
     c.self.invariant.begun_height c.args.part.now c.deref.result.now (these_cells c) (all_inside c)
 
 pub is_any_taken-requires-clause-other : goal.is_any_taken-requires-clause-other
@@ -33,10 +33,10 @@ taken_here : (c : goal.After-drop-cells) →
 taken_here c =
     c.is_any_taken.ensures
     ∙ ap (λ b. if b then list_any
-    (λ (k : Cell). live c.self.inside.taken_at_start k.x k.y) c.deref.result.now else list_any
+    (λ (k : Cell). live c.self.inside.cells_taken_at_start k.x k.y) c.deref.result.now else list_any
     (λ (k : Cell). live c.self.inside.ended k.x k.y) c.deref.result.now) c.begins.ensures
-    ∙ taken_by c.self.inside.taken_at_start c.self.inside.ended
-    (parts_of c.self.inside.layout) c.args.part.now c.deref.result.now c.self.invariant.taken_at_start
+    ∙ taken_by c.self.inside.cells_taken_at_start c.self.inside.ended
+    (parts_of c.self.inside.layout) c.args.part.now c.deref.result.now c.self.invariant.cells_taken_at_start
     c.self.invariant.ended
     (c.deref.ensures.value ∙ c.in-Ok.ensures)
 
@@ -49,10 +49,10 @@ taken_else : (c : goal.Else-is_any_taken) →
 taken_else c =
     c.is_any_taken.ensures
     ∙ ap (λ b. if b then list_any
-    (λ (k : Cell). live c.self.inside.taken_at_start k.x k.y) c.deref.result.now else list_any
+    (λ (k : Cell). live c.self.inside.cells_taken_at_start k.x k.y) c.deref.result.now else list_any
     (λ (k : Cell). live c.self.inside.ended k.x k.y) c.deref.result.now) c.begins.ensures
-    ∙ taken_by c.self.inside.taken_at_start c.self.inside.ended
-    (parts_of c.self.inside.layout) c.args.part.now c.deref.result.now c.self.invariant.taken_at_start
+    ∙ taken_by c.self.inside.cells_taken_at_start c.self.inside.ended
+    (parts_of c.self.inside.layout) c.args.part.now c.deref.result.now c.self.invariant.cells_taken_at_start
     c.self.invariant.ended
     (c.deref.ensures.value ∙ c.in-Ok.ensures)
 

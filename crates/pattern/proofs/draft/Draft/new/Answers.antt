@@ -1,8 +1,7 @@
-use Rattle.std.proofs.Common.{◌∙◌, sym, ap, arith}
-use Rattle.std.specs.Prelude.{List}
+use Rattle.std.proofs.Common.{◌∙◌, sym, ap, arith, List}
 use Rattle.pattern.specs.declared.layout_line.LayoutLine.{LayoutLine}
 use Rattle.pattern.specs.declared.layout_line.LayoutHeader.{LayoutHeader}
-use Rattle.pattern.specs.Lines.{taken_at_start, ended}
+use Rattle.pattern.specs.Lines.{cells_taken_at_start, ended}
 use Rattle.pattern.proofs.TakenLemmas.{is_sized}
 use Rattle.pattern.proofs.draft.Draft.new.Goals as goal
 
@@ -15,14 +14,15 @@ new-requires-clause-height c = let sized = is_sized c.args.size c.requires in
     (sized.height.0, omega (arith, sized.height.1), sized.height.2)
 
 pub invariant_of-result : goal.invariant_of-result
-unfolding taken_at_start ended
+unfolding cells_taken_at_start ended
 invariant_of-result c = record {
-  begun_width = c.in_ok-taken_at_start.ensures.size.0 ∙ ap (λ (s : LayoutHeader). s.w) (sym c.new-3.ensures.size);
-  begun_height = c.in_ok-taken_at_start.ensures.size.1 ∙ ap (λ (s : LayoutHeader). s.h) (sym c.new-3.ensures.size);
+  begun_width = c.in_ok-cells_taken_at_start.ensures.size.0 ∙ ap (λ (s : LayoutHeader). s.w) (sym c.new-3.ensures.size);
+  begun_height = c.in_ok-cells_taken_at_start.ensures.size.1
+      ∙ ap (λ (s : LayoutHeader). s.h) (sym c.new-3.ensures.size);
   ended_width = c.in_ok-ended.ensures.size.0 ∙ ap (λ (s : LayoutHeader). s.w) (sym c.new-3.ensures.size);
   ended_height = c.in_ok-ended.ensures.size.1 ∙ ap (λ (s : LayoutHeader). s.h) (sym c.new-3.ensures.size);
-  taken_at_start = λ x y. c.in_ok-taken_at_start.ensures.dead x y
-      ∙ ap (λ (parts : List LayoutLine). taken_at_start parts x y) (sym c.new-3.ensures.parts);
+  cells_taken_at_start = λ x y. c.in_ok-cells_taken_at_start.ensures.dead x y
+      ∙ ap (λ (parts : List LayoutLine). cells_taken_at_start parts x y) (sym c.new-3.ensures.parts);
   ended = λ x y. c.in_ok-ended.ensures.dead x y
       ∙ ap (λ (parts : List LayoutLine). ended parts x y) (sym c.new-3.ensures.parts);
 }

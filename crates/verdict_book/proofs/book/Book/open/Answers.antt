@@ -1,6 +1,5 @@
-use Rattle.std.proofs.Common.{◌≡◌, ℕ, List, ◌∷◌, ◌++◌, [], ◌+◌, ap, arith, ◌∙◌}
+use Rattle.std.proofs.Common.{◌≡◌, ℕ, List, ◌∷◌, ◌++◌, [], ◌+◌, ap, arith, ◌∙◌, replicate}
 use Rattle.std.proofs.lemmas.List.{replicate_more}
-use Rattle.std.specs.Prelude.{replicate}
 use Rattle.verdict_book.specs.Counts.{Counts, no_counts}
 use Rattle.verdict_book.proofs.book.Book.open.Goals as goal
 

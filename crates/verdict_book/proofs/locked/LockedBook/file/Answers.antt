@@ -1,9 +1,9 @@
 use Rattle.std.proofs.Common.{◌≡◌, ◌∙◌, ◌+◌, ◌∷◌, [], ap, arith, length, length-append, sym, false}
-use Rattle.core_book.specs.Book.{BookView, accepted_in, after_filing, count_after, filing_of}
+use Rattle.core_book.specs.Book.{BookView, accepted_in, after_filing, accepted_count_after, filing_of}
 use Rattle.core_book.specs.Replay.{has_closing}
 use Rattle.core_book.specs.declared.log_entry.LogEntry.TheVariants.{Filed}
 use Rattle.core_book.proofs.BookLaws.{closed-answers-closed}
-use Rattle.core_book.proofs.Filings.{count_after-other}
+use Rattle.core_book.proofs.Filings.{accepted_count_after-other}
 use Rattle.core_book.proofs.Replays.{has_closing-push}
 use Rattle.verdict_book.specs.Counts.{Counts, counted}
 use Rattle.verdict_book.proofs.Ruled.{ruled_by}
@@ -17,7 +17,7 @@ invariant_of-self-in-Accepted g c =
     ap (λ (b : BookView). length b.history) after
     ∙ length-append old.state.history (Filed (filing_of old.state c.args.finding) ∷ []) in
     let one : accepted_in c.file.new.self ≡ accepted_in old.state + 1 =
-    c.in_ok-reply.ensures.counted ∙ ap (count_after (accepted_in old.state)) c.in-Accepted.is in
+    c.in_ok-reply.ensures.counted ∙ ap (accepted_count_after (accepted_in old.state)) c.in-Accepted.is in
     record {
       own_digest = ap (λ (b : BookView). b.digest) after ∙ old.own_digest;
       own_jobs = ap (λ (b : BookView). b.jobs) after ∙ old.own_jobs;
@@ -32,7 +32,7 @@ invariant_of-self-in-Accepted g c =
 pub returns-in-Accepted-clause-counted : goal.returns-in-Accepted-clause-counted
 returns-in-Accepted-clause-counted g c =
     let mine = c.mine.inside in
-    (λ i. record { filed = mine.filed + 1; accepted = count_after mine.accepted (sym c.in-Accepted.is i) })
+    (λ i. record { filed = mine.filed + 1; accepted = accepted_count_after mine.accepted (sym c.in-Accepted.is i) })
     ∙ ap (λ (m : Counts). counted m c.in_ok-reply.reply) c.mine.view_is
 
 pub invariant_of-self-in_default : goal.invariant_of-self-in_default
@@ -44,7 +44,7 @@ invariant_of-self-in_default g c =
     ∙ length-append old.state.history (Filed (filing_of old.state c.args.finding) ∷ []) in
     let same : accepted_in c.file.new.self ≡ accepted_in old.state =
     c.in_ok-reply.ensures.counted
-    ∙ count_after-other (accepted_in old.state) c.in_ok-reply.reply c.in_default.not-Accepted in
+    ∙ accepted_count_after-other (accepted_in old.state) c.in_ok-reply.reply c.in_default.not-Accepted in
     record {
       own_digest = ap (λ (b : BookView). b.digest) after ∙ old.own_digest;
       own_jobs = ap (λ (b : BookView). b.jobs) after ∙ old.own_jobs;
@@ -68,7 +68,7 @@ returns-clause-counted g c =
     let mine = c.mine.inside in
     (λ i. record {
       filed = mine.filed + 1;
-      accepted = sym (count_after-other mine.accepted c.in_ok-reply.reply c.in_default.not-Accepted) i;
+      accepted = sym (accepted_count_after-other mine.accepted c.in_ok-reply.reply c.in_default.not-Accepted) i;
     }) ∙ ap (λ (m : Counts). counted m c.in_ok-reply.reply) c.mine.view_is
 
 pub returns-in-Accepted-clause-of_book : goal.returns-in-Accepted-clause-of_book

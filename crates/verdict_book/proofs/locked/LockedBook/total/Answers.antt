@@ -1,6 +1,5 @@
-use Rattle.std.proofs.Common.{◌≡◌, sum_by, [], arith, rules, ap}
+use Rattle.std.proofs.Common.{◌≡◌, sum_by, [], arith, rules, ap, vec_len}
 use Rattle.std.proofs.lemmas.List.Sums.{sum_by_push}
-use Rattle.std.specs.Prelude.{vec_len}
 use Rattle.verdict_book.specs.Counts.{Counts}
 use Rattle.verdict_book.proofs.locked.LockedBook.total.Goals as goal
 

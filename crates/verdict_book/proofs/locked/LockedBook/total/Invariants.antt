@@ -1,5 +1,4 @@
-use Rattle.std.proofs.Common.{◌≡◌, ◌+◌, ◌≤◌, sum_by}
-use Rattle.std.specs.Prelude.{vec_len}
+use Rattle.std.proofs.Common.{◌≡◌, ◌+◌, ◌≤◌, sum_by, vec_len}
 use Rattle.verdict_book.specs.Counts.{Counts}
 use Rattle.verdict_book.proofs.locked.LockedBook.total.Given as goal
 

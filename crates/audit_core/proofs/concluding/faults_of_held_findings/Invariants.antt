@@ -1,0 +1,8 @@
+use Rattle.std.proofs.Common.{map}
+use Rattle.std.specs.Arc.{arc_value}
+use Rattle.core_book.proofs.HeldJobs.{AreFaultsBelow}
+use Rattle.audit_core.proofs.concluding.faults_of_held_findings.Given as goal
+
+-- the jobs before this one have a finding, and these are their least faults
+abbrev pub invariant-modules : goal.invariant-modules
+invariant-modules l = AreFaultsBelow l.book (map arc_value l.jobs) l.number l.faults.items

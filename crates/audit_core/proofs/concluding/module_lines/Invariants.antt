@@ -1,8 +1,0 @@
-use Rattle.std.proofs.Common.{◌≡◌, ◌++◌, drop}
-use Rattle.core_book.specs.Verdicts.{lines_from}
-use Rattle.audit_core.proofs.concluding.module_lines.Given as goal
-
--- the lines so far and those on the other modules are all lines
-abbrev pub invariant-modules : goal.invariant-modules
-invariant-modules l = l.lines.items ++ lines_from l.number (drop l.number l.faults) (drop l.number l.borders)
-    ≡ lines_from 0 l.faults l.borders

@@ -1,0 +1,6 @@
+use Rattle.std.proofs.Common.{◌≡◌, ◌++◌, map, take}
+use Rattle.core_book.specs.Verdicts.{timing_report}
+use Rattle.audit_core.proofs.concluding.push_time_lines.Given as goal
+
+abbrev pub invariant-times : goal.invariant-times
+invariant-times l = l.lines.items ≡ l.initial.lines.items ++ map timing_report (take l.line-index l.times)

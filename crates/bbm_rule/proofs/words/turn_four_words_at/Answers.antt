@@ -1,0 +1,7 @@
+use Rattle.std.proofs.lemmas.Grind.{common_steps}
+use Rattle.std.proofs.Common.{arith}
+use Rattle.bbm_rule.proofs.Lanes.{chunk_turned}
+use Rattle.bbm_rule.proofs.words.turn_four_words_at.Goals as goal
+
+pub returns : goal.returns
+returns c = grind (arith, common_steps, chunk_turned)

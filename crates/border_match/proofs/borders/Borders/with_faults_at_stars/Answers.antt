@@ -1,0 +1,18 @@
+use Rattle.border_match.proofs.Least.{better_then, better_for}
+use Rattle.border_match.proofs.Stars.{star_all, star_far, star_step}
+use Rattle.border_match.proofs.borders.Borders.with_faults_at_stars.Goals as goal
+
+pub returns : goal.returns
+returns c = better_for _ _ _ _ _ c.stars.invariant
+    (λ h f r. star_all _ _ c.args.self.now c.args.stars.now c.stars.place h c.stars-test.false r)
+
+pub stars-preserved : goal.stars-preserved
+stars-preserved c = better_then _ _ _ _ _ _ _ c.stars.invariant c.with_star_fault_at-least.ensures
+    (λ h f r. star_step c.args.corner c.args.self.now c.args.stars.now c.stars.place _ c.in-Some.cell h
+    c.stars-test.true
+    c.in-Some.ensures.around r)
+
+pub stars-preserved-in_default : goal.stars-preserved-in_default
+stars-preserved-in_default c = better_for _ _ _ _ _ c.stars.invariant
+    (λ h f r. star_far c.area-area.result c.args.corner c.args.self.now c.args.stars.now c.stars.place _ h
+    c.area-area.ensures.area c.stars-test.true c.in_default.ensures.far f r)

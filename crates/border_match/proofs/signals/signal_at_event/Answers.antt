@@ -1,0 +1,21 @@
+use Rattle.std.proofs.Common.{ap, sym, ◌∙◌}
+use Rattle.module_box.specs.Locals.{circuit_wire}
+use Rattle.module_job.specs.Signals.{renumber_signal}
+use Rattle.border_match.specs.Boards.{job_signals}
+use Rattle.border_match.proofs.EventSignals.{own_signal}
+use Rattle.border_match.proofs.OwnSignals.{listed_below}
+use Rattle.border_match.proofs.signals.signal_at_event.Goals as goal
+
+pub circuit_signal-requires : goal.circuit_signal-requires
+circuit_signal-requires c = listed_below c.args.border c.args.job.now c.args.event c.area-area.ensures.good.own
+    c.requires.listed
+
+pub returns : goal.returns
+returns c =
+    let j = c.args.job.now in
+    c.circuit_signal.ensures ∙ ap (renumber_signal (circuit_wire j.locals)) (sym
+    (own_signal j.area.x j.area.y (job_signals c.args.border j) c.schedule.result.now c.events-events.result.now
+    c.args.event
+    (c.has_line_at_all_times.ensures c.if-has_line_at_all_times.false) c.events-events.ensures.same_list
+    c.schedule.ensures
+    c.events-events.ensures.rising c.requires.listed))

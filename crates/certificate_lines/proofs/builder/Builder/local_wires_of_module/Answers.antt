@@ -1,0 +1,34 @@
+use Rattle.std.proofs.Common.{◌≡◌, ◌∙◌, ◌+◌, ◌<◌, Some, length, map, option_map, refl, sym, ap, subst, arith, slice_get}
+use Rattle.std.proofs.lemmas.List.{length-map}
+use Rattle.std.proofs.lemmas.Option.{slice_get-map, slice_get_read}
+use Rattle.certificate_lines.specs.BuilderView.{BuilderView}
+use Rattle.certificate_lines.specs.Entries.{known, modules_of}
+use Rattle.certificate_lines.proofs.LackedWires.{earlier_wires, last_wires}
+use Rattle.certificate_lines.proofs.builder.Builder.local_wires_of_module.Goals as goal
+
+pub returns-then-number-last : goal.returns-then-number-last
+returns-then-number-last c =
+    let g = c.self.inside.tables in let items = c.self.inside.earlier.items in let n = c.args.number + 1 in
+    let keys = map (λ s. s.wires) items in
+    let same : length keys ≡ length items = length-map items (λ s. s.wires) in
+    let long = c.if-number-last.true in let counted = c.len-last.ensures in
+    let found = slice_get_read items (length items) n c.index.result.now refl
+    (omega (arith, long, counted)) c.index.ensures in
+    subst (λ (s : BuilderView). slice_get (map (known s.setting.circuit) (modules_of s.entries)) c.args.number
+    ≡ Some c.index.result.now.wires) c.self.view_is
+    (earlier_wires g.circuit (modules_of c.self.inside.entries.items) keys c.self.inside.known.wires
+    c.self.invariant.wires c.args.number (omega (arith, long, counted, same))
+    ∙ slice_get-map (λ s. s.wires) items n ∙ ap (option_map (λ s. s.wires)) found)
+
+pub returns-else-number-last : goal.returns-else-number-last
+returns-else-number-last c =
+    let g = c.self.inside.tables in let items = c.self.inside.earlier.items in
+    let keys = map (λ s. s.wires) items in
+    let same : length keys ≡ length items = length-map items (λ s. s.wires) in
+    let short = c.if-number-last.false in let counted = c.len-last.ensures in
+    let lt = subst (λ (s : BuilderView). c.args.number < length (modules_of s.entries))
+    (sym c.self.view_is) c.requires in
+    subst (λ (s : BuilderView). slice_get (map (known s.setting.circuit) (modules_of s.entries)) c.args.number
+    ≡ Some c.self.inside.known.wires) c.self.view_is
+    (last_wires g.circuit (modules_of c.self.inside.entries.items) keys c.self.inside.known.wires c.self.invariant.wires
+    c.args.number lt (omega (arith, short, counted, same)))

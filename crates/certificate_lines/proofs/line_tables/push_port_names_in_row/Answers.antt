@@ -1,0 +1,29 @@
+use Rattle.std.proofs.Common.{◌+◌, ap, arith, false, pos, List, ℕ, Option}
+use Rattle.std.specs.List.{list_any}
+use Rattle.std.specs.Option.{option_map_or}
+use Rattle.bbm_rule.specs.declared.block.Cell.{Cell}
+use Rattle.certificate_lines.specs.PortTables.{port_at}
+use Rattle.certificate_lines.proofs.TableLemmas.{row_named, row_nameless}
+use Rattle.certificate_lines.proofs.line_tables.push_port_names_in_row.Goals as goal
+
+pub returns-then-is_row_without_port : goal.returns-then-is_row_without_port
+returns-then-is_row_without_port c f =
+    row_nameless (λ (d : Cell). option_map_or f (port_at c.args.ports.now d.x d.y) false)
+    (list_any f c.args.names.now.items) c.args.x c.args.width c.args.y
+    (λ k l. ap (λ (o : Option (List ℕ)). option_map_or f o false)
+    (c.is_row_without_port.ensures c.if-is_row_without_port.true (pos (c.args.x + k))))
+
+pub returns-then-is_row_part_without_port : goal.returns-then-is_row_part_without_port
+returns-then-is_row_part_without_port c f =
+    row_nameless (λ (d : Cell). option_map_or f (port_at c.args.ports.now d.x d.y) false)
+    (list_any f c.args.names.now.items) c.args.x c.args.width c.args.y
+    (λ k l. ap (λ (o : Option (List ℕ)). option_map_or f o false)
+    (c.is_row_part_without_port.ensures c.if-is_row_part_without_port.true k l))
+
+pub loop-column-preserved : goal.loop-column-preserved
+loop-column-preserved c f =
+    row_named (λ (d : Cell). option_map_or f (port_at c.args.ports.now d.x d.y) false)
+    (list_any f c.args.names.now.items)
+    (list_any f c.loop-column.names.items) _ _ c.args.x c.args.y c.loop-column.column
+    (omega arith) (omega arith) (omega arith) (c.loop-column.invariant f) (c.in_ok-push_name_if_some.ensures f)
+    (ap (λ (o : Option (List ℕ)). option_map_or f o false) c.get.ensures)

@@ -1,0 +1,12 @@
+-- The names of the ports at the cells so far.
+use Rattle.std.proofs.Common.{◌≡◌, ◌||◌, ◌-◌, Bool, false, ℕ, List}
+use Rattle.std.specs.List.{list_any}
+use Rattle.std.specs.Option.{option_map_or}
+use Rattle.pattern.specs.Layout.{row_cells}
+use Rattle.certificate_lines.specs.PortTables.{port_at}
+use Rattle.certificate_lines.proofs.line_tables.push_port_names_in_row.Given as goal
+
+abbrev pub invariant-loop-column : goal.invariant-loop-column
+invariant-loop-column l = (f : List ℕ → Bool) →
+    list_any f l.names.items ≡ (list_any f l.fn.names.items
+    || list_any (λ c. option_map_or f (port_at l.ports c.x c.y) false) (row_cells l.x (l.column - l.x) l.y))

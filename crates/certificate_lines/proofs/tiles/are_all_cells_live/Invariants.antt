@@ -1,0 +1,10 @@
+-- The rows so far are live.
+use Rattle.std.proofs.Common.{◌≡◌}
+use Rattle.std.specs.List.{list_all, flat_map, range_with_len}
+use Rattle.bbm_rule.specs.Board.{live}
+use Rattle.pattern.specs.Layout.{row_cells}
+use Rattle.certificate_lines.proofs.tiles.are_all_cells_live.Given as goal
+
+abbrev pub invariant-loop-y : goal.invariant-loop-y
+invariant-loop-y l = l.full ≡ list_all (λ c. live l.fn.grid c.x c.y)
+    (flat_map (λ y. row_cells 0 l.fn.w y) (range_with_len 0 l.y))

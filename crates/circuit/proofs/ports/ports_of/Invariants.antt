@@ -1,9 +1,0 @@
-use Rattle.std.proofs.Common.{◌≡◌, ◌++◌, take}
-use Rattle.circuit.specs.Bridge.{input_names, output_names}
-use Rattle.circuit.proofs.ports.ports_of.Given as goal
-
-abbrev pub invariant-loop-entry : goal.invariant-loop-entry
-invariant-loop-entry l = record {
-  ins : l.ins.items ≡ l.fn.ins.items ++ input_names (take l.entry-index l.entries);
-  outs : l.outs.items ≡ l.fn.outs.items ++ output_names (take l.entry-index l.entries);
-}

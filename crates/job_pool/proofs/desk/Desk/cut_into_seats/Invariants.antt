@@ -1,0 +1,14 @@
+use Rattle.std.proofs.Common.{◌≡◌, ◌-◌, ◌≤◌, [], vec_len, vec_capacity, All}
+use Rattle.job_pool.specs.Rule.{view}
+use Rattle.job_pool.specs.Seats.{IsNewSeatOf}
+use Rattle.job_pool.proofs.desk.Desk.cut_into_seats.Given as goal
+
+-- the seats opened so far have one place and an empty list, and the rest of the places is the splitting seat's
+abbrev pub invariant-loop : goal.invariant-loop
+invariant-loop l = record {
+  table : l.rest.table_id ≡ l.self.table.shared.table_id;
+  rest : l.rest.me.0 ≡ view [] 0 (l.self.seats - l.counter);
+  len : vec_len l.opened ≡ l.counter;
+  room : l.self.seats ≤ vec_capacity l.opened;
+  each : All (IsNewSeatOf l.self) l.opened.items;
+}

@@ -1,0 +1,14 @@
+use Rattle.std.proofs.Common.{arith}
+use Rattle.std.proofs.lemmas.Option.{slice_get-get_or}
+use Rattle.std.proofs.lemmas.Grind.{common_steps}
+use Rattle.local_run.proofs.LeapLemmas.{raise_time, drop_time, met}
+use Rattle.local_run.proofs.leaps.first_event_place_from.Goals as goal
+
+pub search-preserved-then-events-low : goal.search-preserved-then-events-low
+search-preserved-then-events-low c = grind (arith, common_steps, raise_time, slice_get-get_or)
+
+pub search-preserved : goal.search-preserved
+search-preserved c = grind (arith, common_steps, drop_time, slice_get-get_or)
+
+pub returns-clause-first : goal.returns-clause-first
+returns-clause-first c = met c.args.events.now _ _ _ (omega (arith, c.search-test.false)) c.search.invariant.2

@@ -1,0 +1,16 @@
+use Rattle.std.proofs.Common.{arith}
+use Rattle.std.proofs.lemmas.Grind.{common_steps}
+use Rattle.local_run.proofs.HeldLemmas.{room_of}
+use Rattle.local_run.proofs.planes.Planes.has_always_live_odd_diagonals.Goals as goal
+
+pub is_always_live-requires : goal.is_always_live-requires
+is_always_live-requires c = grind (arith, common_steps, room_of)
+
+pub is_always_live-requires-else-is_always_live : goal.is_always_live-requires-else-is_always_live
+is_always_live-requires-else-is_always_live c = grind (arith, common_steps, room_of)
+
+pub is_always_live-requires-then-is_always_live-2 : goal.is_always_live-requires-then-is_always_live-2
+is_always_live-requires-then-is_always_live-2 c = grind (arith, common_steps, room_of)
+
+pub is_always_live-requires-else-is_always_live-3 : goal.is_always_live-requires-else-is_always_live-3
+is_always_live-requires-else-is_always_live-3 c = grind (arith, common_steps, room_of)

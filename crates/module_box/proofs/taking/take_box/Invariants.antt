@@ -1,6 +1,0 @@
-use Rattle.std.proofs.Common.{◌*◌}
-use Rattle.module_box.proofs.Takings.{TakesRows}
-use Rattle.module_box.proofs.taking.take_box.Given as goal
-
-abbrev pub invariant-rows : goal.invariant-rows
-invariant-rows l = TakesRows l.columns l.fn.area l.free l.number (l.row * l.columns) l.initial.table l.table

@@ -1,5 +1,0 @@
-use Rattle.module_box.specs.Taking.{TakesRow}
-use Rattle.module_box.proofs.taking.take_row.Given as goal
-
-abbrev pub invariant-places : goal.invariant-places
-invariant-places l = TakesRow l.free l.number l.from l.place l.place l.initial.table l.table

@@ -1,0 +1,5 @@
+use Rattle.module_box.specs.Tiling.{AreFirstBoxesInside}
+use Rattle.module_box.proofs.tile.first_box_outside.Given as goal
+
+abbrev pub invariant-boxes : goal.invariant-boxes
+invariant-boxes l = AreFirstBoxesInside l.width l.height l.number l.boxes

@@ -1,6 +1,0 @@
-use Rattle.std.proofs.Common.{◌≡◌, ◌<◌, ℕ}
-use Rattle.std.specs.Prelude.{slice_index}
-use Rattle.module_box.proofs.tile.first_free.Given as goal
-
-abbrev pub invariant-places : goal.invariant-places
-invariant-places l = (k : ℕ) → k < l.place → ¬ (slice_index l.table k ≡ l.free)

@@ -1,0 +1,5 @@
+use Rattle.std.proofs.Common.{◌≡◌, ◌<◌, ℕ, slice_index}
+use Rattle.module_box.proofs.tile.first_free_place.Given as goal
+
+abbrev pub invariant-places : goal.invariant-places
+invariant-places l = (k : ℕ) → k < l.place → ¬ (slice_index l.table k ≡ l.free)

@@ -1,6 +1,0 @@
-use Rattle.std.proofs.Common.{◌≡◌, take}
-use Rattle.module_box.specs.LocalValues.{lane}
-use Rattle.module_box.proofs.values.bits_of.Given as goal
-
-abbrev pub invariant-loop-word : goal.invariant-loop-word
-invariant-loop-word l = l.bits.items ≡ lane l.place (take l.word-index l.words)

@@ -1,0 +1,13 @@
+-- Those before have their groups, and the map has the first number of each key so far.
+use Rattle.std.proofs.Common.{◌≡◌, ℕ, ◌<◌, List, length, slice_index}
+use Rattle.indexmap.specs.IndexMap.{get}
+use Rattle.module_job.specs.Groups.{IsFirstLike, same_key}
+use Rattle.module_job.proofs.FirstKeys.{IsFirstOf}
+use Rattle.module_job.proofs.groups.first_numbers_of_keys.Given as goal
+
+abbrev pub invariant-keys : goal.invariant-keys
+invariant-keys l = record {
+  count : length l.groups.items ≡ l.number;
+  each : (k : ℕ) → k < l.number → IsFirstLike l.keys k (slice_index l.groups.items k);
+  known : (key : List ℕ) → IsFirstOf l.keys l.number key (get same_key l.firsts key);
+}

@@ -1,0 +1,5 @@
+use Rattle.std.proofs.Common.{◌≡◌, ◌++◌, take}
+use Rattle.module_job.proofs.keys.push_kept_places.Given as goal
+
+abbrev pub invariant-loop-place : goal.invariant-loop-place
+invariant-loop-place l = l.numbers.items ≡ l.initial.numbers.items ++ take l.place-index l.kept

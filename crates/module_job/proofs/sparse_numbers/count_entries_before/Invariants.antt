@@ -1,0 +1,16 @@
+-- The entries below `low` are of places before this one, and those from `high` on are not.
+use Rattle.std.proofs.Common.{◌≡◌, ℕ, ◌*◌, ◌-◌, ◌≤◌, List, length}
+use Rattle.module_job.specs.Keys.{sparse_entries_from}
+use Rattle.module_job.proofs.SparseLists.{rank}
+use Rattle.module_job.proofs.sparse_numbers.count_entries_before.Given as goal
+
+abbrev pub invariant-search : goal.invariant-search
+invariant-search l = record {
+  order : l.low ≤ l.high;
+  bound : 2 * l.high ≤ length l.entries;
+  around : (numbers : List ℕ) → l.entries ≡ sparse_entries_from 0 numbers →
+      (2 * l.low ≤ rank l.place numbers) × (rank l.place numbers ≤ 2 * l.high);
+}
+
+abbrev pub decreases-search : goal.decreases-search
+decreases-search l = l.high - l.low

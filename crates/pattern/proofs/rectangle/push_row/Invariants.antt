@@ -1,6 +1,0 @@
-use Rattle.std.proofs.Common.{◌≡◌, ◌++◌, ◌-◌}
-use Rattle.pattern.specs.Layout.{row_cells}
-use Rattle.pattern.proofs.rectangle.push_row.Given as goal
-
-abbrev pub invariant-loop-column : goal.invariant-loop-column
-invariant-loop-column l = l.out.items ≡ l.fn.out.items ++ row_cells l.x (l.column - l.x) l.y

@@ -1,0 +1,9 @@
+use Rattle.std.proofs.Common.{◌≡◌}
+use Rattle.std.specs.List.{flat_map, filter, range_with_len}
+use Rattle.bbm_rule.specs.Board.{live}
+use Rattle.pattern.specs.Layout.{row_cells}
+use Rattle.pattern.proofs.run.live_cells_in_order.Given as goal
+
+abbrev pub invariant-loop-y : goal.invariant-loop-y
+invariant-loop-y l = l.cells.items
+    ≡ filter (λ c. live l.fn.grid c.x c.y) (flat_map (λ y. row_cells 0 l.fn.size.w y) (range_with_len 0 l.y))

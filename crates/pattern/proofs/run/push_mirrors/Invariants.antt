@@ -1,7 +1,0 @@
-use Rattle.std.proofs.Common.{◌≡◌, ◌++◌, take}
-use Rattle.std.specs.List.{flat_map}
-use Rattle.pattern.specs.Layout.{rectangle_cells}
-use Rattle.pattern.proofs.run.push_mirrors.Given as goal
-
-abbrev pub invariant-loop-mirror : goal.invariant-loop-mirror
-invariant-loop-mirror l = l.out.items ≡ l.fn.out.items ++ flat_map rectangle_cells (take l.mirror-index l.mirrors)

@@ -1,0 +1,14 @@
+use Rattle.section_text.proofs.Splitting.{five_are, lone_word, no_five}
+use Rattle.section_text.proofs.words.split_five_words.Goals as goal
+
+pub returns-in_default : goal.returns-in_default
+returns-in_default c = lone_word c.args.line.now (c.split_word.ensures.none c.in_default.is)
+
+pub returns-in_default-split_four_words : goal.returns-in_default-split_four_words
+returns-in_default-split_four_words c =
+    no_five c.args.line.now c.in-Some.first.now c.in-Some.rest.now c.in-Some.ensures.some
+    c.in_default-split_four_words.ensures
+
+pub returns : goal.returns
+returns c = five_are c.args.line.now c.in-Some.first.now c.in-Some.rest.now _ c.in-Some.ensures.some
+    c.in-Some-split_four_words.ensures

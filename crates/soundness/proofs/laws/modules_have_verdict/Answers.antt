@@ -1,5 +1,0 @@
-use Rattle.soundness.proofs.SomeVerdict.{some_verdict}
-use Rattle.soundness.proofs.laws.modules_have_verdict.Goals as goal
-
-pub returns : goal.returns
-returns c = some_verdict
