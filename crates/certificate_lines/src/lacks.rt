@@ -396,7 +396,7 @@ impl<'a> Builder<'a> {
 
     // Whether one of the edge lines of all modules names a wire that is not local in a module beside it. There are odd
     // times.
-    fn lacks_any_edge_wire(&self, owners: &Option<Owners>) -> bool
+    fn lacks_an_edge_wire(&self, owners: &Option<Owners>) -> bool
         requires owners { IfSome owners.now (AreModuleOwners self.now) }
         requires long { 1 < self.now.setting.size.steps }
         ensures { result ≡ lacks_edge_wire_beside self.now.setting (modules_of self.now.entries) }
@@ -429,6 +429,6 @@ impl<'a> Builder<'a> {
             return false;
         }
         let owners = self.owners(alloc);
-        self.lacks_any_edge_wire(&owners)
+        self.lacks_an_edge_wire(&owners)
     }
 }

@@ -18,8 +18,8 @@ returns-then-size-le1 c =
     none_lacked v.setting (modules_of v.entries)
     (short v.setting.size.steps (subst (λ n. n ≤ 1) steps c.if-size-le1.true))
 
-pub lacks_any_edge_wire-requires-clause-long : goal.lacks_any_edge_wire-requires-clause-long
-lacks_any_edge_wire-requires-clause-long c =
+pub lacks_an_edge_wire-requires-clause-long : goal.lacks_an_edge_wire-requires-clause-long
+lacks_an_edge_wire-requires-clause-long c =
     let v = c.args.self.now in
     let steps : c.size-size.result.steps ≡ v.setting.size.steps =
     ap (λ (s : LayoutHeader). s.steps) c.size-size.ensures.size

@@ -11,9 +11,9 @@ use Rattle.certificate_lines.proofs.AnyLines.{any_end, any_module, any_other}
 use Rattle.certificate_lines.proofs.LinesLeft.{rest_of_lines}
 use Rattle.certificate_lines.proofs.LackedWires.{lacked, lines_inside, lines_on_layout}
 use Rattle.certificate_lines.proofs.ModuleSplit.{no_module}
-use Rattle.certificate_lines.proofs.builder.Builder.lacks_any_edge_wire.Goals.{in-Module+else-is_edge_wire_lacked_beside}
-use Rattle.certificate_lines.proofs.builder.Builder.lacks_any_edge_wire.Goals.{in_default}
-use Rattle.certificate_lines.proofs.builder.Builder.lacks_any_edge_wire.Goals as goal
+use Rattle.certificate_lines.proofs.builder.Builder.lacks_an_edge_wire.Goals.{in-Module+else-is_edge_wire_lacked_beside}
+use Rattle.certificate_lines.proofs.builder.Builder.lacks_an_edge_wire.Goals.{in_default}
+use Rattle.certificate_lines.proofs.builder.Builder.lacks_an_edge_wire.Goals as goal
 
 -- some module lacks a wire of this module
 abbrev lacks : BuilderView → ModuleLines → Bool

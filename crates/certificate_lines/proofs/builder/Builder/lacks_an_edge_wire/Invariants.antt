@@ -3,7 +3,7 @@ use Rattle.std.proofs.Common.{◌≡◌, drop}
 use Rattle.std.specs.List.{list_any}
 use Rattle.certificate_lines.specs.BuilderView.{lacks_edge_wire}
 use Rattle.certificate_lines.specs.Entries.{edges, modules_of}
-use Rattle.certificate_lines.proofs.builder.Builder.lacks_any_edge_wire.Given as goal
+use Rattle.certificate_lines.proofs.builder.Builder.lacks_an_edge_wire.Given as goal
 
 abbrev pub invariant-lines : goal.invariant-lines
 invariant-lines l = list_any (λ n.
