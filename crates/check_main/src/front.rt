@@ -114,12 +114,7 @@ where
             );
             status_of(ended, &mut streams.errors)
         }
-        Err(error) => write_help_or_word_fault(
-            alloc,
-            &error,
-            &mut streams.writer,
-            &mut streams.errors,
-        ),
+        Err(error) => write_help_or_fault(alloc, &error, &mut streams.writer, &mut streams.errors),
     }
 }
 
@@ -183,7 +178,7 @@ pub fn status_of<E: Sink>(ended: Result<Outcome, CheckFault>, errors: &mut E) ->
 }
 
 // Help goes to the writer, and what is wrong with the words to `errors`.
-fn write_help_or_word_fault<W: Sink, E: Sink>(
+fn write_help_or_fault<W: Sink, E: Sink>(
     alloc: Global,
     error: &Error,
     writer: &mut W,

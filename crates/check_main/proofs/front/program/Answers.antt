@@ -79,8 +79,8 @@ returns-in-Ok-clause-small g c check three =
 
 pub returns-in-Err-clause-ran : goal.returns-in-Err-clause-ran
 returns-in-Err-clause-ran g c accepted =
-    let five = c.write_help_or_word_fault.ensures.memory (of_memory _ c.in-Err.error accepted c.in-Err.ensures.fails) in
-    let starved = c.write_help_or_word_fault.ensures.explains.out_of_memory five in
+    let five = c.write_help_or_fault.ensures.memory (of_memory _ c.in-Err.error accepted c.in-Err.ensures.fails) in
+    let starved = c.write_help_or_fault.ensures.explains.out_of_memory five in
     record {
       ended = Err Memory;
       served = record {
@@ -100,7 +100,7 @@ returns-in-Err-clause-ran g c accepted =
 pub returns-in-Err-clause-explained : goal.returns-in-Err-clause-explained
 returns-in-Err-clause-explained g c refused =
     let fails = c.in-Err.ensures.fails in
-    let explains = c.write_help_or_word_fault.ensures.explains in
+    let explains = c.write_help_or_fault.ensures.explains in
     record {
       unread = refl;
       by_status = record {
@@ -109,7 +109,7 @@ returns-in-Err-clause-explained g c refused =
             (help_is_asked _ c.in-Err.error shown.0 fails, shown.1, shown.2);
         refused = λ two. let said = explains.refused two in (
           (λ alone. elim fails [
-            | inl memory ↦ let five = c.write_help_or_word_fault.ensures.memory memory in
+            | inl memory ↦ let five = c.write_help_or_fault.ensures.memory memory in
                 absurd (omega (arith, five, two))
             | inr among ↦ said.0 (alone (kind_of c.in-Err.error) among)
           ]),
@@ -123,9 +123,9 @@ returns-in-Err-clause-explained g c refused =
 
 pub returns-in-Err-clause-in_full : goal.returns-in-Err-clause-in_full
 returns-in-Err-clause-in_full g c check =
-    let five = c.write_help_or_word_fault.ensures.memory
+    let five = c.write_help_or_fault.ensures.memory
     (of_memory _ c.in-Err.error check.accepted c.in-Err.ensures.fails) in
     nothing_promised IsRightInFull _ (g.R.Source.left c.args.streams.now.reader)
-    (g.W.Sink.written_bytes c.args.streams.now.writer) (g.W.Sink.written_bytes c.write_help_or_word_fault.new.writer)
+    (g.W.Sink.written_bytes c.args.streams.now.writer) (g.W.Sink.written_bytes c.write_help_or_fault.new.writer)
     (λ zero. absurd (omega (arith, five, zero)))
-    (ap g.W.Sink.written_bytes (c.write_help_or_word_fault.ensures.explains.out_of_memory five).0)
+    (ap g.W.Sink.written_bytes (c.write_help_or_fault.ensures.explains.out_of_memory five).0)
