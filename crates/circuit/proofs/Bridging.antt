@@ -1,16 +1,16 @@
 -- The gates of good lines are ordered.
 use Rattle.std.proofs.Common.{◌≡◌, ℕ, ◌+◌, ◌<◌, Bool, false, cond, List, [], ◌∷◌, ◌++◌, map, length, take, Option, Some}
-use Rattle.std.proofs.Common.{None, refl, sym, ap, ap₂, subst, ◌∙◌, arith, inl, inr, append_assoc, length-append}
-use Rattle.std.specs.List.{All, range_with_len, count_by}
+use Rattle.std.proofs.Common.{None, refl, sym, ap, ap₂, subst, ◌∙◌, arith, inl, inr, append_assoc, length-append, All}
+use Rattle.std.proofs.Common.{count_by}
+use Rattle.std.specs.List.{range_with_len}
 use Rattle.std.proofs.lemmas.List.{append-nil, length-map}
-use Rattle.std.proofs.lemmas.Grind.{flat_map-append}
+use Rattle.std.proofs.lemmas.Grind.{flat_map-append, common_steps}
 use Rattle.std.proofs.lemmas.List.Sums.{sum_by-append, sum_by-cons}
 use Rattle.std.proofs.lemmas.Bool.{cases_Bool, true≢false}
 use Rattle.circuit.specs.Entries.{defined}
 use Rattle.circuit.specs.declared.circuit_line.GateKind.{GateKind}
 use Rattle.circuit.specs.declared.circuit_line.Kind.{Kind}
-use Rattle.circuit.specs.declared.circuit_line.Kind.TheVariants.{Input, Output, Spill}
-use Rattle.circuit.specs.declared.circuit_line.Kind.TheVariants.{Gate as GateLine}
+use Rattle.circuit.specs.declared.circuit_line.Kind.TheVariants.{Input, Output, Spill, Gate as GateLine}
 use Rattle.circuit.specs.declared.circuit_line.CircuitLine.{CircuitLine}
 use Rattle.section_text.specs.Words.{has}
 use Rattle.circuit.specs.Rules.{consumed, consume, define, is_gate, gate_count, add_fault, limit_fault, name_fault}
@@ -22,15 +22,11 @@ use Rattle.circuit.specs.Bridge.{AreGoodCircuitLines}
 use Rattle.circuit.specs.Laws.{GatesAreOrdered}
 use Rattle.circuit.proofs.Places.{Have, number_new, numbers_left, numbers_below, consume_have, bytes_same}
 use Rattle.section_text.specs.declared.code.RefusalCode.{RefusalCode}
-use Rattle.section_text.specs.declared.code.RefusalCode.TheVariants.{DefinedTwice}
 
 -- ---- what the tests of a line say
 or_else_none : (a b : Option RefusalCode) → or_else a b ≡ None → (a ≡ None) × (b ≡ None)
 or_else_none None b e = (refl, e)
-or_else_none (Some c) b e = absurd (clash c e)
-  where
-    clash : (c : RefusalCode) → ◌≡◌ {A = Option RefusalCode} (Some c) None → ⊥
-    clash c e = cc
+or_else_none (Some c) b e = grind (arith, common_steps)
 
 pub names_pass : (before : List CircuitLine) (r : CircuitLine) → add_fault before r ≡ None →
     (consume (defined before) (consumed before) r.ins ≡ None) × (define (defined before) r.outs ≡ None)
@@ -40,13 +36,7 @@ names_pass before r e = or_else_none _ _ (or_else_none (limit_fault before r) (n
 -- ---- names that are newly defined
 pub define_first : (d : List (List ℕ)) (n : List ℕ) (ns : List (List ℕ)) → define d (n ∷ ns) ≡ None →
     (has d n ≡ false) × (define (d ++ n ∷ []) ns ≡ None)
-define_first d n ns e = elim (cases_Bool (has d n)) [
-  | inl h ↦ absurd (clash (rw h at e))
-  | inr h ↦ (h, rw h at e)
-]
-  where
-    clash : ◌≡◌ {A = Option RefusalCode} (Some DefinedTwice) None → ⊥
-    clash e = cc
+define_first d n ns e = grind (arith, common_steps, cases_Bool)
 
 pub numbers_new : (d ns e : List (List ℕ)) → define d ns ≡ None →
     map (number (d ++ (ns ++ e))) ns ≡ range_with_len (length d) (length ns)
@@ -61,8 +51,7 @@ numbers_new d (n ∷ ns) e h =
 
 -- ---- defined, counts, one line at a time
 pub defined_push : (before : List CircuitLine) (r : CircuitLine) → defined (before ++ r ∷ []) ≡ defined before ++ r.outs
-defined_push before r = flat_map-append (λ (r : CircuitLine). r.outs) before (r ∷ [])
-    ∙ ap (λ l. defined before ++ l) (append-nil r.outs)
+defined_push before r = grind (arith, common_steps, flat_map-append, append-nil)
 
 defined_cons : (before : List CircuitLine) (r : CircuitLine) (rest : List CircuitLine) →
     defined (before ++ r ∷ rest) ≡ defined before ++ (r.outs ++ defined rest)
@@ -78,11 +67,6 @@ count_append p xs ys = sum_by-append (λ x. cond (p x) 1 0) xs ys
 pub input_cons : (r : CircuitLine) (rest : List CircuitLine) →
     input_count (r ∷ rest) ≡ cond (is_input r.kind) 1 0 + input_count rest
 input_cons r rest = sum_by-cons (λ (r : CircuitLine). cond (is_input r.kind) 1 0) r rest
-
--- a line's kind, its ins and its outs, taken apart
-length_0 : (l : List (List ℕ)) → length l ≡ 0 → l ≡ []
-length_0 [] h = refl
-length_0 (a ∷ l) h = absurd (omega arith)
 
 -- after a gate there is no input
 pub no_inputs : (before rest : List CircuitLine) → AreGoodAfter before rest → 0 < gate_count before →
@@ -129,10 +113,7 @@ ordered_line names before rest Spill ins outs good later e f =
 
 not_input : (r : CircuitLine) (rest : List CircuitLine) → input_count (r ∷ rest) ≡ 0 →
     (is_input r.kind ≡ false) × (input_count rest ≡ 0)
-not_input r rest e = elim (cases_Bool (is_input r.kind)) [
-  | inl i ↦ absurd (omega (arith, sym (input_cons r rest) ∙ e, ap {B = ℕ} (λ b. cond b 1 0) i))
-  | inr i ↦ (i, omega (arith, sym (input_cons r rest) ∙ e))
-]
+not_input r rest e = grind (arith, common_steps, cases_Bool, input_cons)
 
 ordered_gates : (names : List (List ℕ)) (before rest : List CircuitLine) → AreGoodAfter before rest →
     names ≡ defined (before ++ rest) → input_count rest ≡ 0 →
@@ -157,16 +138,7 @@ far_next : (names : List (List ℕ)) (before rest : List CircuitLine) (kind : Ki
     Far names before (record { kind = kind; ins = ins; outs = outs } ∷ rest) → length outs ≡ cond (is_input kind) 1 0 →
     is_gate kind ≡ false →
     Far names (before ++ record { kind = kind; ins = ins; outs = outs } ∷ []) rest
-far_next names before rest kind ins outs far e f =
-    let r : CircuitLine = record { kind = kind; ins = ins; outs = outs } in
-    record {
-      all = far.all ∙ ap defined (sym (push_cons before r rest));
-      no_gate = count_append (λ (r : CircuitLine). is_gate r.kind) before (r ∷ [])
-          ∙ omega (arith, far.no_gate, ap {B = ℕ} (λ b. cond b 1 0) f);
-      only_inputs = ap length (defined_push before r) ∙ length-append (defined before) outs
-          ∙ omega (arith, far.only_inputs, e)
-          ∙ sym (count_append (λ (r : CircuitLine). is_input r.kind) before (r ∷ []));
-    }
+far_next names before rest kind ins outs far e f = grind (arith, common_steps, push_cons, count_append, defined_push)
 
 gate_first : (names : List (List ℕ)) (before rest : List CircuitLine) (k : GateKind) (ins outs : List (List ℕ)) →
     AreGoodAfter before (record { kind = GateLine k; ins = ins; outs = outs } ∷ rest) →
@@ -196,16 +168,10 @@ ordered_rest : (names : List (List ℕ)) (before rest : List CircuitLine) (kind 
     AreOrdered (input_count (before ++ record { kind = kind; ins = ins; outs = outs } ∷ rest))
     (gates_of names (record { kind = kind; ins = ins; outs = outs } ∷ rest))
 unfolding AreGoodAfter
-ordered_rest names before rest Input ins outs good far later =
-    subst (λ (l : List CircuitLine). AreOrdered (input_count l) (gates_of names rest)) (push_cons before _ rest)
-    (later good.1 (far_next names before rest Input ins outs far good.0.fits.1 refl))
+ordered_rest names before rest Input ins outs good far later = grind (arith, common_steps, push_cons, far_next)
 ordered_rest names before rest (GateLine k) ins outs good far later = gate_first names before rest k ins outs good far
-ordered_rest names before rest Output ins outs good far later =
-    subst (λ (l : List CircuitLine). AreOrdered (input_count l) (gates_of names rest)) (push_cons before _ rest)
-    (later good.1 (far_next names before rest Output ins outs far good.0.fits.1 refl))
-ordered_rest names before rest Spill ins outs good far later =
-    subst (λ (l : List CircuitLine). AreOrdered (input_count l) (gates_of names rest)) (push_cons before _ rest)
-    (later good.1 (far_next names before rest Spill ins outs far good.0.fits.1 refl))
+ordered_rest names before rest Output ins outs good far later = grind (arith, common_steps, push_cons, far_next)
+ordered_rest names before rest Spill ins outs good far later = grind (arith, common_steps, push_cons, far_next)
 
 ordered_lines : (names : List (List ℕ)) (before rest : List CircuitLine) → AreGoodAfter before rest →
     Far names before rest →
@@ -291,8 +257,4 @@ pub gates_push : (entries : List CircuitLine) (r : CircuitLine) (numbers : List 
     gates_of (defined (entries ++ r ∷ [])) (entries ++ r ∷ [])
     ≡ gates_of (defined entries) entries ++ gate_with_outs_from r.kind numbers (length (defined entries))
 gates_push entries r numbers good next same =
-    ap (λ (l : List (List ℕ)). gates_of l (entries ++ r ∷ [])) (defined_push entries r)
-    ∙ flat_map-append (λ (s : CircuitLine). gate_of_line_kind (defined entries ++ r.outs) s.ins s.outs s.kind) entries
-    (r ∷ [])
-    ∙ ap₂ (λ (a b : List Gate). a ++ b) (gates_keep (defined entries) r.outs [] entries good refl)
-    (append-nil _ ∙ line_added entries numbers r.kind r.ins r.outs next same)
+    grind (arith, common_steps, defined_push, flat_map-append, gates_keep, append-nil, line_added)

@@ -1,5 +1,6 @@
 -- There are as many names of inputs as inputs.
-use Rattle.std.proofs.Common.{◌≡◌, ℕ, List, [], ◌∷◌, ◌++◌, length, cond, refl, sym, ◌∙◌, arith, length-append}
+use Rattle.std.proofs.Common.{◌≡◌, ℕ, List, [], ◌∷◌, ◌++◌, length, cond, refl, arith}
+use Rattle.std.proofs.lemmas.Grind.{common_steps}
 use Rattle.circuit.specs.declared.circuit_line.CircuitLine.{CircuitLine}
 use Rattle.circuit.specs.declared.circuit_line.Kind.{Kind}
 use Rattle.circuit.specs.declared.circuit_line.Kind.TheVariants.{Input, Output, Spill, Gate as GateLine}
@@ -17,10 +18,7 @@ counted : (before rest : List CircuitLine) → AreGoodAfter before rest → leng
 unfolding AreGoodAfter
 counted before [] good = refl
 counted before (r ∷ rest) good =
-    let here = line_counted r.kind r.ins r.outs good.0.fits in
-    let more = counted (before ++ r ∷ []) rest good.1 in
-    length-append (cond (is_input r.kind) r.outs []) (input_names rest) ∙ omega (arith, here, more)
-    ∙ sym (input_cons r rest)
+    grind (arith, common_steps, counted (before ++ r ∷ []) rest good.1, line_counted, input_cons)
 
 pub inputs_counted : (entries : List CircuitLine) → AreGoodCircuitLines entries →
     length (input_names entries) ≡ input_count entries

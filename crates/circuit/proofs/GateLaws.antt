@@ -1,5 +1,6 @@
 -- Gates keep the number of ones, and inverse gates undo others.
-use Rattle.std.proofs.Common.{◌≡◌, ℕ, Bool, true, false, List, [], ◌∷◌, Option, Some, None, refl, sym, ap, subst}
+use Rattle.std.proofs.Common.{arith, ◌≡◌, ℕ, Bool, true, false, List, [], ◌∷◌, Option, Some, None, refl, sym, ap, subst}
+use Rattle.std.proofs.lemmas.Grind.{common_steps}
 use Rattle.circuit.specs.declared.circuit_line.GateKind.TheVariants.{Source, Fredkin, Cswap, Interact, Switch, Delay}
 use Rattle.circuit.specs.declared.circuit_line.GateKind.TheVariants.{Unswitch, Uninteract}
 use Rattle.circuit.specs.Gates.{row}
@@ -15,15 +16,9 @@ switch_undone : (ins outs : List Bool) → row Switch ins ≡ Some outs → row 
 unfolding row
 switch_undone ([]) outs e = absurd (none e)
 switch_undone (b0 ∷ []) outs e = absurd (none e)
-switch_undone (false ∷ false ∷ []) outs e =
-    subst (λ (o : List Bool). row Unswitch o ≡ Some (false ∷ false ∷ []))
-    (list_is (false ∷ false ∷ false ∷ []) outs e) refl
-switch_undone (false ∷ true ∷ []) outs e =
-    subst (λ (o : List Bool). row Unswitch o ≡ Some (false ∷ true ∷ []))
-    (list_is (false ∷ false ∷ true ∷ []) outs e) refl
-switch_undone (true ∷ false ∷ []) outs e =
-    subst (λ (o : List Bool). row Unswitch o ≡ Some (true ∷ false ∷ []))
-    (list_is (true ∷ false ∷ false ∷ []) outs e) refl
+switch_undone (false ∷ false ∷ []) outs e = grind (arith, common_steps, list_is)
+switch_undone (false ∷ true ∷ []) outs e = grind (arith, common_steps, list_is)
+switch_undone (true ∷ false ∷ []) outs e = grind (arith, common_steps, list_is)
 switch_undone (true ∷ true ∷ []) outs e =
     subst (λ (o : List Bool). row Unswitch o ≡ Some (true ∷ true ∷ [])) (list_is (true ∷ true ∷ false ∷ []) outs e) refl
 switch_undone (b0 ∷ b1 ∷ b ∷ bs) outs e = absurd (none e)
@@ -33,9 +28,7 @@ unfolding row
 unswitch_undone ([]) outs e = absurd (none e)
 unswitch_undone (b0 ∷ []) outs e = absurd (none e)
 unswitch_undone (b0 ∷ b1 ∷ []) outs e = absurd (none e)
-unswitch_undone (false ∷ false ∷ false ∷ []) outs e =
-    subst (λ (o : List Bool). row Switch o ≡ Some (false ∷ false ∷ false ∷ []))
-    (list_is (false ∷ false ∷ []) outs e) refl
+unswitch_undone (false ∷ false ∷ false ∷ []) outs e = grind (arith, common_steps, list_is)
 unswitch_undone (false ∷ false ∷ true ∷ []) outs e =
     subst (λ (o : List Bool). row Switch o ≡ Some (false ∷ false ∷ true ∷ [])) (list_is (false ∷ true ∷ []) outs e) refl
 unswitch_undone (false ∷ true ∷ false ∷ []) outs e = absurd (none e)
@@ -52,18 +45,10 @@ interact_undone : (ins outs : List Bool) → row Interact ins ≡ Some outs → 
 unfolding row
 interact_undone ([]) outs e = absurd (none e)
 interact_undone (b0 ∷ []) outs e = absurd (none e)
-interact_undone (false ∷ false ∷ []) outs e =
-    subst (λ (o : List Bool). row Uninteract o ≡ Some (false ∷ false ∷ []))
-    (list_is (false ∷ false ∷ false ∷ false ∷ []) outs e) refl
-interact_undone (false ∷ true ∷ []) outs e =
-    subst (λ (o : List Bool). row Uninteract o ≡ Some (false ∷ true ∷ []))
-    (list_is (false ∷ true ∷ false ∷ false ∷ []) outs e) refl
-interact_undone (true ∷ false ∷ []) outs e =
-    subst (λ (o : List Bool). row Uninteract o ≡ Some (true ∷ false ∷ []))
-    (list_is (false ∷ false ∷ true ∷ false ∷ []) outs e) refl
-interact_undone (true ∷ true ∷ []) outs e =
-    subst (λ (o : List Bool). row Uninteract o ≡ Some (true ∷ true ∷ []))
-    (list_is (true ∷ false ∷ false ∷ true ∷ []) outs e) refl
+interact_undone (false ∷ false ∷ []) outs e = grind (arith, common_steps, list_is)
+interact_undone (false ∷ true ∷ []) outs e = grind (arith, common_steps, list_is)
+interact_undone (true ∷ false ∷ []) outs e = grind (arith, common_steps, list_is)
+interact_undone (true ∷ true ∷ []) outs e = grind (arith, common_steps, list_is)
 interact_undone (b0 ∷ b1 ∷ b ∷ bs) outs e = absurd (none e)
 
 uninteract_undone : (ins outs : List Bool) → row Uninteract ins ≡ Some outs → row Interact outs ≡ Some ins
@@ -83,24 +68,16 @@ uninteract_undone (true ∷ false ∷ false ∷ []) outs e = absurd (none e)
 uninteract_undone (true ∷ false ∷ true ∷ []) outs e = absurd (none e)
 uninteract_undone (true ∷ true ∷ false ∷ []) outs e = absurd (none e)
 uninteract_undone (true ∷ true ∷ true ∷ []) outs e = absurd (none e)
-uninteract_undone (false ∷ false ∷ false ∷ false ∷ []) outs e =
-    subst (λ (o : List Bool). row Interact o ≡ Some (false ∷ false ∷ false ∷ false ∷ []))
-    (list_is (false ∷ false ∷ []) outs e) refl
+uninteract_undone (false ∷ false ∷ false ∷ false ∷ []) outs e = grind (arith, common_steps, list_is)
 uninteract_undone (false ∷ false ∷ false ∷ true ∷ []) outs e = absurd (none e)
-uninteract_undone (false ∷ false ∷ true ∷ false ∷ []) outs e =
-    subst (λ (o : List Bool). row Interact o ≡ Some (false ∷ false ∷ true ∷ false ∷ []))
-    (list_is (true ∷ false ∷ []) outs e) refl
+uninteract_undone (false ∷ false ∷ true ∷ false ∷ []) outs e = grind (arith, common_steps, list_is)
 uninteract_undone (false ∷ false ∷ true ∷ true ∷ []) outs e = absurd (none e)
-uninteract_undone (false ∷ true ∷ false ∷ false ∷ []) outs e =
-    subst (λ (o : List Bool). row Interact o ≡ Some (false ∷ true ∷ false ∷ false ∷ []))
-    (list_is (false ∷ true ∷ []) outs e) refl
+uninteract_undone (false ∷ true ∷ false ∷ false ∷ []) outs e = grind (arith, common_steps, list_is)
 uninteract_undone (false ∷ true ∷ false ∷ true ∷ []) outs e = absurd (none e)
 uninteract_undone (false ∷ true ∷ true ∷ false ∷ []) outs e = absurd (none e)
 uninteract_undone (false ∷ true ∷ true ∷ true ∷ []) outs e = absurd (none e)
 uninteract_undone (true ∷ false ∷ false ∷ false ∷ []) outs e = absurd (none e)
-uninteract_undone (true ∷ false ∷ false ∷ true ∷ []) outs e =
-    subst (λ (o : List Bool). row Interact o ≡ Some (true ∷ false ∷ false ∷ true ∷ []))
-    (list_is (true ∷ true ∷ []) outs e) refl
+uninteract_undone (true ∷ false ∷ false ∷ true ∷ []) outs e = grind (arith, common_steps, list_is)
 uninteract_undone (true ∷ false ∷ true ∷ false ∷ []) outs e = absurd (none e)
 uninteract_undone (true ∷ false ∷ true ∷ true ∷ []) outs e = absurd (none e)
 uninteract_undone (true ∷ true ∷ false ∷ false ∷ []) outs e = absurd (none e)
@@ -125,10 +102,7 @@ uninteract_undone (true ∷ true ∷ true ∷ false ∷ b ∷ bs) outs e = absur
 uninteract_undone (true ∷ true ∷ true ∷ true ∷ b ∷ bs) outs e = absurd (none e)
 
 pub inverse_gates_undo : InverseGatesUndo
-inverse_gates_undo = record {
-  switch = record { undone = switch_undone; only = unswitch_undone };
-  interact = record { undone = interact_undone; only = uninteract_undone };
-}
+inverse_gates_undo = grind (arith, common_steps, switch_undone, unswitch_undone, interact_undone, uninteract_undone)
 
 fredkin_keeps : (ins outs : List Bool) → row Fredkin ins ≡ Some outs → ones outs ≡ ones ins
 unfolding row

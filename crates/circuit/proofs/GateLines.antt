@@ -1,7 +1,8 @@
 -- A gate line by the names on both sides of its arrow.
-use Rattle.std.proofs.Common.{◌≡◌, ◌∙◌, ◌==◌, if◌then◌else◌, ℕ, ◌+◌, Bool, true, false, List, length, Option, Some}
-use Rattle.std.proofs.Common.{None, refl, ap, codes}
-use Rattle.section_text.specs.Words.{◌>>=◌, is_word_at, names_at, names_beside_arrow}
+use Rattle.std.proofs.Common.{arith, ◌≡◌, ◌==◌, if◌then◌else◌, ℕ, ◌+◌, Bool, true, false, List, length, Option, Some}
+use Rattle.std.proofs.Common.{None, refl, codes}
+use Rattle.std.proofs.lemmas.Grind.{common_steps}
+use Rattle.section_text.specs.Words.{◌>>=◌, is_word_at, names_beside_arrow}
 use Rattle.circuit.specs.declared.circuit_line.CircuitLine.{CircuitLine}
 use Rattle.circuit.specs.declared.circuit_line.GateKind.{GateKind}
 use Rattle.circuit.specs.declared.circuit_line.Kind.TheVariants.{Gate}
@@ -33,18 +34,10 @@ module _ (ws : List (List ℕ)) (kind : GateKind) where
       (if is_word_at ws (words_before_names kind + uses kind) (codes "->") then gate_line_of_kind ws kind else None)
       else None)
   unfolding names_beside_arrow gate_line_of_kind
-  gate_by_names =
-      by_parts kind (length ws == words_before_names kind + uses kind + 1 + defines kind)
-      (is_word_at ws (words_before_names kind + uses kind) (codes "->"))
-      (names_at ws (words_before_names kind) (uses kind))
-      (names_at ws (words_before_names kind + uses kind + 1) (defines kind))
+  gate_by_names = grind (arith, common_steps, by_parts)
 
   -- the line of a gate, whose words before its names and whose numbers of names are those of its kind
   pub gate_entry_is : (before ins outs : ℕ) → before ≡ words_before_names kind → ins ≡ uses kind → outs ≡ defines kind →
       gate_kind ws ≡ Some kind → gate_of kind (names_beside_arrow ws before ins outs) ≡ gate_entry ws
   unfolding gate_entry
-  gate_entry_is before ins outs b i o k =
-      ap (λ n. gate_of kind (names_beside_arrow ws n ins outs)) b
-      ∙ ap (λ n. gate_of kind (names_beside_arrow ws (words_before_names kind) n outs)) i
-      ∙ ap (λ n. gate_of kind (names_beside_arrow ws (words_before_names kind) (uses kind) n)) o
-      ∙ gate_by_names ∙ rw k refl
+  gate_entry_is before ins outs b i o k = grind (arith, common_steps, gate_of, gate_by_names)

@@ -1,18 +1,17 @@
 -- The names of wires.
 use Rattle.std.proofs.Common.{◌≡◌, ℕ, zero, suc, ◌+◌, ◌<◌, ◌≤◌, true, false, cond, List, [], ◌∷◌, ◌++◌, length, take}
-use Rattle.std.proofs.Common.{Option, Some, None, refl, sym, ap, subst, ◌∙◌, arith, inl, inr, append_assoc}
-use Rattle.std.proofs.Common.{length-append, slice_get, position}
+use Rattle.std.proofs.Common.{Some, None, refl, sym, ap, subst, ◌∙◌, arith, inl, inr, append_assoc, slice_get, position}
 use Rattle.std.specs.Str.{bytes_eq}
 use Rattle.std.proofs.lemmas.List.{append-nil}
 use Rattle.std.proofs.lemmas.List.Sums.{sum_by-cons}
 use Rattle.std.proofs.lemmas.Bool.{cases_Bool, cases_lt, le-ltb}
 use Rattle.std.proofs.lemmas.List.Folds.{list_any-append}
 use Rattle.std.proofs.Math.Bool.{or-true}
+use Rattle.std.proofs.lemmas.Grind.{common_steps}
 use Rattle.circuit.specs.Entries.{defined}
 use Rattle.circuit.specs.declared.circuit_line.Kind.{Kind}
 use Rattle.circuit.specs.declared.circuit_line.Kind.TheVariants.{Input, Output, Spill, Gate as GateLine}
 use Rattle.circuit.specs.declared.circuit_line.CircuitLine.{CircuitLine}
-use Rattle.circuit.specs.Gates.{defines}
 use Rattle.section_text.specs.Words.{has}
 use Rattle.circuit.specs.Rules.{define, gate_count, is_gate}
 use Rattle.circuit.specs.Meaning.{Gate, place_of, wires_after, number}
@@ -41,11 +40,8 @@ absent_length (m ∷ ms) n h = elim (cases_Bool (bytes_eq n m)) [
     clash m n ms t h = cc (rw t at h)
 
 pub place_position : (d : List (List ℕ)) (n : List ℕ) → place_of n d ≡ position (bytes_eq n) d
-place_position d n = elim (cases_Bool (has d n)) [
-  | inl h ↦ place_number d n ∙ ap (λ b. cond b (Some (number d n)) None) h ∙ sym (position_number d n h)
-  | inr h ↦ place_number d n ∙ ap (λ b. cond b (Some (number d n)) None) h
-      ∙ sym (look_up d n ∙ ap (λ b. cond b (Some (number d n)) None) (le-ltb _ _ (absent_length d n h)))
-]
+place_position d n =
+    grind (arith, common_steps, cases_Bool, place_number, position_number, look_up, le-ltb, absent_length)
 
 -- ---- each wire has a name
 
@@ -55,38 +51,10 @@ wires_line : (names : List (List ℕ)) (n : ℕ) (kind : Kind) (ins outs : List 
     wires_after n (gate_of_line_kind names ins outs kind ++ gates_of names rest) + input_count
     (record { kind = kind; ins = ins; outs = outs } ∷ rest) ≡ n + length (outs ++ defined rest)
 unfolding wires_after
-wires_line names n Input ins outs rest fits more =
-    omega (
-      arith,
-      input_cons (record { kind = Input; ins = ins; outs = outs }) rest,
-      length-append outs (defined rest),
-      fits.1,
-      more n,
-    )
-wires_line names n (GateLine k) ins outs rest fits more =
-    omega (
-      arith,
-      input_cons (record { kind = GateLine k; ins = ins; outs = outs }) rest,
-      length-append outs (defined rest),
-      fits.1,
-      more (n + defines k),
-    )
-wires_line names n Output ins outs rest fits more =
-    omega (
-      arith,
-      input_cons (record { kind = Output; ins = ins; outs = outs }) rest,
-      length-append outs (defined rest),
-      fits.1,
-      more n,
-    )
-wires_line names n Spill ins outs rest fits more =
-    omega (
-      arith,
-      input_cons (record { kind = Spill; ins = ins; outs = outs }) rest,
-      length-append outs (defined rest),
-      fits.1,
-      more n,
-    )
+wires_line names n Input ins outs rest fits more = grind (arith, common_steps, input_cons)
+wires_line names n (GateLine k) ins outs rest fits more = grind (arith, common_steps, input_cons)
+wires_line names n Output ins outs rest fits more = grind (arith, common_steps, input_cons)
+wires_line names n Spill ins outs rest fits more = grind (arith, common_steps, input_cons)
 
 wires_more : (names : List (List ℕ)) (n : ℕ) (before rest : List CircuitLine) → AreGoodAfter before rest →
     wires_after n (gates_of names rest) + input_count rest ≡ n + length (defined rest)
@@ -96,8 +64,7 @@ wires_more names n before (r ∷ rest) good =
     wires_line names n r.kind r.ins r.outs rest good.0.fits (λ m. wires_more names m (before ++ r ∷ []) rest good.1)
 
 pub wires_are_named : WiresAreNamed
-wires_are_named entries good = let all = wires_more (defined entries) (input_count entries) [] entries good in
-    omega (arith, all)
+wires_are_named entries good = grind (arith, common_steps, wires_more)
 
 -- ---- each gate's line has a gate
 
@@ -111,21 +78,14 @@ counted_line names Spill ins outs gates = omega arith
 pub gates_counted : (names : List (List ℕ)) (entries : List CircuitLine) →
     length (gates_of names entries) ≡ gate_count entries
 gates_counted names [] = refl
-gates_counted names (r ∷ entries) =
-    let more : gate_count (r ∷ entries) ≡ cond (is_gate r.kind) 1 0 + gate_count entries =
-    sum_by-cons (λ (r : CircuitLine). cond (is_gate r.kind) 1 0) r entries in
-    counted_line names r.kind r.ins r.outs (gates_of names entries)
-    ∙ ap (λ n. cond (is_gate r.kind) 1 0 + n) (gates_counted names entries) ∙ sym more
+gates_counted names (r ∷ entries) = grind (arith, common_steps, gates_counted names entries, sum_by-cons, counted_line)
 
 -- ---- the inputs are the first wires
 
 no_names : (rest : List CircuitLine) → input_count rest ≡ 0 → input_names rest ≡ []
 no_names [] e = refl
-no_names (r ∷ rest) e = elim (cases_Bool (is_input r.kind)) [
-  | inl i ↦ absurd (omega (arith, sym (input_cons r rest) ∙ e, ap {B = ℕ} (λ b. cond b 1 0) i))
-  | inr i ↦ ap (λ b. cond b r.outs [] ++ input_names rest) i
-      ∙ no_names rest (omega (arith, sym (input_cons r rest) ∙ e))
-]
+no_names (r ∷ rest) e =
+    grind (arith, common_steps, no_names rest (omega (arith, sym (input_cons r rest) ∙ e)), cases_Bool, input_cons)
 
 inputs_line : (before rest : List CircuitLine) (kind : Kind) (ins outs : List (List ℕ)) →
     AreGoodAfter before (record { kind = kind; ins = ins; outs = outs } ∷ rest) →
@@ -179,10 +139,7 @@ slice_left (m ∷ d) e (suc w) h = slice_left d e w (omega arith)
 
 slice_last : (d : List (List ℕ)) (n m : List ℕ) (w : ℕ) → length d ≤ w → slice_get (d ++ n ∷ []) w ≡ Some m →
     (n ≡ m) × (length d ≡ w)
-slice_last [] n m zero h at = (is n m at, refl)
-  where
-    is : (x y : List ℕ) → ◌≡◌ {A = Option (List ℕ)} (Some x) (Some y) → x ≡ y
-    is x y e = cc
+slice_last [] n m zero h at = grind (arith, common_steps)
 slice_last [] n m (suc w) h at = absurd cc
 slice_last (k ∷ d) n m zero h at = absurd (omega arith)
 slice_last (k ∷ d) n m (suc w) h at = let r = slice_last d n m w (omega arith) at in (r.0, omega (arith, r.1))

@@ -1,16 +1,11 @@
 -- The first test that a line fails, from the tests of its order and of its names.
-use Rattle.std.proofs.Common.{◌≡◌, ◌<◌, ◌≤◌, List, [], ◌∷◌, ◌++◌, Option, Some, refl}
-use Rattle.std.proofs.lemmas.Bool.{lt-ltb, le-ltb}
+use Rattle.std.proofs.Common.{◌≡◌, ◌≤◌, List, [], ◌∷◌, ◌++◌, Option, refl}
+use Rattle.std.proofs.lemmas.Bool.{le-ltb}
 use Rattle.circuit.specs.declared.circuit_line.CircuitLine.{CircuitLine}
 use Rattle.section_text.specs.Codes.{or_else}
 use Rattle.circuit.specs.Entries.{rank_of}
 use Rattle.circuit.specs.Rules.{order_fault, add_fault, last_rank}
 use Rattle.section_text.specs.declared.code.RefusalCode.{RefusalCode}
-use Rattle.section_text.specs.declared.code.RefusalCode.TheVariants.{OutOfOrder}
-
-pub out_of_order : (entries : List CircuitLine) (r : CircuitLine) → rank_of r.kind < last_rank entries →
-    or_else (order_fault entries r) (add_fault entries r) ≡ Some OutOfOrder
-out_of_order entries r h = rw (lt-ltb _ _ h) refl
 
 pub in_order : (entries : List CircuitLine) (r : CircuitLine) (code : Option RefusalCode) →
     last_rank entries ≤ rank_of r.kind →

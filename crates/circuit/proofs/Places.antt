@@ -1,14 +1,14 @@
 -- The places of names.
-use Rattle.std.proofs.Common.{◌≡◌, ℕ, zero, suc, ◌+◌, ◌<◌, ◌≤◌, Bool, true, false, cond, List, [], ◌∷◌, ◌++◌, map}
-use Rattle.std.proofs.Common.{length, Option, Some, None, refl, sym, ap, ap₂, ◌∙◌, arith, inl, inr}
-use Rattle.std.specs.List.{All, find, position, position_or_len}
+use Rattle.std.proofs.Common.{◌≡◌, ℕ, zero, suc, ◌+◌, ◌<◌, Bool, true, false, cond, List, [], ◌∷◌, ◌++◌, map, length}
+use Rattle.std.proofs.Common.{Option, Some, None, refl, sym, ap, ap₂, ◌∙◌, arith, inl, inr, All, find, position, nat_lt}
+use Rattle.std.specs.List.{position_or_len}
 use Rattle.std.specs.Str.{bytes_eq}
-use Rattle.std.proofs.lemmas.Bool.{cond-true, cases_Bool, true≢false, lt-ltb, ltb-false}
+use Rattle.std.proofs.lemmas.Bool.{cond-true, cases_Bool, true≢false, lt-ltb}
 use Rattle.std.proofs.lemmas.List.Recursion.{is_position_or_len}
-use Rattle.std.specs.Prelude.{nat_lt}
 use Rattle.std.specs.Bool.{Decides}
 use Rattle.std.proofs.lemmas.Slice.Eq.{bytes_eq-Decides}
 use Rattle.std.proofs.lemmas.List.Folds.{list_any-append}
+use Rattle.std.proofs.lemmas.Grind.{common_steps}
 use Rattle.circuit.specs.Meaning.{number}
 use Rattle.section_text.specs.Words.{has}
 use Rattle.circuit.specs.Rules.{consume}
@@ -63,17 +63,10 @@ number_position d n = is_position_or_len (λ d. number d n) (bytes_eq n) (at_non
     at_next m ms n = ap (λ k. cond (bytes_eq n m) 0 k) (omega arith)
 
 pub bytes_same : (n : List ℕ) → bytes_eq n n ≡ true
-bytes_same n = decided (bytes_eq n n) (bytes_eq-Decides n n)
-  where
-    decided : (b : Bool) → Decides b (n ≡ n) → b ≡ true
-    decided true h = refl
-    decided false h = h.1 refl
+bytes_same n = grind (arith, common_steps, bytes_eq-Decides)
 
 pub position_number : (d : List (List ℕ)) (n : List ℕ) → has d n ≡ true → position (bytes_eq n) d ≡ Some (number d n)
-position_number d n h =
-    let same = number_position d n in
-    ap (λ k. cond (nat_lt k (length d)) (Some k) None) (sym same)
-    ∙ cond-true _ _ _ (lt-ltb (number d n) (length d) (number_below d n h))
+position_number d n h = grind (arith, common_steps, number_position, cond-true, lt-ltb, number_below)
 
 -- ---- names that are there
 abbrev pub Have : List (List ℕ) → List (List ℕ) → Type 0
@@ -114,36 +107,13 @@ consume_have d c (n ∷ ns) e = elim (cases_Bool (has d n)) [
     unknown e = cc
 
 -- ---- what a look-up finds
-number_at_most : (d : List (List ℕ)) (n : List ℕ) → number d n ≤ length d
-unfolding number
-number_at_most [] n = omega arith
-number_at_most (m ∷ ms) n = elim (cases_Bool (bytes_eq n m)) [
-  | inl e ↦ rw e (omega arith)
-  | inr e ↦ let i = number_at_most ms n in rw e (omega arith)
-]
 
 pub look_up : (d : List (List ℕ)) (n : List ℕ) →
     position (bytes_eq n) d ≡ cond (nat_lt (number d n) (length d)) (Some (number d n)) None
 look_up d n = ap (λ k. cond (nat_lt k (length d)) (Some k) None) (sym (number_position d n))
 
 pub found_number : (d : List (List ℕ)) (n : List ℕ) (i : ℕ) → Some i ≡ position (bytes_eq n) d → i ≡ number d n
-found_number d n i e = found (nat_lt (number d n) (length d)) (number d n) i (e ∙ look_up d n)
-  where
-    found : (b : Bool) (k i : ℕ) → Some i ≡ cond b (Some k) None → i ≡ k
-    found true k i e = cc
-    found false k i e = absurd cc
-
-pub absent_number : (d : List (List ℕ)) (n : List ℕ) → ◌≡◌ {A = Option ℕ} None (position (bytes_eq n) d) →
-    length d ≡ number d n
-absent_number d n e =
-    let most = number_at_most d n in
-    let least = ltb-false (number d n) (length d)
-    (absent (nat_lt (number d n) (length d)) (number d n) (e ∙ look_up d n)) in
-    omega arith
-  where
-    absent : (b : Bool) (k : ℕ) → None ≡ cond b (Some k) None → b ≡ false
-    absent true k e = absurd cc
-    absent false k e = refl
+found_number d n i e = grind (arith, common_steps, look_up)
 
 -- a name that is found is the one that was looked up
 pub found_same : (d : List (List ℕ)) (n m : List ℕ) → find (bytes_eq n) d ≡ Some m → m ≡ n

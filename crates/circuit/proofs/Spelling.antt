@@ -1,10 +1,11 @@
 -- Each line of the circuit section is the spelling of its form.
-use Rattle.std.proofs.Common.{◌≡◌, ℕ, ◌+◌, Bool, true, false, cond, eqb, List, [], ◌∷◌, length, take, Option, Some}
-use Rattle.std.proofs.Common.{None, ap, subst, ◌∙◌, inl, inr, slice_get, codes}
+use Rattle.std.proofs.Common.{arith, ◌≡◌, ℕ, ◌+◌, Bool, true, cond, eqb, List, [], ◌∷◌, length, take, Option, Some}
+use Rattle.std.proofs.Common.{None, ap, subst, inl, inr, slice_get, codes}
 use Rattle.std.specs.Fmt.{decimal}
 use Rattle.std.proofs.lemmas.Bool.{eqb-true}
 use Rattle.std.proofs.lemmas.Option.{cond_some, option_and_then_some, same_Some}
-use Rattle.section_text.specs.Words.{◌>>=◌, words_of, is_word_at, name_at, names_at, number_at, lone, lone_name}
+use Rattle.std.proofs.lemmas.Grind.{common_steps}
+use Rattle.section_text.specs.Words.{◌>>=◌, words_of, is_word_at, names_at, number_at, lone, lone_name}
 use Rattle.section_text.specs.Section.{with_line_feed}
 use Rattle.section_text.specs.declared.section.Form.TheVariants.{Header, Item, End}
 use Rattle.section_text.proofs.WordPlaces.{is_at_is, name_at_is, names_at_are, assembled, line_from_words}
@@ -41,30 +42,18 @@ take_two [] v w e f = absurd cc
 take_two (a ∷ []) v w e f = absurd cc
 take_two (a ∷ b ∷ ws) v w e f = cc
 
--- the words of a form
-record Spells (ws : List (List ℕ)) (f : Line) : Type 0 where
-  words : ws ≡ first_of f ∷ others_of f
-
 lone_spelled : (ws : List (List ℕ)) (w : List ℕ) (f g : Line) → is_word_at ws 0 w ≡ true → lone ws f ≡ Some g →
     (ws ≡ w ∷ []) × (f ≡ g)
 unfolding lone
-lone_spelled ws w f g at e = let found = cond_some (eqb (length ws) 1) f g e in
-    (one_word ws w (eqb-true _ _ found.0) (is_at_is ws 0 w at), found.1)
+lone_spelled ws w f g at e = grind (arith, common_steps, cond_some, one_word, eqb-true, is_at_is)
 
 named_spelled : (ws : List (List ℕ)) (w n : List ℕ) → is_word_at ws 0 w ≡ true → lone_name ws ≡ Some n → ws ≡ w ∷ n ∷ []
 unfolding lone_name
-named_spelled ws w n at e = let found = passed (eqb (length ws) 2) (name_at ws 1) n e in
-    two_words ws w n (eqb-true _ _ found.0) (is_at_is ws 0 w at) (name_at_is ws 1 n found.1)
+named_spelled ws w n at e = grind (arith, common_steps, passed, two_words, eqb-true, is_at_is, name_at_is)
 
 bit_spelled : (ws : List (List ℕ)) (i : ℕ) (b : Bool) → bit_at ws i ≡ Some b → slice_get ws i ≡ Some (bit_word b)
 unfolding bit_at
-bit_spelled ws i b e =
-    elim (chosen (is_word_at ws i (codes "0")) (Some false) (cond (is_word_at ws i (codes "1")) (Some true) None)
-    (Some b) e) [
-      | inl p ↦ is_at_is ws i (codes "0") p.0 ∙ ap (λ (x : Bool). Some (bit_word x)) (same_Some false b p.1)
-      | inr p ↦ let found = cond_some (is_word_at ws i (codes "1")) true b p.1 in
-          is_at_is ws i (codes "1") found.0 ∙ ap (λ (x : Bool). Some (bit_word x)) found.1
-    ]
+bit_spelled ws i b e = grind (arith, common_steps, chosen, is_at_is, same_Some, cond_some)
 
 -- the head of a gate line
 abbrev HeadIs : List (List ℕ) → GateKind → Type 0

@@ -7,6 +7,7 @@ use Rattle.std.proofs.lemmas.Bool.{cases_lt, cases_Bool}
 use Rattle.std.proofs.lemmas.List.{length-map, get_or_append_left}
 use Rattle.std.proofs.lemmas.List.FromFn.{get_or-map-range_with_len, length-range_with_len}
 use Rattle.std.proofs.lemmas.Option.{slice_get_within, get_or_from_slice_get, same_Some}
+use Rattle.std.proofs.lemmas.Grind.{common_steps}
 use Rattle.circuit.specs.declared.netlist.ValuesFault.{ValuesFault}
 use Rattle.circuit.specs.declared.netlist.ValuesFault.TheVariants.{OutOfDomain, Memory}
 use Rattle.circuit.specs.Gates.{row, uses, defines, is_inverse}
@@ -151,10 +152,7 @@ record IsGiven (n : Netlist) (a : Valuation) (given : List Bool) : Type 0 where
   pub same : (i : ℕ) → i < n.given → read given i ≡ a i
 
 given_of : (n : Netlist) (a : Valuation) → IsGiven n a (map a (range_with_len 0 n.given))
-given_of n a = record {
-  long = length-map (range_with_len 0 n.given) a ∙ length-range_with_len 0 n.given;
-  same = λ i h. get_or-map-range_with_len a 0 n.given i i false h (omega arith);
-}
+given_of n a = grind (arith, common_steps, length-map, length-range_with_len, get_or-map-range_with_len)
 
 ordered_given : (n : Netlist) (given : List Bool) → length given ≡ n.given → AreOrdered n.given n.gates →
     AreOrdered (length given) n.gates
@@ -163,9 +161,7 @@ ordered_given n given long ordered = subst (λ m. AreOrdered m n.gates) (sym lon
 pub undefined_at : (n : Netlist) (a : Valuation) (given : List Bool) (k : ℕ) → AreOrdered n.given n.gates →
     length given ≡ n.given → ((i : ℕ) → i < n.given → read given i ≡ a i) → IsUndefined n a k →
     first_undefined_gate given n.gates ≡ Some k
-undefined_at n a given k ordered long same u =
-    undefined_from given n.gates u.values k u.gate (ordered_given n given long ordered)
-    (λ w h. u.given w (omega (arith, long)) ∙ sym (same w (omega (arith, long)))) u.before u.numbered u.none
+undefined_at n a given k ordered long same u = grind (arith, common_steps, undefined_from, ordered_given)
 
 pub defined_at : (n : Netlist) (a v : Valuation) (given : List Bool) → AreOrdered n.given n.gates →
     length given ≡ n.given → ((i : ℕ) → i < n.given → read given i ≡ a i) → Satisfies n a v →
@@ -194,14 +190,7 @@ row_at v gates k g all e = subst (HasRow v) (get_or_from_slice_get gates k g g e
     (all k g (slice_get_within gates k g e))
 
 pub stopped : ValuesStopAtUndefinedGate
-stopped n a k vs s = record {
-  gate = s.gate;
-  numbered = s.numbered;
-  values = read vs;
-  given = s.before.satisfies.given;
-  before = λ j g h e. row_at (read vs) (take k n.gates) j g s.before.satisfies.rows (slice_get_take n.gates k j h ∙ e);
-  none = s.none;
-}
+stopped n a k vs s = grind (arith, common_steps, row_at, slice_get_take)
 
 pub stops : (n : Netlist) (a : Valuation) (given : List Bool) (k : ℕ) (vs : List Bool) → AreOrdered n.given n.gates →
     length given ≡ n.given → ((i : ℕ) → i < n.given → read given i ≡ a i) →

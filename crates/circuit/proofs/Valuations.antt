@@ -6,6 +6,7 @@ use Rattle.std.specs.List.{range_with_len}
 use Rattle.std.proofs.lemmas.List.{length-map, get_or_append_left}
 use Rattle.std.proofs.lemmas.List.FromFn.{get_or-map-range_with_len}
 use Rattle.std.proofs.lemmas.Bool.{cases_lt, true≢false}
+use Rattle.std.proofs.lemmas.Grind.{common_steps}
 use Rattle.circuit.specs.declared.circuit_line.GateKind.{GateKind}
 use Rattle.circuit.specs.declared.circuit_line.GateKind.TheVariants.{Source, Fredkin, Cswap, Interact, Switch, Delay}
 use Rattle.circuit.specs.declared.circuit_line.GateKind.TheVariants.{Unswitch, Uninteract}
@@ -73,14 +74,8 @@ uninteract_cases _ _ _ _ = inl refl
 
 -- a gate has a row, or none
 pub row_cases : (kind : GateKind) (xs : List Bool) → length xs ≡ uses kind → (row kind xs ≡ None) ⊎ RowOf kind xs
-row_cases Unswitch xs h =
-    let r = len_3 xs h in
-    let P : List Bool → Type 0 = λ l. (row Unswitch l ≡ None) ⊎ RowOf Unswitch l in
-    subst P (sym r.3) (unswitch_cases r.0 r.1 r.2)
-row_cases Uninteract xs h =
-    let r = len_4 xs h in
-    let P : List Bool → Type 0 = λ l. (row Uninteract l ≡ None) ⊎ RowOf Uninteract l in
-    subst P (sym r.4) (uninteract_cases r.0 r.1 r.2 r.3)
+row_cases Unswitch xs h = grind (arith, common_steps, len_3, unswitch_cases)
+row_cases Uninteract xs h = grind (arith, common_steps, len_4, uninteract_cases)
 row_cases (Source b) xs h = inr (row_of (Source b) xs refl h)
 row_cases Fredkin xs h = inr (row_of Fredkin xs refl h)
 row_cases Cswap xs h = inr (row_of Cswap xs refl h)
@@ -102,8 +97,7 @@ pub map_below : (n : ℕ) (f g : Valuation) (ws : List ℕ) → All (λ w. w < n
     map f ws ≡ map g ws
 map_below n f g [] all same = refl
 map_below n f g (w ∷ ws) all same =
-    ap₂ (λ b bs. b ∷ bs) (same w (all_head (λ w. w < n) w ws all))
-    (map_below n f g ws (all_tail (λ w. w < n) w ws all) same)
+    grind (arith, common_steps, map_below n f g ws (all_tail (λ w. w < n) w ws all) same, all_head, all_tail)
 
 pub map_range : (r : List Bool) (n k : ℕ) (f : Valuation) → length r ≡ k →
     ((i : ℕ) → i < k → f (n + i) ≡ get_or r i false) → map f (range_with_len n k) ≡ r
@@ -158,9 +152,7 @@ none_some x o e f = cc
 found_from : (vs : List Bool) (gs : List Gate) (out : List Bool) → AreOrdered (length vs) gs →
     evaluate vs gs ≡ Some out → Found vs gs out
 unfolding evaluate AreOrdered wires_after
-found_from vs [] out ordered e =
-    subst (λ (o : List Bool). Found vs [] o) (some_is vs out e)
-    (record { all = refl; longer = omega arith; same = λ w h. refl; rows = λ k d h. absurd (omega arith) })
+found_from vs [] out ordered e = grind (arith, common_steps, some_is)
 found_from vs (g ∷ gs) out ordered e =
     elim (row_cases g.kind (map (read vs) g.ins) (length-map g.ins (read vs) ∙ ordered.1)) [
       | inl none ↦ absurd (none_some out _ (ap (option_and_then (λ r. evaluate (vs ++ r) gs)) none) e)

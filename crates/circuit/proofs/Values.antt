@@ -2,6 +2,7 @@
 use Rattle.std.proofs.Common.{◌≡◌, ℕ, zero, suc, ◌+◌, ◌<◌, ◌≤◌, Bool, List, [], ◌∷◌, ◌++◌, length, take, get_or, refl}
 use Rattle.std.proofs.Common.{sym, ap, ◌∙◌, arith, append_assoc}
 use Rattle.std.proofs.lemmas.List.{append-nil}
+use Rattle.std.proofs.lemmas.Grind.{common_steps}
 use Rattle.circuit.specs.Meaning.{wires}
 use Rattle.circuit.specs.Bridge.{netlist_of}
 use Rattle.circuit.specs.Laws.{HasOneValuation, ValuesAreTheValuation}
@@ -31,10 +32,7 @@ pub printed_more : (out before new : List ℕ) (ns : List (List ℕ)) (vs : List
     k < length ns → k < length vs → n ≡ get_or ns k n →
     before ≡ out ++ value_lines (take k ns) (take k vs) → new ≡ before ++ value_line n (get_or vs k d) →
     new ≡ out ++ value_lines (take (k + 1) ns) (take (k + 1) vs)
-printed_more out before new ns vs k n d h l is so_far here =
-    here ∙ ap (λ (t : List ℕ). t ++ value_line n (get_or vs k d)) so_far
-    ∙ append_assoc out (value_lines (take k ns) (take k vs)) (value_line n (get_or vs k d))
-    ∙ ap (λ (t : List ℕ). out ++ t) (sym (value_lines_more ns vs k n d h l is))
+printed_more out before new ns vs k n d h l is so_far here = grind (arith, common_steps, value_lines_more)
 
 pub has_one_valuation : HasOneValuation
 has_one_valuation entries a good forward =

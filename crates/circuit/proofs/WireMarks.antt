@@ -7,7 +7,7 @@ use Rattle.std.specs.List.{list_any}
 use Rattle.std.specs.Str.{bytes_eq}
 use Rattle.std.proofs.lemmas.Bool.{cases_Bool, true≢false, eqb-true, eq-eqb}
 use Rattle.std.proofs.lemmas.List.{append-nil, map-append, take_more, drop_more, take_more_set}
-use Rattle.std.proofs.lemmas.Grind.{flat_map-append}
+use Rattle.std.proofs.lemmas.Grind.{flat_map-append, common_steps}
 use Rattle.std.proofs.lemmas.List.Folds.{list_any-append}
 use Rattle.std.proofs.lemmas.Slice.Eq.{bytes_eq-Decides}
 use Rattle.section_text.specs.Words.{has}
@@ -35,20 +35,10 @@ other_name n m e = elim (cases_Bool (bytes_eq m n)) [
 
 has_other : (m n : List ℕ) (ms : List (List ℕ)) → has (m ∷ ms) n ≡ false →
     (bytes_eq n m ≡ false) × (has ms n ≡ false)
-has_other m n ms h = elim (cases_Bool (bytes_eq n m)) [
-  | inl e ↦ absurd (clash m n ms e h)
-  | inr e ↦ (e, sym (has_front m n ms e) ∙ h)
-]
-  where
-    clash : (m n : List ℕ) (ms : List (List ℕ)) → bytes_eq n m ≡ true → has (m ∷ ms) n ≡ false → ⊥
-    clash m n ms t h = true≢false (sym (rw t refl) ∙ h)
+has_other m n ms h = grind (arith, common_steps, cases_Bool, has_front, true≢false)
 
 has_last : (c : List (List ℕ)) (m n : List ℕ) → bytes_eq n m ≡ false → has (c ++ m ∷ []) n ≡ has c n
-has_last c m n e = rw (list_any-append (bytes_eq n) c (m ∷ []), e) (or_false (has c n))
-  where
-    or_false : (b : Bool) → (b || false) ≡ b
-    or_false true = refl
-    or_false false = refl
+has_last c m n e = grind (arith, common_steps, list_any-append)
 
 -- ---- a mark, by the number of a name
 
@@ -103,11 +93,7 @@ others c (m ∷ d) n h =
     ap₂ (λ (b : Bool) bs. b ∷ bs) (sym (has_last c n m (other_name n m new.0))) (others c d n new.1)
 
 has_new : (c : List (List ℕ)) (n : List ℕ) → has (c ++ n ∷ []) n ≡ true
-has_new c n = rw (list_any-append (bytes_eq n) c (n ∷ []), bytes_same n) (or_true (has c n))
-  where
-    or_true : (b : Bool) → (b || true) ≡ true
-    or_true true = refl
-    or_true false = refl
+has_new c n = grind (arith, common_steps, list_any-append, bytes_same)
 
 mark_one : (c d : List (List ℕ)) (n : List ℕ) → Distinct d → has d n ≡ true →
     slice_set (map (has c) d) (number d n) true ≡ map (has (c ++ n ∷ [])) d
@@ -129,9 +115,7 @@ mark_one c (m ∷ d) n is h = elim (cases_Bool (bytes_eq n m)) [
 mark_names : (c d ns : List (List ℕ)) → Distinct d → Have d ns →
     with_marks_set (map (number d) ns) (map (has c) d) ≡ map (has (c ++ ns)) d
 mark_names c d [] is h = ap (λ (l : List (List ℕ)). map (has l) d) (sym (append-nil c))
-mark_names c d (n ∷ ns) is h =
-    ap (with_marks_set (map (number d) ns)) (mark_one c d n is h.0) ∙ mark_names (c ++ n ∷ []) d ns is h.1
-    ∙ ap (λ (l : List (List ℕ)). map (has l) d) (append_assoc c (n ∷ []) ns)
+mark_names c d (n ∷ ns) is h = grind (arith, common_steps, mark_names (c ++ n ∷ []) d ns is h.1, mark_one)
 
 -- ---- what is consumed is defined
 
@@ -146,15 +130,11 @@ have_has d (m ∷ ns) have n h = elim (cases_Bool (bytes_eq n m)) [
 ]
 
 within_push : (c d ins outs : List (List ℕ)) → Within c d → Have d ins → Within (c ++ ins) (d ++ outs)
-within_push c d ins outs in_d have n h = elim (cases_Bool (has c n)) [
-  | inl e ↦ has_left d outs n (in_d n e)
-  | inr e ↦ has_left d outs n (have_has d ins have n (sym (rw (list_any-append (bytes_eq n) c ins, e) refl) ∙ h))
-]
+within_push c d ins outs in_d have n h = grind (arith, common_steps, cases_Bool, has_left, have_has, list_any-append)
 
 pub consumed_push : (before : List CircuitLine) (r : CircuitLine) →
     consumed (before ++ r ∷ []) ≡ consumed before ++ r.ins
-consumed_push before r = flat_map-append (λ (r : CircuitLine). r.ins) before (r ∷ [])
-    ∙ ap (λ l. consumed before ++ l) (append-nil r.ins)
+consumed_push before r = grind (arith, common_steps, flat_map-append, append-nil)
 
 within_good : (before rest : List CircuitLine) → AreGoodAfter before rest →
     Within (consumed before) (defined before) → Within (consumed (before ++ rest)) (defined (before ++ rest))
@@ -249,52 +229,30 @@ pub record Next (d c ns : List (List ℕ)) (p : ℕ) (n : List ℕ) (w : ℕ) (w
 
 earlier : (d c ns : List (List ℕ)) (p : ℕ) (n : List ℕ) (w : ℕ) (ws : List ℕ) → Next d c ns p n w ws →
     list_any (λ k. eqb k w) ws ≡ has (take p ns) n
-earlier d c ns p n w ws next =
-    ap₂ (λ (w : ℕ) ws. list_any (λ k. eqb k w) ws) next.wire next.wires ∙ has_number d (take p ns) n next.known
+earlier d c ns p n w ws next = grind (arith, common_steps, has_number)
 
 front : (d c ns : List (List ℕ)) (p : ℕ) (n : List ℕ) (w : ℕ) (ws : List ℕ) → Next d c ns p n w ws →
     consume d c ns ≡ consume d (c ++ take p ns) (n ∷ drop (p + 1) ns)
-front d c ns p n w ws next =
-    sym next.so_far ∙ ap (consume d (c ++ take p ns))
-    (drop_more ns p n next.here ∙ ap (λ (m : List ℕ). m ∷ drop (p + 1) ns) (sym next.name))
+front d c ns p n w ws next = grind (arith, common_steps, drop_more)
 
 pub named_twice : (d c ns : List (List ℕ)) (p : ℕ) (n : List ℕ) (w : ℕ) (ws : List ℕ) → Next d c ns p n w ws →
     list_any (λ k. eqb k w) ws ≡ true → consume d c ns ≡ Some ConsumedTwice
-named_twice d c ns p n w ws next found =
-    let among : has (take p ns) n ≡ true = sym (earlier d c ns p n w ws next) ∙ found in
-    front d c ns p n w ws next
-    ∙ rw (next.known, list_any-append (bytes_eq n) c (take p ns), among, or_true (has c n)) refl
-  where
-    or_true : (b : Bool) → (b || true) ≡ true
-    or_true true = refl
-    or_true false = refl
+named_twice d c ns p n w ws next found = grind (arith, common_steps, earlier, front, list_any-append)
 
 pub consumed_next : (d c ns : List (List ℕ)) (p : ℕ) (n : List ℕ) (w : ℕ) (ws : List ℕ) → Next d c ns p n w ws →
     has c n ≡ false → list_any (λ k. eqb k w) ws ≡ false →
     consume d (c ++ take (p + 1) ns) (drop (p + 1) ns) ≡ consume d c ns
-consumed_next d c ns p n w ws next free new =
-    let not_among : has (take p ns) n ≡ false = sym (earlier d c ns p n w ws next) ∙ new in
-    let longer : (c ++ take p ns) ++ n ∷ [] ≡ c ++ take (p + 1) ns =
-    append_assoc c (take p ns) (n ∷ [])
-    ∙ ap (λ l. c ++ l) (ap (λ (m : List ℕ). take p ns ++ m ∷ []) next.name ∙ sym (take_more ns p n next.here)) in
-    ap (λ (l : List (List ℕ)). consume d l (drop (p + 1) ns)) (sym longer)
-    ∙ sym (front d c ns p n w ws next
-    ∙ rw (next.known, list_any-append (bytes_eq n) c (take p ns), free, not_among) refl)
+consumed_next d c ns p n w ws next free new = grind (arith, common_steps, earlier, take_more, front, list_any-append)
 
 pub wires_next : (d c ns : List (List ℕ)) (p : ℕ) (n : List ℕ) (w : ℕ) (ins : List ℕ) →
     Next d c ns p n w (take p ins) → p < length ins →
     take (p + 1) (slice_set ins p w) ≡ map (number d) (take (p + 1) ns)
-wires_next d c ns p n w ins next short =
-    take_more_set ins p w short ∙ ap₂ (λ (k : ℕ) ks. ks ++ k ∷ []) next.wire next.wires
-    ∙ sym (map-append (number d) (take p ns) (n ∷ []))
-    ∙ ap (map (number d)) (ap (λ (m : List ℕ). take p ns ++ m ∷ []) next.name ∙ sym (take_more ns p n next.here))
+wires_next d c ns p n w ins next short = grind (arith, common_steps, take_more_set, map-append, take_more)
 
 -- each wire that is consumed has a mark
 pub marks_reach : (d c ns : List (List ℕ)) (marks : List Bool) (ws : List ℕ) → consume d c ns ≡ None →
     ws ≡ map (number d) ns → length d ≤ length marks → All (λ w. w < length marks) ws
-marks_reach d c ns marks ws pass numbered long =
-    subst (λ (ws : List ℕ). All (λ w. w < length marks) ws) (sym numbered)
-    (λ k e l. omega (arith, numbers_below d ns (consume_have d c ns pass) k e l))
+marks_reach d c ns marks ws pass numbered long = grind (arith, common_steps, numbers_below, consume_have)
 
 -- four unset marks, as many as there are names
 pub four_unset : (names : List (List ℕ)) → length names ≤ 4 →

@@ -1,10 +1,11 @@
 -- The cells of a box, and the place of a cell's block in a table of owners
-use Rattle.std.proofs.Common.{◌≡◌, ℕ, ◌+◌, ◌*◌, ◌/◌, ◌%◌, ◌<◌, ◌≤◌, length, true, Option, Some, refl, sym, ap, ap₂}
-use Rattle.std.proofs.Common.{subst, ◌∙◌, arith, get_or, ℤ, pos, negsuc}
+use Rattle.std.proofs.Common.{◌≡◌, ℕ, ◌+◌, ◌*◌, ◌/◌, ◌%◌, ◌<◌, ◌≤◌, length, true, Option, Some, refl, sym, ◌∙◌, arith}
+use Rattle.std.proofs.Common.{get_or, ℤ, pos, negsuc}
 use Rattle.std.specs.Int.RustNames.{unsigned_abs}
 use Rattle.std.proofs.Math.Nat.{mul-le-mul_right}
 use Rattle.std.proofs.lemmas.Option.{slice_get_read, get_or_from_slice_get}
 use Rattle.std.proofs.lemmas.Bool.{and_parts, false≢true}
+use Rattle.std.proofs.lemmas.Grind.{common_steps}
 use Rattle.bbm_rule.specs.Spans.{in_span}
 use Rattle.bbm_rule.proofs.Spans.{span_parts, in_span-negsuc}
 use Rattle.module_box.specs.Boxes.{in_box}
@@ -18,23 +19,14 @@ in_span_nat f n (negsuc k) h = absurd (false≢true (sym (in_span-negsuc f n k) 
 pub in_box_nats : (b : Box2) (x y : ℤ) → in_box b x y ≡ true →
     ((k : ℕ) × (x ≡ pos k) × (b.x ≤ k) × (k < b.x + b.w)) × ((k : ℕ) × (y ≡ pos k) × (b.y ≤ k) × (k < b.y + b.h))
 unfolding in_box
-in_box_nats b x y h =
-    let p = and_parts (in_span b.x b.w x) (in_span b.y b.h y) h in
-    (in_span_nat b.x b.w x p.0, in_span_nat b.y b.h y p.1)
+in_box_nats b x y h = grind (arith, common_steps, and_parts, in_span_nat)
 
 pub abs_within : (b : Box2) (x y : ℤ) → in_box b x y ≡ true →
     (unsigned_abs x < b.x + b.w) × (unsigned_abs y < b.y + b.h)
-abs_within b x y h =
-    let p = in_box_nats b x y h in
-    let px = p.0 in let py = p.1 in
-    let ex : unsigned_abs x ≡ px.0 = ap unsigned_abs px.1 in
-    let ey : unsigned_abs y ≡ py.0 = ap unsigned_abs py.1 in
-    (subst (λ z. z < b.x + b.w) (sym ex) px.3, subst (λ z. z < b.y + b.h) (sym ey) py.3)
+abs_within b x y h = grind (arith, common_steps, in_box_nats)
 
 pub in_table : (a b c d : ℕ) → a < b → c < d → a * d + c < b * d
-in_table a b c d p q =
-    let h : (a + 1) * d ≤ b * d = mul-le-mul_right d (omega arith) in
-    omega (arith, h)
+in_table a b c d p q = grind (arith, common_steps, mul-le-mul_right)
 
 pub same_some : {A : Type 0} (o : Option A) (a b : A) → o ≡ Some a → o ≡ Some b → a ≡ b
 same_some o a b e f = cc
@@ -52,14 +44,10 @@ owner_index o x y t h =
 
 pub owner_in_table : (o : Owning) (x y : ℤ) → IsTable o → in_box (rectangle o) x y ≡ true →
     (unsigned_abs y / 2) * (o.width / 2) + unsigned_abs x / 2 < length o.numbers
-owner_in_table o x y t h = subst (λ z. (unsigned_abs y / 2) * (o.width / 2) + unsigned_abs x / 2 < z) (sym t.sized)
-    (owner_index o x y t h)
+owner_in_table o x y t h = grind (arith, common_steps, owner_index)
 
 pub owner_read : (o : Owning) (x y : ℤ) (a b r : ℕ) → IsTable o → in_box (rectangle o) x y ≡ true → a ≡ unsigned_abs y →
     b ≡ unsigned_abs x →
     r ≡ get_or o.numbers ((a / 2) * (o.width / 2) + b / 2) r → r ≡ owner_of o x y
 unfolding owner_of
-owner_read o x y a b r t h ea eb e =
-    let i = (unsigned_abs y / 2) * (o.width / 2) + unsigned_abs x / 2 in
-    let e' : r ≡ get_or o.numbers i r = e ∙ ap₂ (λ a b. get_or o.numbers ((a / 2) * (o.width / 2) + b / 2) r) ea eb in
-    sym (get_or_from_slice_get o.numbers i r 0 (slice_get_read o.numbers _ i r refl (owner_in_table o x y t h) e'))
+owner_read o x y a b r t h ea eb e = grind (arith, common_steps, get_or_from_slice_get, slice_get_read, owner_in_table)

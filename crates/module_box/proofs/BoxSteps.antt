@@ -1,5 +1,6 @@
 -- The cells of a box after a step
-use Rattle.std.proofs.Common.{◌≡◌, ℕ, ◌%◌, ◌&&◌, ap, ap₂, ◌∙◌, ℤ}
+use Rattle.std.proofs.Common.{arith, ◌≡◌, ℕ, ◌%◌, ◌&&◌, ap, ap₂, ℤ}
+use Rattle.std.proofs.lemmas.Grind.{common_steps}
 use Rattle.bbm_rule.specs.Plane.{State, partner, step}
 use Rattle.bbm_rule.specs.Spans.{in_span}
 use Rattle.module_box.specs.Boxes.{in_box, IsEven}
@@ -23,15 +24,11 @@ unfolding in_box
 even_y b t x y e pt = ap (λ p. in_span b.x b.w x && p) (even_span b.y b.h t y e.y e.h pt)
 
 pub even_stays : (b : Box2) (t : ℕ) (s : State) → IsEven b → t % 2 ≡ 0 → LiesInBox b s → LiesInBox b (step t s)
-even_stays b t s e pt lies x y out = step_dead t s x y
-    (lies _ _ out) (lies _ _ (even_both b t x y e pt ∙ out)) (lies _ _ (even_x b t x y e pt ∙ out))
-    (lies _ _ (even_y b t x y e pt ∙ out))
+even_stays b t s e pt lies x y out = grind (arith, common_steps, step_dead, even_both, even_x, even_y)
 
 pub even_local : (b : Box2) (t : ℕ) (s s' : State) → IsEven b → t % 2 ≡ 0 → SameInBox b s s' →
     SameInBox b (step t s) (step t s')
-even_local b t s s' e pt same x y h = step_same t s s' x y
-    (same _ _ h) (same _ _ (even_both b t x y e pt ∙ h)) (same _ _ (even_x b t x y e pt ∙ h))
-    (same _ _ (even_y b t x y e pt ∙ h))
+even_local b t s s' e pt same x y h = grind (arith, common_steps, step_same, even_both, even_x, even_y)
 
 pub even_step : (b : Box2) (t : ℕ) → IsEven b → t % 2 ≡ 0 → EvenStep b t
 even_step b t e pt = record { stays = λ s. even_stays b t s e pt; local = λ s s'. even_local b t s s' e pt }

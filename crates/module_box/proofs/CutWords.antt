@@ -1,9 +1,10 @@
 -- The words of cuts: the bits of a counter, 64 values of the counter at once
-use Rattle.std.proofs.Common.{◌≡◌, ℕ, ◌<◌, ◌≤◌, ◌+◌, ◌-◌, ◌*◌, Bool, true, false, List, [], ◌∷◌, ◌++◌, length, get_or}
-use Rattle.std.proofs.Common.{sym, refl, ap, ◌∙◌, arith, inl, inr, get_or-append-add, slice_index_or}
+use Rattle.std.proofs.Common.{◌≡◌, ℕ, ◌<◌, ◌≤◌, ◌+◌, ◌-◌, ◌*◌, Bool, true, false, List, [], ◌∷◌, ◌++◌, length, sym}
+use Rattle.std.proofs.Common.{refl, ap, ◌∙◌, arith, slice_index_or}
 use Rattle.std.proofs.lemmas.Bool.{cases_lt}
 use Rattle.std.proofs.lemmas.List.{get_or_append_left}
 use Rattle.std.proofs.lemmas.Nat.Bits.{bit_at_cat_low, bit_at_cat_high, bit_at_ones}
+use Rattle.std.proofs.lemmas.Grind.{common_steps}
 use Rattle.bbm_rule.specs.Bits.{bit}
 use Rattle.bbm_rule.proofs.BitLemmas.{holds_below, below_from_test, bit-zero}
 
@@ -76,13 +77,4 @@ pub words_more : (ws new : List ℕ) (w j n : ℕ) → length ws ≡ n → new �
     ((b : ℕ) → b < 64 → bit w b ≡ bit (64 * j + b) n) →
     ((i : ℕ) → i < n → (b : ℕ) → b < 64 → bit (slice_index_or ws i 0) b ≡ bit (64 * j + b) i) →
     (i : ℕ) → i < n + 1 → (b : ℕ) → b < 64 → bit (slice_index_or new i 0) b ≡ bit (64 * j + b) i
-words_more ws new w j n len more here before i h b small = elim (cases_lt i n) [
-  | inl less ↦ ap (λ k. bit k b)
-      (ap (λ (l : List ℕ). get_or l i 0) more ∙ get_or_append_left ws (w ∷ []) 0 i (omega arith))
-      ∙ before i less b small
-  | inr large ↦
-      let is : n ≡ i = omega arith in
-      let at : length ws + 0 ≡ i = omega arith in
-      ap (λ k. bit k b) (ap (λ (l : List ℕ). get_or l i 0) more ∙ ap (λ k. get_or (ws ++ w ∷ []) k 0) (sym at)
-      ∙ get_or-append-add ws (w ∷ []) 0 0) ∙ here b small ∙ ap (bit (64 * j + b)) is
-]
+words_more ws new w j n len more here before i h b small = grind (arith, common_steps, cases_lt, get_or_append_left)

@@ -1,13 +1,13 @@
 -- The tests of equality answer whether two values are equal
-use Rattle.std.proofs.Common.{◌≡◌, ℕ, Bool, true, false, ◌&&◌, List, [], ◌∷◌, get_or, map, Option, Some, None, refl}
-use Rattle.std.proofs.Common.{sym, ap, ap₂, ◌∙◌, nat_eq}
-use Rattle.std.specs.Bool.{Decides, beq}
-use Rattle.std.specs.Cmp.{signed_Decides, booleans_Decides}
+use Rattle.std.proofs.Common.{arith, ◌≡◌, ℕ, Bool, true, false, ◌&&◌, List, [], ◌∷◌, get_or, map, Option, Some, None}
+use Rattle.std.proofs.Common.{refl, ap, nat_eq}
+use Rattle.std.specs.Bool.{Decides}
 use Rattle.std.specs.Cmp.Lexicographic.{pointwise}
 use Rattle.std.specs.Option.{option_eq}
 use Rattle.std.proofs.lemmas.Bool.{and_parts}
 use Rattle.std.proofs.lemmas.Bool.Decides.{Decides-eqb}
 use Rattle.std.proofs.lemmas.Slice.Eq.{slice_eq-Decides}
+use Rattle.std.proofs.lemmas.Grind.{common_steps}
 use Rattle.bbm_rule.specs.declared.block.Cell.{Cell}
 use Rattle.circuit.specs.declared.circuit_line.GateKind.{GateKind}
 use Rattle.circuit.specs.declared.circuit_line.GateKind.TheVariants.{Source, Fredkin, Cswap, Interact, Switch, Delay}
@@ -28,11 +28,7 @@ use Rattle.module_box.specs.Equality.{same_netlist}
 -- two tests, of two parts
 pub both : {P Q R : Type 0} (r s : Bool) → Decides r P → Decides s Q → (P → Q → R) → (R → P) → (R → Q) →
     Decides (r && s) R
-both r s d e join left right =
-    (λ h. let parts = and_parts r s h in join (d.0 parts.0) (e.0 parts.1), λ h. two r s (d.1 (left h)) (e.1 (right h)))
-  where
-    two : (r s : Bool) → r ≡ true → s ≡ true → (r && s) ≡ true
-    two r s h k = λ i. h i && k i
+both r s d e join left right = grind (arith, common_steps, and_parts)
 
 pub lists : {A : Type 0} (E : A → A → Bool) → ((x y : A) → Decides (E x y) (x ≡ y)) → (xs ys : List A) →
     Decides (pointwise E xs ys) (xs ≡ ys)
@@ -43,10 +39,7 @@ pub options : {A : Type 0} (E : A → A → Bool) → ((x y : A) → Decides (E 
 options E d None None = (λ e. refl, λ e. refl)
 options E d None (Some y) = (λ e. absurd cc, λ e. absurd cc)
 options E d (Some x) None = (λ e. absurd cc, λ e. absurd cc)
-options {A} E d (Some x) (Some y) = (λ e. ap Some ((d x y).0 e), λ e. (d x y).1 (inside x y e))
-  where
-    inside : (x y : A) → Some x ≡ Some y → x ≡ y
-    inside x y e = cc
+options {A} E d (Some x) (Some y) = grind (arith, common_steps)
 
 -- ---- signals
 signal_of : Bool → Option ℕ → Signal
@@ -61,14 +54,10 @@ signal_back One = refl
 signal_back (Wire w) = refl
 
 pub signal_decides : (a b : Signal) → Decides (same_signal a b) (a ≡ b)
-signal_decides a b =
-    both _ _ (booleans_Decides (is_one a) (is_one b)) (options nat_eq Decides-eqb (signal_wire a) (signal_wire b))
-    (λ one wire. sym (signal_back a) ∙ ap₂ signal_of one wire ∙ signal_back b) (λ e. ap is_one e)
-    (λ e. ap signal_wire e)
+signal_decides a b = grind (arith, common_steps, both, options, signal_back, signal_of)
 
 pub cell_decides : (a b : Cell) → Decides (same_cell a b) (a ≡ b)
-cell_decides a b = both _ _ (signed_Decides a.x b.x) (signed_Decides a.y b.y) (λ x y i. record { x = x i; y = y i })
-    (λ e. ap (λ c. c.x) e) (λ e. ap (λ c. c.y) e)
+cell_decides a b = grind (arith, common_steps, both)
 
 pub all_times_decides : (a b : AllTimes) → Decides (same_all_times a b) (a ≡ b)
 all_times_decides a b =
@@ -115,27 +104,14 @@ gate_kind_back Unswitch = refl
 gate_kind_back Uninteract = refl
 
 gate_kind_decides : (a b : GateKind) → Decides (same_gate_kind a b) (a ≡ b)
-gate_kind_decides a b =
-    both _ _ (Decides-eqb (gate_kind_number a) (gate_kind_number b))
-    (both {R = (source_bit a ≡ source_bit b) × (delay_steps a ≡ delay_steps b)} _ _
-    (options beq booleans_Decides (source_bit a) (source_bit b))
-    (options nat_eq Decides-eqb (delay_steps a) (delay_steps b)) (λ s d. (s, d)) (λ p. p.0) (λ p. p.1))
-    (λ place rest. sym (gate_kind_back a) ∙ (λ i. gate_kind_from (place i) (rest.0 i) (rest.1 i)) ∙ gate_kind_back b)
-    (λ e. ap gate_kind_number e) (λ e. (ap source_bit e, ap delay_steps e))
+gate_kind_decides a b = grind (arith, common_steps, both, options, gate_kind_back, gate_kind_from)
 
 pub gate_decides : (g h : Gate) → Decides (same_gate g h) (g ≡ h)
-gate_decides g h =
-    both _ _ (gate_kind_decides g.kind h.kind)
-    (both {R = (g.ins ≡ h.ins) × (g.outs ≡ h.outs)} _ _ (lists nat_eq Decides-eqb g.ins h.ins)
-    (lists nat_eq Decides-eqb g.outs h.outs) (λ ins outs. (ins, outs)) (λ p. p.0) (λ p. p.1))
-    (λ kind rest i. record { kind = kind i; ins = rest.0 i; outs = rest.1 i }) (λ e. ap (λ g. g.kind) e)
-    (λ e. (ap (λ g. g.ins) e, ap (λ g. g.outs) e))
+gate_decides g h = grind (arith, common_steps, both, gate_kind_decides, lists)
 
 -- ---- the wires and gates of modules
 pub netlists_decide : (l m : Netlist) → Decides (same_netlist l m) (l ≡ m)
-netlists_decide l m =
-    both _ _ (Decides-eqb l.given m.given) (lists same_gate gate_decides l.gates m.gates)
-    (λ given gates i. record { given = given i; gates = gates i }) (λ e. ap (λ n. n.given) e) (λ e. ap (λ n. n.gates) e)
+netlists_decide l m = grind (arith, common_steps, both, lists, gate_decides)
 
 pub locals_decides : LocalsEqualityDecides
 locals_decides l m =

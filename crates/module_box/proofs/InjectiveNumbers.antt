@@ -3,6 +3,7 @@ use Rattle.std.proofs.Common.{◌≡◌, ℕ, zero, suc, ◌+◌, List, [], ◌�
 use Rattle.std.proofs.Common.{sym, ap, ap₂, ◌∙◌, arith, flat_map}
 use Rattle.std.specs.List.{range_with_len}
 use Rattle.std.proofs.lemmas.List.{append_assoc}
+use Rattle.std.proofs.lemmas.Grind.{common_steps}
 use Rattle.circuit.specs.declared.circuit_line.GateKind.{GateKind}
 use Rattle.circuit.specs.declared.circuit_line.GateKind.TheVariants.{Source, Fredkin, Cswap, Interact, Switch, Delay}
 use Rattle.circuit.specs.declared.circuit_line.GateKind.TheVariants.{Unswitch, Uninteract}
@@ -37,8 +38,7 @@ abbrev pub listed : List ℕ → List ℕ
 listed xs = length xs ∷ xs
 
 pub lists_tell : IsPrefixFree listed
-lists_tell xs ys r s e = same_length xs ys r s (same_head (length xs) (length ys) (xs ++ r) (ys ++ s) e)
-    (same_tail (length xs) (length ys) (xs ++ r) (ys ++ s) e)
+lists_tell xs ys r s e = grind (arith, common_steps, same_length, same_head, same_tail)
 
 all_tell : {A : Type 0} (f : A → List ℕ) → IsPrefixFree f → (xs ys : List A) (r s : List ℕ) → length xs ≡ length ys →
     flat_map f xs ++ r ≡ flat_map f ys ++ s → (xs ≡ ys) × (r ≡ s)
@@ -52,12 +52,7 @@ all_tell f tell (x ∷ xs) (y ∷ ys) r s n e =
     (ap₂ (λ z zs. z ∷ zs) first.0 rest.0, rest.1)
 
 pub counted_tell : {A : Type 0} (f : A → List ℕ) → IsPrefixFree f → IsPrefixFree (length_prefixed f)
-counted_tell f tell xs ys r s e =
-    all_tell f tell xs ys r s (same_head (length xs) (length ys) (flat_map f xs ++ r) (flat_map f ys ++ s) e)
-    (same_tail (length xs) (length ys) (flat_map f xs ++ r) (flat_map f ys ++ s) e)
-
-pub number_tells : IsPrefixFree (λ (n : ℕ). n ∷ [])
-number_tells n m r s e = (same_head n m r s e, same_tail n m r s e)
+counted_tell f tell xs ys r s e = grind (arith, common_steps, all_tell, same_head, same_tail)
 
 -- ---- gates
 gate_kind_from : ℕ → ℕ → GateKind
@@ -77,25 +72,10 @@ gate_kind_back Unswitch = refl
 gate_kind_back Uninteract = refl
 
 gate_kinds_tell : IsPrefixFree (λ (r : GateKind). gate_kind_number r ∷ gate_kind_parameter r ∷ [])
-gate_kinds_tell a b r s e =
-    let place = same_head (gate_kind_number a) (gate_kind_number b) (gate_kind_parameter a ∷ r)
-    (gate_kind_parameter b ∷ s) e in
-    let rest = same_tail (gate_kind_number a) (gate_kind_number b) (gate_kind_parameter a ∷ r)
-    (gate_kind_parameter b ∷ s) e in (
-      sym (gate_kind_back a) ∙ ap₂ gate_kind_from place
-          (same_head (gate_kind_parameter a) (gate_kind_parameter b) r s rest)
-          ∙ gate_kind_back b,
-      same_tail (gate_kind_parameter a) (gate_kind_parameter b) r s rest,
-    )
+gate_kinds_tell a b r s e = grind (arith, common_steps, same_head, same_tail, gate_kind_back, gate_kind_from)
 
 gates_tell : IsPrefixFree gate_code_numbers
-gates_tell g h r s e =
-    let kinds = gate_kinds_tell g.kind h.kind ((listed g.ins ++ listed g.outs) ++ r)
-    ((listed h.ins ++ listed h.outs) ++ s) e in
-    let ins = lists_tell g.ins h.ins (listed g.outs ++ r) (listed h.outs ++ s)
-    (sym (append_assoc (listed g.ins) (listed g.outs) r) ∙ kinds.1 ∙ append_assoc (listed h.ins) (listed h.outs) s) in
-    let outs = lists_tell g.outs h.outs r s ins.1 in
-    (λ i. record { kind = kinds.0 i; ins = ins.0 i; outs = outs.0 i }, outs.1)
+gates_tell g h r s e = grind (arith, common_steps, gate_kinds_tell, listed, lists_tell, append_assoc)
 
 pub netlists_tell : NumbersDetermineGates
 unfolding netlist_numbers

@@ -1,14 +1,13 @@
 -- The wires and gates of a module, gate after gate
 use Rattle.std.proofs.Common.{◌≡◌, ℕ, zero, suc, ◌+◌, ◌*◌, ◌<◌, ◌≤◌, List, [], ◌∷◌, ◌++◌, map, length, take, drop}
-use Rattle.std.proofs.Common.{get_or, slice_get, Option, Some, refl, sym, ap, ap₂, subst, ◌∙◌, ◌⊎◌, arith, inl, inr}
+use Rattle.std.proofs.Common.{get_or, slice_get, Some, refl, sym, ap, ap₂, subst, ◌∙◌, ◌⊎◌, arith, inl, inr}
 use Rattle.std.proofs.Common.{append_assoc, length-append, take-append-drop, slice_index, IsTrue, All, flat_map}
 use Rattle.std.specs.List.{range_with_len}
-use Rattle.std.specs.Option.{option_map_or}
 use Rattle.std.proofs.lemmas.List.{append-nil, take_more, take_all, get_or_at, get_or_append_left, get_or_default}
 use Rattle.std.proofs.lemmas.List.{length_push, length-map}
 use Rattle.std.proofs.lemmas.List.Elements.{All-head, All-tail}
 use Rattle.std.proofs.lemmas.List.FromFn.{length-range_with_len}
-use Rattle.std.proofs.lemmas.Grind.{flat_map-append}
+use Rattle.std.proofs.lemmas.Grind.{flat_map-append, common_steps}
 use Rattle.std.proofs.lemmas.Option.{same_Some, slice_get-get_or, slice_get_read}
 use Rattle.circuit.specs.declared.circuit_line.GateKind.{GateKind}
 use Rattle.circuit.specs.declared.circuit_line.GateKind.TheVariants.{Source, Fredkin, Cswap, Interact, Switch, Delay}
@@ -25,10 +24,7 @@ pub ordered_fits : (n : ℕ) (gs : List Gate) (k : ℕ) (g : Gate) → AreOrdere
     (length g.ins ≡ uses g.kind) × (length g.outs ≡ defines g.kind)
 unfolding AreOrdered
 ordered_fits n [] k g ordered at = absurd cc
-ordered_fits n (h ∷ gs) zero g ordered at =
-    let is : h ≡ g = same_Some h g at in
-    subst (λ (g : Gate). (length g.ins ≡ uses g.kind) × (length g.outs ≡ defines g.kind)) is
-    (ordered.1, ap length ordered.2 ∙ length-range_with_len n (defines h.kind))
+ordered_fits n (h ∷ gs) zero g ordered at = grind (arith, common_steps, same_Some, length-range_with_len)
 ordered_fits n (h ∷ gs) (suc k) g ordered at = ordered_fits (n + defines h.kind) gs k g ordered.3 at
 
 -- no gate defines more than four wires
@@ -88,16 +84,7 @@ known_rest n cuts gates i =
 known_more : (n : Netlist) (cuts gates : List ℕ) (i k : ℕ) (g : Gate) → i < length gates → k ≡ get_or gates i k →
     slice_get n.gates k ≡ Some g →
     local_wires n cuts (take (i + 1) gates) ≡ local_wires n cuts (take i gates) ++ g.outs
-known_more n cuts gates i k g within is at =
-    let more : take (i + 1) gates ≡ take i gates ++ k ∷ [] =
-    take_more gates i k within ∙ ap (λ x. take i gates ++ x ∷ []) (sym is) in
-    let here : flat_map (outs_of n) (k ∷ []) ≡ g.outs =
-    append-nil (outs_of n k) ∙ ap (λ (o : Option Gate). option_map_or (λ (g : Gate). g.outs) o []) at in
-    ap (λ (l : List ℕ). cuts ++ flat_map (outs_of n) l) more
-    ∙ ap (λ (l : List ℕ). cuts ++ l)
-    (flat_map-append (outs_of n) (take i gates) (k ∷ [])
-    ∙ ap (λ (l : List ℕ). flat_map (outs_of n) (take i gates) ++ l) here)
-    ∙ sym (append_assoc cuts (flat_map (outs_of n) (take i gates)) g.outs)
+known_more n cuts gates i k g within is at = grind (arith, common_steps, take_more, append-nil, flat_map-append)
 
 -- the gate g over other numbers: the wires that it uses stand at its ins in the list, and those that it defines come
 -- next
@@ -110,16 +97,7 @@ pub record IsOver (keys : List ℕ) (g h : Gate) : Type 0 where
 -- it is that gate by the wires that stand at its numbers, however many come later
 renumbered : (keys all rest : List ℕ) (g h : Gate) → all ≡ keys ++ (g.outs ++ rest) → length g.outs ≡ defines g.kind →
     IsOver keys g h → g ≡ renumber_gate (slice_index all) h
-renumbered keys all rest g h whole many over =
-    let ins : g.ins ≡ map (slice_index all) h.ins =
-    sym (ap (λ (l : List ℕ). map (slice_index l) h.ins) whole ∙ same_front keys (g.outs ++ rest) h.ins over.within
-    ∙ over.ins) in
-    let count : defines h.kind ≡ length g.outs = ap defines over.kind ∙ sym many in
-    let outs : g.outs ≡ map (slice_index all) h.outs =
-    sym (ap₂ (λ (l ws : List ℕ). map (slice_index l) ws) whole (over.outs ∙ ap (range_with_len (length keys)) count)
-    ∙ next_wires keys g.outs rest) in
-    let kind : g.kind ≡ h.kind = sym over.kind in
-    λ i. record { kind = kind i; ins = ins i; outs = outs i }
+renumbered keys all rest g h whole many over = grind (arith, common_steps, same_front, next_wires)
 
 -- an element of a list with one more at its end
 push_cases : (gs : List Gate) (h : Gate) (j : ℕ) (f : Gate) → slice_get (gs ++ h ∷ []) j ≡ Some f →
@@ -127,10 +105,7 @@ push_cases : (gs : List Gate) (h : Gate) (j : ℕ) (f : Gate) → slice_get (gs 
 push_cases [] h zero f at = inr (refl, same_Some h f at)
 push_cases [] h (suc j) f at = absurd cc
 push_cases (g ∷ gs) h zero f at = inl at
-push_cases (g ∷ gs) h (suc j) f at = elim (push_cases gs h j f at) [
-  | inl before ↦ inl before
-  | inr last ↦ inr (ap suc last.0, last.1)
-]
+push_cases (g ∷ gs) h (suc j) f at = grind (arith, common_steps, push_cases gs h j f at)
 
 -- the number that is read at an index
 number_is : (gates : List ℕ) (i k : ℕ) → i < length gates → k ≡ get_or gates i k → get_or gates i 0 ≡ k
@@ -150,30 +125,19 @@ pub record IsPart (n : Netlist) (cuts gates : List ℕ) (i : ℕ) (keys : List �
 pub part_none : (n : Netlist) (cuts gates keys : List ℕ) → AreLocalLines n cuts gates → keys ≡ cuts →
     IsPart n cuts gates 0 keys []
 unfolding AreOrdered wires_after
-part_none n cuts gates keys lines is = record {
-  known = is ∙ sym (append-nil cuts);
-  count = refl;
-  used = λ k g at. absurd cc;
-  ordered = tt;
-  sized = ap length (sym is);
-  few = omega (arith, lines.few_cuts, ap length is);
-}
+part_none n cuts gates keys lines is = grind (arith, common_steps, append-nil)
 
 -- ---- the next gate
 -- the wires that it uses are known
 pub next_known : (n : Netlist) (cuts gates : List ℕ) (i k : ℕ) (keys : List ℕ) (done : List Gate) →
     AreLocalLines n cuts gates → IsPart n cuts gates i keys done → i < length gates → k ≡ get_or gates i k →
     IsKnown n keys k
-next_known n cuts gates i k keys done lines part within is =
-    subst (λ (known : List ℕ). IsKnown n known k) (sym part.known)
-    (lines.known i k (slice_get_read gates (length gates) i k refl within is))
+next_known n cuts gates i k keys done lines part within is = grind (arith, common_steps, slice_get_read)
 
 -- and so for the gate that the circuit has there
 pub known_ins : (n : Netlist) (keys : List ℕ) (k : ℕ) (g : Gate) → IsKnown n keys k → slice_get n.gates k ≡ Some g →
     All (λ w. IsTrue (is_among keys w)) g.ins
-known_ins n keys k g known at =
-    let same : known.gate ≡ g = same_Some known.gate g (sym known.numbered ∙ at) in
-    subst (λ (g : Gate). All (λ w. IsTrue (is_among keys w)) g.ins) same known.ins
+known_ins n keys k g known at = grind (arith, common_steps, same_Some)
 
 -- those that it defines are not
 pub next_new : (n : Netlist) (cuts gates : List ℕ) (i k : ℕ) (keys : List ℕ) (done : List Gate) (g : Gate) →

@@ -6,14 +6,14 @@ use Rattle.std.specs.List.{range_with_len}
 use Rattle.std.proofs.Math.Nat.{mul-le-mul_left}
 use Rattle.std.proofs.lemmas.Bool.{cases_lt, cases_Bool, true≢false, eqb-true, eq-eqb}
 use Rattle.std.proofs.lemmas.List.{length-set, length-map, length_push, get_or-set_same, get_or-set_other}
-use Rattle.std.proofs.lemmas.List.{get_or_append_left, get_or_default}
+use Rattle.std.proofs.lemmas.List.{get_or_append_left}
 use Rattle.std.proofs.lemmas.List.Elements.{All-nil, All-cons, All-head, All-tail}
 use Rattle.std.proofs.lemmas.List.FromFn.{get_or-range_with_len, length-range_with_len}
 use Rattle.std.proofs.lemmas.Option.{slice_get_within}
+use Rattle.std.proofs.lemmas.Grind.{common_steps}
 use Rattle.bbm_rule.specs.Bits.{bit}
 use Rattle.circuit.specs.Gates.{row, defines}
-use Rattle.circuit.specs.Meaning.{Gate, Netlist, Valuation, HasRow, Satisfies, AreOrdered, IsUndefined, wires}
-use Rattle.circuit.specs.Meaning.{wires_after}
+use Rattle.circuit.specs.Meaning.{Gate, Netlist, Valuation, HasRow, Satisfies, AreOrdered, wires, wires_after}
 use Rattle.circuit.specs.Bridge.{read}
 use Rattle.circuit.proofs.Undefined.{undefined_at, undefined_is}
 use Rattle.circuit.proofs.Valuations.{evaluated, map_below}
@@ -28,9 +28,7 @@ wires_grow n [] = omega arith
 wires_grow n (g ∷ gs) = omega (arith, wires_grow (n + defines g.kind) gs)
 
 pub range_below : (n k m : ℕ) → n + k ≤ m → All (λ w. w < m) (range_with_len n k)
-range_below n k m h = λ i d l.
-    let small : i < k = omega (arith, length-range_with_len n k) in
-    subst (λ w. w < m) (sym (get_or-range_with_len n k i d small)) (omega arith)
+range_below n k m h = grind (arith, common_steps, length-range_with_len, get_or-range_with_len)
 
 pub all_below : (n m : ℕ) (ws : List ℕ) → n ≤ m → All (λ w. w < n) ws → All (λ w. w < m) ws
 all_below n m ws h all = λ i d l. let small = all i d l in omega (arith, small)
@@ -61,10 +59,7 @@ satisfies_same n a u v ordered same s =
 
 -- ---- places in rows
 next_row : (m v w : ℕ) → v < w → m * v + m ≤ m * w
-next_row m v w h =
-    let more : m * (v + 1) ≤ m * w = mul-le-mul_left m (omega arith) in
-    let is : m * (v + 1) ≡ m * v + m = omega arith in
-    omega (arith, more, is)
+next_row m v w h = grind (arith, common_steps, mul-le-mul_left)
 
 -- the place of a word is in the rows
 pub place_within : (m n w k : ℕ) → w < n → k < m → m * w + k < m * n
@@ -76,15 +71,7 @@ rows_apart m v w k h l e = let more = next_row m v w h in absurd (omega (arith, 
 
 -- as have two words of two columns
 pub columns_apart : (m v w j k : ℕ) → j < m → k < m → j ≢ k → m * v + j ≢ m * w + k
-columns_apart m v w j k lj lk other e = elim (cases_lt v w) [
-  | inl less ↦ let more = next_row m v w less in absurd (omega (arith, more, e))
-  | inr large ↦ elim (cases_lt w v) [
-    | inl less ↦ let more = next_row m w v less in absurd (omega (arith, more, e))
-    | inr small ↦
-        let is : v ≡ w = omega arith in
-        absurd (other (let f : m * w + j ≡ m * w + k = ap (λ x. m * x + j) (sym is) ∙ e in omega (arith, f)))
-  ]
-]
+columns_apart m v w j k lj lk other e = grind (arith, common_steps, cases_lt, next_row)
 
 -- ---- a column is written
 -- the first n words of the column are written, and no word of another column is changed
@@ -125,16 +112,12 @@ pub record IsWritten (words place n : ℕ) (column old new : List ℕ) : Type 0 
 value_kept : (words place n : ℕ) (column old new : List ℕ) (a w : ℕ) → IsWritten words place n column old new →
     a < 64 * place → place < words → w < n → value_of words new a w ≡ value_of words old a w
 unfolding value_of
-value_kept words place n column old new a w is less within below =
-    let earlier : a / 64 < place = omega arith in
-    ap (λ k. bit k (a % 64)) (is.kept w (a / 64) below (omega (arith, earlier))
-    (λ e. absurd (omega (arith, earlier, e))))
+value_kept words place n column old new a w is less within below = grind (arith, common_steps)
 
 value_put : (words place n : ℕ) (column old new : List ℕ) (a w : ℕ) → IsWritten words place n column old new →
     a / 64 ≡ place → w < n → value_of words new a w ≡ bit (slice_index column w) (a % 64)
 unfolding value_of
-value_put words place n column old new a w is at below =
-    ap (λ k. bit k (a % 64)) (ap (λ k. slice_index new (words * w + k)) at ∙ is.put w below)
+value_put words place n column old new a w is at below = grind (arith, common_steps)
 
 -- the columns of so many chunks are written
 pub record AreRowsBelow (l : Netlist) (words chunk : ℕ) (values undefined defined : List ℕ) : Type 0 where
@@ -142,14 +125,6 @@ pub record AreRowsBelow (l : Netlist) (words chunk : ℕ) (values undefined defi
   pub tall : length undefined ≡ words * length l.gates
   pub count : length defined ≡ chunk
   pub each : (a : ℕ) → a < 64 * chunk → AreRowsAt l words a values undefined defined
-
-pub rows_none : (l : Netlist) (words : ℕ) (values undefined defined : List ℕ) → length values ≡ words * wires l →
-    length undefined ≡ words * length l.gates → defined ≡ [] → AreRowsBelow l words 0 values undefined defined
-rows_none l words values undefined defined long tall none =
-    record { long = long; tall = tall; count = ap length none; each = λ a h. absurd (omega arith) }
-
-true_from : (x y : Bool) → x ≡ y → x ≡ true → y ≡ true
-true_from x y e h = sym e ∙ h
 
 pub rows_more : (l : Netlist) (words chunk word : ℕ)
     (column gaps values values' undefined undefined' defined defined' : List ℕ) → AreOrdered l.given l.gates →
@@ -212,11 +187,7 @@ pub written : (words place n : ℕ) (column old new column' old' : List ℕ) →
     ((w : ℕ) → w < length column' → slice_index new (words * w + place) ≡ slice_index column' w) →
     ((w k : ℕ) → w < length column' → k < words → k ≢ place →
     slice_index new (words * w + k) ≡ slice_index old' (words * w + k)) → IsWritten words place n column old new
-written words place n column old new column' old' same_column same_old long put kept = record {
-  put = λ w h. put w (omega (arith, h, long, ap length same_column)) ∙ ap (λ (l : List ℕ). slice_index l w) same_column;
-  kept = λ w k h below other. kept w k (omega (arith, h, long, ap length same_column)) below other
-      ∙ ap (λ (l : List ℕ). slice_index l (words * w + k)) same_old;
-}
+written words place n column old new column' old' same_column same_old long put kept = grind (arith, common_steps)
 
 -- ---- a column of a module
 none_is : (b : Bool) (o : Option ℕ) → b ≡ is_none o → b ≡ true → o ≡ None
@@ -257,23 +228,9 @@ pub column_defined : (l : Netlist) (a b defined : ℕ) (words undefined : List �
     IsColumnAt l a words undefined defined b →
     ((k : ℕ) → k < length l.gates → bit (slice_index undefined k) b ≡ false) →
     bit defined b ≡ true
-column_defined l a b defined words undefined is clear = elim (cases_Bool (bit defined b)) [
-  | inl h ↦ h
-  | inr h ↦
-      let found = is.none h in
-      let u : IsUndefined l (bit a) found.0 = found.1 in
-      let below : found.0 < length l.gates = slice_get_within l.gates found.0 u.gate u.numbered in
-      absurd (true≢false (sym ((is.undefined found.0 below).1 u) ∙ clear found.0 below))
-]
-
--- the word that is read at an index
-pub word_is : (words : List ℕ) (k word b : ℕ) (v : Bool) → k < length words → word ≡ get_or words k word →
-    bit word b ≡ v → bit (slice_index words k) b ≡ v
-word_is words k word b v within is here = ap (λ n. bit n b) (get_or_default words k 0 word within ∙ sym is) ∙ here
+column_defined l a b defined words undefined is clear =
+    grind (arith, common_steps, cases_Bool, slice_get_within, true≢false)
 
 pub clear_more : (words : List ℕ) (k b : ℕ) → ((j : ℕ) → j < k → bit (slice_index words j) b ≡ false) →
     bit (slice_index words k) b ≡ false → (j : ℕ) → j < k + 1 → bit (slice_index words j) b ≡ false
-clear_more words k b before here j h = elim (cases_lt j k) [
-  | inl less ↦ before j less
-  | inr large ↦ let same : k ≡ j = omega arith in subst (λ j. bit (slice_index words j) b ≡ false) same here
-]
+clear_more words k b before here j h = grind (arith, common_steps, cases_lt)

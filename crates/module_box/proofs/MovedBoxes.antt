@@ -1,9 +1,10 @@
 -- Boxes and signals that are moved
-use Rattle.std.proofs.Common.{◌≡◌, ℕ, zero, suc, ◌+◌, List, [], ◌∷◌, map, ◌&&◌, ◌||◌, not, Some, Ordering, Less, Equal}
-use Rattle.std.proofs.Common.{Greater, refl, sym, ap, ap₂, ◌∙◌, arith}
+use Rattle.std.proofs.Common.{◌≡◌, ℕ, zero, suc, ◌+◌, List, [], ◌∷◌, map, ◌&&◌, not, Some, Ordering, Less, Equal}
+use Rattle.std.proofs.Common.{Greater, refl, ap, ap₂, arith}
 use Rattle.std.specs.Prelude.{ℤ, pos, ◌+ℤ◌, ◌-ℤ◌, int_le, int_lt, slice_get, unwrap_or, if◌then◌else◌, nat_eq}
 use Rattle.std.specs.Ordering.{int_eq, int_cmp, nat_cmp, ordering_then}
 use Rattle.std.proofs.lemmas.Int.{ints}
+use Rattle.std.proofs.lemmas.Grind.{common_steps}
 use Rattle.bbm_rule.specs.Moves.{IsMoved}
 use Rattle.bbm_rule.specs.Plane.{State, is_at}
 use Rattle.bbm_rule.specs.Spans.{in_span}
@@ -37,15 +38,11 @@ end_moved f f' n d e = omega (arith, ints, e)
 
 pub span_moved : (f f' n n' : ℕ) (d x : ℤ) → pos f' ≡ pos f +ℤ d → n' ≡ n → in_span f' n' (x +ℤ d) ≡ in_span f n x
 unfolding in_span
-span_moved f f' n n' d x e same =
-    ap (λ k. int_le (pos f') (x +ℤ d) && int_lt (x +ℤ d) (pos (f' + k))) same
-    ∙ ap₂ (λ p q. int_le p (x +ℤ d) && int_lt (x +ℤ d) q) e (end_moved f f' n d e)
-    ∙ ap₂ (λ p q. p && q) (le_moved (pos f) x d) (lt_moved x (pos (f + n)) d)
+span_moved f f' n n' d x e same = grind (arith, common_steps, end_moved, le_moved, lt_moved)
 
 pub box_moved : (dx dy : ℤ) (b b' : Box2) → IsMovedBox dx dy b b' → IsMoved dx dy (in_box b) (in_box b')
 unfolding in_box
-box_moved dx dy b b' m x y = ap₂ (λ p q. p && q) (span_moved b.x b'.x b.w b'.w dx x m.x m.w)
-    (span_moved b.y b'.y b.h b'.h dy y m.y m.h)
+box_moved dx dy b b' m x y = grind (arith, common_steps, span_moved)
 
 up_moved : (x d : ℤ) → (x +ℤ d) +ℤ pos 1 ≡ (x +ℤ pos 1) +ℤ d
 up_moved x d = omega (arith, ints)
@@ -56,14 +53,7 @@ down_moved x d = omega (arith, ints)
 -- the neighbours of a cell move along
 some_moved : (dx dy : ℤ) (s s' : State) → IsMoved dx dy s s' → IsMoved dx dy (some_neighbour s) (some_neighbour s')
 unfolding some_neighbour
-some_moved dx dy s s' m x y =
-    let l = down_moved x dx in
-    let r = up_moved x dx in
-    let u = down_moved y dy in
-    let d = up_moved y dy in
-    let at : (a b : ℤ) (p q : ℤ) → p ≡ a +ℤ dx → q ≡ b +ℤ dy → s' p q ≡ s a b = λ a b p q e f. ap₂ s' e f ∙ m a b in
-    λ i. at _ _ _ _ l u i || at x _ _ _ refl u i || at _ _ _ _ r u i || at _ y _ _ l refl i || at _ y _ _ r refl i
-    || at _ _ _ _ l d i || at x _ _ _ refl d i || at _ _ _ _ r d i
+some_moved dx dy s s' m x y = grind (arith, common_steps, down_moved, up_moved)
 
 pub boxes_moved : BoxesMoveAlong
 unfolding in_ring in_halo
@@ -114,14 +104,7 @@ map_back f g back (x ∷ xs) = ap₂ (λ y ys. y ∷ ys) (back x) (map_back f g 
 
 pub signals_back : (dx dy ex ey : ℤ) (s : Signals) → dx +ℤ ex ≡ pos 0 → dy +ℤ ey ≡ pos 0 →
     moved_signals ex ey (moved_signals dx dy s) ≡ s
-signals_back dx dy ex ey s p q =
-    let all_times = map_back (moved_all_times dx dy) (moved_all_times ex ey)
-    (λ h i. record { cell = cell_back dx dy ex ey h.cell p q i; signal = h.signal }) s.all_times in
-    let events = map_back (moved_event dx dy) (moved_event ex ey)
-    (λ e i.
-    record { at = record { time = e.at.time; cell = cell_back dx dy ex ey e.at.cell p q i }; signal = e.signal })
-    s.events in
-    λ i. record { all_times = all_times i; events = events i }
+signals_back dx dy ex ey s p q = grind (arith, common_steps, map_back, cell_back)
 
 -- ---- the order of cells and moments
 pub cell_cmp_moved : (dx dy : ℤ) (a b : Cell) → cell_cmp (moved_cell dx dy a) (moved_cell dx dy b) ≡ cell_cmp a b
@@ -143,20 +126,12 @@ from_map f (x ∷ xs) (suc i) b e = from_map f xs i b e
 rising_mapped : {A K : Type 0} (cmp : K → K → Ordering) (key : A → K) (f : A → A) →
     ((a b : A) → cmp (key (f a)) (key (f b)) ≡ cmp (key a) (key b)) → (xs : List A) → IsRising cmp key xs →
     IsRising cmp key (map f xs)
-rising_mapped cmp key f same xs rising = record {
-  rises = λ i j a b lt at there.
-      let from = from_map f xs i a at in
-      let to = from_map f xs j b there in
-      ap₂ (λ p q. cmp (key p) (key q)) (sym from.2) (sym to.2) ∙ same from.0 to.0
-      ∙ rising.rises i j from.0 to.0 lt from.1 to.1;
-}
+rising_mapped cmp key f same xs rising = grind (arith, common_steps, from_map)
 
 pub all_times_rising : (dx dy : ℤ) (hs : List AllTimes) → IsRising cell_cmp cell_of hs →
     IsRising cell_cmp cell_of (map (moved_all_times dx dy) hs)
-all_times_rising dx dy hs rising =
-    rising_mapped cell_cmp cell_of (moved_all_times dx dy) (λ a b. cell_cmp_moved dx dy a.cell b.cell) hs rising
+all_times_rising dx dy hs rising = grind (arith, common_steps, rising_mapped, cell_cmp_moved)
 
 pub events_rising : (dx dy : ℤ) (es : List TimedSignal) → IsRising moment_cmp moment_of es →
     IsRising moment_cmp moment_of (map (moved_event dx dy) es)
-events_rising dx dy es rising =
-    rising_mapped moment_cmp moment_of (moved_event dx dy) (λ a b. moment_cmp_moved dx dy a b) es rising
+events_rising dx dy es rising = grind (arith, common_steps, rising_mapped, moment_cmp_moved)

@@ -1,9 +1,10 @@
 -- The eight neighbours of a cell, rings and halos
-use Rattle.std.proofs.Common.{◌≡◌, ℕ, Bool, true, false, not, ◌||◌, refl, sym, ap, ap₂, ◌∙◌, inl, inr, ◌⊎◌, arith, List}
-use Rattle.std.proofs.Common.{Some, ℤ, pos, ◌+ℤ◌, ◌-ℤ◌, slice_get}
+use Rattle.std.proofs.Common.{◌≡◌, ℕ, Bool, true, false, not, ◌||◌, sym, ap, ap₂, ◌∙◌, inl, inr, ◌⊎◌, arith, List, Some}
+use Rattle.std.proofs.Common.{ℤ, pos, ◌+ℤ◌, ◌-ℤ◌, slice_get}
 use Rattle.std.proofs.lemmas.Int.{ints}
 use Rattle.std.proofs.lemmas.Bool.{and_parts, and_from, or_left, or_right, or_cases, not_from_false, not-true}
 use Rattle.std.proofs.lemmas.Bool.{cases_Bool, false≢true}
+use Rattle.std.proofs.lemmas.Grind.{common_steps}
 use Rattle.bbm_rule.specs.Plane.{State, partner, step}
 use Rattle.module_box.specs.Boxes.{in_box, some_neighbour, in_ring, in_halo}
 use Rattle.module_box.specs.Laws.{SameInBox, SameInHalo, HaloCellIsRingCellOfOwner}
@@ -17,26 +18,20 @@ or_more a b c d f g h = elim (or_cases a b h) [ inl p ↦ or_left c d (f p) | in
 pub some_neighbour_more : (p q : State) (x y : ℤ) → ((x' y' : ℤ) → p x' y' ≡ true → q x' y' ≡ true) →
     some_neighbour p x y ≡ true → some_neighbour q x y ≡ true
 unfolding some_neighbour
-some_neighbour_more p q x y f =
-    or_more _ _ _ _ (or_more _ _ _ _
-    (or_more _ _ _ _ (or_more _ _ _ _ (or_more _ _ _ _ (or_more _ _ _ _ (or_more _ _ _ _
-    (f _ _) (f _ _)) (f _ _)) (f _ _)) (f _ _)) (f _ _)) (f _ _)) (f _ _)
+some_neighbour_more p q x y f = grind (arith, common_steps, or_more)
 
 -- the cell x y is one of the neighbours of a b
 at_0 : (p : State) (a b x y : ℤ) → p x y ≡ true → a -ℤ pos 1 ≡ x → b -ℤ pos 1 ≡ y → some_neighbour p a b ≡ true
 unfolding some_neighbour
-at_0 p a b x y h e f = or_left _ _
-    (or_left _ _ (or_left _ _ (or_left _ _ (or_left _ _ (or_left _ _ (or_left _ _ (ap₂ p e f ∙ h)))))))
+at_0 p a b x y h e f = grind (arith, common_steps, or_left)
 
 at_1 : (p : State) (a b x y : ℤ) → p x y ≡ true → a ≡ x → b -ℤ pos 1 ≡ y → some_neighbour p a b ≡ true
 unfolding some_neighbour
-at_1 p a b x y h e f = or_left _ _
-    (or_left _ _ (or_left _ _ (or_left _ _ (or_left _ _ (or_left _ _ (or_right _ _ (ap₂ p e f ∙ h)))))))
+at_1 p a b x y h e f = grind (arith, common_steps, or_left, or_right)
 
 at_2 : (p : State) (a b x y : ℤ) → p x y ≡ true → a +ℤ pos 1 ≡ x → b -ℤ pos 1 ≡ y → some_neighbour p a b ≡ true
 unfolding some_neighbour
-at_2 p a b x y h e f = or_left _ _
-    (or_left _ _ (or_left _ _ (or_left _ _ (or_left _ _ (or_right _ _ (ap₂ p e f ∙ h))))))
+at_2 p a b x y h e f = grind (arith, common_steps, or_left, or_right)
 
 at_3 : (p : State) (a b x y : ℤ) → p x y ≡ true → a -ℤ pos 1 ≡ x → b ≡ y → some_neighbour p a b ≡ true
 unfolding some_neighbour
@@ -70,32 +65,20 @@ Beside z' z = (z' -ℤ pos 1 ≡ z) ⊎ (z' +ℤ pos 1 ≡ z)
 
 partner_beside : (t : ℕ) (z : ℤ) → Beside (partner t z) z
 unfolding Beside
-partner_beside t z = elim (partner_near t z) [
-  | inl e ↦ inl (back_down z (partner t z) e)
-  | inr e ↦ inr (back_up z (partner t z) e)
-]
+partner_beside t z = grind (arith, common_steps, partner_near, back_down, back_up)
 
 -- each cell of a block is a neighbour of the three others
 pub block_x : (p : State) (t : ℕ) (x y : ℤ) → p x y ≡ true → some_neighbour p (partner t x) y ≡ true
 unfolding Beside
-block_x p t x y h = elim (partner_beside t x) [
-  | inl e ↦ at_3 p _ _ x y h e refl
-  | inr e ↦ at_4 p _ _ x y h e refl
-]
+block_x p t x y h = grind (arith, common_steps, partner_beside, at_3, at_4)
 
 pub block_y : (p : State) (t : ℕ) (x y : ℤ) → p x y ≡ true → some_neighbour p x (partner t y) ≡ true
 unfolding Beside
-block_y p t x y h = elim (partner_beside t y) [
-  | inl e ↦ at_1 p _ _ x y h refl e
-  | inr e ↦ at_6 p _ _ x y h refl e
-]
+block_y p t x y h = grind (arith, common_steps, partner_beside, at_1, at_6)
 
 pub block_both : (p : State) (t : ℕ) (x y : ℤ) → p x y ≡ true → some_neighbour p (partner t x) (partner t y) ≡ true
 unfolding Beside
-block_both p t x y h = elim (partner_beside t x) [
-  | inl e ↦ elim (partner_beside t y) [ inl f ↦ at_0 p _ _ x y h e f | inr f ↦ at_5 p _ _ x y h e f ]
-  | inr e ↦ elim (partner_beside t y) [ inl f ↦ at_2 p _ _ x y h e f | inr f ↦ at_7 p _ _ x y h e f ]
-]
+block_both p t x y h = grind (arith, common_steps, partner_beside, at_0, at_5, at_2, at_7)
 
 pub halo_from : (b : Box2) (x y : ℤ) → in_box b x y ≡ false → some_neighbour (in_box b) x y ≡ true →
     in_halo b x y ≡ true
@@ -115,10 +98,7 @@ ring_from b x y h near = and_from _ _ h near
 -- a cell of the box, or one of the halo
 same_near : (b : Box2) (s s' : State) (x y : ℤ) → SameInBox b s s' → SameInHalo b s s' →
     some_neighbour (in_box b) x y ≡ true → s x y ≡ s' x y
-same_near b s s' x y box halo near = elim (cases_Bool (in_box b x y)) [
-  | inl h ↦ box x y h
-  | inr h ↦ halo x y (halo_from b x y h near)
-]
+same_near b s s' x y box halo near = grind (arith, common_steps, cases_Bool, halo_from)
 
 pub near_step : (b : Box2) (t : ℕ) (s s' : State) → SameInBox b s s' → SameInHalo b s s' →
     SameInBox b (step t s) (step t s')

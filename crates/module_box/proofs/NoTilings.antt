@@ -1,7 +1,7 @@
 -- A fault that `owner_table` names means that the boxes do not tile
 use Rattle.std.proofs.Common.{◌≡◌, ℕ, ◌+◌, ◌-◌, ◌*◌, ◌/◌, ◌%◌, ◌<◌, ◌≤◌, true, refl, ap₂, ◌∙◌, arith, pos}
 use Rattle.std.proofs.lemmas.Bool.{and_from, and_parts}
-use Rattle.bbm_rule.specs.Spans.{in_span}
+use Rattle.std.proofs.lemmas.Grind.{common_steps}
 use Rattle.bbm_rule.proofs.Spans.{span_from, span_parts}
 use Rattle.module_box.specs.Boxes.{in_box}
 use Rattle.module_box.specs.Tiling.{rectangle_of}
@@ -13,27 +13,18 @@ use Rattle.module_box.proofs.Tilings.{div_small}
 -- the lower right cell of a box is in it
 last_cell : (b : Box2) → 2 ≤ b.w → 2 ≤ b.h → in_box b (pos (b.x + b.w - 1)) (pos (b.y + b.h - 1)) ≡ true
 unfolding in_box
-last_cell b p q = and_from _ _ (span_from b.x b.w (b.x + b.w - 1) (omega arith) (omega arith))
-    (span_from b.y b.h (b.y + b.h - 1) (omega arith) (omega arith))
+last_cell b p q = grind (arith, common_steps, and_from, span_from)
 
 below_sides : (w h i k : ℕ) → in_box (rectangle_of w h) (pos i) (pos k) ≡ true → (i < w) × (k < h)
 unfolding in_box
-below_sides w h i k e =
-    let p = and_parts (in_span 0 w (pos i)) (in_span 0 h (pos k)) e in
-    let q = span_parts 0 w i p.0 in
-    let r = span_parts 0 h k p.1 in
-    (omega (arith, q.1), omega (arith, r.1))
+below_sides w h i k e = grind (arith, common_steps, and_parts, span_parts)
 
 from_sides : (w h i k : ℕ) → i < w → k < h → in_box (rectangle_of w h) (pos i) (pos k) ≡ true
 unfolding in_box
-from_sides w h i k p q = and_from _ _ (span_from 0 w i (omega arith) (omega arith))
-    (span_from 0 h k (omega arith) (omega arith))
+from_sides w h i k p q = grind (arith, common_steps, and_from, span_from)
 
 corner_column : (w n : ℕ) → 2 ≤ w → w % 2 ≡ 0 → 2 * (n % (w / 2)) < w
-corner_column w n a e =
-    let p : 0 < w / 2 = omega arith in
-    let q : n % (w / 2) < w / 2 = omega arith in
-    omega arith
+corner_column w n a e = grind (arith, common_steps)
 
 corner_row : (w h n : ℕ) → n < (h / 2) * (w / 2) → 2 * (n / (w / 2)) < h
 corner_row w h n b = let d = div_small (h / 2) (w / 2) n b in omega (arith, d)

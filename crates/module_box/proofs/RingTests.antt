@@ -1,5 +1,6 @@
 -- Rings and halos by tests on the two coordinates
 use Rattle.std.proofs.Common.{◌≡◌, Bool, not, ◌&&◌, ◌||◌, ap₂, sym, ◌∙◌, arith, ℤ, pos, ◌+ℤ◌, ◌-ℤ◌}
+use Rattle.std.proofs.lemmas.Grind.{common_steps}
 use Rattle.bbm_rule.specs.Spans.{in_span}
 use Rattle.module_box.specs.Boxes.{in_box, some_neighbour, in_ring, in_halo}
 use Rattle.module_box.specs.declared.boxes.Box2.{Box2}
@@ -19,15 +20,13 @@ ring_is : (b : Box2) (x y : ℤ) → in_ring b x y ≡ (in_box b x y && not
     ((in_span b.x b.w (x -ℤ pos 1) && in_span b.x b.w (x +ℤ pos 1))
     && (in_span b.y b.h (y -ℤ pos 1) && in_span b.y b.h (y +ℤ pos 1))))
 unfolding in_ring some_neighbour in_box
-ring_is b x y = ring_bits (in_span b.x b.w (x -ℤ pos 1)) (in_span b.x b.w x) (in_span b.x b.w (x +ℤ pos 1))
-    (in_span b.y b.h (y -ℤ pos 1)) (in_span b.y b.h y) (in_span b.y b.h (y +ℤ pos 1))
+ring_is b x y = grind (arith, common_steps, ring_bits)
 
 halo_is : (b : Box2) (x y : ℤ) → in_halo b x y ≡ (not (in_box b x y) &&
     ((in_span b.x b.w (x -ℤ pos 1) || in_span b.x b.w x || in_span b.x b.w (x +ℤ pos 1))
     && (in_span b.y b.h (y -ℤ pos 1) || in_span b.y b.h y || in_span b.y b.h (y +ℤ pos 1))))
 unfolding in_halo some_neighbour in_box
-halo_is b x y = halo_bits (in_span b.x b.w (x -ℤ pos 1)) (in_span b.x b.w x) (in_span b.x b.w (x +ℤ pos 1))
-    (in_span b.y b.h (y -ℤ pos 1)) (in_span b.y b.h y) (in_span b.y b.h (y +ℤ pos 1))
+halo_is b x y = grind (arith, common_steps, halo_bits)
 
 -- what the tests answer, from what they test
 pub ring_read : (b : Box2) (x y : ℤ) (inside inner_x inner_y : Bool) → inside ≡ in_box b x y →

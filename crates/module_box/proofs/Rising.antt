@@ -1,12 +1,12 @@
 -- Facts about a rising list by comparing its keys with a key
 use Rattle.std.proofs.Common.{◌≡◌, ℕ, zero, suc, ◌+◌, ◌<◌, ◌≤◌, List, [], ◌∷◌, ◌++◌, length, true, Option, Some, None}
-use Rattle.std.proofs.Common.{Ordering, Less, Equal, Greater, refl, sym, ap, subst, ◌∙◌, inl, inr, ◌⊎◌, arith, rules}
-use Rattle.std.proofs.Common.{eqb, ℤ, ◌≢◌, slice_get, if◌then◌else◌, nat_cmp, int_cmp, int_eq}
-use Rattle.std.specs.Ordering.{ordering_reverse}
+use Rattle.std.proofs.Common.{Ordering, Less, Equal, Greater, refl, sym, ap, ◌∙◌, inl, inr, ◌⊎◌, arith, rules, eqb, ℤ}
+use Rattle.std.proofs.Common.{◌≢◌, slice_get, int_eq}
 use Rattle.std.specs.Cmp.{IsTotalOrder}
 use Rattle.std.proofs.lemmas.Cmp.{then_total, on_total, nat_cmp_total, int_cmp_total, tied_itself}
 use Rattle.std.proofs.lemmas.Map.Lookups.{CmpEqualImpliesEq, exact_pairs, exact_unsigned, exact_signed}
 use Rattle.std.proofs.lemmas.Bool.{and_parts, cases_Bool, cond-true, cond-false, eqb-true}
+use Rattle.std.proofs.lemmas.Grind.{common_steps}
 use Rattle.bbm_rule.specs.Plane.{is_at}
 use Rattle.bbm_rule.specs.declared.block.Cell.{Cell}
 use Rattle.module_box.specs.declared.schedules.Moment.{Moment}
@@ -30,19 +30,14 @@ cell_key c = (c.y, c.x)
 
 pub cell_exact : CmpEqualImpliesEq cell_cmp
 unfolding cell_cmp
-cell_exact a b e =
-    let unkey : ℤ × ℤ → Cell = λ k. record { x = k.1; y = k.0 } in
-    ap unkey (exact_pairs int_cmp int_cmp exact_signed exact_signed (cell_key a) (cell_key b) e)
+cell_exact a b e = grind (arith, common_steps, exact_pairs, exact_signed, cell_key)
 
 abbrev moment_key : Moment → ℕ × (ℤ × ℤ)
 moment_key m = (m.time, (m.cell.y, m.cell.x))
 
 pub moment_exact : CmpEqualImpliesEq moment_cmp
 unfolding moment_cmp cell_cmp
-moment_exact a b e =
-    let unkey : ℕ × (ℤ × ℤ) → Moment = λ k. record { time = k.0; cell = record { x = k.1.1; y = k.1.0 } } in
-    ap unkey (exact_pairs nat_cmp _ exact_unsigned (exact_pairs int_cmp int_cmp exact_signed exact_signed)
-    (moment_key a) (moment_key b) e)
+moment_exact a b e = grind (arith, common_steps, exact_pairs, exact_unsigned, exact_signed, moment_key)
 
 -- ---- bounds of a search
 -- the keys before `low` are less than k, and those from `high` on are greater
@@ -64,26 +59,12 @@ pub raise_low : {A K : Type 0} (cmp : K → K → Ordering) (key : A → K) (xs 
     IsTotalOrder cmp → IsRising cmp key xs →
     IsBetween cmp key xs k low high → slice_get xs m ≡ Some a → cmp (key a) k ≡ Less →
     IsBetween cmp key xs k (m + 1) high
-raise_low cmp key xs k low high m a total rising b at less = record {
-  below = λ i a' h e. elim (lower_or_same i m h) [
-    | inl lt ↦ total.trans (key a') (key a) k (rising.rises i m a' a lt e at) less
-    | inr same ↦ ap (λ z. cmp (key z) k) (same_some (slice_get xs m) a' a (ap (slice_get xs) (sym same) ∙ e) at) ∙ less
-  ];
-  above = b.above;
-}
+raise_low cmp key xs k low high m a total rising b at less = grind (arith, common_steps, lower_or_same, same_some)
 
 pub drop_high : {A K : Type 0} (cmp : K → K → Ordering) (key : A → K) (xs : List A) (k : K) (low high m : ℕ) (a : A) →
     IsTotalOrder cmp → IsRising cmp key xs →
     IsBetween cmp key xs k low high → slice_get xs m ≡ Some a → cmp (key a) k ≡ Greater → IsBetween cmp key xs k low m
-drop_high cmp key xs k low high m a total rising b at greater = record {
-  below = b.below;
-  above = λ i a' h e.
-      let less : cmp k (key a) ≡ Less = total.antisymm k (key a) ∙ ap ordering_reverse greater in
-      elim (same_or_higher i m h) [
-        | inl lt ↦ total.trans k (key a) (key a') less (rising.rises m i a a' lt at e)
-        | inr same ↦ ap (λ z. cmp k (key z)) (same_some (slice_get xs m) a' a (ap (slice_get xs) same ∙ e) at) ∙ less
-      ];
-}
+drop_high cmp key xs k low high m a total rising b at greater = grind (arith, common_steps, same_or_higher, same_some)
 
 less_equal : Less ≡ Equal → ⊥
 less_equal e = cc
@@ -96,12 +77,7 @@ pub is_absent : {A K : Type 0} (cmp : K → K → Ordering) (key : A → K) (xs 
     IsTotalOrder cmp → IsBetween cmp key xs k low high → high ≤ low →
     (i : ℕ) (a : A) → slice_get xs i ≡ Some a → key a ≢ k
 is_absent cmp key xs k low high total b met i a e same =
-    let tied : cmp (key a) k ≡ Equal = ap (λ z. cmp z k) same ∙ tied_itself total k in
-    let tied' : cmp k (key a) ≡ Equal = ap (λ z. cmp k z) same ∙ tied_itself total k in
-    elim (below_or_from i low) [
-      | inl lt ↦ less_equal (sym (b.below i a lt e) ∙ tied)
-      | inr ge ↦ less_equal (sym (b.above i a (omega arith) e) ∙ tied')
-    ]
+    grind (arith, common_steps, tied_itself, below_or_from, less_equal)
 
 -- an earlier element has another key
 pub is_first : {A K : Type 0} (cmp : K → K → Ordering) (key : A → K) (xs : List A) (m : ℕ) (a : A) → IsTotalOrder cmp →
@@ -121,19 +97,13 @@ eqb_itself : (a : ℕ) → eqb a a ≡ true
 eqb_itself a = search rules
 
 at_cell : (c d : Cell) → is_at c d.x d.y ≡ true → c ≡ d
-at_cell c d h =
-    let p = and_parts (int_eq c.x d.x) (int_eq c.y d.y) h in
-    let mk : ℤ → ℤ → Cell = λ x y. record { x = x; y = y } in
-    ap (λ x. mk x c.y) (int_eq_is _ _ p.0) ∙ ap (λ y. mk d.x y) (int_eq_is _ _ p.1)
+at_cell c d h = grind (arith, common_steps, and_parts, int_eq_is)
 
 at_own_cell : (c : Cell) → is_at c c.x c.y ≡ true
 at_own_cell c = rw (int_eq_itself c.x, int_eq_itself c.y)
 
 pub then_moment : (m n : Moment) → is_moment_at m n.time n.cell.x n.cell.y ≡ true → m ≡ n
-then_moment m n h =
-    let p = and_parts (eqb m.time n.time) (is_at m.cell n.cell.x n.cell.y) h in
-    let mk : ℕ → Cell → Moment = λ t c. record { time = t; cell = c } in
-    ap (λ t. mk t m.cell) (eqb-true m.time n.time p.0) ∙ ap (λ c. mk n.time c) (at_cell m.cell n.cell p.1)
+then_moment m n h = grind (arith, common_steps, and_parts, eqb-true, at_cell)
 
 then_own_moment : (m : Moment) → is_moment_at m m.time m.cell.x m.cell.y ≡ true
 then_own_moment m = rw (eqb_itself m.time, at_own_cell m.cell)
@@ -151,14 +121,8 @@ pub all_times_some : (hs : List AllTimes) (i : ℕ) (h : AllTimes) → slice_get
     ((j : ℕ) (h' : AllTimes) → j < i → slice_get hs j ≡ Some h' → h'.cell ≢ h.cell) →
     all_times_at hs h.cell.x h.cell.y ≡ Some h.signal
 unfolding all_times_at
-all_times_some [] i h e f = absurd (none_some e)
-  where
-    none_some : {A : Type 0} {a : A} → None ≡ Some a → ⊥
-    none_some e = cc
-all_times_some (g ∷ hs) zero h e f =
-    let same : g ≡ h = same_some (Some g) g h refl e in
-    subst (λ h. (if is_at g.cell h.cell.x h.cell.y then Some g.signal else all_times_at hs h.cell.x h.cell.y)
-    ≡ Some h.signal) same (cond-true _ _ _ (at_own_cell g.cell))
+all_times_some [] i h e f = grind (arith, common_steps)
+all_times_some (g ∷ hs) zero h e f = grind (arith, common_steps, same_some, cond-true, at_own_cell)
 all_times_some (g ∷ hs) (suc i) h e f = elim (cases_Bool (is_at g.cell h.cell.x h.cell.y)) [
   | inl t ↦ absurd (f 0 g (omega arith) refl (at_cell g.cell h.cell t))
   | inr n ↦ cond-false _ _ _ n ∙ all_times_some hs i h e (λ j h' lt. f (suc j) h' (omega arith))
@@ -178,14 +142,8 @@ pub event_some : (es : List TimedSignal) (i : ℕ) (h : TimedSignal) → slice_g
     ((j : ℕ) (h' : TimedSignal) → j < i → slice_get es j ≡ Some h' → h'.at ≢ h.at) →
     event_at es h.at.time h.at.cell.x h.at.cell.y ≡ Some h.signal
 unfolding event_at
-event_some [] i h e f = absurd (none_some e)
-  where
-    none_some : {A : Type 0} {a : A} → None ≡ Some a → ⊥
-    none_some e = cc
-event_some (g ∷ hs) zero h e f =
-    let same : g ≡ h = same_some (Some g) g h refl e in
-    subst (λ h. (if is_moment_at g.at h.at.time h.at.cell.x h.at.cell.y then Some g.signal else event_at hs h.at.time
-    h.at.cell.x h.at.cell.y) ≡ Some h.signal) same (cond-true _ _ _ (then_own_moment g.at))
+event_some [] i h e f = grind (arith, common_steps)
+event_some (g ∷ hs) zero h e f = grind (arith, common_steps, same_some, cond-true, then_own_moment)
 event_some (g ∷ hs) (suc i) h e f = elim (cases_Bool (is_moment_at g.at h.at.time h.at.cell.x h.at.cell.y)) [
   | inl t ↦ absurd (f 0 g (omega arith) refl (then_moment g.at h.at t))
   | inr n ↦ cond-false _ _ _ n ∙ event_some hs i h e (λ j h' lt. f (suc j) h' (omega arith))
@@ -194,14 +152,12 @@ event_some (g ∷ hs) (suc i) h e f = elim (cases_Bool (is_moment_at g.at h.at.t
 pub all_times_found : (hs : List AllTimes) (i : ℕ) (h : AllTimes) (c : Cell) → h.cell ≡ c → slice_get hs i ≡ Some h →
     ((j : ℕ) (h' : AllTimes) → j < i → slice_get hs j ≡ Some h' → h'.cell ≢ h.cell) →
     all_times_at hs c.x c.y ≡ Some h.signal
-all_times_found hs i h c same e f =
-    subst (λ (c : Cell). all_times_at hs c.x c.y ≡ Some h.signal) same (all_times_some hs i h e f)
+all_times_found hs i h c same e f = grind (arith, common_steps, all_times_some)
 
 pub event_found : (es : List TimedSignal) (i : ℕ) (h : TimedSignal) (m : Moment) → h.at ≡ m → slice_get es i ≡ Some h →
     ((j : ℕ) (h' : TimedSignal) → j < i → slice_get es j ≡ Some h' → h'.at ≢ h.at) →
     event_at es m.time m.cell.x m.cell.y ≡ Some h.signal
-event_found es i h m same e f =
-    subst (λ (m : Moment). event_at es m.time m.cell.x m.cell.y ≡ Some h.signal) same (event_some es i h e f)
+event_found es i h m same e f = grind (arith, common_steps, event_some)
 
 -- ---- rising lists that grow
 pub pushed : {A : Type 0} (xs : List A) (x : A) (i : ℕ) (a : A) → slice_get (xs ++ x ∷ []) i ≡ Some a →
@@ -209,7 +165,4 @@ pub pushed : {A : Type 0} (xs : List A) (x : A) (i : ℕ) (a : A) → slice_get 
 pushed [] x zero a e = inr (refl, cc)
 pushed [] x (suc i) a e = inl e
 pushed (y ∷ xs) x zero a e = inl e
-pushed (y ∷ xs) x (suc i) a e = elim (pushed xs x i a e) [
-  | inl h ↦ inl h
-  | inr h ↦ inr (ap suc h.0, h.1)
-]
+pushed (y ∷ xs) x (suc i) a e = grind (arith, common_steps, pushed xs x i a e)

@@ -4,6 +4,7 @@ use Rattle.std.proofs.Common.{Option, Some, map, refl, sym, ap, subst, ◌∙◌
 use Rattle.std.proofs.lemmas.Simd.{map-map}
 use Rattle.std.proofs.lemmas.Nat.Bits.{bit_at_lowest, bit_at-suc}
 use Rattle.std.proofs.lemmas.Option.{slice_get-get_or, slice_get_within, get_or_from_slice_get, same_Some}
+use Rattle.std.proofs.lemmas.Grind.{common_steps}
 use Rattle.bbm_rule.specs.Bits.{bit}
 use Rattle.bbm_rule.specs.Plane.{one_if}
 use Rattle.circuit.specs.Gates.{row}
@@ -53,9 +54,7 @@ unfolding from_bits
 bit-from_bits zero f i h = absurd (omega arith)
 bit-from_bits (suc n) f zero h = low_bit (f 0) (from_bits n (λ i. f (suc i)))
 bit-from_bits (suc n) f (suc i) h =
-    next_bit (one_if (f 0) + 2 * from_bits n (λ i. f (suc i))) i
-    ∙ ap (λ m. bit m i) (block_index (f 0) (from_bits n (λ i. f (suc i))))
-    ∙ bit-from_bits n (λ i. f (suc i)) i (omega arith)
+    grind (arith, common_steps, bit-from_bits n (λ i. f (suc i)) i (omega arith), next_bit, from_bits, block_index)
 
 pub choices_are_assignments : ChoicesAreAssignments
 choices_are_assignments n f = (from_bits n f, from_bits_below n f, bit-from_bits n f)

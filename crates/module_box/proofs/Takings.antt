@@ -1,13 +1,12 @@
 -- Boxes that take the places of their blocks, row by row
-use Rattle.std.proofs.Common.{◌≡◌, ℕ, ◌+◌, ◌-◌, ◌*◌, ◌/◌, ◌%◌, ◌<◌, ◌≤◌, min, List, length, refl, sym, ap, subst, ◌∙◌}
-use Rattle.std.proofs.Common.{inl, inr, ◌⊎◌, arith, slice_index}
+use Rattle.std.proofs.Common.{◌≡◌, ℕ, ◌+◌, ◌-◌, ◌*◌, ◌/◌, ◌%◌, ◌<◌, ◌≤◌, min, List, length, ◌∙◌, inl, inr, ◌⊎◌, arith}
+use Rattle.std.proofs.Common.{slice_index}
 use Rattle.std.proofs.lemmas.Nat.{mod-mul-add, div-mul-add, div-add-mod'}
 use Rattle.std.proofs.lemmas.Bool.{and_from, and_parts}
 use Rattle.std.proofs.Math.Nat.{mul-le-mul_right, mod-lt}
-use Rattle.bbm_rule.specs.Spans.{in_span}
+use Rattle.std.proofs.lemmas.Grind.{common_steps}
 use Rattle.bbm_rule.proofs.Spans.{span_from, span_parts}
 use Rattle.module_box.specs.Boxes.{in_box, IsEven}
-use Rattle.module_box.specs.Tiling.{block_corner_x, block_corner_y}
 use Rattle.module_box.specs.Taking.{TakesRow, TakesBox, HasBlockAtPlace, FitsTable}
 use Rattle.module_box.specs.declared.boxes.Box2.{Box2}
 
@@ -23,23 +22,11 @@ record IsAmong (b : Box2) (row column : ℕ) : Type 0 where
 
 among_from : (b : Box2) (columns k : ℕ) → IsEven b → HasBlockAtPlace b columns k → IsAmong b (k / columns) (k % columns)
 unfolding in_box
-among_from b columns k even h =
-    let p = and_parts (in_span b.x b.w (block_corner_x columns k)) (in_span b.y b.h (block_corner_y columns k)) h in
-    let x = span_parts b.x b.w (2 * (k % columns)) p.0 in
-    let y = span_parts b.y b.h (2 * (k / columns)) p.1 in
-    record {
-      top = omega (arith, y.0, y.1, even.y, even.h);
-      bottom = omega (arith, y.0, y.1, even.y, even.h);
-      left = omega (arith, x.0, x.1, even.x, even.w);
-      right = omega (arith, x.0, x.1, even.x, even.w);
-    }
+among_from b columns k even h = grind (arith, common_steps, and_parts, span_parts)
 
 block_from : (b : Box2) (columns k : ℕ) → IsEven b → IsAmong b (k / columns) (k % columns) → HasBlockAtPlace b columns k
 unfolding in_box
-block_from b columns k even a =
-    and_from (in_span b.x b.w (block_corner_x columns k)) (in_span b.y b.h (block_corner_y columns k))
-    (span_from b.x b.w (2 * (k % columns)) (omega (arith, a.left, even.x)) (omega (arith, a.right, even.x, even.w)))
-    (span_from b.y b.h (2 * (k / columns)) (omega (arith, a.top, even.y)) (omega (arith, a.bottom, even.y, even.h)))
+block_from b columns k even a = grind (arith, common_steps, and_from, span_from)
 
 -- the row and the column of a place in a row
 record IsInRow (columns r k : ℕ) : Type 0 where
@@ -47,12 +34,7 @@ record IsInRow (columns r k : ℕ) : Type 0 where
   pub column : r * columns + k % columns ≡ k
 
 in_row : (columns row k : ℕ) → row * columns ≤ k → k < row * columns + columns → IsInRow columns row k
-in_row columns row k p q =
-    let m = k - row * columns in
-    let e : row * columns + m ≡ k = omega arith in
-    let d : k / columns ≡ row = subst (λ z. z / columns ≡ row) e (div-mul-add row columns m (omega arith)) in
-    let f : k % columns ≡ m = subst (λ z. z % columns ≡ m) e (mod-mul-add row columns m (omega arith)) in
-    record { row = d; column = ap (λ z. row * columns + z) f ∙ e }
+in_row columns row k p q = grind (arith, common_steps, div-mul-add, mod-mul-add)
 
 -- of the places before `upto`, those of the box's blocks were free and have the number now; all others are as before
 pub record TakesRows (columns : ℕ) (b : Box2) (free number upto : ℕ) (old new : List ℕ) : Type 0 where
@@ -64,50 +46,21 @@ pub record TakesRows (columns : ℕ) (b : Box2) (free number upto : ℕ) (old ne
   pub after : (k : ℕ) → upto ≤ k → slice_index new k ≡ slice_index old k
 
 row_of : (columns row k : ℕ) → 0 < columns → k < row * columns → k / columns < row
-row_of columns row k some p = elim (below_or_from (k / columns) row) [
-  | inl l ↦ l
-  | inr g ↦ absurd (let m : row * columns ≤ k / columns * columns = mul-le-mul_right columns g in let e =
-      div-add-mod' k columns in omega (arith, m, e, p))
-]
+row_of columns row k some p = grind (arith, common_steps, below_or_from, mul-le-mul_right, div-add-mod')
 
 row_from : (columns row k : ℕ) → 0 < columns → row * columns ≤ k → row ≤ k / columns
-row_from columns row k some p = elim (below_or_from (k / columns) row) [
-  | inl l ↦ absurd (
-      let m : (k / columns + 1) * columns ≤ row * columns = mul-le-mul_right columns (omega arith) in
-      let e = div-add-mod' k columns in
-      let r : k % columns < columns = mod-lt k some in
-      omega (arith, m, e, p, r))
-  | inr g ↦ g
-]
+row_from columns row k some p = grind (arith, common_steps, below_or_from, mul-le-mul_right, div-add-mod', mod-lt)
 
 pub rows_begun : (columns : ℕ) (b : Box2) (free number : ℕ) (xs : List ℕ) → IsEven b → FitsTable columns b →
     TakesRows columns b free number (b.y / 2 * columns) xs xs
-rows_begun columns b free number xs even fits = record {
-  sized = refl;
-  taken = λ k l p h. absurd (let a = among_from b columns k even h in let r = row_of columns (b.y / 2) k fits.some p in
-      omega (arith, a.top, r));
-  others = λ k l p h. refl;
-  after = λ k p. refl;
-}
+rows_begun columns b free number xs even fits = grind (arith, common_steps, among_from, row_of)
 
 -- no block of the box has a place from `upto` on
 rows_done : (columns : ℕ) (b : Box2) (free number upto : ℕ) (old new : List ℕ) →
     TakesRows columns b free number upto old new →
     ((k : ℕ) → upto ≤ k → k < length old → ¬ HasBlockAtPlace b columns k) →
     TakesBox columns b free number (length old) old new
-rows_done columns b free number upto old new t past = record {
-  sized = t.sized;
-  within = omega arith;
-  taken = λ k l h. elim (below_or_from k upto) [
-    | inl p ↦ t.taken k l p h
-    | inr p ↦ absurd (past k p l h)
-  ];
-  others = λ k l h. elim (below_or_from k upto) [
-    | inl p ↦ t.others k l p h
-    | inr p ↦ t.after k p
-  ];
-  ends = λ p. absurd (omega arith);
-}
+rows_done columns b free number upto old new t past = grind (arith, common_steps, below_or_from)
 
 -- all rows of the box were taken
 pub all_rows_are_taken : (columns : ℕ) (b : Box2) (free number row : ℕ) (old new : List ℕ) → IsEven b →
@@ -115,21 +68,13 @@ pub all_rows_are_taken : (columns : ℕ) (b : Box2) (free number row : ℕ) (old
     b.y / 2 + b.h / 2 ≤ row →
     TakesRows columns b free number (row * columns) old new → TakesBox columns b free number (length old) old new
 all_rows_are_taken columns b free number row old new even fits le t =
-    rows_done columns b free number (row * columns) old new t
-    (λ k p l h. let a = among_from b columns k even h in let r = row_from columns row k fits.some p in
-    omega (arith, a.bottom, r, le))
+    grind (arith, common_steps, rows_done, among_from, row_from)
 
 -- the table ends before the box's blocks of a row
 pub rows_cut : (columns : ℕ) (b : Box2) (free number row : ℕ) (old new : List ℕ) → IsEven b → FitsTable columns b →
     length new ≤ row * columns + b.x / 2 →
     TakesRows columns b free number (row * columns) old new → TakesBox columns b free number (length old) old new
-rows_cut columns b free number row old new even fits le t =
-    rows_done columns b free number (row * columns) old new t
-    (λ k p l h.
-    let a = among_from b columns k even h in
-    let r = in_row columns row k p (let q = fits.right in let s = t.sized in omega (arith, q, s, l, le)) in
-    let c = r.column in
-    omega (arith, a.left, c, l, le, t.sized))
+rows_cut columns b free number row old new even fits le t = grind (arith, common_steps, rows_done, among_from, in_row)
 
 -- the table before and after a row of the box's blocks is taken, up to `stop`
 record IsRowTaken (columns : ℕ) (b : Box2) (free number row stop : ℕ) (old mid new : List ℕ) : Type 0 where
@@ -147,32 +92,13 @@ record IsRowTaken (columns : ℕ) (b : Box2) (free number row stop : ℕ) (old m
 in_its_row : (columns : ℕ) (b : Box2) (free number row stop k : ℕ) (old mid new : List ℕ) →
     IsRowTaken columns b free number row stop old mid new → row * columns + b.x / 2 ≤ k →
     k < row * columns + b.x / 2 + b.w / 2 → HasBlockAtPlace b columns k
-in_its_row columns b free number row stop k old mid new t p q =
-    let r = in_row columns row k (omega arith) (let s = t.fits.right in omega (arith, s, p, q)) in
-    let e = r.row in
-    let c = r.column in
-    let top = t.top in
-    let bottom = t.bottom in
-    block_from b columns k t.even (record {
-      top = omega (arith, e, top);
-      bottom = omega (arith, e, bottom);
-      left = omega (arith, c, p);
-      right = omega (arith, c, q);
-    })
+in_its_row columns b free number row stop k old mid new t p q = grind (arith, common_steps, in_row, block_from)
 
 taken_before : (columns : ℕ) (b : Box2) (free number row stop k : ℕ) (old mid new : List ℕ) →
     IsRowTaken columns b free number row stop old mid new → k < length old → k < stop → HasBlockAtPlace b columns k →
     (slice_index old k ≡ free) × (slice_index new k ≡ number)
-taken_before columns b free number row stop k old mid new t within lt h = elim (below_or_from k (row * columns)) [
-  | inl p ↦ (let g = t.rows.taken k within p h in (g.0, t.before k (omega arith) ∙ g.1))
-  | inr p ↦ (
-      let a = (among_from b columns k t.even h).left in
-      let s = t.fits.right in
-      let right = t.to_right in
-      let r = (in_row columns row k p (omega (arith, s, lt, right))).column in
-      let g = t.taken k (omega (arith, a, r)) lt in
-      (sym (t.rows.after k p) ∙ g.0, g.1))
-]
+taken_before columns b free number row stop k old mid new t within lt h =
+    grind (arith, common_steps, below_or_from, among_from, in_row)
 
 same_before : (columns : ℕ) (b : Box2) (free number row stop k : ℕ) (old mid new : List ℕ) →
     IsRowTaken columns b free number row stop old mid new → k < length old → k < stop → ¬ HasBlockAtPlace b columns k →
@@ -191,17 +117,7 @@ row_taken : (columns : ℕ) (b : Box2) (free number row end stop : ℕ) (old mid
     TakesRows columns b free number (row * columns) old mid → end ≤ row * columns + b.x / 2 + b.w / 2 →
     TakesRow free number (row * columns + b.x / 2) end stop mid new →
     IsRowTaken columns b free number row stop old mid new
-row_taken columns b free number row end stop old mid new even fits top bottom rows le r = record {
-  even = even;
-  fits = fits;
-  top = top;
-  bottom = bottom;
-  rows = rows;
-  past_left = r.from_on;
-  to_right = (let w = r.within in omega (arith, w, le));
-  taken = r.taken;
-  before = r.before;
-}
+row_taken columns b free number row end stop old mid new even fits top bottom rows le r = grind (arith, common_steps)
 
 -- the row ends at a place that is not free
 pub row_stops : (columns : ℕ) (b : Box2) (free number row end stop : ℕ) (old mid new : List ℕ) → IsEven b →

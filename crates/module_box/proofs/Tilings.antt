@@ -1,11 +1,12 @@
 -- From the blocks of a rectangle to its cells
-use Rattle.std.proofs.Common.{◌≡◌, ℕ, ◌+◌, ◌*◌, ◌/◌, ◌%◌, ◌<◌, ◌≤◌, List, length, take, replicate, true, Some, sym, ap}
-use Rattle.std.proofs.Common.{ap₂, subst, ◌∙◌, inl, inr, ◌⊎◌, arith, get_or, ℤ, pos, slice_get, slice_index, IsTrue}
+use Rattle.std.proofs.Common.{◌≡◌, ℕ, ◌+◌, ◌*◌, ◌/◌, ◌%◌, ◌<◌, ◌≤◌, List, length, take, true, Some, sym, ap, ap₂, subst}
+use Rattle.std.proofs.Common.{◌∙◌, inl, inr, ◌⊎◌, arith, get_or, ℤ, pos, slice_get, slice_index, IsTrue}
 use Rattle.std.proofs.lemmas.Option.{slice_get-get_or, slice_get_within, get_or_from_slice_get}
-use Rattle.std.proofs.lemmas.List.{get_or-take, get_or-replicate, length-replicate, length-take-le}
+use Rattle.std.proofs.lemmas.List.{get_or-take, length-take-le}
 use Rattle.std.proofs.Math.Nat.{div-add-mod, mul-le-mul_left}
 use Rattle.std.proofs.lemmas.Nat.{mod-mul-add, div-mul-add}
 use Rattle.std.proofs.lemmas.Bool.{and_from, and_parts, cases_Bool, false≢true}
+use Rattle.std.proofs.lemmas.Grind.{common_steps}
 use Rattle.module_box.specs.Boxes.{in_box, IsEven}
 use Rattle.bbm_rule.specs.Spans.{in_span}
 use Rattle.bbm_rule.specs.declared.block.Cell.{Cell}
@@ -18,25 +19,21 @@ use Rattle.module_box.specs.Taking.{TakesBox, HasBlockAtPlace}
 use Rattle.module_box.proofs.BoxCells.{in_box_nats, same_some, owner_in_table, abs_within}
 
 span_down : (f n k : ℕ) → f % 2 ≡ 0 → n % 2 ≡ 0 → in_span f n (pos k) ≡ true → in_span f n (pos (2 * (k / 2))) ≡ true
-span_down f n k ef en h = let p = span_parts f n k h in
-    span_from f n (2 * (k / 2)) (omega (arith, p.0)) (omega (arith, p.1))
+span_down f n k ef en h = grind (arith, common_steps, span_parts, span_from)
 
 span_up : (f n k : ℕ) → f % 2 ≡ 0 → n % 2 ≡ 0 → in_span f n (pos (2 * (k / 2))) ≡ true → in_span f n (pos k) ≡ true
-span_up f n k ef en h = let p = span_parts f n (2 * (k / 2)) h in
-    span_from f n k (omega (arith, p.0)) (omega (arith, p.1))
+span_up f n k ef en h = grind (arith, common_steps, span_parts, span_from)
 
 -- a box with even corner and sides has a cell where it has the corner of the cell's block
 box_down : (b : Box2) (i k : ℕ) → IsEven b → in_box b (pos i) (pos k) ≡ true →
     in_box b (pos (2 * (i / 2))) (pos (2 * (k / 2))) ≡ true
 unfolding in_box
-box_down b i k e h = let p = and_parts (in_span b.x b.w (pos i)) (in_span b.y b.h (pos k)) h in
-    and_from _ _ (span_down b.x b.w i e.x e.w p.0) (span_down b.y b.h k e.y e.h p.1)
+box_down b i k e h = grind (arith, common_steps, and_parts, and_from, span_down)
 
 box_up : (b : Box2) (i k : ℕ) → IsEven b → in_box b (pos (2 * (i / 2))) (pos (2 * (k / 2))) ≡ true →
     in_box b (pos i) (pos k) ≡ true
 unfolding in_box
-box_up b i k e h = let p = and_parts (in_span b.x b.w (pos (2 * (i / 2)))) (in_span b.y b.h (pos (2 * (k / 2)))) h in
-    and_from _ _ (span_up b.x b.w i e.x e.w p.0) (span_up b.y b.h k e.y e.h p.1)
+box_up b i k e h = grind (arith, common_steps, and_parts, and_from, span_up)
 
 pub record IsFilled (columns : ℕ) (boxes : List Box2) (place : ℕ) (table : List ℕ) : Type 0 where
   pub sized : length table ≡ place
@@ -57,35 +54,15 @@ pub record IsTakenBy (columns blocks n : ℕ) (boxes : List Box2) (table : List 
   pub twice : length table < blocks →
       HeldTwice boxes (block_corner_x columns (length table)) (block_corner_y columns (length table))
 
-pub taken_by_none : (columns blocks : ℕ) (boxes : List Box2) (table : List ℕ) →
-    table ≡ replicate blocks (length boxes) → IsTakenBy columns blocks 0 boxes table
-taken_by_none columns blocks boxes table e =
-    let long : length table ≡ blocks = ap length e ∙ length-replicate blocks (length boxes) in
-    record {
-      bound = omega (arith, long);
-      below = λ k lt f. absurd (f (free k (omega (arith, long, lt))));
-      holds = λ k lt f. absurd (f (free k (omega (arith, long, lt))));
-      only = λ k j lt f p h. absurd (f (free k (omega (arith, long, lt))));
-      none = λ k j lt e p h. absurd (omega (arith, p));
-      twice = λ lt. absurd (omega (arith, long, lt));
-    }
-  where
-    free : (k : ℕ) → k < blocks → slice_index table k ≡ length boxes
-    free k lt = ap (λ z. slice_index z k) e ∙ get_or-replicate blocks k (length boxes) 0 lt
-
 same_box : (boxes : List Box2) (x y : ℤ) (n : ℕ) (b : Box2) → slice_get boxes n ≡ Some b → Holds boxes x y n →
     IsTrue (in_box b x y)
-same_box boxes x y n b e h = subst (λ z. IsTrue (in_box z x y))
-    (same_some (slice_get boxes n) h.area b h.numbered e) h.has
+same_box boxes x y n b e h = grind (arith, common_steps, same_some)
 
 last_or_before : (j n : ℕ) → j < n + 1 → (j < n) ⊎ (j ≡ n)
 last_or_before j n h = grind arith
 
 pub decide_block : (columns : ℕ) (b : Box2) (k : ℕ) → HasBlockAtPlace b columns k ⊎ ¬ HasBlockAtPlace b columns k
-decide_block columns b k = elim (cases_Bool (in_box b (block_corner_x columns k) (block_corner_y columns k))) [
-  | inl e ↦ inl e
-  | inr e ↦ inr (λ h. false≢true (sym e ∙ h))
-]
+decide_block columns b k = grind (arith, common_steps, cases_Bool, false≢true)
 
 -- what the next box makes of a place
 record IsNextPlace (columns n k : ℕ) (boxes : List Box2) (number : ℕ) : Type 0 where
@@ -143,20 +120,7 @@ twice_at : (columns blocks n stop : ℕ) (boxes : List Box2) (b : Box2) (table t
     IsTakenBy columns blocks n boxes table → slice_get boxes n ≡ Some b →
     TakesBox columns b (length boxes) n stop table table' → stop < blocks →
     HeldTwice boxes (block_corner_x columns stop) (block_corner_y columns stop)
-twice_at columns blocks n stop boxes b table table' t got takes lt =
-    elim (last_or_before stop (length table) (let w = takes.within in omega (arith, w))) [
-      | inl l ↦ (
-          let e = takes.ends l in
-          record {
-            one = slice_index table stop;
-            other = n;
-            apart = t.below stop l e.1;
-            first = t.holds stop l e.1;
-            second = record { area = b; numbered = got; has = e.0 };
-          })
-      | inr e ↦ subst (λ z. HeldTwice boxes (block_corner_x columns z) (block_corner_y columns z)) (sym e)
-          (t.twice (omega (arith, e, lt)))
-    ]
+twice_at columns blocks n stop boxes b table table' t got takes lt = grind (arith, common_steps, last_or_before)
 
 pub taken_by_next : (columns blocks n stop : ℕ) (boxes : List Box2) (b : Box2) (table table' table'' : List ℕ) →
     IsTakenBy columns blocks n boxes table → n < length boxes →
@@ -208,12 +172,7 @@ taken_gap columns blocks place boxes table c t lt e is i h =
 pub taken_twice : (columns blocks place : ℕ) (boxes : List Box2) (table : List ℕ) (c : Cell) →
     IsTakenBy columns blocks (length boxes) boxes table → place ≡ length table → place < blocks →
     (c.x ≡ block_corner_x columns place) × (c.y ≡ block_corner_y columns place) → HeldTwice boxes c.x c.y
-taken_twice columns blocks place boxes table c t e lt is =
-    let at : HeldTwice boxes (block_corner_x columns place) (block_corner_y columns place) =
-    subst (λ z. HeldTwice boxes (block_corner_x columns z) (block_corner_y columns z)) (sym e)
-    (t.twice (omega (arith, e, lt))) in
-    subst (λ z. HeldTwice boxes z c.y) (sym is.0)
-    (subst (λ z. HeldTwice boxes (block_corner_x columns place) z) (sym is.1) at)
+taken_twice columns blocks place boxes table c t e lt is = grind (arith, common_steps)
 
 pub taken_by_all : (columns blocks n : ℕ) (boxes : List Box2) (table : List ℕ) →
     IsTakenBy columns blocks n boxes table → n ≡ length boxes → IsTakenBy columns blocks (length boxes) boxes table
@@ -277,9 +236,7 @@ inside_span f n w k le h = let p = span_parts f n k h in span_from 0 w k (omega 
 inside_box : (o : Owning) (b : Box2) (x y : ℕ) → IsInside o.width o.height b → in_box b (pos x) (pos y) ≡ true →
     in_box (rectangle o) (pos x) (pos y) ≡ true
 unfolding in_box
-inside_box o b x y is h =
-    let p = and_parts (in_span b.x b.w (pos x)) (in_span b.y b.h (pos y)) h in
-    and_from _ _ (inside_span b.x b.w o.width x is.right p.0) (inside_span b.y b.h o.height y is.bottom p.1)
+inside_box o b x y is h = grind (arith, common_steps, and_parts, and_from, inside_span)
 
 pub owners_from : (o : Owning) (boxes : List Box2) → IsTable o →
     ((k : ℕ) (b : Box2) → slice_get boxes k ≡ Some b → IsEven b) →
@@ -314,10 +271,7 @@ below_or_from : (i m : ℕ) → (i < m) ⊎ (m ≤ i)
 below_or_from i m = grind arith
 
 pub div_small : (a c n : ℕ) → n < a * c → n / c < a
-div_small a c n h = elim (below_or_from (n / c) a) [
-  | inl l ↦ l
-  | inr g ↦ absurd (let e = div-add-mod n c in let m : c * a ≤ c * (n / c) = mul-le-mul_left c g in omega (arith, e, m))
-]
+div_small a c n h = grind (arith, common_steps, below_or_from, div-add-mod, mul-le-mul_left)
 
 pub all_inside : (w h n : ℕ) (boxes : List Box2) → AreFirstBoxesInside w h n boxes → length boxes ≤ n →
     AreFirstBoxesInside w h (length boxes) boxes
@@ -328,11 +282,4 @@ pub bad_block : (w h outside place : ℕ) (boxes : List Box2) (c : Cell) → Are
     AreFirstBlocksInOneBox (w / 2) place boxes →
     (c.x ≡ block_corner_x (w / 2) place) × (c.y ≡ block_corner_y (w / 2) place) →
     IsBadBlock w h boxes c
-bad_block w h outside place boxes c a le lt before is = record {
-  inside = all_inside w h outside boxes a le;
-  place = place;
-  within = lt;
-  x = is.0;
-  y = is.1;
-  before = before;
-}
+bad_block w h outside place boxes c a le lt before is = grind (arith, common_steps, all_inside)

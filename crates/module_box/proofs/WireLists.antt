@@ -2,8 +2,8 @@
 use Rattle.std.proofs.Common.{◌≡◌, ◌≢◌, ℕ, zero, suc, ◌+◌, ◌<◌, ◌≤◌, ◌==◌, ◌||◌, true, false, List, [], ◌∷◌, ◌++◌}
 use Rattle.std.proofs.Common.{length, take, drop, get_or, set, slice_get, position, Option, Some, None, nat_eq, min}
 use Rattle.std.proofs.Common.{Contains, refl, sym, ap, ap₂, subst, ◌∙◌, inl, inr, arith, append_assoc, length-append}
-use Rattle.std.proofs.Common.{cond, take-append-drop, if◌then◌else◌, nat_lt, is_some, IfSome, Bool, not}
-use Rattle.std.specs.List.{list_any, position_or_len}
+use Rattle.std.proofs.Common.{take-append-drop, if◌then◌else◌, nat_lt, is_some, IfSome}
+use Rattle.std.specs.List.{list_any}
 use Rattle.std.proofs.Math.Seq.{get_or-append_seam}
 use Rattle.std.proofs.lemmas.Bool.{cases_lt, eqb-true, eqb-false, eq-eqb, ne_eqb, false_from_ne_true, false≢true}
 use Rattle.std.proofs.lemmas.List.{get_or-take, length-take, take_more, drop_more, get_or_append_left}
@@ -13,6 +13,7 @@ use Rattle.std.proofs.lemmas.List.Quantifiers.{position-Some}
 use Rattle.std.proofs.lemmas.List.Sums.{fails_before_first, position_or_len_is}
 use Rattle.std.proofs.lemmas.Map.Views.{Contains-from_any}
 use Rattle.std.proofs.lemmas.Option.{none-some, same_Some, slice_get-get_or, slice_get_past, slice_get_within}
+use Rattle.std.proofs.lemmas.Grind.{common_steps}
 use Rattle.module_box.specs.Locals.{AreDifferent, is_among}
 
 -- the wire that stands at the place that a look-up finds
@@ -28,27 +29,7 @@ place_holds ws w (Some i) e = place_same ws w i e
 -- it finds one if and only if the wire is among them
 pub place_among : (ws : List ℕ) (w : ℕ) → is_some (position (λ v. v == w) ws) ≡ is_among ws w
 place_among [] w = refl
-place_among (v ∷ ws) w = by (v == w) (place_among ws w)
-  where
-    first : ℕ
-    first = position_or_len (λ v. v == w) ws
-
-    some_if : (b : Bool) (i : ℕ) → is_some (if b then Some i else None) ≡ b
-    some_if true i = refl
-    some_if false i = refl
-
-    zero_before : (n : ℕ) → nat_lt 0 (suc n) ≡ true
-    zero_before n = grind arith
-
-    both_more : (i n : ℕ) → nat_lt (1 + i) (suc n) ≡ nat_lt i n
-    both_more i n = grind arith
-
-    by : (b : Bool) → is_some (if nat_lt first (length ws) then Some first else None) ≡ is_among ws w →
-        is_some
-        (if nat_lt (cond (not b) (1 + first) 0) (suc (length ws)) then Some (cond (not b) (1 + first) 0) else None)
-        ≡ (b || is_among ws w)
-    by true rest = some_if _ 0 ∙ zero_before (length ws)
-    by false rest = some_if _ (1 + first) ∙ both_more first (length ws) ∙ sym (some_if _ first) ∙ rest
+place_among (v ∷ ws) w = grind (arith, common_steps, place_among ws w)
 
 -- the wires at the front of different ones are different
 pub different_front : (xs ys : List ℕ) → AreDifferent (xs ++ ys) → AreDifferent xs
@@ -97,11 +78,7 @@ module _ (old ws : List ℕ) (i w : ℕ) (different : AreDifferent (old ++ ws)) 
   -- it is added to them
   pub wire_added : (known new : List ℕ) → known ≡ old ++ take i ws → new ≡ known ++ w ∷ [] →
       new ≡ old ++ take (i + 1) ws
-  wire_added known new so_far added =
-      let more : take (i + 1) ws ≡ take i ws ++ w ∷ [] =
-      take_more ws i w within ∙ ap (λ x. take i ws ++ x ∷ []) (sym is) in
-      added ∙ ap (λ (l : List ℕ). l ++ w ∷ []) so_far
-      ∙ append_assoc old (take i ws) (w ∷ []) ∙ ap (λ (l : List ℕ). old ++ l) (sym more)
+  wire_added known new so_far added = grind (arith, common_steps, take_more)
 
 -- ---- a table of the places of wires, from a place on
 abbrev AreAt : ℕ → List ℕ → List ℕ → Type 0
@@ -117,13 +94,7 @@ eqb_same w = eq-eqb w w refl
 -- the place of a wire that stands nowhere before it
 place_first : (ws : List ℕ) (w n : ℕ) → n < length ws → get_or ws n 0 ≡ w → ((k : ℕ) → k < n → get_or ws k 0 ≢ w) →
     Some n ≡ position (λ v. v == w) ws
-place_first ws w n l e none =
-    let first = position_or_len_is (λ v. v == w) ws n 0 (omega arith) (λ k lt. ne_eqb (get_or ws k 0) w (none k lt))
-    (λ _. ap (λ v. v == w) e ∙ eqb_same w) in
-    rw first (is_first n (length ws) l)
-  where
-    is_first : (n m : ℕ) → n < m → Some n ≡ (if nat_lt n m then Some n else None)
-    is_first n m l = grind arith
+place_first ws w n l e none = grind (arith, common_steps, position_or_len_is, ne_eqb, eqb_same)
 
 -- a wire that stands nowhere has no place
 place_missing : (ws : List ℕ) (w : ℕ) → ((k : ℕ) → k < length ws → get_or ws k 0 ≢ w) → None ≡ position (λ v. v == w) ws
@@ -137,13 +108,7 @@ place_missing ws w nowhere =
 
 -- a wire that has no place stands nowhere
 no_place : (ws : List ℕ) (w : ℕ) → None ≡ position (λ v. v == w) ws → (k : ℕ) → k < length ws → get_or ws k 0 ≢ w
-no_place ws w none k l = eqb-false (get_or ws k 0) w (fails_before_first (λ v. v == w) ws k 0 (omega (arith, past, l)))
-  where
-    from_none : (i n : ℕ) → None ≡ (if nat_lt i n then Some i else None) → n ≤ i
-    from_none i n e = grind arith
-
-    past : length ws ≤ position_or_len (λ v. v == w) ws
-    past = from_none _ _ none
+no_place ws w none k l = grind (arith, common_steps, eqb-false, fails_before_first)
 
 -- what a scan of the first wires finds is the place among all
 pub scan_found : (m : ℕ) (ws : List ℕ) (w i : ℕ) → Some i ≡ position (λ v. v == w) (take m ws) →
@@ -178,15 +143,12 @@ module _ (m : ℕ) (ws places : List ℕ) (w : ℕ) (at : AreAt m ws places)
 
   -- it has none, where it is past the entries, or its entry is past the wires or of another wire
   pub no_entry : length places ≤ w → None ≡ position (λ v. v == w) ws
-  no_entry past = place_missing ws w (λ k l e.
-      none-some k (sym (slice_get_past places w past) ∙ place_at m ws places w k at (past_first k l e) l e))
+  no_entry past = grind (arith, common_steps, place_missing, none-some, slice_get_past, place_at, past_first)
 
   pub other_entry : (n : ℕ) → w < length places → n ≡ get_or places w 0 → (n < length ws → get_or ws n 0 ≢ w) →
       None ≡ position (λ v. v == w) ws
-  other_entry n within entry other = place_missing ws w (λ k l e.
-      let same : k ≡ n = same_Some k n (sym (place_at m ws places w k at (past_first k l e) l e)
-      ∙ slice_get-get_or places w 0 within ∙ ap Some (sym entry)) in
-      other (subst (λ m. m < length ws) same l) (ap (λ m. get_or ws m 0) (sym same) ∙ e))
+  other_entry n within entry other =
+      grind (arith, common_steps, place_missing, same_Some, place_at, past_first, slice_get-get_or)
 
 -- the table with the place of one more wire
 pub placed_more : (m : ℕ) (ws places longer : List ℕ) (w : ℕ) → AreAt m ws places → is_among ws w ≡ false →

@@ -1,11 +1,12 @@
 -- The words of a gate's wires: at each bit they are the gate's row
 use Rattle.std.proofs.Common.{◌≡◌, ℕ, ◌+◌, ◌<◌, ◌≤◌, Bool, true, false, ◌&&◌, ◌||◌, not, cond, List, [], ◌∷◌, ◌++◌, map}
 use Rattle.std.proofs.Common.{take, drop, get_or, length, Option, Some, None, refl, sym, ap, ap₂, subst, ◌∙◌, arith}
-use Rattle.std.proofs.Common.{inl, inr, bit_and, bit_or, add-one, drop-cons, drop_of_length-le, length-append}
+use Rattle.std.proofs.Common.{inl, inr, bit_and, add-one, drop-cons, drop_of_length-le, length-append}
 use Rattle.std.proofs.Common.{get_or-append-add, bit_xor, slice_index, slice_index_or, option_and_then, option_map}
 use Rattle.std.proofs.Math.ListN as listn
 use Rattle.std.proofs.lemmas.Bool.{cases_lt, true≢false, eq-eqb, ne_eqb}
 use Rattle.std.proofs.lemmas.List.{map-append, length-map, get_or_append_left}
+use Rattle.std.proofs.lemmas.Grind.{common_steps}
 use Rattle.bbm_rule.specs.Bits.{bit}
 use Rattle.bbm_rule.proofs.BitLemmas.{bit-and, bit-or, bit-xor, bit-zero, xor}
 use Rattle.circuit.specs.declared.circuit_line.GateKind.{GateKind}
@@ -55,12 +56,10 @@ first_only false true = refl
 first_only false false = refl
 
 first_bit : (a x y b : ℕ) → bit (bit_xor y (bit_and a (bit_xor x y))) b ≡ cond (bit a b) (bit x b) (bit y b)
-first_bit a x y b = rw (bit-xor y (bit_and a (bit_xor x y)) b, bit-and a (bit_xor x y) b, bit-xor x y b)
-    (pick_first (bit a b) (bit x b) (bit y b))
+first_bit a x y b = grind (arith, common_steps, bit-xor, bit-and, pick_first)
 
 second_bit : (a x y b : ℕ) → bit (bit_xor x (bit_and a (bit_xor x y))) b ≡ cond (bit a b) (bit y b) (bit x b)
-second_bit a x y b = rw (bit-xor x (bit_and a (bit_xor x y)) b, bit-and a (bit_xor x y) b, bit-xor x y b)
-    (pick_second (bit a b) (bit x b) (bit y b))
+second_bit a x y b = grind (arith, common_steps, bit-xor, bit-and, pick_second)
 
 second_only_bit : (x y b : ℕ) → bit (bit_xor y (bit_and x y)) b ≡ (not (bit x b) && bit y b)
 second_only_bit x y b = rw (bit-xor y (bit_and x y) b, bit-and x y b) (second_only (bit x b) (bit y b))
@@ -110,33 +109,13 @@ words_row : (kind : GateKind) (a x y z b : ℕ) → b < 64 →
 unfolding row
 words_row (Source true) a x y z b h = forward _ _ b (ap (λ (v : Bool). Some (v ∷ [])) (sym (bit_ones b h)))
 words_row (Source false) a x y z b h = forward _ _ b (ap (λ (v : Bool). Some (v ∷ [])) (sym (bit-zero b)))
-words_row Fredkin a x y z b h =
-    forward _ _ b (ap₂ (λ (u v : Bool). Some (bit a b ∷ u ∷ v ∷ [])) (sym (first_bit a x y b))
-    (sym (second_bit a x y b)))
-words_row Cswap a x y z b h =
-    forward _ _ b (ap₂ (λ (u v : Bool). Some (bit a b ∷ u ∷ v ∷ [])) (sym (second_bit a x y b))
-    (sym (first_bit a x y b)))
+words_row Fredkin a x y z b h = grind (arith, common_steps, forward, first_bit, second_bit)
+words_row Cswap a x y z b h = grind (arith, common_steps, forward, second_bit, first_bit)
 words_row Interact a x y z b h = forward _ _ b (rw (second_only_bit a x b, first_only_bit a x b, bit-and a x b) refl)
-words_row Switch a x y z b h =
-    forward _ _ b (ap₂ (λ (u v : Bool). Some (bit a b ∷ u ∷ v ∷ [])) (sym (bit-and a x b))
-    (sym (second_only_bit a x b)))
+words_row Switch a x y z b h = grind (arith, common_steps, forward, bit-and, second_only_bit)
 words_row (Delay n) a x y z b h = forward _ _ b refl
-words_row Unswitch a x y z b h =
-    unswitch_bits (bit a b) (bit x b) (bit y b)
-    ∙ ap₂ (λ (u v : Bool). row_unless_undefined u (bit a b ∷ v ∷ [])) (sym (second_bit a x y b)) (sym (bit-or x y b))
-words_row Uninteract a x y z b h =
-    uninteract_bits (bit a b) (bit x b) (bit y b) (bit z b)
-    ∙ ap₂ (λ (u : Bool) (l : List Bool). row_unless_undefined u l) (sym none)
-    (ap₂ (λ (u v : Bool). u ∷ v ∷ []) (sym (bit-or a y b)) (sym (bit-or a x b)))
-  where
-    none : bit (undefined_bits Uninteract a x y z) b
-        ≡ (xor (bit a b) (bit z b) || ((bit a b && (bit x b || bit y b)) || (bit x b && bit y b)))
-    none =
-        bit-or (bit_xor a z) (bit_or (bit_and a (bit_or x y)) (bit_and x y)) b
-        ∙ ap₂ (λ (u v : Bool). u || v) (bit-xor a z b)
-        (bit-or (bit_and a (bit_or x y)) (bit_and x y) b
-        ∙ ap₂ (λ (u v : Bool). u || v) (bit-and a (bit_or x y) b ∙ ap (λ (u : Bool). bit a b && u) (bit-or x y b))
-        (bit-and x y b))
+words_row Unswitch a x y z b h = grind (arith, common_steps, unswitch_bits, second_bit, bit-or)
+words_row Uninteract a x y z b h = grind (arith, common_steps, uninteract_bits, bit-or, xor, bit-xor, bit-and)
 
 -- reading a lane
 pub read_lane : (ws : List ℕ) (b w : ℕ) → read (lane b ws) w ≡ bit (slice_index_or ws w 0) b
@@ -246,12 +225,7 @@ not_shifted k (Some m) = ne_eqb (k + 1 + m) k (λ e. omega (arith, e))
 
 pub column_start : (given : List ℕ) (gs : List LocalGate) (undefined : List ℕ) (b : ℕ) → b < 64 →
     InColumn given gs 0 given undefined 18446744073709551615 b
-column_start given gs undefined b small = record {
-  left = λ e. refl;
-  later = λ e. shift_none _;
-  earlier = λ e. absurd (true≢false (sym (bit_ones b small) ∙ e));
-  undefined = λ j h. absurd (omega arith);
-}
+column_start given gs undefined b small = grind (arith, common_steps, shift_none, true≢false, bit_ones)
 
 -- the words after a gate
 record IsAfter (g : LocalGate) (old new undefined undefined' : List ℕ) (defined defined' none first : ℕ) : Type 0 where
@@ -264,21 +238,14 @@ step_evaluate : (vs new : List Bool) (gs : List Gate) (o : Option (List Bool)) �
     option_and_then (λ (r : List Bool). Some (vs ++ r)) o ≡ Some new →
     option_and_then (λ r. evaluate (vs ++ r) gs) o ≡ evaluate new gs
 step_evaluate vs new gs None e = cc
-step_evaluate vs new gs (Some r) e = ap (λ (l : List Bool). evaluate l gs) (some_is (vs ++ r) new e)
-  where
-    some_is : (x y : List Bool) → Some x ≡ Some y → x ≡ y
-    some_is x y e = cc
+step_evaluate vs new gs (Some r) e = grind (arith, common_steps)
 
 step_undefined : (vs new : List Bool) (gs : List Gate) (o : Option (List Bool)) →
     option_and_then (λ (r : List Bool). Some (vs ++ r)) o ≡ Some new →
     this_or_later_undefined (λ r. first_undefined_gate (vs ++ r) gs) o
     ≡ option_map (λ m. m + 1) (first_undefined_gate new gs)
 step_undefined vs new gs None e = cc
-step_undefined vs new gs (Some r) e =
-    ap (λ (l : List Bool). option_map (λ m. m + 1) (first_undefined_gate l gs)) (some_is (vs ++ r) new e)
-  where
-    some_is : (x y : List Bool) → Some x ≡ Some y → x ≡ y
-    some_is x y e = cc
+step_undefined vs new gs (Some r) e = grind (arith, common_steps)
 
 front : (gs : List LocalGate) (k : ℕ) (d : LocalGate) → k < length gs → drop k gs ≡ get_or gs k d ∷ drop (k + 1) gs
 front gs k d h = drop-cons gs k d h ∙ ap (λ m. get_or gs k d ∷ drop m gs) (sym (add-one k))
@@ -376,12 +343,7 @@ pub record AreInColumn (given : List ℕ) (gs : List LocalGate) (k : ℕ) (words
 
 pub column_none : (given : List ℕ) (gs : List LocalGate) (words undefined : List ℕ) → words ≡ given → undefined ≡ [] →
     AreInColumn given gs 0 words undefined 18446744073709551615
-column_none given gs words undefined same none =
-    subst (λ (ws : List ℕ). AreInColumn given gs 0 ws undefined 18446744073709551615) (sym same) (record {
-      long = refl;
-      count = ap length none;
-      each = λ b small. column_start given gs undefined b small;
-    })
+column_none given gs words undefined same none = grind (arith, common_steps, column_start)
 
 pub column_more : (given : List ℕ) (gs : List LocalGate) (k : ℕ) (d : LocalGate) (old new undefined undefined' : List ℕ)
     (defined defined' none first : ℕ) → k < length gs →
@@ -428,6 +390,4 @@ pub column_long : (given : List ℕ) (gs : List LocalGate) (k : ℕ) (words unde
     length gs ≤ k → AreInColumn given gs k words undefined defined →
     length words ≡ wires_after (length given) (map gate_of_local_gate gs)
 unfolding wires_after
-column_long given gs k words undefined defined past all =
-    ap (λ (l : List LocalGate). wires_after (length words) (map gate_of_local_gate l)) (sym (drop_of_length-le gs past))
-    ∙ all.long
+column_long given gs k words undefined defined past all = grind (arith, common_steps)

@@ -1,7 +1,7 @@
 -- A section that was read is good: neither its header, nor an item after those before it, nor its end had a fault.
-use Rattle.std.proofs.Common.{◌≡◌, ℕ, ◌+◌, List, [], ◌∷◌, ◌++◌, Option, Some, None, Result, Ok, refl, sym, ap, subst}
-use Rattle.std.proofs.Common.{◌∙◌, append_assoc}
+use Rattle.std.proofs.Common.{arith, ◌≡◌, ℕ, ◌+◌, List, [], ◌∷◌, ◌++◌, Option, Some, None, Result, Ok, refl, sym, subst}
 use Rattle.std.proofs.lemmas.List.{append-nil}
+use Rattle.std.proofs.lemmas.Grind.{common_steps}
 use Rattle.section_text.specs.Words.{words_of}
 use Rattle.section_text.specs.declared.section.Form.{Form}
 use Rattle.section_text.specs.declared.section.Form.TheVariants.{Header, Item, End}
@@ -46,28 +46,8 @@ module _ {H I : Type 0} (g : Grammar H I) where
       BodyFaultless h (before ++ i ∷ []) h' rows) → BodyFaultless h before h' rows
   line_faultless ls h before n h' rows None e rec = absurd cc
   line_faultless ls h before n h' rows (Some (Header k)) e rec = absurd cc
-  line_faultless ls h before n h' rows (Some (Item i)) e rec =
-      let good = unless_ok n (g.item_fault h before i) (section_body_of g h (before ++ i ∷ []) (n + 1) ls)
-      (h', rows) e in
-      let t = rec i good.1 in
-      record {
-        more = i ∷ t.more;
-        rows_are = t.rows_are ∙ append_assoc before (i ∷ []) t.more;
-        same = t.same;
-        each = (good.0, t.each);
-        end = t.end;
-      }
-  line_faultless ls h before n h' rows (Some End) e rec =
-      let good = unless_ok n (g.end_fault h before) (Ok (h, before)) (h', rows) e in
-      let are = ok_is (h, before) (h', rows) good.1 in
-      let rows_are : before ≡ rows = ap (λ (p : H × List I). p.1) are in
-      record {
-        more = [];
-        rows_are = sym rows_are ∙ sym (append-nil before);
-        same = sym (ap (λ (p : H × List I). p.0) are);
-        each = tt;
-        end = subst (λ (l : List I). g.end_fault h l ≡ None) rows_are good.0;
-      }
+  line_faultless ls h before n h' rows (Some (Item i)) e rec = grind (arith, common_steps, unless_ok)
+  line_faultless ls h before n h' rows (Some End) e rec = grind (arith, common_steps, unless_ok, ok_is, append-nil)
 
   body_faultless : (ls : List (List ℕ)) (h : H) (before : List I) (n : ℕ) (h' : H) (rows : List I) →
       section_body_of g h before n ls ≡ Ok (h', rows) → BodyFaultless h before h' rows

@@ -1,15 +1,14 @@
 -- Readers one after the other read sections one after the other.
-use Rattle.std.proofs.Common.{◌≡◌, ℕ, ◌+◌, List, [], ◌∷◌, length, drop, None, Result, Ok, Err, refl, sym, ap, subst}
-use Rattle.std.proofs.Common.{◌∙◌, ◌≢◌}
+use Rattle.std.proofs.Common.{arith, ◌≡◌, ℕ, ◌+◌, List, [], ◌∷◌, None, Result, Ok, Err, refl, sym, ap, subst, ◌∙◌, ◌≢◌}
 use Rattle.std.proofs.lemmas.List.{drop-drop}
-use Rattle.section_text.specs.Words.{lines_of}
+use Rattle.std.proofs.lemmas.Grind.{common_steps}
 use Rattle.section_text.specs.Faults.{refusal}
 use Rattle.section_text.specs.Feeds.{FeedView, ahead}
 use Rattle.section_text.specs.declared.fault.Refusal.{Refusal}
 use Rattle.section_text.specs.declared.fault.ReadFault.{ReadFault}
 use Rattle.section_text.specs.declared.fault.ReadFault.TheVariants.{Refused, Memory}
 use Rattle.section_text.specs.Section.{Grammar, section_of, refused_at, Reads, FailsAsReading}
-use Rattle.section_text.specs.Sections.{continue_after_section, section_then, value_if_at_end}
+use Rattle.section_text.specs.Sections.{section_then, value_if_at_end}
 use Rattle.section_text.specs.declared.code.RefusalCode.TheVariants.{TextCut}
 
 module _ {H I A B : Type 0} (g : Grammar H I) (view : A → H × List I) (old new : FeedView) (going : old.stop ≡ None)
@@ -17,18 +16,7 @@ module _ {H I A B : Type 0} (g : Grammar H I) (view : A → H × List I) (old ne
   -- the section was read: what comes of it comes of the feed after it
   pub section_read : (a : A) → Reads g view old new (Ok a) →
       section_then g old.taken (ahead old) next ≡ next (view a).0 (view a).1 new.taken (ahead new)
-  section_read a reads =
-      let done = reads.reads going in
-      let k = length (view a).1 + 2 in
-      let taken : new.taken ≡ old.taken + k = ap (λ (f : FeedView). f.taken) done.after in
-      let rest : ahead new ≡ drop k (ahead old) =
-      ap ahead done.after ∙ sym (drop-drop k old.taken (lines_of old.text)) in
-      ap (λ (r : Result (H × List I) Refusal).
-      continue_after_section r (λ h items.
-      next h items (old.taken + (length items + 2)) (drop (length items + 2) (ahead old))))
-      done.gives
-      ∙ ap (λ (n : ℕ). next (view a).0 (view a).1 n (drop k (ahead old))) (sym taken)
-      ∙ ap (next (view a).0 (view a).1 new.taken) (sym rest)
+  section_read a reads = grind (arith, common_steps, drop-drop)
 
   pub still_going : (a : A) → Reads g view old new (Ok a) → new.stop ≡ None
   still_going a reads = ap (λ (f : FeedView). f.stop) ((reads.reads going).after) ∙ going
@@ -36,17 +24,11 @@ module _ {H I A B : Type 0} (g : Grammar H I) (view : A → H × List I) (old ne
   pub same_text : (a : A) → Reads g view old new (Ok a) → new.text ≡ old.text
   same_text a reads = ap (λ (f : FeedView). f.text) ((reads.reads going).after)
 
-  pub still_closed : (a : A) → Reads g view old new (Ok a) → new.closed ≡ old.closed
-  still_closed a reads = ap (λ (f : FeedView). f.closed) ((reads.reads going).after)
-
   -- the section was not read: the fault is that of all
   fails_first : (fault : ReadFault) → FailsAsReading fault (section_of g old.taken (ahead old)) →
       FailsAsReading fault (section_then g old.taken (ahead old) next)
   fails_first Memory e = tt
-  fails_first (Refused r) e = ap
-      (λ (k : Result (H × List I) Refusal).
-      continue_after_section k (λ h items.
-      next h items (old.taken + (length items + 2)) (drop (length items + 2) (ahead old)))) e
+  fails_first (Refused r) e = grind (arith, common_steps)
 
   pub section_failed : (fault : ReadFault) → Reads g view old new (Err fault) →
       FailsAsReading fault (section_then g old.taken (ahead old) next)

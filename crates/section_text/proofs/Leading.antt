@@ -9,6 +9,7 @@ use Rattle.std.proofs.lemmas.List.{append_assoc, append-nil, at_drop_more, lengt
 use Rattle.std.proofs.lemmas.List.Folds.{list_all-append}
 use Rattle.std.proofs.lemmas.List.Splits.{slice_split-cons_no, slice_split-cons_yes}
 use Rattle.std.proofs.Math.ListN.{drop_of_length-le}
+use Rattle.std.proofs.lemmas.Grind.{common_steps}
 use Rattle.section_text.specs.Leading.{leading_number}
 use Rattle.section_text.specs.Words.{is_digit, is_number, is_space, number_of, append_digits, words_of, ◌>>=◌}
 use Rattle.section_text.proofs.Numbers.{is_one}
@@ -34,8 +35,7 @@ other_than b other = grind (arith, nat_tests)
 pub reads_more : (n k : ℕ) (line : List ℕ) (i : ℕ) → i < length line → is_digit (get_or line i 0) ≡ true → k < 9 →
     reads n k (drop i line) ≡ reads (10 * n + (get_or line i 0 - 48)) (k + 1) (drop (i + 1) line)
 unfolding reads
-reads_more n k line i lt digit few =
-    at_drop_more (reads n k) line i 0 lt ∙ cond-true _ _ _ digit ∙ cond-true _ _ _ (below k few)
+reads_more n k line i lt digit few = grind (arith, common_steps, at_drop_more, reads, cond-true, below)
 
 pub reads_some : (n k : ℕ) (line : List ℕ) (i : ℕ) → i < length line → get_or line i 0 ≡ 32 →
     reads n k (drop i line) ≡ Some (n, words_of (drop (i + 1) line))
@@ -45,18 +45,14 @@ reads_some n k line i lt space = at_drop_more (reads n k) line i 0 lt ∙ rw spa
 pub reads_none : (n k : ℕ) (line : List ℕ) (i : ℕ) → i < length line → is_digit (get_or line i 0) ≡ false →
     (get_or line i 0 ≡ 32 → ⊥) → reads n k (drop i line) ≡ None
 unfolding reads
-reads_none n k line i lt digit space = at_drop_more (reads n k) line i 0 lt ∙ cond-false _ _ _ digit
-    ∙ cond-false _ _ _ (other_than (get_or line i 0) space)
+reads_none n k line i lt digit space = grind (arith, common_steps, at_drop_more, reads, cond-false, other_than)
 
 -- nine digits without a space behind them
 pub reads_full : (n k : ℕ) (line : List ℕ) (i : ℕ) → i < length line → 9 ≤ k → (get_or line i 0 ≡ 32 → ⊥) →
     reads n k (drop i line) ≡ None
 unfolding reads
-reads_full n k line i lt full space = at_drop_more (reads n k) line i 0 lt
-    ∙ elim (cases_Bool (is_digit (get_or line i 0))) [
-      | inl digit ↦ cond-true _ _ _ digit ∙ cond-false _ _ _ (not_below k full)
-      | inr other ↦ cond-false _ _ _ other ∙ cond-false _ _ _ (other_than (get_or line i 0) space)
-    ]
+reads_full n k line i lt full space =
+    grind (arith, common_steps, at_drop_more, reads, cases_Bool, cond-true, cond-false, not_below, other_than)
 
 pub reads_end : (n k : ℕ) (line : List ℕ) (i : ℕ) → length line ≤ i → reads n k (drop i line) ≡ None
 unfolding reads
@@ -139,10 +135,7 @@ and_long a b c e = rw (e, and_false a false refl) refl
 
 too_long : (ds : List ℕ) (b : ℕ) (w : List ℕ) → 9 ≤ length ds → is_number (ds ++ b ∷ w) ≡ false
 too_long [] b w long = absurd (omega arith)
-too_long (d ∷ ds) b w long =
-    let n = length-append ds (b ∷ w) in
-    and_long (list_all is_digit (d ∷ (ds ++ b ∷ w))) (nat_lt (length (ds ++ b ∷ w)) 9) _
-    (not_below (length (ds ++ b ∷ w)) (omega (arith, n)))
+too_long (d ∷ ds) b w long = grind (arith, common_steps, length-append, and_long, not_below)
 
 -- ---- the whole
 
@@ -155,14 +148,7 @@ pub record IsBegin (ds : List ℕ) : Type 0 where
 
 one_more : (ds : List ℕ) (b : ℕ) → IsBegin ds → length ds < 9 → is_digit b ≡ true → IsBegin (ds ++ b ∷ [])
 one_more [] b begin few digit = absurd (omega (arith, begin.some))
-one_more (d ∷ ds) b begin few digit =
-    let n = length-append ds (b ∷ []) in
-    record {
-      digits = list_all-append is_digit (d ∷ ds) (b ∷ []) ∙ rw (begin.digits, digit) refl;
-      some = omega arith;
-      few = omega (arith, n);
-      plain = begin.plain;
-    }
+one_more (d ∷ ds) b begin few digit = grind (arith, common_steps, length-append, list_all-append)
 
 last : (w : List ℕ) → leading_number (w ∷ []) ≡ None
 unfolding leading_number
@@ -219,30 +205,19 @@ plain_zero : (b : ℕ) (w : List ℕ) → is_number (48 ∷ b ∷ w) ≡ false
 plain_zero b w = and_false (list_all is_digit (48 ∷ b ∷ w) && nat_lt (length (b ∷ w)) 9) _ (grind (arith, nat_tests))
 
 zero_goes_on : (b : ℕ) (line : List ℕ) → is_space b ≡ false → None ≡ leading_number (words_of (48 ∷ b ∷ line))
-zero_goes_on b line other =
-    let first = begun b line other in
-    not_leading (48 ∷ b ∷ first.0) first.1 (plain_zero b first.0)
-    ∙ sym (ap leading_number (put_before (48 ∷ []) (b ∷ line) (b ∷ first.0) first.1 refl first.2))
+zero_goes_on b line other = grind (arith, common_steps, begun, not_leading, plain_zero, put_before)
 
 zero_ends : None ≡ leading_number (words_of (48 ∷ []))
 unfolding leading_number
 zero_ends = refl
 
 pub no_digit : (b : ℕ) (line : List ℕ) → is_digit b ≡ false → None ≡ leading_number (words_of (b ∷ line))
-no_digit b line other = elim (cases_Bool (is_space b)) [
-  | inl space ↦ not_leading [] (words_of line) refl
-      ∙ sym (ap leading_number (slice_split-cons_yes is_space b line space))
-  | inr byte ↦
-      let first = begun b line byte in
-      not_leading (b ∷ first.0) first.1 (other_byte [] b first.0 other) ∙ sym (ap leading_number first.2)
-]
+no_digit b line other = grind (arith, common_steps, cases_Bool, not_leading, slice_split-cons_yes, begun, other_byte)
 
 pub zero_then : (line : List ℕ) → 0 < length line → get_or line 0 0 ≡ 32 →
     Some (0, words_of (take (length line - 1) (drop 1 line))) ≡ leading_number (words_of (48 ∷ line))
 zero_then [] some space = absurd (omega arith)
-zero_then (b ∷ line) some space =
-    ap (λ l. Some (0, words_of l)) (take_rest (b ∷ line) 1) ∙ zero_is line
-    ∙ ap (λ s. leading_number (words_of (48 ∷ s ∷ line))) (sym space)
+zero_then (b ∷ line) some space = grind (arith, common_steps, take_rest, zero_is)
 
 pub zero_else : (line : List ℕ) → (0 < length line → get_or line 0 0 ≡ 32 → ⊥) →
     None ≡ leading_number (words_of (48 ∷ line))

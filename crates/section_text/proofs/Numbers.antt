@@ -9,6 +9,7 @@ use Rattle.std.proofs.lemmas.Bool.Decides.{nat_tests}
 use Rattle.std.proofs.lemmas.Str.Parse.{IsNumeralModel, numerals_by_fold, digits_value_short}
 use Rattle.std.proofs.lemmas.Fmt.{decimal-digits_value, digits_decimal, digits_value-decimal, decimal_digit}
 use Rattle.std.proofs.lemmas.Fmt.{decimal_nonempty, first_decimal, length-decimal-le}
+use Rattle.std.proofs.lemmas.Grind.{common_steps}
 use Rattle.section_text.specs.Words.{is_digit, is_number, append_digits, number_of}
 
 own : IsNumeralModel (λ ds. list_all is_digit ds ≡ true) (append_digits 0)
@@ -23,12 +24,7 @@ record NumberWord (w : List ℕ) : Type 0 where
 
 number_word : (w : List ℕ) → is_number w ≡ true → NumberWord w
 number_word [] e = absurd cc
-number_word (b ∷ bs) e = record {
-  digits = grind (arith, nat_tests);
-  some = omega arith;
-  few = grind (arith, nat_tests);
-  plain = λ h. grind (arith, nat_tests);
-}
+number_word (b ∷ bs) e = grind (arith, common_steps, nat_tests)
 
 pub number_spelled : (w : List ℕ) (n : ℕ) → number_of w ≡ Some n → (w ≡ decimal n) × (n < 10 ^ 9)
 unfolding number_of
@@ -77,16 +73,10 @@ number_read w (Some n) same some none = ap Some some.1 ∙ sym (cond-true _ _ _ 
 
 pub not_read : (w : List ℕ) (r : Bool) → (is_number w ≡ true → r ≡ true) → r ≡ false → None ≡ number_of w
 unfolding number_of
-not_read w r may fails = elim (cases_Bool (is_number w)) [
-  | inl is ↦ absurd (false≢true (sym fails ∙ may is))
-  | inr other ↦ sym (cond-false _ _ _ other)
-]
+not_read w r may fails = grind (arith, common_steps, cases_Bool, false≢true, cond-false)
 
 -- a number has at most nine digits
 pub read_small : (w : List ℕ) (o : Option ℕ) → list_all is_digit w ≡ is_number w →
     IfSome o (λ n. (list_all is_digit w ≡ true) × (n ≡ append_digits 0 w)) → IfSome o (λ n. n < 10 ^ 9)
 read_small w None same some = some
-read_small w (Some n) same some =
-    let small = number_small w (sym same ∙ some.0) in
-    let is = some.1 in
-    omega (arith, small, is)
+read_small w (Some n) same some = grind (arith, common_steps, number_small)

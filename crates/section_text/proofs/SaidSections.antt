@@ -3,6 +3,7 @@ use Rattle.std.proofs.Common.{◌≡◌, ℕ, suc, ◌+◌, List, [], ◌∷◌,
 use Rattle.std.proofs.Common.{Result, Ok, refl, sym, ap, ap₂, ◌∙◌, append_assoc, arith}
 use Rattle.std.proofs.lemmas.List.{append-nil, length-map, map-append}
 use Rattle.std.proofs.Math.Seq.{drop-append_seam}
+use Rattle.std.proofs.lemmas.Grind.{common_steps}
 use Rattle.section_text.specs.Words.{words_of}
 use Rattle.section_text.specs.SaidSection.{IsSection}
 use Rattle.section_text.specs.Section.{Grammar, unless, result_after_line, header_line, section_of, section_body_of}
@@ -35,8 +36,7 @@ module _ {H I : Type 0} (g : Grammar H I) where
   one_more : (l : List ℕ) (ls : List (List ℕ)) (k : ℕ) →
       map (λ l. g.form (words_of l)) (take (suc k + 1) (l ∷ ls))
       ≡ g.form (words_of l) ∷ map (λ l. g.form (words_of l)) (take (k + 1) ls)
-  one_more l ls k = let count : suc k + 1 ≡ suc (k + 1) = omega arith in
-      ap (λ (n : ℕ). map (λ l. g.form (words_of l)) (take n (l ∷ ls))) count
+  one_more l ls k = grind (arith, common_steps)
 
   line_said : (l : List ℕ) (ls : List (List ℕ)) (h : H) (before : List I) (n : ℕ) (h' : H) (rows : List I)
       (o : Option (Form H I)) → g.form (words_of l) ≡ o
@@ -109,10 +109,7 @@ module _ {H I : Type 0} where
 
   same_header : (h k : H) (xs ys : List I) (more more' : List (Option (Form H I))) →
       (Some (Header h) ∷ said xs) ++ more ≡ (Some (Header k) ∷ said ys) ++ more' → (h ≡ k) × (xs ≡ ys)
-  same_header h k xs ys more more' e =
-      let heads : h ≡ k = cc in
-      let tails : said xs ++ more ≡ said ys ++ more' = cc in
-      (heads, same_items xs ys more more' tails)
+  same_header h k xs ys more more' e = grind (arith, common_steps, said, same_items)
 
   module _ (form : List (List ℕ) → Option (Form H I)) where
     abbrev forms : List (List ℕ) → List (Option (Form H I))

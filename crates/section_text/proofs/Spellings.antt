@@ -1,9 +1,10 @@
 -- The words of a line, from the tests that the line passes.
-use Rattle.std.proofs.Common.{◌≡◌, ◌⊎◌, ℕ, Bool, true, false, cond, List, [], ◌∷◌, length, Option, Some, None, refl, ap}
-use Rattle.std.proofs.Common.{◌∙◌, arith, inl, inr, slice_get}
+use Rattle.std.proofs.Common.{◌≡◌, ◌⊎◌, ℕ, Bool, true, false, cond, List, [], ◌∷◌, length, Option, Some, None, refl}
+use Rattle.std.proofs.Common.{arith, inl, inr, slice_get}
 use Rattle.std.specs.Fmt.{decimal}
 use Rattle.std.proofs.lemmas.Option.{option_and_then_some}
-use Rattle.section_text.specs.Words.{number_at, number_of}
+use Rattle.std.proofs.lemmas.Grind.{common_steps}
+use Rattle.section_text.specs.Words.{number_at}
 use Rattle.section_text.proofs.Numbers.{number_spelled}
 
 -- which way a test went
@@ -18,8 +19,7 @@ passed false o y e = absurd cc
 
 pub number_at_spelled : (ws : List (List ℕ)) (i n : ℕ) → number_at ws i ≡ Some n → slice_get ws i ≡ Some (decimal n)
 unfolding number_at
-number_at_spelled ws i n e = option_and_then_some number_of (slice_get ws i) n e
-    (λ w found number. found ∙ ap (λ (x : List ℕ). Some x) (number_spelled w n number).0)
+number_at_spelled ws i n e = grind (arith, common_steps, option_and_then_some, number_spelled)
 
 -- ---- a line of a known number of words
 

@@ -1,13 +1,13 @@
 -- The words of a line, one after the other.
 use Rattle.std.proofs.Common.{◌≡◌, ◌==◌, if◌then◌else◌, ℕ, suc, ◌+◌, ◌-◌, ◌<◌, ◌≤◌, Bool, true, false, cond, List, []}
-use Rattle.std.proofs.Common.{◌∷◌, take, drop, length, Option, Some, None, nat_lt, refl, sym, ap, ◌∙◌, arith, slice_get}
+use Rattle.std.proofs.Common.{◌∷◌, take, drop, length, Option, Some, None, nat_lt, refl, arith, slice_get}
 use Rattle.std.proofs.Common.{option_and_then, position}
-use Rattle.std.specs.List.{position_or_len}
 use Rattle.std.proofs.lemmas.List.{length-drop, take_all}
 use Rattle.std.proofs.lemmas.Bool.Decides.{nat_tests}
 use Rattle.std.proofs.lemmas.Option.{same_Some}
 use Rattle.std.proofs.lemmas.List.Splits.{length-slice_split, slice_split_first, slice_split_none}
 use Rattle.std.proofs.lemmas.List.Sums.{fails_before_first}
+use Rattle.std.proofs.lemmas.Grind.{common_steps}
 use Rattle.section_text.specs.Words.{is_space, words_of, second_word_of_two, three, four, five, number_of, name_of}
 use Rattle.section_text.specs.Words.{number_at, name_at, lone_number, lone_name}
 
@@ -28,19 +28,10 @@ not_below a b e = grind (arith, nat_tests)
 
 pub split_some : (line : List ℕ) (i : ℕ) → position is_space line ≡ Some i →
     words_of line ≡ take i line ∷ words_of (take (length line - (i + 1)) (drop (i + 1) line))
-split_some line i e =
-    let at = found_by (nat_lt (position_or_len is_space line) (length line)) (position_or_len is_space line) i e in
-    let within = below (position_or_len is_space line) (length line) at.0 in
-    slice_split_first is_space line 0 within
-    ∙ ap (λ k. take k line ∷ words_of (drop (k + 1) line)) at.1
-    ∙ ap (λ l. take i line ∷ words_of l)
-    (sym (take_all (length line - (i + 1)) (drop (i + 1) line) (let n = length-drop (i + 1) line in omega (arith, n))))
+split_some line i e = grind (arith, common_steps, found_by, below, slice_split_first, take_all, length-drop)
 
 pub split_none : (line : List ℕ) → position is_space line ≡ None → words_of line ≡ line ∷ []
-split_none line e =
-    let past = not_below (position_or_len is_space line) (length line)
-    (missed_by (nat_lt (position_or_len is_space line) (length line)) (position_or_len is_space line) e) in
-    slice_split_none is_space line (λ k d h. fails_before_first is_space line k d (omega (arith, past, h)))
+split_none line e = grind (arith, common_steps, not_below, missed_by, slice_split_none, fails_before_first)
 
 -- a line has a word
 pub some_words : (l : List ℕ) → 0 < length (words_of l)
@@ -72,8 +63,7 @@ five_or_more (z ∷ zs) h ws = rw (not_four (length zs)) refl
 pub many_words : (l w r v s u t x y : List ℕ) → words_of l ≡ w ∷ words_of r → words_of r ≡ v ∷ words_of s →
     words_of s ≡ u ∷ words_of t → words_of t ≡ x ∷ words_of y → None ≡ four (words_of l)
 unfolding four
-many_words l w r v s u t x y a b c d =
-    rw (a, b, c, d) (five_or_more (words_of y) (some_words y) (w ∷ v ∷ u ∷ x ∷ words_of y))
+many_words l w r v s u t x y a b c d = grind (arith, common_steps, five_or_more, some_words)
 
 pub four_are : (l w r v s u t : List ℕ) → words_of l ≡ w ∷ words_of r → words_of r ≡ v ∷ words_of s →
     words_of s ≡ u ∷ words_of t → words_of t ≡ t ∷ [] → Some (w ∷ v ∷ u ∷ t ∷ []) ≡ four (words_of l)
@@ -102,15 +92,12 @@ lone_word l a = rw a refl
 
 pub no_five : (l w r : List ℕ) → words_of l ≡ w ∷ words_of r → None ≡ four (words_of r) → None ≡ five (words_of l)
 unfolding four five
-no_five l w r a none =
-    rw (a, not_one_more (length (words_of r)) (test_none (length (words_of r) == 4) (words_of r) (sym none))) refl
+no_five l w r a none = grind (arith, common_steps, not_one_more, test_none)
 
 pub five_are : (l w r : List ℕ) (ws : List (List ℕ)) → words_of l ≡ w ∷ words_of r → Some ws ≡ four (words_of r) →
     Some (w ∷ ws) ≡ five (words_of l)
 unfolding four five
-five_are l w r ws a some =
-    let found = test_of (length (words_of r) == 4) (words_of r) ws (sym some) in
-    rw (a, one_more (length (words_of r)) found.0) (ap (λ vs. Some (w ∷ vs)) (sym found.1))
+five_are l w r ws a some = grind (arith, common_steps, test_of, one_more)
 
 -- ---- lines of one, two and three words
 

@@ -6,6 +6,7 @@ use Rattle.std.specs.Str.{bytes_eq}
 use Rattle.std.proofs.lemmas.Bool.Decides.{nat_tests}
 use Rattle.std.proofs.lemmas.List.{drop-drop, drop_all, length-drop}
 use Rattle.std.proofs.lemmas.Option.{option_and_then_some, slice_get_within}
+use Rattle.std.proofs.lemmas.Grind.{common_steps}
 use Rattle.section_text.specs.Words.{◌>>=◌, is_word_at, words_of, name_of, name_at, names_at, names_beside_arrow}
 use Rattle.section_text.proofs.Splitting.{some_words}
 use Rattle.section_text.proofs.WordPlaces.{name_at_is}
@@ -45,13 +46,9 @@ no_name_at ws i e = ap (option_and_then name_of) (sym (no_word_at ws i e))
 -- ---- names from a place on
 
 slice_get_behind : {X : Type 0} (k : ℕ) (xs : List X) (i : ℕ) → slice_get (drop k xs) i ≡ slice_get xs (k + i)
-slice_get_behind zero xs i =
-    let e : zero + i ≡ i = omega arith in
-    rw e refl
+slice_get_behind zero xs i = grind (arith, common_steps)
 slice_get_behind (suc k) [] i = refl
-slice_get_behind (suc k) (x ∷ xs) i =
-    let e : suc k + i ≡ suc (k + i) = omega arith in
-    rw e (slice_get_behind k xs i)
+slice_get_behind (suc k) (x ∷ xs) i = grind (arith, common_steps, slice_get_behind k xs i)
 
 name_behind : (ws : List (List ℕ)) (k i : ℕ) → name_at (drop k ws) i ≡ name_at ws (k + i)
 unfolding name_at
@@ -60,15 +57,11 @@ name_behind ws k i = ap (option_and_then name_of) (slice_get_behind k ws i)
 names_behind : (ws : List (List ℕ)) (k i n : ℕ) → names_at (drop k ws) i n ≡ names_at ws (k + i) n
 unfolding names_at
 names_behind ws k i zero = refl
-names_behind ws k i (suc n) =
-    let e : k + i + 1 ≡ k + (i + 1) = omega arith in
-    rw (name_behind ws k i, names_behind ws k (i + 1) n, e) refl
+names_behind ws k i (suc n) = grind (arith, common_steps, names_behind ws k (i + 1) n, name_behind)
 
 -- the names that are taken first off the words from a place on
 pub names_from : (ws left : List (List ℕ)) (k n : ℕ) → left ≡ drop k ws → names_at left 0 n ≡ names_at ws k n
-names_from ws left k n e =
-    let same : k + 0 ≡ k = omega arith in
-    ap (λ vs. names_at vs 0 n) e ∙ names_behind ws k 0 n ∙ ap (λ i. names_at ws i n) same
+names_from ws left k n e = grind (arith, common_steps, names_behind)
 
 names_fit : (ws : List (List ℕ)) (k n : ℕ) (ns : List (List ℕ)) → names_at ws k n ≡ Some ns → k ≤ length ws →
     k + n ≤ length ws
@@ -109,8 +102,7 @@ is_so n m le ge = grind (arith, nat_tests)
 module _ (ws : List (List ℕ)) (i before after : ℕ) where
   pub no_names_before : None ≡ names_at ws i before → None ≡ names_beside_arrow ws i before after
   unfolding names_beside_arrow
-  no_names_before none = rw (sym none)
-      (unless_both (length ws == i + before + 1 + after) (is_word_at ws (i + before) (codes "->")))
+  no_names_before none = grind (arith, common_steps, unless_both)
 
   pub no_word_between : None ≡ slice_get ws (i + before) → None ≡ names_beside_arrow ws i before after
   unfolding names_beside_arrow is_word_at
@@ -123,9 +115,7 @@ module _ (ws : List (List ℕ)) (i before after : ℕ) where
 
   pub no_names_after : None ≡ names_at ws (i + before + 1) after → None ≡ names_beside_arrow ws i before after
   unfolding names_beside_arrow
-  no_names_after none = rw (sym none)
-      (unless_three (length ws == i + before + 1 + after) (is_word_at ws (i + before) (codes "->"))
-      (names_at ws i before))
+  no_names_after none = grind (arith, common_steps, unless_three)
 
   pub words_after : (l : List ℕ) → words_of l ≡ drop (i + before + 1 + after) ws →
       None ≡ names_beside_arrow ws i before after

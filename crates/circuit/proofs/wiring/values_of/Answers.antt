@@ -1,4 +1,5 @@
-use Rattle.std.proofs.Common.{rules, ◌≡◌, Ok, true, false, ap, arith}
+use Rattle.std.proofs.Common.{rules, ◌≡◌, Ok, true, ap, arith}
+use Rattle.std.proofs.lemmas.Grind.{common_steps}
 use Rattle.circuit.proofs.wiring.values_of.Goals as goal
 use Rattle.circuit.proofs.Loops.{none_done, values_more, values_all, values_stop}
 
@@ -13,13 +14,7 @@ loop-number-preserved c =
     (c.in_ok-push_out_values.ensures.found (ap Ok pushed)) c.loop-number.invariant
 
 pub returns-then-not-branch-clause-fault : goal.returns-then-not-branch-clause-fault
-returns-then-not-branch-clause-fault c =
-    let none : c.in_ok-push_out_values.field-0 ≡ false = search rules in
-    values_stop c.args.given.now c.loop-number.values.items c.push_out_values.new.values.items c.args.gates.now
-    c.loop-number.number c.index-gates-number.result (omega arith) c.index-gates-number.is
-    (c.in_ok-push_out_values.ensures.values_unchanged (ap Ok none))
-    (c.in_ok-push_out_values.ensures.none (ap Ok none)) c.loop-number.invariant
+returns-then-not-branch-clause-fault c = grind (arith, common_steps, values_stop)
 
 pub returns-clause-values : goal.returns-clause-values
-returns-clause-values c = values_all c.args.given.now c.loop-number.values.items c.args.gates.now c.loop-number.number
-    (omega arith) c.loop-number.invariant
+returns-clause-values c = grind (arith, common_steps, values_all)

@@ -4,6 +4,4 @@ use Rattle.module_box.proofs.InjectiveNumbers.{range_more}
 use Rattle.module_box.proofs.numbers.push_wires_from.Goals as goal
 
 pub loop-place-preserved : goal.loop-place-preserved
-loop-place-preserved c =
-    let more = range_more c.args.first c.loop-place.place in
-    grind (arith, common_steps, more)
+loop-place-preserved c = grind (arith, common_steps, range_more)

@@ -1,28 +1,15 @@
 use Rattle.std.proofs.Common.{◌+◌, ◌-◌, ◌/◌, ◌<◌, length, arith, sym}
 use Rattle.std.proofs.lemmas.Option.{slice_get-get_or}
+use Rattle.std.proofs.lemmas.Grind.{common_steps}
 use Rattle.module_box.proofs.Rising.{raise_low, drop_high, is_absent, is_first, cell_total, cell_exact, all_times_none}
 use Rattle.module_box.proofs.Rising.{all_times_found}
 use Rattle.module_box.proofs.schedules.find_all_times.Goals as goal
 
 pub search-preserved-in-Less : goal.search-preserved-in-Less
-search-preserved-in-Less c =
-    let m = c.search.low + (c.search.high - c.search.low) / 2 in
-    let within : m < length c.args.all_times.now = omega (arith, c.search.invariant.0) in (
-      omega (arith, c.search.invariant.0),
-      raise_low _ _ _ _ _ _ m _ cell_total c.requires c.search.invariant.1
-          (slice_get-get_or c.args.all_times.now m _ within)
-          (sym c.in-Less.ensures),
-    )
+search-preserved-in-Less c = grind (arith, common_steps, raise_low, cell_total, slice_get-get_or)
 
 pub search-preserved : goal.search-preserved
-search-preserved c =
-    let m = c.search.low + (c.search.high - c.search.low) / 2 in
-    let within : m < length c.args.all_times.now = omega (arith, c.search.invariant.0) in (
-      omega (arith, c.search.invariant.0),
-      drop_high _ _ _ _ _ _ m _ cell_total c.requires c.search.invariant.1
-          (slice_get-get_or c.args.all_times.now m _ within)
-          (sym c.in-Greater.ensures),
-    )
+search-preserved c = grind (arith, common_steps, drop_high, cell_total, slice_get-get_or)
 
 pub returns-in-Equal : goal.returns-in-Equal
 returns-in-Equal c =
@@ -34,5 +21,4 @@ returns-in-Equal c =
     (λ i b lt e. is_first _ _ _ m _ cell_total c.requires got i b lt e))
 
 pub returns : goal.returns
-returns c = sym (all_times_none c.args.all_times.now c.args.cell
-    (is_absent _ _ _ _ _ _ cell_total c.search.invariant.1 c.search-test.false))
+returns c = grind (arith, common_steps, all_times_none, is_absent, cell_total)

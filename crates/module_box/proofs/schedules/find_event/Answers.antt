@@ -1,26 +1,15 @@
 use Rattle.std.proofs.Common.{◌+◌, ◌-◌, ◌/◌, ◌<◌, length, arith, sym}
 use Rattle.std.proofs.lemmas.Option.{slice_get-get_or}
+use Rattle.std.proofs.lemmas.Grind.{common_steps}
 use Rattle.module_box.proofs.Rising.{raise_low, drop_high, is_absent, is_first, moment_total, moment_exact, event_none}
 use Rattle.module_box.proofs.Rising.{event_found}
 use Rattle.module_box.proofs.schedules.find_event.Goals as goal
 
 pub search-preserved-in-Less : goal.search-preserved-in-Less
-search-preserved-in-Less c =
-    let m = c.search.low + (c.search.high - c.search.low) / 2 in
-    let within : m < length c.args.events.now = omega (arith, c.search.invariant.0) in (
-      omega (arith, c.search.invariant.0),
-      raise_low _ _ _ _ _ _ m _ moment_total c.requires c.search.invariant.1
-          (slice_get-get_or c.args.events.now m _ within) (sym c.in-Less.ensures),
-    )
+search-preserved-in-Less c = grind (arith, common_steps, raise_low, moment_total, slice_get-get_or)
 
 pub search-preserved : goal.search-preserved
-search-preserved c =
-    let m = c.search.low + (c.search.high - c.search.low) / 2 in
-    let within : m < length c.args.events.now = omega (arith, c.search.invariant.0) in (
-      omega (arith, c.search.invariant.0),
-      drop_high _ _ _ _ _ _ m _ moment_total c.requires c.search.invariant.1
-          (slice_get-get_or c.args.events.now m _ within) (sym c.in-Greater.ensures),
-    )
+search-preserved c = grind (arith, common_steps, drop_high, moment_total, slice_get-get_or)
 
 pub returns-in-Equal : goal.returns-in-Equal
 returns-in-Equal c =
@@ -32,5 +21,4 @@ returns-in-Equal c =
     (λ i b lt e. is_first _ _ _ m _ moment_total c.requires got i b lt e))
 
 pub returns : goal.returns
-returns c = sym (event_none c.args.events.now c.args.moment
-    (is_absent _ _ _ _ _ _ moment_total c.search.invariant.1 c.search-test.false))
+returns c = grind (arith, common_steps, event_none, is_absent, moment_total)

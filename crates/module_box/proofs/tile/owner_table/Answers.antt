@@ -1,6 +1,7 @@
-use Rattle.std.proofs.Common.{◌≡◌, ℕ, ◌*◌, ◌/◌, ◌<◌, length, get_or, take, arith, refl, ap, ◌∙◌, slice_index}
+use Rattle.std.proofs.Common.{◌≡◌, ℕ, ◌*◌, ◌/◌, ◌<◌, length, take, arith, refl, ap, ◌∙◌, slice_index}
 use Rattle.std.proofs.lemmas.List.{with_items_is}
 use Rattle.std.proofs.lemmas.Option.{slice_get-get_or}
+use Rattle.std.proofs.lemmas.Grind.{common_steps}
 use Rattle.module_box.specs.Tiling.{Owning, IsTable}
 use Rattle.module_box.proofs.Tilings.{all_inside, bad_block, filled_from, owners_from, taken_by_all, taken_by_next}
 use Rattle.module_box.proofs.Tilings.{taken_gap, taken_all_times, taken_twice}
@@ -11,18 +12,7 @@ fill_box_until_taken-kept-requires-clause-even c =
     c.requires.even c.boxes.number _ (slice_get-get_or c.args.boxes.now c.boxes.number _ c.boxes-test.true)
 
 pub fill_box_until_taken-kept-requires-clause-fits : goal.fill_box_until_taken-kept-requires-clause-fits
-fill_box_until_taken-kept-requires-clause-fits c =
-    let inside = c.first_box_outside-outside.ensures.before c.boxes.number
-    (get_or c.args.boxes.now c.boxes.number (record { x = 0; y = 0; w = 0; h = 0 })) (omega arith)
-    (slice_get-get_or c.args.boxes.now c.boxes.number _ c.boxes-test.true) in
-    let right = inside.right in
-    let bottom = inside.bottom in
-    record {
-      some = omega (arith, c.requires.width);
-      most = omega (arith, c.requires.width);
-      right = omega (arith, c.requires.width, right);
-      bottom = omega (arith, c.requires.height, bottom);
-    }
+fill_box_until_taken-kept-requires-clause-fits c = grind (arith, common_steps, slice_get-get_or)
 
 pub boxes-preserved : goal.boxes-preserved
 boxes-preserved c =
@@ -75,13 +65,7 @@ returns-then-len-blocks c =
     )
 
 pub invariant_of-result : goal.invariant_of-result
-invariant_of-result c =
-    let free = rw c.deref.ensures.value at c.first_free_place-gap.ensures in
-    let filled = filled_from (c.args.width / 2)
-    (c.args.height / 2 * (c.args.width / 2)) c.boxes.number c.first_free_place-gap.result c.args.boxes.now
-    c.boxes.numbers.items c.boxes.invariant (omega arith)
-    (omega (arith, c.boxes.numbers.ok.0)) (omega (arith, c.boxes.numbers.ok.0)) free.before in
-    record { width = c.requires.width; height = c.requires.height; sized = filled.sized }
+invariant_of-result c = grind (arith, common_steps, filled_from)
 
 pub returns : goal.returns
 returns c =

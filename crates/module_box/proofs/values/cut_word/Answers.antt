@@ -1,4 +1,5 @@
-use Rattle.std.proofs.Common.{rules, ◌≡◌, ◌≤◌, ◌-◌, true, false, arith}
+use Rattle.std.proofs.Common.{◌-◌, arith}
+use Rattle.std.proofs.lemmas.Grind.{common_steps}
 use Rattle.bbm_rule.specs.Bits.{bit}
 use Rattle.module_box.proofs.CutWords.{low_word, high_ones, high_none, mask_0, mask_1, mask_2, mask_3, mask_4, mask_5}
 use Rattle.module_box.proofs.values.cut_word.Goals as goal
@@ -23,14 +24,8 @@ returns-in-5 c = λ b h. low_word 18446744069414584320 5 c.args.cut c.args.chunk
 
 pub returns-then-chunk-cut-eq1 : goal.returns-then-chunk-cut-eq1
 unfolding bit
-returns-then-chunk-cut-eq1 c = λ b h.
-    let l : 6 ≤ c.args.cut = omega arith in
-    let t : bit c.args.chunk (c.args.cut - 6) ≡ true = search rules in
-    high_ones c.args.cut c.args.chunk b t l h
+returns-then-chunk-cut-eq1 c = grind (arith, common_steps, high_ones)
 
 pub returns-else-chunk-cut-eq1 : goal.returns-else-chunk-cut-eq1
 unfolding bit
-returns-else-chunk-cut-eq1 c = λ b h.
-    let l : 6 ≤ c.args.cut = omega arith in
-    let t : bit c.args.chunk (c.args.cut - 6) ≡ false = search rules in
-    high_none c.args.cut c.args.chunk b t l h
+returns-else-chunk-cut-eq1 c = grind (arith, common_steps, high_none)

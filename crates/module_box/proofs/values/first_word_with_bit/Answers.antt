@@ -1,4 +1,5 @@
-use Rattle.std.proofs.Common.{◌≡◌, rules, false, arith, slice_index}
+use Rattle.std.proofs.Common.{rules, arith}
+use Rattle.std.proofs.lemmas.Grind.{common_steps}
 use Rattle.bbm_rule.specs.Bits.{bit}
 use Rattle.module_box.proofs.LocalRows.{clear_more}
 use Rattle.module_box.proofs.values.first_word_with_bit.Goals as goal
@@ -9,6 +10,4 @@ returns-then-word-place-eq1-clause-some c = (omega arith, search rules)
 
 pub loop-number-preserved : goal.loop-number-preserved
 unfolding bit
-loop-number-preserved c =
-    let here : bit (slice_index c.args.words.now c.loop-number.number) c.args.place ≡ false = search rules in
-    clear_more c.args.words.now c.loop-number.number c.args.place c.loop-number.invariant here
+loop-number-preserved c = grind (arith, common_steps, clear_more)

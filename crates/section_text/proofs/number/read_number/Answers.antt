@@ -1,3 +1,5 @@
+use Rattle.std.proofs.lemmas.Grind.{common_steps}
+use Rattle.std.proofs.Common.{arith}
 use Rattle.section_text.proofs.Numbers.{not_read, number_read, read_small}
 use Rattle.section_text.proofs.number.read_number.Goals as goal
 
@@ -10,5 +12,4 @@ returns-then-may_be_number-clause-small c = read_small c.args.word.now c.read_di
     (c.may_be_number.ensures.other c.if-may_be_number.true) c.read_digits.ensures.number
 
 pub returns-else-may_be_number-clause-number : goal.returns-else-may_be_number-clause-number
-returns-else-may_be_number-clause-number c =
-    not_read c.args.word.now c.may_be_number.result c.may_be_number.ensures.number c.if-may_be_number.false
+returns-else-may_be_number-clause-number c = grind (arith, common_steps, not_read)

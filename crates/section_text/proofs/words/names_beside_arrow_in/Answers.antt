@@ -1,45 +1,23 @@
-use Rattle.std.proofs.Common.{◌≡◌, ◌∙◌, ◌+◌, true, false, sym, ap, drop, rules, codes, option_copied}
+use Rattle.std.proofs.Common.{arith, ◌≡◌, ◌∙◌, ◌+◌, true, sym, ap, drop, rules, codes, option_copied}
 use Rattle.std.specs.Str.{bytes_eq}
 use Rattle.std.proofs.lemmas.List.{drop-drop}
+use Rattle.std.proofs.lemmas.Grind.{common_steps}
 use Rattle.section_text.specs.Words.{words_of, words_of_rest}
 use Rattle.section_text.proofs.WordsLeft.{names_are, names_from, no_arrow, no_names_after, no_names_before, no_word_at}
 use Rattle.section_text.proofs.WordsLeft.{no_word_between, one_further, word_at, words_after}
 use Rattle.section_text.proofs.words.names_beside_arrow_in.Goals as goal
 
 pub returns-in_err-ins : goal.returns-in_err-ins
-returns-in_err-ins c =
-    let ws = words_of c.args.line.now in
-    rw c.from_residual.ensures (no_names_before ws c.args.from c.args.before c.args.after
-    (c.in_err-ins.ensures.names ∙ names_from ws _ c.args.from c.args.before c.words_from.ensures))
+returns-in_err-ins c = grind (arith, common_steps, no_names_before, names_from)
 
 pub returns-in_err-rest : goal.returns-in_err-rest
-returns-in_err-rest c =
-    let ws = words_of c.args.line.now in
-    let behind = c.in_ok-ins.ensures.left ∙ ap (drop c.args.before) c.words_from.ensures
-    ∙ drop-drop c.args.before c.args.from ws in
-    rw c.from_residual-in_err-rest.ensures (no_word_between ws c.args.from c.args.before c.args.after
-    (no_word_at ws (c.args.from + c.args.before)
-    (ap (λ r. words_of_rest (option_copied r)) (sym c.in_err-rest.was) ∙ behind)))
+returns-in_err-rest c = grind (arith, common_steps, drop-drop, no_word_between, no_word_at)
 
 pub returns-then-ne : goal.returns-then-ne
-returns-then-ne c =
-    let ws = words_of c.args.line.now in
-    let behind = c.in_ok-ins.ensures.left ∙ ap (drop c.args.before) c.words_from.ensures
-    ∙ drop-drop c.args.before c.args.from ws in
-    let here = sym c.next_word.ensures ∙ ap (λ r. words_of_rest (option_copied r)) (sym c.in_ok-rest.was) ∙ behind in
-    let other : bytes_eq c.next_word.result.0.now (codes "->") ≡ false = search rules in
-    no_arrow ws c.args.from c.args.before c.args.after c.next_word.result.0.now
-    (word_at ws (c.args.from + c.args.before) _ _ here) other
+returns-then-ne c = grind (arith, common_steps, drop-drop, no_arrow, word_at)
 
 pub returns-in_err-outs : goal.returns-in_err-outs
-returns-in_err-outs c =
-    let ws = words_of c.args.line.now in
-    let behind = c.in_ok-ins.ensures.left ∙ ap (drop c.args.before) c.words_from.ensures
-    ∙ drop-drop c.args.before c.args.from ws in
-    let here = sym c.next_word.ensures ∙ ap (λ r. words_of_rest (option_copied r)) (sym c.in_ok-rest.was) ∙ behind in
-    let after = one_further ws (c.args.from + c.args.before) _ _ here in
-    rw c.from_residual-in_err-outs.ensures (no_names_after ws c.args.from c.args.before c.args.after
-    (c.in_err-outs.ensures.names ∙ names_from ws _ (c.args.from + c.args.before + 1) c.args.after after))
+returns-in_err-outs c = grind (arith, common_steps, drop-drop, one_further, no_names_after, names_from)
 
 pub returns-in-Some : goal.returns-in-Some
 returns-in-Some c =

@@ -1,3 +1,5 @@
+use Rattle.std.proofs.lemmas.Grind.{common_steps}
+use Rattle.std.proofs.Common.{arith}
 use Rattle.section_text.proofs.Splitting.{no_second, past_second, second_is}
 use Rattle.section_text.proofs.words.second_word_of_two.Goals as goal
 
@@ -5,10 +7,7 @@ pub returns-in_default : goal.returns-in_default
 returns-in_default c = no_second c.args.line.now (c.split_word.ensures.none c.in_default.is)
 
 pub returns-in-Some-split_word : goal.returns-in-Some-split_word
-returns-in-Some-split_word c =
-    past_second c.args.line.now c.in-Some.field-0-0.now c.in-Some.rest.now c.in-Some-split_word.field-0.0.now
-    c.in-Some-split_word.field-0.1.now c.in-Some.ensures.some c.in-Some-split_word.ensures.some
+returns-in-Some-split_word c = grind (arith, common_steps, past_second)
 
 pub returns-in-None : goal.returns-in-None
-returns-in-None c = second_is c.args.line.now c.in-Some.field-0-0.now c.in-Some.rest.now c.in-Some.ensures.some
-    (c.split_word-2.ensures.none c.in-None.is)
+returns-in-None c = grind (arith, common_steps, second_is)

@@ -1,3 +1,5 @@
+use Rattle.std.proofs.lemmas.Grind.{common_steps}
+use Rattle.std.proofs.Common.{arith}
 use Rattle.section_text.proofs.Splitting.{five_are, lone_word, no_five}
 use Rattle.section_text.proofs.words.split_five_words.Goals as goal
 
@@ -5,10 +7,7 @@ pub returns-in_default : goal.returns-in_default
 returns-in_default c = lone_word c.args.line.now (c.split_word.ensures.none c.in_default.is)
 
 pub returns-in_default-split_four_words : goal.returns-in_default-split_four_words
-returns-in_default-split_four_words c =
-    no_five c.args.line.now c.in-Some.first.now c.in-Some.rest.now c.in-Some.ensures.some
-    c.in_default-split_four_words.ensures
+returns-in_default-split_four_words c = grind (arith, common_steps, no_five)
 
 pub returns : goal.returns
-returns c = five_are c.args.line.now c.in-Some.first.now c.in-Some.rest.now _ c.in-Some.ensures.some
-    c.in-Some-split_four_words.ensures
+returns c = grind (arith, common_steps, five_are)

@@ -1,5 +1,6 @@
-use Rattle.std.proofs.Common.{◌≡◌, ◌∙◌, ◌+◌, sym, ap, drop, arith, option_copied}
+use Rattle.std.proofs.Common.{◌∙◌, ◌+◌, sym, ap, arith, option_copied}
 use Rattle.std.proofs.lemmas.List.{length_push}
+use Rattle.std.proofs.lemmas.Grind.{common_steps}
 use Rattle.section_text.specs.Words.{words_of_rest, names_at}
 use Rattle.section_text.proofs.NamesAt.{goes_on, stops, is_done}
 use Rattle.section_text.proofs.WordsLeft.{name_by_word, no_name_at, one_further}
@@ -25,20 +26,7 @@ pub push-requires : goal.push-requires
 push-requires c = omega (arith, c.loop-i.invariant.as_many)
 
 pub loop-i-preserved : goal.loop-i-preserved
-loop-i-preserved c = let ws = words_of_rest (option_copied c.args.left) in
-    let here = sym c.next_word.ensures ∙ ap (λ o. words_of_rest (option_copied o)) (sym c.in_ok-rest.was)
-    ∙ c.loop-i.invariant.rest in
-    let more = goes_on ws c.loop-i.names 0 c.args.count c.loop-i.i
-    (names_at ws 0 c.args.count) c.in_ok-of.field-0 (omega arith)
-    (name_by_word ws (0 + c.loop-i.i) _ _ here ∙ sym c.of.ensures ∙ c.in_ok-of.was)
-    c.loop-i.invariant.so_far in
-    let next : 0 + c.loop-i.i + 1 ≡ 0 + (c.loop-i.i + 1) = omega arith in
-    record {
-      rest = one_further ws (0 + c.loop-i.i) _ _ here ∙ ap (λ k. drop k ws) next;
-      so_far = rw c.push.ensures more;
-      as_many = rw c.push.ensures (omega
-          (arith, length_push c.loop-i.names c.in_ok-of.field-0, c.loop-i.invariant.as_many));
-    }
+loop-i-preserved c = grind (arith, common_steps, goes_on, name_by_word, one_further, length_push)
 
 pub returns-clause-names : goal.returns-clause-names
 returns-clause-names c = let ws = words_of_rest (option_copied c.args.left) in
@@ -46,6 +34,4 @@ returns-clause-names c = let ws = words_of_rest (option_copied c.args.left) in
     (omega arith) c.loop-i.invariant.so_far)
 
 pub returns-clause-left : goal.returns-clause-left
-returns-clause-left c =
-    let all : 0 + c.loop-i.i ≡ c.args.count = omega arith in
-    c.loop-i.invariant.rest ∙ ap (λ k. drop k (words_of_rest (option_copied c.args.left))) all
+returns-clause-left c = grind (arith, common_steps)

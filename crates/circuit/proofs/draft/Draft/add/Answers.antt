@@ -1,6 +1,7 @@
 use Rattle.std.proofs.Common.{rules, ◌≡◌, sym, ap, ◌∙◌, List, [], ◌∷◌, ◌++◌, ℕ, false, arith}
-use Rattle.std.proofs.Common.{length, map, subst, take, None, length-append}
+use Rattle.std.proofs.Common.{length, map, subst, take, None}
 use Rattle.std.proofs.lemmas.List.{length-map}
+use Rattle.std.proofs.lemmas.Grind.{common_steps}
 use Rattle.circuit.specs.declared.circuit_line.CircuitLine.{CircuitLine}
 use Rattle.circuit.specs.Entries.{defined}
 use Rattle.circuit.specs.Rules.{consumed, consume, define, exceeds_limit}
@@ -12,25 +13,7 @@ use Rattle.circuit.proofs.WireMarks.{marks_reach}
 use Rattle.circuit.proofs.draft.Draft.add.Goals as goal
 
 pub mark_wires-requires : goal.mark_wires-requires
-mark_wires-requires c =
-    let numbered : take (length c.as_slice-used.result.now) c.in-Ok.ins
-    ≡ map (number (defined c.args.self.now)) c.as_slice.result.now = search rules in
-    let pass : consume (defined c.args.self.now) (consumed c.args.self.now) c.as_slice.result.now ≡ None =
-    search rules in
-    let marks : length c.define_wires.new.consumed.items
-    ≡ length (c.self.inside.consumed.items ++ map (λ (n : List ℕ). false) c.as_slice-2.result.now) = search rules in
-    let long : length c.self.inside.consumed.items ≡ length (defined c.args.self.now) =
-    ap length c.self.invariant.consumed ∙ length-map (defined c.self.inside.entries.items) _
-    ∙ ap (λ (l : List CircuitLine). length (defined l)) c.self.view_is in
-    marks_reach (defined c.args.self.now) (consumed c.args.self.now) c.as_slice.result.now
-    c.define_wires.new.consumed.items _ pass numbered
-    (omega (
-      arith,
-      marks,
-      long,
-      length-append c.self.inside.consumed.items
-          (map (λ (n : List ℕ). false) c.as_slice-2.result.now),
-    ))
+mark_wires-requires c = grind (arith, common_steps, length-map, marks_reach)
 
 pub invariant_of-self-then-is_gate : goal.invariant_of-self-then-is_gate
 invariant_of-self-then-is_gate c =

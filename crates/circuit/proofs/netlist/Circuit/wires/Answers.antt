@@ -1,10 +1,7 @@
-use Rattle.std.proofs.Common.{◌∙◌, length, subst, ap}
-use Rattle.circuit.specs.Entries.{defined}
-use Rattle.circuit.specs.Bridge.{AreGoodCircuitLines}
+use Rattle.std.proofs.Common.{arith}
+use Rattle.std.proofs.lemmas.Grind.{common_steps}
 use Rattle.circuit.proofs.Naming.{wires_are_named}
 use Rattle.circuit.proofs.netlist.Circuit.wires.Goals as goal
 
 pub returns-clause-count : goal.returns-clause-count
-returns-clause-count c =
-    c.len.ensures.len ∙ ap length (c.self.invariant.wires ∙ ap defined c.self.view_is)
-    ∙ wires_are_named c.args.self.now (subst AreGoodCircuitLines c.self.view_is c.self.invariant.good)
+returns-clause-count c = grind (arith, common_steps, wires_are_named)

@@ -1,5 +1,6 @@
 use Rattle.std.proofs.Common.{◌≡◌, IsTrue, arith, rules, SFits, w32, to_z-of_z}
 use Rattle.std.specs.Int.RustNames.{unsigned_abs}
+use Rattle.std.proofs.lemmas.Grind.{common_steps}
 use Rattle.module_box.specs.Boxes.{in_box}
 use Rattle.module_box.specs.Tiling.{rectangle}
 use Rattle.module_box.specs.OwnersView.{owners_view}
@@ -7,16 +8,7 @@ use Rattle.module_box.proofs.BoxCells.{owner_in_table, owner_read}
 use Rattle.module_box.proofs.owners.Owners.owner.Goals as goal
 
 pub index-requires : goal.index-requires
-index-requires c =
-    let fx : SFits w32 c.args.cell.x = search rules in
-    let fy : SFits w32 c.args.cell.y = search rules in
-    let ex : c.unsigned_abs-2.result ≡ unsigned_abs c.args.cell.x = simp to_z-of_z at c.unsigned_abs-2.ensures.value in
-    let ey : c.unsigned_abs.result ≡ unsigned_abs c.args.cell.y = simp to_z-of_z at c.unsigned_abs.ensures.value in
-    let inside : IsTrue (in_box (rectangle (owners_view c.self.inside)) c.args.cell.x c.args.cell.y) =
-    rw (← c.self.view_is) at c.requires in
-    rw (ex, ey) (let h = owner_in_table
-    (owners_view c.self.inside) c.args.cell.x c.args.cell.y c.self.invariant inside in
-    omega (arith, h, c.self.inside.numbers.ok))
+index-requires c = grind (arith, common_steps, owner_in_table)
 
 pub returns : goal.returns
 returns c =
