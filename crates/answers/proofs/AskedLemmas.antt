@@ -11,7 +11,7 @@ use Rattle.section_text.specs.declared.fault.ReadFault.TheVariants.{Refused, Mem
 use Rattle.section_text.proofs.Joined.{section_read, section_failed, same_text, still_going, fails_along, at_the_end}
 use Rattle.section_text.proofs.Joined.{more_fails}
 use Rattle.pattern.specs.Assign.{assign_grammar}
-use Rattle.answers.specs.Answers.{names_on_to_text_end, value_and_names_on, pair_with_result}
+use Rattle.answers.specs.Answers.{names_on_from_last_section, value_and_names_on, pair_with_result}
 use Rattle.section_text.specs.declared.code.RefusalCode.TheVariants.{TextCut}
 
 -- ---- the names that are on, and the end
@@ -22,12 +22,12 @@ module _ {A : Type 0} (view : A → Unit {0} × List (List ℕ)) (names : List (
   last text _ on m rest = value_if_at_end m rest (bytes_after_last_line_feed text) on
 
   pub names_failed : (fault : ReadFault) → Reads (assign_grammar names) view old mid (Err fault) →
-      FailsAsReading fault (names_on_to_text_end old.text names old.taken (ahead old))
+      FailsAsReading fault (names_on_from_last_section old.text names old.taken (ahead old))
   unfolding last
   names_failed fault reads = section_failed (assign_grammar names) view old mid going (last old.text) fault reads
 
   read_on : (a : A) → Reads (assign_grammar names) view old mid (Ok a) →
-      names_on_to_text_end old.text names old.taken (ahead old)
+      names_on_from_last_section old.text names old.taken (ahead old)
       ≡ value_if_at_end mid.taken (ahead mid) (bytes_after_last_line_feed mid.text) (view a).1
   unfolding last
   read_on a reads =
@@ -40,15 +40,15 @@ module _ {A : Type 0} (view : A → Unit {0} × List (List ℕ)) (names : List (
 
   pub text_ends : (a : A) → Reads (assign_grammar names) view old mid (Ok a) → ahead mid ≡ [] →
       bytes_after_last_line_feed mid.text ≡ [] →
-      names_on_to_text_end old.text names old.taken (ahead old) ≡ Ok ((view a).1)
+      names_on_from_last_section old.text names old.taken (ahead old) ≡ Ok ((view a).1)
   text_ends a reads none nothing =
       read_on a reads ∙ at_the_end mid.taken (ahead mid) (bytes_after_last_line_feed mid.text) ((view a).1) none nothing
 
   pub text_goes_on : (a : A) (fault : ReadFault) → Reads (assign_grammar names) view old mid (Ok a) →
       (ahead mid ≡ [] → bytes_after_last_line_feed mid.text ≢ []) → fault ≡ refusal (mid.taken + 1) TextCut →
-      FailsAsReading fault (names_on_to_text_end old.text names old.taken (ahead old))
+      FailsAsReading fault (names_on_from_last_section old.text names old.taken (ahead old))
   text_goes_on a fault reads more is =
-      fails_along fault (names_on_to_text_end old.text names old.taken (ahead old))
+      fails_along fault (names_on_from_last_section old.text names old.taken (ahead old))
       (value_if_at_end mid.taken (ahead mid) (bytes_after_last_line_feed mid.text) ((view a).1)) (read_on a reads)
       (more_fails mid.taken (ahead mid) (bytes_after_last_line_feed mid.text) ((view a).1) fault more is)
 
@@ -87,17 +87,18 @@ module _ {H I A V : Type 0} (g : Grammar H I) (view : A → H × List I) (value 
 
   pub then_failed : (a : A) (these : List (List ℕ)) (fault : ReadFault) → Reads g view old mid (Ok a) →
       these ≡ names (view a).0 (view a).1 →
-      FailsAsReading fault (names_on_to_text_end mid.text these mid.taken (ahead mid)) →
+      FailsAsReading fault (names_on_from_last_section mid.text these mid.taken (ahead mid)) →
       FailsAsReading fault (asked old.text)
   then_failed a these fault reads same fails =
       fails_along fault (asked old.text)
-      (pair_with_result (value (view a).0 (view a).1) (names_on_to_text_end mid.text these mid.taken (ahead mid)))
+      (pair_with_result (value (view a).0 (view a).1) (names_on_from_last_section mid.text these mid.taken (ahead mid)))
       (first_read a reads ∙ ap (λ k. value_and_names_on mid.text (value (view a).0 (view a).1) k mid.taken (ahead mid))
       (sym same))
-      (with_fails (value (view a).0 (view a).1) fault (names_on_to_text_end mid.text these mid.taken (ahead mid)) fails)
+      (with_fails (value (view a).0 (view a).1) fault
+      (names_on_from_last_section mid.text these mid.taken (ahead mid)) fails)
 
   pub then_read : (a : A) (these on : List (List ℕ)) → Reads g view old mid (Ok a) →
-      these ≡ names (view a).0 (view a).1 → names_on_to_text_end mid.text these mid.taken (ahead mid) ≡ Ok on →
+      these ≡ names (view a).0 (view a).1 → names_on_from_last_section mid.text these mid.taken (ahead mid) ≡ Ok on →
       asked old.text ≡ Ok (value (view a).0 (view a).1, on)
   then_read a these on reads same read =
       first_read a reads ∙ ap (λ k. value_and_names_on mid.text (value (view a).0 (view a).1) k mid.taken (ahead mid))

@@ -15,8 +15,8 @@ Answered says (Err refusal) output outcome = (output ≡ refusal_line refusal) �
 
 -- After a first section: an assign section in which these names may be on, and nothing more. It gives the names that
 -- are on.
-abbrev pub names_on_to_text_end : List ℕ → List (List ℕ) → ℕ → List (List ℕ) → Result (List (List ℕ)) Refusal
-names_on_to_text_end text names n ahead =
+abbrev pub names_on_from_last_section : List ℕ → List (List ℕ) → ℕ → List (List ℕ) → Result (List (List ℕ)) Refusal
+names_on_from_last_section text names n ahead =
     section_then (assign_grammar names) n ahead
     (λ _ on m rest. value_if_at_end m rest (bytes_after_last_line_feed text) on)
 
@@ -28,4 +28,4 @@ pair_with_result value (Err refusal) = Err refusal
 -- the same, with the value of the first section
 abbrev pub value_and_names_on : {A : Type 0} → List ℕ → A → List (List ℕ) → ℕ → List (List ℕ) →
     Result (A × List (List ℕ)) Refusal
-value_and_names_on text value names n ahead = pair_with_result value (names_on_to_text_end text names n ahead)
+value_and_names_on text value names n ahead = pair_with_result value (names_on_from_last_section text names n ahead)

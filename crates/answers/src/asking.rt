@@ -2,7 +2,7 @@
 ghost use Rattle.std.specs.Prelude.{◌≡◌, true, None};
 ghost use Rattle.section_text.specs.Feeds.{ahead};
 ghost use Rattle.section_text.specs.Section.{ReaderReturnsSection};
-ghost use Rattle.answers.specs.Answers.{names_on_to_text_end};
+ghost use Rattle.answers.specs.Answers.{names_on_from_last_section};
 
 use pattern::read_assign;
 use section_text::{Feed, Name, ReadFault};
@@ -17,7 +17,7 @@ pub(crate) fn read_names_on(
     requires closed { feed.old.closed ≡ true }
     requires going { feed.old.stop ≡ None }
     ensures { ReaderReturnsSection (λ on. on.items) result
-        (names_on_to_text_end feed.old.text names.now feed.old.taken (ahead feed.old)) }
+        (names_on_from_last_section feed.old.text names.now feed.old.taken (ahead feed.old)) }
 {
     match read_assign(alloc, feed, names) {
         Err(fault) => Err(fault),

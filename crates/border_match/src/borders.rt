@@ -60,7 +60,7 @@ impl<'a> Borders<'a> {
     }
 
     /// Returns whether the cell is in the module's halo and in the rectangle.
-    pub(crate) fn is_halo_cell_of_rectangle(&self, cell: Cell) -> bool
+    pub(crate) fn is_halo_cell_inside_layout(&self, cell: Cell) -> bool
         ensures { result
             ≡ (in_box self.now.whole cell.x cell.y && in_halo self.now.job.now.area cell.x cell.y) }
     {
@@ -122,7 +122,7 @@ impl<'a> Borders<'a> {
         if fault.time >= self.job.steps() {
             return false;
         }
-        self.is_halo_cell_of_rectangle(fault.cell)
+        self.is_halo_cell_inside_layout(fault.cell)
     }
 
     /// Returns whether this is a border fault of the module.

@@ -38,7 +38,7 @@ impl<'a> Borders<'a> {
         ensures { IsBetter (IsFaultOfSearchedJob self.now) (DiffersWithoutEventAt self.now cell)
             best result }
     {
-        if !self.is_halo_cell_of_rectangle(cell) || !self.differs(0, cell) {
+        if !self.is_halo_cell_inside_layout(cell) || !self.differs(0, cell) {
             return best;
         }
         self.with_first_fault_of(best, cell)

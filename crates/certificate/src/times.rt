@@ -96,7 +96,12 @@ fn note_stop(table: &mut [Option<u32>], circuit: &Circuit, choice: FirstOrLast, 
 }
 
 // Notes the time of a line in a table of the wires, if the line is a stop.
-fn note_line(table: &mut [Option<u32>], circuit: &Circuit, choice: FirstOrLast, line: &StoredLine)
+fn note_time_if_stop(
+    table: &mut [Option<u32>],
+    circuit: &Circuit,
+    choice: FirstOrLast,
+    line: &StoredLine,
+)
     requires { length table.old ≡ wires (netlist_of circuit.now) }
     ensures table { (ss : List Line) →
         IsStopTimeTable choice (circuit_of circuit.now) ss table.old →
@@ -123,7 +128,7 @@ fn note_lines(
     ensures long { length table.new ≡ length table.old }
 {
     'lines: for line in lines {
-        note_line(table, circuit, choice, line);
+        note_time_if_stop(table, circuit, choice, line);
     }
 }
 

@@ -12,7 +12,7 @@ use crate::certificate_line::{CertificateLine, Counts};
 use crate::counts::{count_in_last, last_counts, pop_module, push_entry, push_module};
 use crate::known::{learn_line, make_room_for_wires, move_wires_to_earlier};
 use crate::line_tables::LineTables;
-use crate::local_names::{CutWire, LocalNames, cut_wire, name_held_by_circuit};
+use crate::local_names::{CutWire, LocalNames, circuit_name_of_line, cut_wire};
 use crate::order::may_follow;
 use crate::rules::{
     border_code, cut_code, has_nonlocal_name, is_bad_box_side, is_misplaced_box, keep_code,
@@ -216,7 +216,7 @@ impl<'a> Builder<'a> {
         if make_room_for_stars(&mut self.edges, &mut self.halos, &entry).is_err() {
             return Err(LineFault::Memory);
         }
-        let name = name_held_by_circuit(&self.tables, &self.known, &self.local_names, &entry, None);
+        let name = circuit_name_of_line(&self.tables, &self.known, &self.local_names, &entry, None);
         push_entry(&mut self.entries, StoredLine::of(&entry, name))?;
         note_stars(&mut self.edges, &mut self.halos, &entry);
         count_in_last(&mut self.modules, &entry);
@@ -243,7 +243,7 @@ impl<'a> Builder<'a> {
         if make_room_for_stars(&mut self.edges, &mut self.halos, &entry).is_err() {
             return Err(LineFault::Memory);
         }
-        let name = name_held_by_circuit(&self.tables, &self.known, &self.local_names, &entry, cut);
+        let name = circuit_name_of_line(&self.tables, &self.known, &self.local_names, &entry, cut);
         push_entry(&mut self.entries, StoredLine::of(&entry, name))?;
         learn_line(&mut self.known, &self.tables, &entry, cut);
         self.local_names

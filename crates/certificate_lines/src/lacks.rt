@@ -141,7 +141,7 @@ impl<'a> Builder<'a> {
 
     // Whether one of the edge lines of a module names a wire that is not local in a module beside it. It asks each
     // module, and takes no memory.
-    fn does_any_module_lack_wire(&self, area: Box2, lines: &[StoredLine]) -> bool
+    fn does_neighbour_lack_edge_wire(&self, area: Box2, lines: &[StoredLine]) -> bool
         requires inside { AreInBox area (flat_map edge_in lines.now) }
         ensures { result
             ≡ list_any (lacks_edge_wire self.now.setting.circuit (flat_map edge_in lines.now))
@@ -390,7 +390,7 @@ impl<'a> Builder<'a> {
     {
         match owners {
             Some(owners) => self.do_neighbours_lack_a_wire(owners, lines),
-            None => self.does_any_module_lack_wire(area, lines),
+            None => self.does_neighbour_lack_edge_wire(area, lines),
         }
     }
 

@@ -143,7 +143,7 @@ impl<'a> LineTables<'a> {
         let _wire_count = self.circuit.wires();
         match self.circuit.named_wire(name) {
             None => None,
-            Some((wire, name_held_by_circuit)) => Some((wire.number(), name_held_by_circuit)),
+            Some((wire, circuit_name_of_line)) => Some((wire.number(), circuit_name_of_line)),
         }
     }
 

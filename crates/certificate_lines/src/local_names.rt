@@ -72,14 +72,14 @@ fn look_up_local_name<'a>(
     ensures same_name { IfSome result (λ own. own.now ≡ name.now) }
     ensures names { AreLocalNames tables.now.circuit known.now.wires slots.new }
 {
-    let (wire, name_held_by_circuit) = tables.named_wire(name)?;
+    let (wire, circuit_name_of_line) = tables.named_wire(name)?;
     if !known.contains(wire) {
         return None;
     }
     slots[slot] = Some(LocalName {
-        name: name_held_by_circuit,
+        name: circuit_name_of_line,
     });
-    Some(name_held_by_circuit)
+    Some(circuit_name_of_line)
 }
 
 // Returns the circuit's name of the wire of this name, if it is local. It looks the name up only if its slot does not
@@ -176,7 +176,7 @@ impl<'a> LocalNames<'a> {
     ///
     /// The name is looked up only if its slot does not hold it.
     #[inline(always)]
-    pub(crate) fn name_held_by_circuit(&self, tables: &LineTables<'a>, name: &Name) -> &'a Name
+    pub(crate) fn circuit_name_of_line(&self, tables: &LineTables<'a>, name: &Name) -> &'a Name
         requires { IsTrue (is_some (wire_of tables.now.circuit name.now)) }
         ensures { result.now ≡ name.now }
     {
@@ -187,7 +187,7 @@ impl<'a> LocalNames<'a> {
             }
         }
         match tables.named_wire(name) {
-            Some((_, name_held_by_circuit)) => name_held_by_circuit,
+            Some((_, circuit_name_of_line)) => circuit_name_of_line,
             None => unreachable!(),
         }
     }
@@ -195,7 +195,7 @@ impl<'a> LocalNames<'a> {
 
 /// Returns the name in a line as the circuit has it, if the line has one.
 #[inline(always)]
-pub(crate) fn name_held_by_circuit<'a>(
+pub(crate) fn circuit_name_of_line<'a>(
     tables: &LineTables<'a>,
     known: &WireList,
     names: &LocalNames<'a>,
@@ -213,7 +213,7 @@ pub(crate) fn name_held_by_circuit<'a>(
         },
         CertificateLine::Edge(border) => circuit_signal_name(tables, known, names, &border.signal),
         CertificateLine::Halo(border) => circuit_signal_name(tables, known, names, &border.signal),
-        CertificateLine::Stop(stop) => Some(names.name_held_by_circuit(tables, &stop.wire)),
+        CertificateLine::Stop(stop) => Some(names.circuit_name_of_line(tables, &stop.wire)),
         _ => None,
     }
 }
@@ -230,7 +230,7 @@ fn circuit_signal_name<'a>(
     ensures { option_map (λ n. n.now) result ≡ signal.now }
 {
     match signal {
-        Some(name) => Some(names.name_held_by_circuit(tables, name)),
+        Some(name) => Some(names.circuit_name_of_line(tables, name)),
         None => None,
     }
 }

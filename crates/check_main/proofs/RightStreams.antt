@@ -5,7 +5,7 @@ use Rattle.std.proofs.lemmas.List.{append_cancel_left}
 use Rattle.std.specs.Io.KnownBytes.{Appends, Consumes, IsAtEnd}
 use Rattle.answers.specs.declared.outcome.Outcome.{Outcome}
 use Rattle.answers.specs.declared.outcome.Outcome.TheVariants.{Yes}
-use Rattle.meaning.specs.Streams.{HoldsOfKnownInput, SaysYes, YesMeans}
+use Rattle.meaning.specs.Streams.{HoldsOfKnownInput, FourthLineSaysYes, YesMeans}
 use Rattle.headline.specs.ReportLines.{RelatesReadToWritten}
 use Rattle.headline.proofs.FourthLines.{says_on}
 use Rattle.check_main.specs.Program.{YesPromises}
@@ -35,24 +35,25 @@ taken_is (Some xs) (Some ys) before more taken e f appended =
 -- the first bytes of an output were written, or all of them, and a yes of the output means P
 said_right : (P : List ℕ → Type 0)
     (left left' written_bytes written_bytes' : Option (List ℕ)) (text output taken rest : List ℕ) →
-    (SaysYes output → P text) → ReadsAll left left' text →
+    (FourthLineSaysYes output → P text) → ReadsAll left left' text →
     output ≡ taken ++ rest → Appends written_bytes written_bytes' taken → YesMeans P left written_bytes written_bytes'
 said_right P left left' written_bytes written_bytes' text output taken rest holds read whole appended
     before more f g line known e =
     let is = taken_is written_bytes written_bytes' before more taken f g appended in
-    given P left left' text read (holds (subst SaysYes (sym whole) (says_on taken rest (subst SaysYes is line)))) known
+    given P left left' text read (holds
+    (subst FourthLineSaysYes (sym whole) (says_on taken rest (subst FourthLineSaysYes is line)))) known
     e
 
 -- all of it was
 all_said_right : (P : List ℕ → Type 0)
     (left left' written_bytes written_bytes' : Option (List ℕ)) (text output : List ℕ) →
-    (SaysYes output → P text) → ReadsAll left left' text →
+    (FourthLineSaysYes output → P text) → ReadsAll left left' text →
     Appends written_bytes written_bytes' output → YesMeans P left written_bytes written_bytes'
 all_said_right P left left' written_bytes written_bytes' text output holds read appended =
     said_right P left left' written_bytes written_bytes' text output output [] holds read (sym (append-nil output))
     appended
 
-nothing_says : SaysYes [] → ⊥
+nothing_says : FourthLineSaysYes [] → ⊥
 nothing_says e = let more = e.1 in omega (arith, more)
 
 -- nothing was
@@ -61,12 +62,13 @@ nothing_said : (P : List ℕ → Type 0) (left written_bytes written_bytes' : Op
 nothing_said P left written_bytes written_bytes' same before more f g line text e =
     let both : ◌≡◌ {A = Option (List ℕ)} (Some (before ++ more)) (Some before) = sym g ∙ same ∙ f in
     let own : before ++ more ≡ before = cc in
-    absurd (nothing_says (subst SaysYes (append_cancel_left before more [] (own ∙ sym (append-nil before))) line))
+    absurd (nothing_says (subst FourthLineSaysYes
+    (append_cancel_left before more [] (own ∙ sym (append-nil before))) line))
 
 -- a writer was told the output, or its first bytes
 written_right : {E : Type 0} (P : List ℕ → Type 0)
     (left left' written_bytes written_bytes' : Option (List ℕ)) (text output : List ℕ) →
-    (SaysYes output → P text) → ReadsAll left left' text →
+    (FourthLineSaysYes output → P text) → ReadsAll left left' text →
     (result : Result Outcome E) → OnOk result (Appends written_bytes written_bytes' output) →
     IfErr result (λ e. TakesPrefix written_bytes written_bytes' output) → YesMeans P left written_bytes written_bytes'
 written_right P left left' written_bytes written_bytes' text output holds read (Ok o) all front =
@@ -88,7 +90,7 @@ outcome_means P wanted left left' text outcome holds read (Err e) is same = absu
 -- the promise of a yes, if the output was written, or its first bytes
 pub yes_promised : {E : Type 0} (P : List ℕ → Type 0)
     (left left' written_bytes written_bytes' : Option (List ℕ)) (text output : List ℕ) (outcome : Outcome) →
-    SaysYes output ↔ (outcome ≡ Yes) → (outcome ≡ Yes → P text) → ReadsAll left left' text →
+    FourthLineSaysYes output ↔ (outcome ≡ Yes) → (outcome ≡ Yes → P text) → ReadsAll left left' text →
     (result : Result Outcome E) →
     IfOk result (λ o. o ≡ outcome) → OnOk result (Appends written_bytes written_bytes' output) →
     IfErr result (λ e. TakesPrefix written_bytes written_bytes' output) →

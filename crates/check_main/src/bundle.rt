@@ -2,7 +2,7 @@
 ghost use Rattle.std.specs.Prelude.{◌≡◌, ◌<◌, ◌≤◌, ◌↔◌, true, None, IfOk};
 ghost use Rattle.answers.specs.CheckText.{IsReportOf};
 ghost use Rattle.meaning.specs.Headline.{IsRight};
-ghost use Rattle.meaning.specs.Streams.{SaysYes};
+ghost use Rattle.meaning.specs.Streams.{FourthLineSaysYes};
 ghost use Rattle.headline.specs.Stops.{HasRightStops};
 ghost use Rattle.headline.specs.Plain.{IsWrongIfPlain};
 ghost use Rattle.headline.specs.ReportLines.{LinesHaveMeaning};
@@ -59,7 +59,7 @@ pub fn check_text<G: Gate + Sync, R: Threads + Wait + Sync>(
     // The output is the report on the text, with its outcome. `verdict yes` is its fourth line exactly at a yes.
     ensures reported { IfOk result (λ answered. IsReportOf feed.text answered.output.items
         answered.outcome) }
-    ensures fourth_line { IfOk result (λ answered. SaysYes answered.output.items
+    ensures fourth_line { IfOk result (λ answered. FourthLineSaysYes answered.output.items
         ↔ (answered.outcome ≡ Outcome.Yes)) }
 
     // A yes: the layout computes the circuit, and the stops hold. `IsRightInFull` has both, and more.

@@ -6,12 +6,12 @@ use Rattle.std.proofs.lemmas.List.{length-set, length-replicate}
 use Rattle.std.proofs.lemmas.List.Elements.{All-head, All-tail}
 use Rattle.module_job.specs.Jobs.{JobView}
 use Rattle.core_book.specs.Draws.{IsDrawn, total}
-use Rattle.core_book.specs.Claims.{draws_after_claim, next_after_claim, has_ended}
+use Rattle.core_book.specs.Claims.{draws_after_claim, next_after_claim, has_seat_drawn_past_last}
 use Rattle.core_book.specs.Core.{CoreView, IsCore, HasSeatBelow, after_claim, after_event, after_events, draws_of}
 use Rattle.core_book.specs.Core.{ended, new_core, job_count_of}
 use Rattle.core_book.specs.declared.machine.Event.{Event}
 use Rattle.core_book.specs.declared.machine.Event.TheVariants as Events
-use Rattle.core_book.proofs.Counting.{drawn-none, drawn-push, has_ended-push, total-le, total-set}
+use Rattle.core_book.proofs.Counting.{drawn-none, drawn-push, has_seat_drawn_past_last-push, total-le, total-set}
 use Rattle.core_book.proofs.Filings.{IsBook-filed}
 use Rattle.core_book.proofs.Replays.{IsBook-new, IsReplayed-filed, IsReplayed-new}
 
@@ -30,7 +30,7 @@ claim-drawn n next seat lists inside true is = subst (IsDrawn next) (sym (set-sa
 claim-drawn n next seat lists inside false is = drawn-push next lists seat inside is
 
 claim-few : (n next seat : ℕ) (lists : List (List ℕ)) → seat < length lists → (has : Bool) →
-    has_ended n (get_or lists seat []) ≡ has → next ≤ n + total (ended n) lists →
+    has_seat_drawn_past_last n (get_or lists seat []) ≡ has → next ≤ n + total (ended n) lists →
     (if has then next else next + 1)
     ≤ n + total (ended n) (set lists seat (if has then get_or lists seat [] else get_or lists seat [] ++ next ∷ []))
 claim-few n next seat lists inside true e few = omega (arith, few, ap (total (ended n)) (set-same lists seat))
@@ -39,15 +39,15 @@ claim-few n next seat lists inside false e few =
     let moved = total-set (ended n) lists seat (xs ++ next ∷ []) [] inside in
     let before : ended n xs ≡ 0 = ap (λ (b : Bool). if b then 1 else 0) e in
     let now : ended n (xs ++ next ∷ []) ≡ (if nat_lt n (next + 1) then 1 else 0) =
-    ap (λ (b : Bool). if b then 1 else 0) (has_ended-push n xs next) in
+    ap (λ (b : Bool). if b then 1 else 0) (has_seat_drawn_past_last-push n xs next) in
     grind (arith, nat_tests)
 
 pub claim-core : (c : CoreView) (seat : ℕ) → seat < length c.draws → IsCore c → IsCore (after_claim c seat)
 claim-core c seat inside is =
     let n = job_count_of c in
     record {
-      drawn = claim-drawn n c.next seat c.draws inside (has_ended n (draws_of c seat)) is.drawn;
-      few = claim-few n c.next seat c.draws inside (has_ended n (draws_of c seat)) refl is.few;
+      drawn = claim-drawn n c.next seat c.draws inside (has_seat_drawn_past_last n (draws_of c seat)) is.drawn;
+      few = claim-few n c.next seat c.draws inside (has_seat_drawn_past_last n (draws_of c seat)) refl is.few;
       book_is = is.book_is;
       replayed = is.replayed;
     }
@@ -97,7 +97,7 @@ unfolding new_core
 length-new digest jobs seats = length-replicate seats []
 
 ended-one : (n : ℕ) (xs : List ℕ) → ended n xs ≤ 1
-ended-one n xs = by_case (has_ended n xs)
+ended-one n xs = by_case (has_seat_drawn_past_last n xs)
   where
     by_case : (b : Bool) → (if b then 1 else 0) ≤ 1
     by_case true = omega arith

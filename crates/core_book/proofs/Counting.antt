@@ -4,7 +4,7 @@ use Rattle.std.proofs.Common.{get_or, set, length-append, nat_le, nat_lt, replic
 use Rattle.std.proofs.lemmas.Option.{same_Some}
 use Rattle.std.proofs.lemmas.Bool.Decides.{nat_tests}
 use Rattle.core_book.specs.Draws.{IsDrawn, past_last, one_if_below, times, total}
-use Rattle.core_book.specs.Claims.{has_ended}
+use Rattle.core_book.specs.Claims.{has_seat_drawn_past_last}
 
 -- ---- sums
 
@@ -39,8 +39,9 @@ past_last-push [] x = refl
 past_last-push (y ∷ []) x = refl
 past_last-push (y ∷ z ∷ zs) x = past_last-push (z ∷ zs) x
 
-pub has_ended-push : (n : ℕ) (xs : List ℕ) (x : ℕ) → has_ended n (xs ++ x ∷ []) ≡ nat_lt n (x + 1)
-has_ended-push n xs x = ap (nat_lt n) (past_last-push xs x)
+pub has_seat_drawn_past_last-push : (n : ℕ) (xs : List ℕ) (x : ℕ) →
+    has_seat_drawn_past_last n (xs ++ x ∷ []) ≡ nat_lt n (x + 1)
+has_seat_drawn_past_last-push n xs x = ap (nat_lt n) (past_last-push xs x)
 
 pub drawn-push : (counter : ℕ) (lists : List (List ℕ)) (seat : ℕ) → seat < length lists → IsDrawn counter lists →
     IsDrawn (counter + 1) (set lists seat (get_or lists seat [] ++ counter ∷ []))
@@ -74,7 +75,7 @@ end-stands (y ∷ z ∷ zs) n below =
 
 -- where a seat has ended, all numbers were drawn
 pub ended-all : (n counter : ℕ) (lists : List (List ℕ)) (seat : ℕ) → seat < length lists →
-    has_ended n (get_or lists seat []) ≡ true → IsDrawn counter lists → n < counter
+    has_seat_drawn_past_last n (get_or lists seat []) ≡ true → IsDrawn counter lists → n < counter
 ended-all n counter lists seat inside has is =
     let below : n < past_last (get_or lists seat []) = grind (arith, nat_tests) in
     let there = end-stands (get_or lists seat []) n below in
@@ -99,7 +100,8 @@ some-length : (xs : List ℕ) (x : ℕ) → slice_get xs (length xs - 1) ≡ Som
 some-length [] x e = cc
 some-length (y ∷ ys) x e = omega arith
 
-pub has_ended-last : (n : ℕ) (xs : List ℕ) (x : ℕ) → slice_get xs (length xs - 1) ≡ Some x → nat_le n x ≡ has_ended n xs
-has_ended-last n xs x e =
+pub has_seat_drawn_past_last-last : (n : ℕ) (xs : List ℕ) (x : ℕ) → slice_get xs (length xs - 1) ≡ Some x →
+    nat_le n x ≡ has_seat_drawn_past_last n xs
+has_seat_drawn_past_last-last n xs x e =
     let end : past_last xs ≡ x + 1 = last-end xs (length xs - 1) x (some-length xs x e) e in
     grind (arith, nat_tests)

@@ -11,7 +11,7 @@ use Rattle.module_job.specs.Jobs.{JobView}
 use Rattle.local_run.specs.Shown.{number_of}
 use Rattle.local_run.specs.declared.finding.Finding.{Finding}
 use Rattle.core_book.specs.Draws.{IsDrawn, times, total}
-use Rattle.core_book.specs.Claims.{claim_of_draw, has_ended}
+use Rattle.core_book.specs.Claims.{claim_of_draw, has_seat_drawn_past_last}
 use Rattle.core_book.specs.Book.{IsBook, IsReplayed, after_filing, found_in, reply_to}
 use Rattle.core_book.specs.Core.{CoreView, IsCore, HasSeatBelow, after_claim, after_event, after_events}
 use Rattle.core_book.specs.Core.{answer_of_claim, answer_to, draws_of, new_core, job_count_of}
@@ -43,7 +43,7 @@ draws-each-once digest jobs seats es seated = (all-core digest jobs seats es sea
 
 -- where a claim answers `Empty`, the next number after it is past the numbers
 empty-past : (n next : ℕ) (lists : List (List ℕ)) (seat : ℕ) → seat < length lists → IsDrawn next lists → (has : Bool) →
-    has_ended n (get_or lists seat []) ≡ has →
+    has_seat_drawn_past_last n (get_or lists seat []) ≡ has →
     answer_of_claim (if has then Claimed.Empty else claim_of_draw n next) ≡ Answered.Empty →
     n ≤ (if has then next else next + 1)
 empty-past n next lists seat inside is true e h = let past = ended-all n next lists seat inside e is in
@@ -63,7 +63,7 @@ empty-all : (c : CoreView) (seat : ℕ) → seat < length c.draws → IsCore c �
     answer_to c (Events.Claim seat) ≡ Answered.Empty → AreAllDrawn (after_claim c seat)
 empty-all c seat inside is h =
     let n = job_count_of c in
-    let past = empty-past n c.next c.draws seat inside is.drawn (has_ended n (draws_of c seat)) refl h in
+    let past = empty-past n c.next c.draws seat inside is.drawn (has_seat_drawn_past_last n (draws_of c seat)) refl h in
     all-below (after_claim c seat).next (after_claim c seat).draws n (claim-core c seat inside is).drawn past
 
 pub empty-where_all_are_drawn : EmptyOnlyIfAllAreDrawn

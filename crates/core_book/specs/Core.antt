@@ -3,7 +3,7 @@ use Rattle.std.specs.Prelude.{ℕ, ◌+◌, ◌<◌, ◌≤◌, List, [], ◌∷
 use Rattle.std.specs.Prelude.{if◌then◌else◌, ⊤}
 use Rattle.module_job.specs.Jobs.{JobView}
 use Rattle.core_book.specs.Draws.{IsDrawn, total}
-use Rattle.core_book.specs.Claims.{claim_answer, draws_after_claim, next_after_claim, has_ended}
+use Rattle.core_book.specs.Claims.{claim_answer, draws_after_claim, next_after_claim, has_seat_drawn_past_last}
 use Rattle.core_book.specs.Book.{BookView, IsBook, IsReplayed, after_filing, new_book, reply_to}
 use Rattle.core_book.specs.declared.claim.Claim.{Claim}
 use Rattle.core_book.specs.declared.claim.Claim.TheVariants as Claimed
@@ -77,7 +77,7 @@ HasSeatBelow seats (Events.Lose number) = ⊤
 
 -- 1 for a list that has ended, and else 0
 abbrev pub ended : ℕ → List ℕ → ℕ
-ended n draws = if has_ended n draws then 1 else 0
+ended n draws = if has_seat_drawn_past_last n draws then 1 else 0
 
 -- Each number below the next was drawn, once. No more numbers were drawn than there are, but for one of each seat that
 -- has ended. The book is one, and its history replays to it

@@ -24,7 +24,7 @@ use Rattle.certificate_lines.proofs.Lists.{kept}
 use Rattle.core_book.specs.declared.verdict.Verdict.{Verdict}
 use Rattle.core_book.specs.declared.verdict.Verdict.TheVariants as verdict
 use Rattle.report.specs.ReportText.{report_line_text, refusal_line, report_lines, verdict_lines}
-use Rattle.meaning.specs.Streams.{SaysYes}
+use Rattle.meaning.specs.Streams.{FourthLineSaysYes}
 use Rattle.headline.specs.Laws.{SaysYesMeansFourthLine}
 
 -- ---- bytes that are no line feed
@@ -158,11 +158,11 @@ to_parts (a ∷ b ∷ c ∷ d ∷ e ∷ parts) w h = (h, omega arith)
 abbrev HasYes : List ℕ → Type 0
 HasYes output = slice_get (lines_of output) 3 ≡ Some (codes "verdict yes")
 
-has_yes : (output : List ℕ) → SaysYes output → HasYes output
+has_yes : (output : List ℕ) → FourthLineSaysYes output → HasYes output
 unfolding lines_of
 has_yes output h = from_parts (slice_split is_line_feed output) (codes "verdict yes") h
 
-pub says_yes_by_line : (output : List ℕ) → HasYes output → SaysYes output
+pub says_yes_by_line : (output : List ℕ) → HasYes output → FourthLineSaysYes output
 unfolding lines_of
 says_yes_by_line output h = to_parts (slice_split is_line_feed output) (codes "verdict yes") h
 
@@ -170,12 +170,12 @@ yes_is_not_no : ◌≡◌ {A = Option (List ℕ)} (Some (codes "verdict no")) (S
 yes_is_not_no e = cc
 
 -- a report that says yes is one of a yes
-pub says_yes : (c : CertView) (v : Verdict) → SaysYes (report_lines c v) → v ≡ verdict.Yes
+pub says_yes : (c : CertView) (v : Verdict) → FourthLineSaysYes (report_lines c v) → v ≡ verdict.Yes
 says_yes c verdict.Yes e = refl
 says_yes c (verdict.No lines) e =
     absurd (yes_is_not_no (sym (fourth_line c (verdict.No lines)) ∙ has_yes (report_lines c (verdict.No lines)) e))
 
-pub yes_says : (c : CertView) → SaysYes (report_lines c verdict.Yes)
+pub yes_says : (c : CertView) → FourthLineSaysYes (report_lines c verdict.Yes)
 yes_says c = says_yes_by_line (report_lines c verdict.Yes) (fourth_line c verdict.Yes)
 
 -- and the line for a refusal does not say yes
@@ -191,7 +191,7 @@ none_is_no_yes : (l : List ℕ) → slice_get (l ∷ lines_of []) 3 ≡ Some (co
 unfolding lines_of
 none_is_no_yes l e = cc
 
-pub refusal_says_none : (r : Refusal) → SaysYes (refusal_line r) → ⊥
+pub refusal_says_none : (r : Refusal) → FourthLineSaysYes (refusal_line r) → ⊥
 refusal_says_none r e = none_is_no_yes (refused r)
     (sym (ap (λ ls. slice_get ls 3) (line_ahead (refused r) [] (clean_refused r))) ∙ has_yes (refusal_line r) e)
 
@@ -237,7 +237,7 @@ has_on front rest e =
     let g = grown front rest in
     ap (λ ls. slice_get ls 3) g.are ∙ kept (ended (slice_split is_line_feed front)) g.others 3 (codes "verdict yes") e
 
-pub says_on : (front rest : List ℕ) → SaysYes front → SaysYes (front ++ rest)
+pub says_on : (front rest : List ℕ) → FourthLineSaysYes front → FourthLineSaysYes (front ++ rest)
 says_on front rest e = says_yes_by_line (front ++ rest) (has_on front rest (has_yes front e))
 
 pub fourth_line_is_line : SaysYesMeansFourthLine

@@ -23,7 +23,7 @@ use Rattle.pattern.specs.declared.layout_line.LayoutLine.TheVariants.{Mirror, Ba
 use Rattle.core_book.specs.Concluding.{port_names_of}
 use Rattle.answers.specs.declared.outcome.Outcome.TheVariants.{Yes, Refused}
 use Rattle.meaning.specs.Printed.{BeginsWithDesign, IsForm, IsLine, layout_forms, part_form}
-use Rattle.headline.specs.Laws.{ReadDesignIsPrinted, RightSaysCorrectDesign, YesMeansRight}
+use Rattle.headline.specs.Laws.{TextBeginsWithReadDesign, RightSaysCorrectDesign, YesMeansRight}
 use Rattle.headline.specs.SmallDesigns.{IsDesign}
 use Rattle.headline.proofs.Printed.{IsNumber, are_names, circuit_lines, circuit_same, counts_of, layout_same}
 use Rattle.headline.proofs.Printed.{other_forms, parts_read, printed_is_read, size_form}
@@ -139,7 +139,7 @@ design_printed text rest circuit p design e =
       layout_lines = fs;
     }
 
-pub read_is_printed : ReadDesignIsPrinted
+pub read_is_printed : TextBeginsWithReadDesign
 read_is_printed text output outcome circuit p reports some says =
     let good = good_designs text output outcome circuit p reports some says in
     design_printed text good.rest circuit p (designs_are_read text output outcome circuit p reports some says)

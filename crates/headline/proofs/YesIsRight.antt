@@ -60,7 +60,7 @@ use Rattle.pattern.specs.FromLines.{layout_of}
 use Rattle.answers.specs.BundleText.{Bundle, bundle_of}
 use Rattle.answers.specs.CheckText.{IsReportOf, SaysReport, verdict_outcome}
 use Rattle.meaning.specs.Design.{SaysDesign}
-use Rattle.meaning.specs.Streams.{SaysYes}
+use Rattle.meaning.specs.Streams.{FourthLineSaysYes}
 use Rattle.headline.specs.Laws.{FourthLineShowsOutcome, SaysCorrectDesign, UnrefusedDesignIsGood, YesHasOneValuation}
 use Rattle.headline.specs.Laws.{YesMeansRightStops}
 use Rattle.headline.specs.RightInFull.{IsGoodDesign}
@@ -436,23 +436,26 @@ yes_has_right_stops text output says =
 -- ---- the fourth line
 
 line_tells : (output : List ℕ) (outcome : Outcome) (read : Result Bundle Refusal) →
-    Answered SaysReport read output outcome → (SaysYes output → outcome ≡ Yes) × (outcome ≡ Yes → SaysYes output)
+    Answered SaysReport read output outcome →
+    (FourthLineSaysYes output → outcome ≡ Yes) × (outcome ≡ Yes → FourthLineSaysYes output)
 line_tells output outcome (Ok b) says = (
-  λ line. says.ends ∙ ap verdict_outcome (says_yes says.certificate says.verdict (subst SaysYes says.says line)),
+  λ line. says.ends ∙ ap verdict_outcome
+      (says_yes says.certificate says.verdict (subst FourthLineSaysYes says.says line)),
   λ is.
       let v : says.verdict ≡ verdict.Yes = is_yes says.verdict (sym is ∙ says.ends) in
-      subst SaysYes (sym says.says)
-      (subst (λ (w : Verdict). SaysYes (report_lines says.certificate w)) (sym v) (yes_says says.certificate)),
+      subst FourthLineSaysYes (sym says.says)
+      (subst (λ (w : Verdict). FourthLineSaysYes (report_lines says.certificate w)) (sym v)
+      (yes_says says.certificate)),
 )
 line_tells output outcome (Err refusal) told = (
-  λ line. absurd (refusal_says_none refusal (subst SaysYes told.0 line)),
+  λ line. absurd (refusal_says_none refusal (subst FourthLineSaysYes told.0 line)),
   λ is. absurd (not_refused (sym is ∙ told.1)),
 )
 
 pub fourth_line-tells : FourthLineShowsOutcome
 fourth_line-tells text output outcome says = line_tells output outcome (bundle_of text) says
 
-pub by_line : (text output : List ℕ) (outcome : Outcome) → IsReportOf text output outcome → SaysYes output →
+pub by_line : (text output : List ℕ) (outcome : Outcome) → IsReportOf text output outcome → FourthLineSaysYes output →
     IsReportOf text output Yes
 by_line text output outcome says line =
     subst (λ o. IsReportOf text output o) ((fourth_line-tells text output outcome says).0 line) says

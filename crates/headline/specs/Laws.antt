@@ -13,7 +13,7 @@ use Rattle.meaning.specs.Design.{SaysDesign}
 use Rattle.headline.specs.ThereAndBack.{there_and_back}
 use Rattle.headline.specs.TimedModules.{timed_modules}
 use Rattle.meaning.specs.Headline.{IsRight}
-use Rattle.meaning.specs.Streams.{SaysYes}
+use Rattle.meaning.specs.Streams.{FourthLineSaysYes}
 use Rattle.meaning.specs.Implements.{IsCorrect}
 use Rattle.meaning.specs.Printed.{BeginsWithDesign}
 use Rattle.headline.specs.Stops.{HasRightStops, SaysBundle}
@@ -49,8 +49,8 @@ PrintedDesignIsRead = (text : List ℕ) (circuit : List CircuitLine) (layout : P
     BeginsWithDesign text circuit layout → SaysDesign text circuit layout
 
 -- and a text that is not refused begins with the circuit and the layout that it says
-abbrev pub ReadDesignIsPrinted : Type 0
-ReadDesignIsPrinted = (text output : List ℕ) (outcome : Outcome) (circuit : List CircuitLine) (layout : Pattern) →
+abbrev pub TextBeginsWithReadDesign : Type 0
+TextBeginsWithReadDesign = (text output : List ℕ) (outcome : Outcome) (circuit : List CircuitLine) (layout : Pattern) →
     IsReportOf text output outcome → outcome ≢ Refused →
     SaysDesign text circuit layout → BeginsWithDesign text circuit layout
 
@@ -78,12 +78,12 @@ YesHasOneValuation = (text output : List ℕ) (circuit : List CircuitLine) (layo
 -- a report says yes in its fourth line exactly if that is the outcome
 abbrev pub FourthLineShowsOutcome : Type 0
 FourthLineShowsOutcome = (text output : List ℕ) (outcome : Outcome) → IsReportOf text output outcome →
-    (SaysYes output → outcome ≡ Yes) × (outcome ≡ Yes → SaysYes output)
+    (FourthLineSaysYes output → outcome ≡ Yes) × (outcome ≡ Yes → FourthLineSaysYes output)
 
 -- and the fourth line is that of the lines of the output
 abbrev pub SaysYesMeansFourthLine : Type 0
 SaysYesMeansFourthLine = (output : List ℕ) →
-    SaysYes output ↔ (slice_get (lines_of output) 3 ≡ Some (codes "verdict yes"))
+    FourthLineSaysYes output ↔ (slice_get (lines_of output) 3 ≡ Some (codes "verdict yes"))
 
 -- a text says one circuit and one layout at most
 abbrev pub SaysOneDesign : Type 0

@@ -1,6 +1,6 @@
 //! Laws of the definitions, each the contract of a function without a body.
 ghost use Rattle.answers.specs.CheckText.{IsReportOf};
-ghost use Rattle.headline.specs.Laws.{BeginsWithOneDesign, SaysYesMeansFourthLine, FourthLineShowsOutcome, HasAnAnswer, HasAtMostOneAnswer, PrintedDesignIsRead, ReadDesignIsPrinted, UnrefusedDesignIsGood, RightSaysCorrectDesign, SaysOneCertificate, SaysOneDesign, ThereAndBackIsAccepted, TimedModulesAreAccepted, YesHasOneValuation, YesMeansRight, YesMeansRightInFull, YesMeansRightStops};
+ghost use Rattle.headline.specs.Laws.{BeginsWithOneDesign, SaysYesMeansFourthLine, FourthLineShowsOutcome, HasAnAnswer, HasAtMostOneAnswer, PrintedDesignIsRead, TextBeginsWithReadDesign, UnrefusedDesignIsGood, RightSaysCorrectDesign, SaysOneCertificate, SaysOneDesign, ThereAndBackIsAccepted, TimedModulesAreAccepted, YesHasOneValuation, YesMeansRight, YesMeansRightInFull, YesMeansRightStops};
 ghost use Rattle.headline.specs.PlainLaws.{UnrefusedKeepsDesignRules, EachSmallDesignHasPlainText, EachSmallDesignIsDecided, PlainIsDecided, PlainLinesTextIsDecided, PlainNoMeansWrong, RefusedIsNoSmallDesign, SmallDesignIsDecided, ThereAndBackIsPlain, ThereAndBackIsSmall, YesKeepsOffRim, LinesOfNoHaveMeaning};
 ghost use Rattle.headline.specs.Witnesses.{PlainNoIsRefuted, PlainYesIsAccepted, SmallDesignIsAccepted, SmallDesignIsRefuted};
 ghost use Rattle.headline.specs.MovedDesigns.{EachCorrectDesignGetsYes, SomeDesignNeedsRoom};
@@ -74,7 +74,7 @@ pub fn yes_means_right()
 ///
 /// The text is wrong: the layout does not compute the circuit, or the stops are not right, or the layout touches its
 /// rim. No text with a yes touches its rim. So `check` decides plain texts that are not refused.
-pub fn no_means_wrong()
+pub fn plain_no_means_wrong()
     ensures no { PlainNoMeansWrong }
     ensures off_rim { YesKeepsOffRim }
     ensures decided { PlainIsDecided }
@@ -136,7 +136,7 @@ pub fn says_one_design()
     ensures certificate { SaysOneCertificate }
     ensures good { UnrefusedDesignIsGood }
     ensures printed { PrintedDesignIsRead }
-    ensures read { ReadDesignIsPrinted }
+    ensures read { TextBeginsWithReadDesign }
     ensures begins { BeginsWithOneDesign }
 {}
 

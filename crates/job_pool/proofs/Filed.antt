@@ -8,7 +8,7 @@ use Rattle.std.proofs.lemmas.List.Sums.{sum_by-cons}
 use mathlib.Core.Option.{some}
 use lib.ListN.{get_elem?}
 use Rattle.core_book.specs.declared.claim.Claim.TheVariants.{Number, Empty}
-use Rattle.core_book.specs.Claims.{claim_answer, draws_after_claim, has_ended}
+use Rattle.core_book.specs.Claims.{claim_answer, draws_after_claim, has_seat_drawn_past_last}
 use Rattle.core_book.specs.Draws.{past_last, total, IsDrawn}
 use Rattle.job_pool.specs.declared.desk.Desk.{Desk}
 use Rattle.job_pool.specs.declared.worker.Worker.{Worker}
@@ -32,7 +32,7 @@ by_cases false false groups n next before below t e =
 pub empty_adds_none : (groups : List ℕ) (n next : ℕ) (before after : List ℕ) → All (λ g. g < n) groups →
     Empty ≡ claim_answer n before next → after ≡ draws_after_claim n before next → due groups after ≡ due groups before
 empty_adds_none groups n next before after below e is =
-    ap (due groups) is ∙ by_cases (has_ended n before) (nat_lt next n) groups n next before below refl e
+    ap (due groups) is ∙ by_cases (has_seat_drawn_past_last n before) (nat_lt next n) groups n next before below refl e
 
 -- where a list ends with a draw of n or more, all numbers below n were drawn, and so the findings of all members are
 -- due

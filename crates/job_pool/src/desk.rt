@@ -43,11 +43,11 @@ pub struct DeskSeat {
 }
 
 impl DeskSeat {
-    ghost use Rattle.core_book.specs.Claims.{has_ended};
+    ghost use Rattle.core_book.specs.Claims.{has_seat_drawn_past_last};
 
     // Whether the seat met the end: then it draws no more.
-    fn has_ended(&self) -> bool
-        ensures { result ≡ has_ended self.now.numbers self.now.drawn.items }
+    fn has_seat_drawn_past_last(&self) -> bool
+        ensures { result ≡ has_seat_drawn_past_last self.now.numbers self.now.drawn.items }
     {
         let count = self.drawn.len();
         count > 0 && self.drawn[count - 1] >= self.numbers
@@ -123,7 +123,7 @@ impl Desk {
         ensures answer { IsAnswerToClaim (number_count_of self.now) seat.old seat.new result }
         ensures seen { seen_by seat.old ≤ seen_by seat.new }
     {
-        if seat.has_ended() {
+        if seat.has_seat_drawn_past_last() {
             return Claim::Empty;
         }
         let found = self.table.shared.fetch_add::<Claims>(&mut seat.seat, 0, 1) as usize;

@@ -5,7 +5,7 @@ use Rattle.std.proofs.Props.{props}
 use Rattle.circuit.specs.Meaning.{Valuation}
 use Rattle.module_box.specs.Boxes.{in_box, in_ring}
 use Rattle.module_box.specs.Locals.{is_among}
-use Rattle.module_box.specs.LocalValues.{IsLocalValuation, IsLocallyUndefined}
+use Rattle.module_box.specs.LocalValues.{IsLocalValuation, IsFirstLocalGateWithoutRow}
 use Rattle.module_box.specs.Schedules.{signal_at}
 use Rattle.module_job.specs.Jobs.{JobView, job_demand}
 use Rattle.module_job.specs.Signals.{is_live, MeetsDemand}
@@ -77,7 +77,7 @@ IsLeastFault-prop j (Some f) = Prim.hlevel props
 pub record IsKeepFault (j : JobView) (f : KeepFault) : Type 0 where
   pub in_range : f.assignment < assignments j
   pub is_kept : IsTrue (is_among j.kept f.gate)
-  pub shown : ∥ IsLocallyUndefined j.locals f.assignment f.gate ∥₁
+  pub shown : ∥ IsFirstLocalGateWithoutRow j.locals f.assignment f.gate ∥₁
 
 -- the job's least keep fault, or `None` if it has none
 abbrev pub IsLeastKeepFault : JobView → Option KeepFault → Type 0

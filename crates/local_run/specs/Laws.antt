@@ -2,7 +2,7 @@
 use Rattle.std.specs.Prelude.{◌≡◌, ℕ, ℤ, ◌+◌, ◌<◌, ◌≤◌, ◌%◌, ◌↔◌, Option, None, IsTrue}
 use Rattle.std.specs.List.{All}
 use Rattle.circuit.specs.Meaning.{Valuation, AreOrdered}
-use Rattle.module_box.specs.LocalValues.{IsLocalValuation, IsLocallyUndefined}
+use Rattle.module_box.specs.LocalValues.{IsLocalValuation, IsFirstLocalGateWithoutRow}
 use Rattle.module_box.specs.Laws.{LiesInBox}
 use Rattle.module_box.specs.Boxes.{in_halo}
 use Rattle.module_box.specs.Schedules.{Signals, signal_at}
@@ -39,7 +39,7 @@ LeastKeepFaultIsUnique = (j : JobView) (f g : Option KeepFault) → IsLeastKeepF
 -- if some used gate has no row under an assignment, the job has no fault under it
 abbrev pub NoFaultWhereUndefined : Type 0
 NoFaultWhereUndefined = (j : JobView) (f : Fault) (k : ℕ) → AreOrdered j.locals.netlist.given j.locals.netlist.gates →
-    IsLocallyUndefined j.locals f.assignment k → ¬ IsFault j f
+    IsFirstLocalGateWithoutRow j.locals f.assignment k → ¬ IsFault j f
 
 -- a job has one least fault, or none
 abbrev pub LeastFaultIsUnique : Type 0

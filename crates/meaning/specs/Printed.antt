@@ -1,6 +1,6 @@
 -- How a text prints a design: a circuit, and then a layout. Each line is as docs/FORMATS.md shows it. Three laws of the
 -- crate `headline` are about it. A text begins with one design at most (`BeginsWithOneDesign`). It is the design that
--- the text is read as (`PrintedDesignIsRead`, `ReadDesignIsPrinted`; `SaysDesign` in Design.antt).
+-- the text is read as (`PrintedDesignIsRead`, `TextBeginsWithReadDesign`; `SaysDesign` in Design.antt).
 use Rattle.std.specs.Prelude.{◌≡◌, ◌<◌, ◌^◌, ℕ, ℤ, pos, List, [], ◌∷◌, ◌++◌, drop, length, map, codes, IsTrue}
 use Rattle.std.specs.Prelude.{if◌then◌else◌}
 use Rattle.std.specs.List.{All, flat_map}

@@ -3,8 +3,8 @@ use Rattle.std.specs.Prelude.{◌≡◌, ◌<◌, ◌==◌, ℕ, List, ◌++◌,
 use Rattle.std.specs.List.{slice_split}
 
 -- the fourth line of an output says yes, and a line feed ends it
-abbrev pub SaysYes : List ℕ → Type 0
-SaysYes output = let parts = slice_split (λ b. b == 10) output in
+abbrev pub FourthLineSaysYes : List ℕ → Type 0
+FourthLineSaysYes output = let parts = slice_split (λ b. b == 10) output in
     (slice_get parts 3 ≡ Some (codes "verdict yes")) × (4 < length parts)
 
 -- P holds of what there is to read, if that is known
@@ -14,4 +14,4 @@ HoldsOfKnownInput P left = (text : List ℕ) → left ≡ Some text → P text
 -- A writer's bytes are known, before and after. If the output says yes, P holds of what there was to read, if known.
 abbrev pub YesMeans : (List ℕ → Type 0) → Option (List ℕ) → Option (List ℕ) → Option (List ℕ) → Type 0
 YesMeans P left written_bytes written_bytes' = (before output : List ℕ) → written_bytes ≡ Some before →
-    written_bytes' ≡ Some (before ++ output) → SaysYes output → HoldsOfKnownInput P left
+    written_bytes' ≡ Some (before ++ output) → FourthLineSaysYes output → HoldsOfKnownInput P left

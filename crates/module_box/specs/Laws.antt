@@ -8,7 +8,7 @@ use Rattle.module_box.specs.Boxes.{in_box, in_ring, in_halo, IsEven, Tile}
 use Rattle.module_box.specs.Tiling.{rectangle_of, IsTask, IsTileFault}
 use Rattle.module_box.specs.Schedules.{Signals}
 use Rattle.module_box.specs.Locals.{LocalNet, AreLocalsOf, circuit_gate}
-use Rattle.module_box.specs.LocalValues.{IsLocalValuation, IsLocallyUndefined, values_by_local_number}
+use Rattle.module_box.specs.LocalValues.{IsLocalValuation, IsFirstLocalGateWithoutRow, values_by_local_number}
 use Rattle.module_box.specs.Equality.{same_locals, same_signals}
 use Rattle.module_box.specs.declared.boxes.Box2.{Box2}
 use Rattle.module_box.specs.declared.tile.TileFault.{TileFault}
@@ -84,4 +84,5 @@ abbrev pub UndefinedGateIsSeenLocally : Type 0
 UndefinedGateIsSeenLocally = (n : Netlist) (l : LocalNet) (inputs : Valuation) (k place a : ℕ) → AreLocalsOf n l →
     (u : IsUndefined n inputs k) →
     place < length l.netlist.gates → circuit_gate l place ≡ k →
-    ((i : ℕ) → i < l.netlist.given → bit a i ≡ values_by_local_number l u.values i) → IsLocallyUndefined l a place
+    ((i : ℕ) → i < l.netlist.given → bit a i ≡ values_by_local_number l u.values i) →
+    IsFirstLocalGateWithoutRow l a place

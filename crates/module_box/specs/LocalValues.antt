@@ -21,8 +21,8 @@ abbrev pub IsLocalValuation : LocalNet → ℕ → Valuation → Type 0
 IsLocalValuation l cut_bits v = Satisfies l.netlist (bit cut_bits) v
 
 -- under an assignment the gate at place k among those that the module uses is the first that has no row
-abbrev pub IsLocallyUndefined : LocalNet → ℕ → ℕ → Type 0
-IsLocallyUndefined l cut_bits k = IsUndefined l.netlist (bit cut_bits) k
+abbrev pub IsFirstLocalGateWithoutRow : LocalNet → ℕ → ℕ → Type 0
+IsFirstLocalGateWithoutRow l cut_bits k = IsUndefined l.netlist (bit cut_bits) k
 
 -- the values of the circuit's wires, by the numbers that they have in the module
 abbrev pub values_by_local_number : LocalNet → Valuation → Valuation

@@ -7,7 +7,7 @@ use Rattle.bbm_rule.specs.declared.block.Cell.{Cell}
 use Rattle.pattern.specs.declared.layout_line.Rectangle.{Rectangle}
 use Rattle.pattern.specs.declared.layout_line.Port.{Port}
 use Rattle.pattern.specs.Layout.{Pattern, in_cells, in_rectangles, in_ports_on, rectangle_cells, start}
-use Rattle.pattern.specs.Run.{start_cells_in_order}
+use Rattle.pattern.specs.Run.{start_cells_by_kind}
 use Rattle.pattern.proofs.RectangleLemmas.{in_rectangle_cells}
 
 in_mirrors : (rs : List Rectangle) (x y : ℤ) → in_cells (flat_map rectangle_cells rs) x y ≡ in_rectangles rs x y
@@ -27,8 +27,8 @@ in_ports on (q ∷ qs) x y = in_port (on q.name) q (filter (λ (q : Port). on q.
     (in_ports on qs x y)
 
 pub in_start_list : (p : Pattern) (on : List ℕ → Bool) (x y : ℤ) →
-    in_cells (start_cells_in_order p on) x y ≡ start p on x y
-unfolding start_cells_in_order start
+    in_cells (start_cells_by_kind p on) x y ≡ start p on x y
+unfolding start_cells_by_kind start
 in_start_list p on x y =
     let ports : List Cell = map (λ (q : Port). q.cell) (filter (λ (q : Port). on q.name) p.ins) in
     let test = λ (c : Cell). is_at c x y in
@@ -38,8 +38,8 @@ in_start_list p on x y =
     ∙ ap (λ (b : Bool). in_rectangles p.mirrors x y || in_cells p.balls x y || b) (in_ports on p.ins x y)
 
 pub start_list_made : (p : Pattern) (on : List ℕ → Bool) (a b c : List Cell) → a ≡ flat_map rectangle_cells p.mirrors →
-    b ≡ a ++ p.balls → c ≡ b ++ map (λ q. q.cell) (filter (λ q. on q.name) p.ins) → c ≡ start_cells_in_order p on
-unfolding start_cells_in_order
+    b ≡ a ++ p.balls → c ≡ b ++ map (λ q. q.cell) (filter (λ q. on q.name) p.ins) → c ≡ start_cells_by_kind p on
+unfolding start_cells_by_kind
 start_list_made p on a b c e f g =
     g ∙ ap (λ (l : List Cell). l ++ map (λ (q : Port). q.cell) (filter (λ (q : Port). on q.name) p.ins))
     (f ∙ ap (λ (l : List Cell). l ++ p.balls) e)

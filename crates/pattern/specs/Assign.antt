@@ -13,8 +13,8 @@ abbrev pub AssignLine : Type 0
 AssignLine = Form (Unit {0}) (List ℕ)
 
 -- the form of a line by its words, if it has one
-unfoldable pub assign_form : List (List ℕ) → Option AssignLine
-assign_form ws =
+unfoldable pub form_in_assign_section : List (List ℕ) → Option AssignLine
+form_in_assign_section ws =
     if is_word_at ws 0 (codes "assign") then lone ws (Header tt)
     else if is_word_at ws 0 (codes "on") then (lone_name ws >>= λ n. Some (Item n))
     else if is_word_at ws 0 (codes "end") then lone ws End
@@ -27,7 +27,7 @@ name_on_fault ins before n = or_else (code_if (not (has ins n)) UnknownName) (co
 -- the section, if these names may be on
 abbrev pub assign_grammar : List (List ℕ) → Grammar (Unit {0}) (List ℕ)
 assign_grammar ins = record {
-  form = assign_form;
+  form = form_in_assign_section;
   header_fault = λ h. None;
   item_fault = λ h before n. name_on_fault ins before n;
   end_fault = λ h names. None;

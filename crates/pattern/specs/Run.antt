@@ -27,8 +27,8 @@ pub record RunLeaves (s : LayoutHeader) (first : State) (k : ℕ) : Type 0 where
   pub leaves : GoesOutside s (run first k)
 
 -- the cells of the start: the mirrors' row by row, the balls, the input cells whose name is on
-unfoldable pub start_cells_in_order : Pattern → (List ℕ → Bool) → List Cell
-start_cells_in_order p on = flat_map rectangle_cells p.mirrors ++ p.balls
+unfoldable pub start_cells_by_kind : Pattern → (List ℕ → Bool) → List Cell
+start_cells_by_kind p on = flat_map rectangle_cells p.mirrors ++ p.balls
     ++ map (λ q. q.cell) (filter (λ q. on q.name) p.ins)
 
 -- the live cells of the layout, in order of y and then x

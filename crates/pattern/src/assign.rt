@@ -3,7 +3,7 @@ ghost use Rattle.std.specs.Prelude.{◌≡◌, ℕ, true, [], List};
 ghost use Rattle.section_text.specs.Words.{words_of, has};
 ghost use Rattle.section_text.specs.Feeds.{IsLine, line_bytes};
 ghost use Rattle.section_text.specs.Section.{Reads};
-ghost use Rattle.pattern.specs.Assign.{assign_form, assign_grammar, assign_section, name_on_fault};
+ghost use Rattle.pattern.specs.Assign.{form_in_assign_section, assign_grammar, assign_section, name_on_fault};
 
 use crate::names::name_set;
 use indexmap::IndexSet;
@@ -13,10 +13,10 @@ use section_text::{
 };
 use std::alloc::Global;
 
-#[tactic(auto, unfolding(crate::specs::Assign::assign_form, section_text::specs::Words::is_word_at))]
+#[tactic(auto, unfolding(crate::specs::Assign::form_in_assign_section, section_text::specs::Words::is_word_at))]
 fn line_form(feed: &Feed, line: &Line) -> Option<Form<(), Name>>
     requires { IsLine feed.now line.now }
-    ensures { result ≡ assign_form (words_of (line_bytes feed.now line.now)) }
+    ensures { result ≡ form_in_assign_section (words_of (line_bytes feed.now line.now)) }
 {
     let keyword = feed.first_word(line);
     if is_keyword(keyword, b"assign") {

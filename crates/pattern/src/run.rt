@@ -4,7 +4,7 @@ ghost use Rattle.std.specs.List.{All, flat_map, filter};
 ghost use Rattle.bbm_rule.specs.Board.{HasSameSize, is_inside, live};
 ghost use Rattle.pattern.specs.Layout.{in_cells, rectangle_cells, row_cells, start};
 ghost use Rattle.section_text.specs.Words.{has};
-ghost use Rattle.pattern.specs.Run.{IsRunEnd, RunLeaves, RunsInside, live_cells, start_cells_in_order};
+ghost use Rattle.pattern.specs.Run.{IsRunEnd, RunLeaves, RunsInside, live_cells, start_cells_by_kind};
 
 use crate::layout::Layout;
 use crate::layout_line::{LayoutHeader, Port, Rectangle};
@@ -70,7 +70,7 @@ fn push_ports_on(
 /// They are those of the mirrors, row by row, the balls, and the input cells whose name is on.
 pub fn start_cells(alloc: Global, layout: &Layout, on: &[Name]) -> Result<Vec<Cell>, AllocError>
     ensures order { IfOk result (λ cells. cells.items
-        ≡ start_cells_in_order layout.now (λ n. has on.now n)) }
+        ≡ start_cells_by_kind layout.now (λ n. has on.now n)) }
     ensures cells { IfOk result (λ cells. (x y : ℤ) →
         in_cells cells.items x y ≡ start layout.now (has on.now) x y) }
 {

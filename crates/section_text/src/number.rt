@@ -26,7 +26,7 @@ fn read_digits(word: &[u8]) -> Option<u32>
 }
 
 // Whether a word may be a number by its length and its first byte.
-fn may_be_number(word: &[u8]) -> bool
+fn has_number_length_and_start(word: &[u8]) -> bool
     ensures number { is_number word.now ≡ true → result ≡ true }
     ensures at_most_9 { result ≡ true → length word.now ≤ 9 }
     ensures other { result ≡ true → list_all is_digit word.now ≡ is_number word.now }
@@ -44,7 +44,7 @@ pub fn read_number(word: &[u8]) -> Option<u32>
     ensures number { result ≡ number_of word.now }
     ensures small { IfSome result (λ n. n < 10 ^ 9) }
 {
-    if may_be_number(word) {
+    if has_number_length_and_start(word) {
         read_digits(word)
     } else {
         None

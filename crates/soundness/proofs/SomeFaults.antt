@@ -14,7 +14,7 @@ use Rattle.circuit.specs.Meaning.{AreOrdered, Valuation}
 use Rattle.circuit.specs.Bridge.{read}
 use Rattle.circuit.proofs.Undefined.{stopped, undefined_has_none, undefined_is_one}
 use Rattle.module_box.specs.Boxes.{in_box, in_halo, in_ring}
-use Rattle.module_box.specs.LocalValues.{IsLocallyUndefined}
+use Rattle.module_box.specs.LocalValues.{IsFirstLocalGateWithoutRow}
 use Rattle.module_box.specs.Locals.{is_among}
 use Rattle.module_box.specs.Schedules.{signal_at}
 use Rattle.module_box.specs.declared.boxes.Box2.{Box2}
@@ -175,7 +175,7 @@ module _ (j : JobView) (is : IsJob j) (ordered : AreOrdered j.locals.netlist.giv
   values_of : (a : ℕ) → HasValues j.locals.netlist (bit a) ordered ⊎ HasStop j.locals.netlist (bit a) ordered
   values_of a = values_or_stop j.locals.netlist (bit a) ordered
 
-  undefined_at : (a : ℕ) (s : HasStop j.locals.netlist (bit a) ordered) → IsLocallyUndefined j.locals a s.0
+  undefined_at : (a : ℕ) (s : HasStop j.locals.netlist (bit a) ordered) → IsFirstLocalGateWithoutRow j.locals a s.0
   undefined_at a s = stopped j.locals.netlist (bit a) s.0 s.1 s.2
 
   fault_decided : (f : Fault) → Decided (IsFault j f)
@@ -219,7 +219,7 @@ module _ (j : JobView) (is : IsJob j) (ordered : AreOrdered j.locals.netlist.giv
       | inl same ↦ inl (record {
         in_range = small;
         is_kept = kept;
-        shown = ∣ subst (λ k. IsLocallyUndefined j.locals f.assignment k) same (undefined_at f.assignment s) ∣₁;
+        shown = ∣ subst (λ k. IsFirstLocalGateWithoutRow j.locals f.assignment k) same (undefined_at f.assignment s) ∣₁;
       })
       | inr other ↦ inr (λ h. ∥∥₁_elim h.shown (λ x y. absurd x)
           (λ r. other (undefined_is_one j.locals.netlist (bit f.assignment) s.0 f.gate ordered

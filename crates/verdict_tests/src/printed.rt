@@ -6,7 +6,7 @@ use pattern::print_layout;
 use test_support::{GOOD, fed, sections};
 
 #[test]
-fn four_modules_print_their_text(rt: HostRuntime) {
+fn four_modules_print_as_read(rt: HostRuntime) {
     let mut feed = fed(rt.alloc(), GOOD.as_bytes()).expect(&rt, "a text");
     let (circuit, layout) = sections(rt.alloc(), &mut feed).expect(&rt, "two sections");
     let certificate = read_certificate(rt.alloc(), &mut feed, &circuit, &layout);

@@ -10,11 +10,11 @@ pub lines-preserved : goal.lines-preserved
 lines-preserved c = record {
   table = λ ss h.
       let before = flat_map stop_in (take c.lines.line-index c.args.lines.now) in
-      subst (λ all. IsStopTimeTable c.args.choice (circuit_of c.args.circuit.now) all c.note_line.new.table)
+      subst (λ all. IsStopTimeTable c.args.choice (circuit_of c.args.circuit.now) all c.note_time_if_stop.new.table)
       (append_assoc ss before (stop_in c.line-item.result) ∙ ap (λ l. ss ++ l)
       (sym (flat_more stop_in c.args.lines.now c.lines.line-index c.line-item.result c.lines-test.true c.line-item.is)))
-      (c.note_line.ensures.table (ss ++ before) (c.lines.invariant.table ss h));
-  long = c.note_line.ensures.long ∙ c.lines.invariant.long;
+      (c.note_time_if_stop.ensures.table (ss ++ before) (c.lines.invariant.table ss h));
+  long = c.note_time_if_stop.ensures.long ∙ c.lines.invariant.long;
 }
 
 pub returns-clause-table : goal.returns-clause-table

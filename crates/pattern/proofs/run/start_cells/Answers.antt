@@ -6,7 +6,7 @@ use Rattle.pattern.specs.declared.layout_line.Port.{Port}
 use Rattle.pattern.specs.Layout.{Pattern, in_cells, rectangle_cells}
 use Rattle.pattern.specs.LayoutView.{pattern_of}
 use Rattle.section_text.specs.Words.{has}
-use Rattle.pattern.specs.Run.{start_cells_in_order}
+use Rattle.pattern.specs.Run.{start_cells_by_kind}
 use Rattle.pattern.proofs.InsideLemmas.{size_sides, begins_inside, mirrors_fit}
 use Rattle.pattern.proofs.StartLemmas.{in_start_list, start_list_made}
 use Rattle.pattern.proofs.run.start_cells.Goals as goal
@@ -22,7 +22,7 @@ push_mirror_cells-requires c =
     (mirrors_fit p.size p.mirrors all.mirrors sides.0.most sides.1.most)
 
 list_of_five_words : (c : goal.In_ok-push_ports_on) →
-    c.push_ports_on.new.out.items ≡ start_cells_in_order c.args.layout.now (has c.args.on.now)
+    c.push_ports_on.new.out.items ≡ start_cells_by_kind c.args.layout.now (has c.args.on.now)
 list_of_five_words c =
     let p : Pattern = pattern_of c.layout.inside in
     let ports = λ (qs : List Port). map (λ (q : Port). q.cell) (filter (λ (q : Port). has c.args.on.now q.name) qs) in
@@ -36,7 +36,7 @@ list_of_five_words c =
     let ins : c.push_ports_on.new.out.items ≡ c.extend_from_slice.new.self.items ++ ports p.ins =
     c.in_ok-push_ports_on.ensures
     ∙ ap (λ (l : List Port). c.extend_from_slice.new.self.items ++ ports l) c.as_slice-3.ensures.value in
-    subst (λ (p : Pattern). c.push_ports_on.new.out.items ≡ start_cells_in_order p (has c.args.on.now)) c.layout.view_is
+    subst (λ (p : Pattern). c.push_ports_on.new.out.items ≡ start_cells_by_kind p (has c.args.on.now)) c.layout.view_is
     (start_list_made p (has c.args.on.now) _ _ _ mirrors balls ins)
 
 pub returns-clause-order : goal.returns-clause-order

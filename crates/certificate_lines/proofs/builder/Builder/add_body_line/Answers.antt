@@ -14,8 +14,8 @@ body_line_code-requires-clause-cut c =
     subst (λ (s : BuilderView). IsCutWire s.setting.circuit c.args.entry c.cut_wire-cut.result)
     c.self.view_is c.cut_wire-cut.ensures
 
-pub name_held_by_circuit-name-requires-clause-cut : goal.name_held_by_circuit-name-requires-clause-cut
-name_held_by_circuit-name-requires-clause-cut c =
+pub circuit_name_of_line-name-requires-clause-cut : goal.circuit_name_of_line-name-requires-clause-cut
+circuit_name_of_line-name-requires-clause-cut c =
     subst (λ (s : BuilderView). IsCutWire s.setting.circuit c.args.entry c.cut_wire-cut.result)
     (c.self.view_is ∙ sym (c.self-2.view_is ∙ c.body_line_code.ensures.same_lines)) c.cut_wire-cut.ensures
 
@@ -24,8 +24,8 @@ learn_line-requires-clause-cut c =
     subst (λ (s : BuilderView). IsCutWire s.setting.circuit c.args.entry c.cut_wire-cut.result)
     (c.self.view_is ∙ sym (c.self-2.view_is ∙ c.body_line_code.ensures.same_lines)) c.cut_wire-cut.ensures
 
-pub name_held_by_circuit-name-requires-clause-wire : goal.name_held_by_circuit-name-requires-clause-wire
-name_held_by_circuit-name-requires-clause-wire c =
+pub circuit_name_of_line-name-requires-clause-wire : goal.circuit_name_of_line-name-requires-clause-wire
+circuit_name_of_line-name-requires-clause-wire c =
     let good = good_line c.self-2.inside.tables c.self-2.inside.entries.items c.args.entry
     (subst (λ (s : BuilderView). body_line_code s.setting (last_module s.entries) c.args.entry ≡ None)
     (sym (c.self-2.view_is ∙ c.body_line_code.ensures.same_lines))

@@ -14,12 +14,12 @@ body_line_code-requires-clause-inner c = border_is_inner c.args.entry c.requires
 pub body_line_code-requires-clause-cut : goal.body_line_code-requires-clause-cut
 body_line_code-requires-clause-cut c = border_is_uncut c.args.self.now.setting.circuit c.args.entry None c.requires
 
-pub name_held_by_circuit-name-requires-clause-cut : goal.name_held_by_circuit-name-requires-clause-cut
-name_held_by_circuit-name-requires-clause-cut c =
+pub circuit_name_of_line-name-requires-clause-cut : goal.circuit_name_of_line-name-requires-clause-cut
+circuit_name_of_line-name-requires-clause-cut c =
     border_is_uncut c.self.inside.tables.circuit c.args.entry None c.requires
 
-pub name_held_by_circuit-name-requires-clause-wire : goal.name_held_by_circuit-name-requires-clause-wire
-name_held_by_circuit-name-requires-clause-wire c =
+pub circuit_name_of_line-name-requires-clause-wire : goal.circuit_name_of_line-name-requires-clause-wire
+circuit_name_of_line-name-requires-clause-wire c =
     let good = good_line c.self.inside.tables c.self.inside.entries.items c.args.entry
     (subst (λ (s : BuilderView). body_line_code s.setting (last_module s.entries) c.args.entry ≡ None)
     (sym (c.self.view_is ∙ c.body_line_code.ensures.same_lines))

@@ -1,6 +1,6 @@
 use Rattle.headline.proofs.PlainLines.{plain_lines_decide}
 use Rattle.headline.proofs.PlainTexts.{no_is_wrong, plain_is_decided, yes_off_rim}
-use Rattle.headline.proofs.laws.no_means_wrong.Goals as goal
+use Rattle.headline.proofs.laws.plain_no_means_wrong.Goals as goal
 
 pub returns : goal.returns
 returns c = record { no = no_is_wrong; off_rim = yes_off_rim; decided = plain_is_decided; lines = plain_lines_decide }

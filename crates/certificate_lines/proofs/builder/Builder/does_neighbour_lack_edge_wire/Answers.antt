@@ -7,7 +7,7 @@ use Rattle.std.proofs.lemmas.List.Folds.{list_any-append, list_any_at}
 use Rattle.std.proofs.lemmas.Option.{slice_get-get_or}
 use Rattle.certificate_lines.specs.BuilderView.{BuilderView, lacks_edge_wire}
 use Rattle.certificate_lines.specs.Entries.{ModuleLines, counts_of, edge_in, modules_of}
-use Rattle.certificate_lines.proofs.builder.Builder.does_any_module_lack_wire.Goals as goal
+use Rattle.certificate_lines.proofs.builder.Builder.does_neighbour_lack_edge_wire.Goals as goal
 
 pub returns-then-lacks_edge_wire_in : goal.returns-then-lacks_edge_wire_in
 returns-then-lacks_edge_wire_in c =

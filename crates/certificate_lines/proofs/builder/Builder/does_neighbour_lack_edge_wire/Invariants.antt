@@ -3,7 +3,7 @@ use Rattle.std.proofs.Common.{◌≡◌, false, take}
 use Rattle.std.specs.List.{flat_map, list_any}
 use Rattle.certificate_lines.specs.BuilderView.{lacks_edge_wire}
 use Rattle.certificate_lines.specs.Entries.{edge_in, modules_of}
-use Rattle.certificate_lines.proofs.builder.Builder.does_any_module_lack_wire.Given as goal
+use Rattle.certificate_lines.proofs.builder.Builder.does_neighbour_lack_edge_wire.Given as goal
 
 abbrev pub invariant-modules : goal.invariant-modules
 invariant-modules l = list_any (lacks_edge_wire l.self.setting.circuit (flat_map edge_in l.lines))

@@ -1,7 +1,7 @@
 use Rattle.std.proofs.Common.{◌≡◌, ◌+◌, ◌-◌, length, arith}
 use Rattle.std.proofs.lemmas.Bool.Decides.{nat_tests}
 use Rattle.job_pool.proofs.Sums.{past_last-last}
-use Rattle.job_pool.proofs.desk.DeskSeat.has_ended.Goals as goal
+use Rattle.job_pool.proofs.desk.DeskSeat.has_seat_drawn_past_last.Goals as goal
 
 pub returns-then-count-gt0 : goal.returns-then-count-gt0
 returns-then-count-gt0 c =
