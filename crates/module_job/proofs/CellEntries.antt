@@ -1,9 +1,10 @@
 -- The entries of cells tell what the cells carry, and those of more cells follow them.
 use Rattle.std.proofs.Common.{◌≡◌, ℕ, ◌+◌, ◌<◌, ◌≤◌, List, [], ◌∷◌, ◌++◌, length, map}
-use Rattle.std.proofs.Common.{nat_eq, refl, sym, ap, ap₂, ◌∙◌, arith, inl, inr, ◌⊎◌}
+use Rattle.std.proofs.Common.{refl, sym, ap, ap₂, ◌∙◌, arith, inl, inr, ◌⊎◌}
 use Rattle.std.proofs.lemmas.Bool.{cases_Bool, cond-true, cond-false}
 use Rattle.std.proofs.lemmas.Bool.Decides.{nat_tests}
 use Rattle.std.proofs.lemmas.List.{append_assoc, length-map}
+use Rattle.std.proofs.lemmas.Grind.{common_steps}
 use Rattle.module_box.specs.Numbers.{IsPrefixFree}
 use Rattle.module_box.proofs.InjectiveNumbers.{same_head, same_tail}
 use Rattle.module_job.specs.Keys.{sparse_entry, sparse_list_numbers, sparse_entries_from}
@@ -15,10 +16,7 @@ abbrev pub Forms : ℕ → ℕ → Type 0
 Forms place n = ((n ≡ 0) × (sparse_entry place n ≡ [])) ⊎ ((0 < n) × (sparse_entry place n ≡ (place + 1) ∷ n ∷ []))
 
 pub forms : (place n : ℕ) → Forms place n
-forms place n = elim (cases_Bool (nat_eq n 0)) [
-  | inl zero ↦ inl (grind (arith, nat_tests, zero), cond-true _ _ _ zero)
-  | inr more ↦ inr (grind (arith, nat_tests, more), cond-false _ _ _ more)
-]
+forms place n = grind (arith, common_steps, cases_Bool, nat_tests, cond-true, cond-false)
 
 -- ---- what entries begin with
 
@@ -99,12 +97,7 @@ numbers_told_by f tells (x ∷ xs) (y ∷ ys) e =
 -- where a number tells what a cell carries, so do the numbers of the cells
 pub cells_tell_all : {A : Type 0} (f : A → ℕ) → ((a b : A) → f a ≡ f b → a ≡ b) → IsPrefixFree (sparse_list_numbers f)
 cells_tell_all f tells xs ys r s e =
-    let count = same_head (length xs) (length ys) _ _ e in
-    let entries = same_tail (length xs) (length ys) _ _ e in
-    let both = entries_tell 0 (map f xs) (map f ys) r s (length-map xs f ∙ count ∙ sym (length-map ys f))
-    (sym (append_assoc (sparse_entries_from 0 (map f xs)) (0 ∷ []) r) ∙ entries
-    ∙ append_assoc (sparse_entries_from 0 (map f ys)) (0 ∷ []) s) in
-    (numbers_told_by f tells xs ys both.0, both.1)
+    grind (arith, common_steps, same_head, same_tail, entries_tell, length-map, append_assoc, numbers_told_by)
 
 -- ---- more cells
 
@@ -112,9 +105,4 @@ pub entries_append : (p : ℕ) (ns ms : List ℕ) →
     sparse_entries_from p (ns ++ ms) ≡ sparse_entries_from p ns ++ sparse_entries_from (p + length ns) ms
 unfolding sparse_entries_from
 entries_append p [] ms = ap (λ q. sparse_entries_from q ms) (omega arith)
-entries_append p (n ∷ ns) ms =
-    let place : (p + 1) + length ns ≡ p + length (n ∷ ns) = omega arith in
-    ap (λ l. sparse_entry p n ++ l)
-    (entries_append (p + 1) ns ms ∙ ap (λ q. sparse_entries_from (p + 1) ns ++ sparse_entries_from q ms) place)
-    ∙ sym (append_assoc (sparse_entry p n) (sparse_entries_from (p + 1) ns)
-    (sparse_entries_from (p + length (n ∷ ns)) ms))
+entries_append p (n ∷ ns) ms = grind (arith, common_steps, entries_append (p + 1) ns ms, append_assoc)

@@ -1,9 +1,10 @@
 -- The tests of equality answer whether two jobs are equal.
-use Rattle.std.proofs.Common.{◌≡◌, ℕ, zero, suc, nat_eq, Bool, true, false, ◌&&◌, List, Option, Some, None, refl, sym}
-use Rattle.std.proofs.Common.{ap, ap₂, ◌∙◌}
+use Rattle.std.proofs.Common.{arith, ◌≡◌, ℕ, zero, suc, nat_eq, Bool, true, false, ◌&&◌, List, Option, Some, None, refl}
+use Rattle.std.proofs.Common.{sym, ap, ◌∙◌}
 use Rattle.std.specs.Bool.{Decides}
 use Rattle.std.specs.Cmp.Lexicographic.{pointwise}
 use Rattle.std.proofs.lemmas.Bool.Decides.{Decides-eqb}
+use Rattle.std.proofs.lemmas.Grind.{common_steps}
 use Rattle.module_box.proofs.EqualTests.{both, lists, options, signal_decides, cell_decides, signals_decides}
 use Rattle.module_box.proofs.EqualTests.{locals_decides, netlists_decide}
 use Rattle.module_box.specs.Equality.{same_cell, same_signal}
@@ -32,14 +33,7 @@ stop_tests xs ys i = pointwise (λ a b. stop_test a b i) xs ys
 -- ---- and they decide
 
 box_decides : (a b : Box2) → Decides (same_box a b) (a ≡ b)
-box_decides a b =
-    both _ _
-    (both {R = ((a.x ≡ b.x) × (a.y ≡ b.y)) × (a.w ≡ b.w)} _ _
-    (both {R = (a.x ≡ b.x) × (a.y ≡ b.y)} _ _ (Decides-eqb a.x b.x) (Decides-eqb a.y b.y) (λ x y. (x, y)) (λ p. p.0)
-    (λ p. p.1))
-    (Decides-eqb a.w b.w) (λ p w. (p, w)) (λ p. p.0) (λ p. p.1))
-    (Decides-eqb a.h b.h) (λ p h i. record { x = p.0.0 i; y = p.0.1 i; w = p.1 i; h = h i })
-    (λ e. ((ap (λ c. c.x) e, ap (λ c. c.y) e), ap (λ c. c.w) e)) (λ e. ap (λ c. c.h) e)
+box_decides a b = grind (arith, common_steps, both)
 
 demand_from : ℕ → Option ℕ → Demand
 demand_from zero w = Demanded.Dead
@@ -56,19 +50,10 @@ demand_back (Demanded.Wire w) = refl
 demand_back Demanded.Any = refl
 
 pub demand_decides : (a b : Demand) → Decides (same_demand a b) (a ≡ b)
-demand_decides a b =
-    both _ _ (Decides-eqb (demand_kind_number a) (demand_kind_number b))
-    (options nat_eq Decides-eqb (demand_wire a) (demand_wire b))
-    (λ place wire. sym (demand_back a) ∙ ap₂ demand_from place wire ∙ demand_back b) (λ e. ap demand_kind_number e)
-    (λ e. ap demand_wire e)
+demand_decides a b = grind (arith, common_steps, both, options, demand_back, demand_from)
 
 stop_decides : (a b : Stop) → Decides (same_stop a b) (a ≡ b)
-stop_decides a b =
-    both _ _ (Decides-eqb a.at.time b.at.time)
-    (both {R = (a.at.cell ≡ b.at.cell) × (a.wire ≡ b.wire)} _ _ (cell_decides a.at.cell b.at.cell)
-    (Decides-eqb a.wire b.wire) (λ cell wire. (cell, wire)) (λ p. p.0) (λ p. p.1))
-    (λ time rest i. record { at = record { time = time i; cell = rest.0 i }; wire = rest.1 i })
-    (λ e. ap (λ s. s.at.time) e) (λ e. (ap (λ s. s.at.cell) e, ap (λ s. s.wire) e))
+stop_decides a b = grind (arith, common_steps, both, cell_decides)
 
 pub jobs_decide : JobEqualityDecides
 jobs_decide j k =
@@ -157,14 +142,8 @@ shapes_decide s t =
 one_fact : {P : Type 0} (a b : Bool) → Decides a P → Decides b P → a ≡ b
 one_fact true true d e = refl
 one_fact false false d e = refl
-one_fact true false d e = absurd (wrong (e.1 (d.0 refl)))
-  where
-    wrong : false ≡ true → ⊥
-    wrong h = cc
-one_fact false true d e = absurd (wrong (d.1 (e.0 refl)))
-  where
-    wrong : false ≡ true → ⊥
-    wrong h = cc
+one_fact true false d e = grind (arith, common_steps)
+one_fact false true d e = grind (arith, common_steps)
 
 parts_decide : (x y x' y' : ℕ) (ws gs ws' gs' : List ℕ) (s t : ShapeView) →
     Decides ((((nat_eq x x' && nat_eq y y') && pointwise nat_eq ws ws') && pointwise nat_eq gs gs') && same_shape s t)

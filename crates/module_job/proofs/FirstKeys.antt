@@ -1,8 +1,8 @@
 -- The first keys that are the same, as a map has them
-use Rattle.std.proofs.Common.{◌≡◌, ℕ, ◌+◌, ◌<◌, List, Option, Some, None, nat_eq, refl, sym, ap, subst, ◌∙◌, arith, inl}
-use Rattle.std.proofs.Common.{inr, ◌≢◌, if◌then◌else◌, slice_get, unwrap_or}
+use Rattle.std.proofs.Common.{◌≡◌, ℕ, ◌+◌, ◌<◌, List, Option, Some, None, refl, sym, ◌∙◌, arith}
+use Rattle.std.specs.Prelude.{◌≢◌, if◌then◌else◌, slice_get, unwrap_or}
 use Rattle.std.proofs.lemmas.Bool.{cases_Bool, cases_lt, false≢true}
-use Rattle.std.proofs.lemmas.Bool.Decides.{Decides-eqb}
+use Rattle.std.proofs.lemmas.Grind.{common_steps}
 use Rattle.module_box.proofs.EqualTests.{lists}
 use Rattle.module_job.specs.Groups.{IsFirstLike, same_key}
 
@@ -34,24 +34,11 @@ its_first keys n key (Some f) there known = let lt = known.0 in (omega (arith, l
 
 others_first : (keys : List (List ℕ)) (n : ℕ) (key other : List ℕ) (o : Option ℕ) → slice_get keys n ≡ Some key →
     (key ≡ other → ⊥) → IsFirstOf keys n other o → IsFirstOf keys (n + 1) other o
-others_first keys n key other None there apart known = λ i lt e. elim (cases_lt i n) [
-  | inl less ↦ known i less e
-  | inr large ↦ let is : n ≡ i = omega (arith, lt, large) in
-      apart (same_one key other (slice_get keys i) (ap (slice_get keys) (sym is) ∙ there) e)
-]
+others_first keys n key other None there apart known = grind (arith, common_steps, cases_lt, same_one)
 others_first keys n key other (Some f) there apart known = let lt = known.0 in (omega (arith, lt), known.1, known.2)
 
 pub known_more : (keys : List (List ℕ)) (n : ℕ) (key other : List ℕ) (o p : Option ℕ) (first : ℕ) →
     slice_get keys n ≡ Some key → IsFirstOf keys n key o → first ≡ unwrap_or o n → IsFirstOf keys n other p →
     IsFirstOf keys (n + 1) other (if same_key key other then Some first else p)
-known_more keys n key other o p first there known is others = elim (cases_Bool (same_key key other)) [
-  | inl same ↦
-      let one : key ≡ other = (lists nat_eq Decides-eqb key other).0 same in
-      subst (λ b. IsFirstOf keys (n + 1) other (if b then Some first else p)) (sym same)
-      (subst (λ k. IsFirstOf keys (n + 1) k (Some first)) one
-      (subst (λ f. IsFirstOf keys (n + 1) key (Some f)) (sym is) (its_first keys n key o there known)))
-  | inr apart ↦
-      subst (λ b. IsFirstOf keys (n + 1) other (if b then Some first else p)) (sym apart)
-      (others_first keys n key other p there
-      (λ e. false≢true (sym apart ∙ (lists nat_eq Decides-eqb key other).1 e)) others)
-]
+known_more keys n key other o p first there known is others =
+    grind (arith, common_steps, cases_Bool, lists, its_first, others_first, false≢true)

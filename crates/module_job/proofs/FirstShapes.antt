@@ -1,6 +1,6 @@
 -- Shapes at their places in a list of references.
 use Rattle.std.proofs.Common.{◌≡◌, ℕ, ◌+◌, ◌<◌, List, [], ◌∷◌, ◌++◌, map, length, get_or, Option, Some, zero, suc, refl}
-use Rattle.std.proofs.Common.{sym, ap, subst, ◌∙◌, arith, inl, inr, slice_get, slice_index, unwrap_or, option_map}
+use Rattle.std.proofs.Common.{sym, ap, ◌∙◌, arith, slice_get, slice_index, unwrap_or}
 use Rattle.std.proofs.lemmas.Bool.{cases_lt}
 use Rattle.std.proofs.lemmas.Grind.{common_steps}
 use Rattle.std.proofs.lemmas.List.{length-map}
@@ -10,8 +10,7 @@ use Rattle.module_job.specs.Shapes.{ShapeView}
 
 pub value_at : {A B : Type 0} (v : A → B) (xs : List A) (k : ℕ) (d : A) (b : B) → k < length xs → d ≡ get_or xs k d →
     b ≡ v d → slice_get (map v xs) k ≡ Some b
-value_at v xs k d b lt is e =
-    slice_get-map v xs k ∙ ap (option_map v) (slice_get-get_or xs k d lt ∙ ap Some (sym is)) ∙ ap Some (sym e)
+value_at v xs k d b lt is e = grind (arith, common_steps, slice_get-map, slice_get-get_or)
 
 pub one_value : {A : Type 0} (o p : Option A) (a b : A) → o ≡ Some a → p ≡ Some b → o ≡ p → a ≡ b
 one_value o p a b e f g = cc
@@ -20,31 +19,15 @@ one_value o p a b e f g = cc
 pub group_more : {A : Type 0} (shapes : List A) (groups : List ℕ) (n g : ℕ) → length groups ≡ n →
     ((k : ℕ) → k < n → IsFirstLike shapes k (slice_index groups k)) → IsFirstLike shapes n g →
     (k : ℕ) → k < n + 1 → IsFirstLike shapes k (slice_index (groups ++ g ∷ []) k)
-group_more shapes groups n g count each here k lt = elim (cases_lt k n) [
-  | inl less ↦ subst (IsFirstLike shapes k) (sym (before groups g k (omega (arith, less, count)))) (each k less)
-  | inr large ↦
-      let is : n ≡ k = omega (arith, lt, large) in
-      subst (λ m. IsFirstLike shapes m (slice_index (groups ++ g ∷ []) m)) is
-      (subst (IsFirstLike shapes n) (sym (last groups g n count)) here)
-]
-  where
-    before : (xs : List ℕ) (y k : ℕ) → k < length xs → slice_index (xs ++ y ∷ []) k ≡ slice_index xs k
-    before xs y k lt = grind (arith, common_steps)
-
-    last : (xs : List ℕ) (y n : ℕ) → length xs ≡ n → slice_index (xs ++ y ∷ []) n ≡ y
-    last xs y n e = grind (arith, common_steps)
+group_more shapes groups n g count each here k lt = grind (arith, common_steps, cases_lt, common_steps)
 
 pub all_groups : {A : Type 0} (shapes : List A) (groups : List ℕ) (n : ℕ) → n ≡ length shapes → length groups ≡ n →
     ((k : ℕ) → k < n → IsFirstLike shapes k (slice_index groups k)) → AreGroups shapes groups
-all_groups shapes groups n all count each =
-    record { count = count ∙ all; each = λ k lt. each k (omega (arith, lt, all)) }
+all_groups shapes groups n all count each = grind (arith, common_steps)
 
 -- keys that are made of the shapes
 pub made_keys : (shapes : List ShapeView) (key : ShapeView → List ℕ) → AreKeys shapes (map key shapes)
-made_keys shapes key = record {
-  count = length-map shapes key;
-  same = λ i k e. slice_get-map key shapes i ∙ ap (option_map key) e ∙ sym (slice_get-map key shapes k);
-}
+made_keys shapes key = grind (arith, common_steps, length-map, slice_get-map)
 
 -- ---- a list that is made of another in two steps
 pub map_twice : {A B C : Type 0} (f : A → B) (g : B → C) (xs : List A) → map g (map f xs) ≡ map (λ x. g (f x)) xs

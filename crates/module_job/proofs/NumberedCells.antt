@@ -1,11 +1,12 @@
 -- Lists of what cells carry or must be, by their numbers.
 use Rattle.std.proofs.Common.{◌≡◌, ℕ, zero, suc, ◌+◌, ◌<◌, Bool, List, [], ◌∷◌, ◌++◌, length, map, replicate, nat_eq}
-use Rattle.std.proofs.Common.{refl, sym, ap, ap₂, subst, ◌∙◌, arith, slice_get, unwrap_or, All}
+use Rattle.std.proofs.Common.{refl, sym, ap, ap₂, ◌∙◌, arith, slice_get, unwrap_or, All}
 use Rattle.std.specs.Bool.{Decides}
 use Rattle.std.specs.Cmp.Lexicographic.{pointwise}
 use Rattle.std.proofs.lemmas.Bool.Decides.{Decides-eqb, same_from_decides}
 use Rattle.std.proofs.lemmas.List.{get_or-replicate, length-map, length-replicate, map-append}
-use Rattle.std.proofs.lemmas.List.Elements.{All-append, All-head, All-tail}
+use Rattle.std.proofs.lemmas.List.Elements.{All-head, All-tail}
+use Rattle.std.proofs.lemmas.Grind.{common_steps}
 use Rattle.module_box.proofs.EqualTests.{lists, signal_decides}
 use Rattle.module_box.specs.Equality.{same_signal}
 use Rattle.module_box.specs.declared.schedules.Signal.{Signal}
@@ -61,11 +62,7 @@ below bound (n ∷ ns) (suc place) some all = below bound ns place some (All-tai
 
 pub zeros_below : (bound count : ℕ) (ns : List ℕ) → 0 < bound → All (λ n. n < bound) ns →
     All (λ n. n < bound) (ns ++ replicate count 0)
-zeros_below bound count ns some all =
-    All-append (λ n. n < bound) ns (replicate count 0) all
-    (λ k d l. subst (λ n. n < bound)
-    (sym (get_or-replicate count k 0 d (omega (arith, l, length-replicate {A = ℕ} count 0))))
-    some)
+zeros_below bound count ns some all = grind (arith, common_steps, get_or-replicate, length-replicate)
 
 module _ {A : Type 0} (of : ℕ → A) (number : A → ℕ) (exact : (n : ℕ) → number (of n) ≡ n) where
   numbers_again : (ns : List ℕ) → map number (map of ns) ≡ ns
@@ -74,8 +71,7 @@ module _ {A : Type 0} (of : ℕ → A) (number : A → ℕ) (exact : (n : ℕ) �
 
   length_prefixed : (ns : List ℕ) →
       sparse_list_numbers number (map of ns) ≡ length ns ∷ sparse_entries_from 0 ns ++ 0 ∷ []
-  length_prefixed ns = ap₂ (λ (count : ℕ) (ms : List ℕ). count ∷ sparse_entries_from 0 ms ++ 0 ∷ []) (length-map ns of)
-      (numbers_again ns)
+  length_prefixed ns = grind (arith, common_steps, length-map, numbers_again)
 
   same_tests : (E : A → A → Bool) → ((a b : A) → Decides (E a b) (a ≡ b)) → (ns ms : List ℕ) →
       pointwise nat_eq ns ms ≡ pointwise E (map of ns) (map of ms)
@@ -88,13 +84,11 @@ module _ {A : Type 0} (of : ℕ → A) (number : A → ℕ) (exact : (n : ℕ) �
 
 pub start_pushed : (ns : List ℕ) (s : Signal) →
     map signal_from_number (ns ++ signal_number s ∷ []) ≡ map signal_from_number ns ++ s ∷ []
-start_pushed ns s = map-append signal_from_number ns (signal_number s ∷ [])
-    ∙ ap (λ t. map signal_from_number ns ++ t ∷ []) (signal_again s)
+start_pushed ns s = grind (arith, common_steps, map-append, signal_again)
 
 pub dead_pushed : (ns : List ℕ) (count : ℕ) →
     map signal_from_number (ns ++ replicate count 0) ≡ map signal_from_number ns ++ replicate count Zero
-dead_pushed ns count = map-append signal_from_number ns (replicate count 0)
-    ∙ ap (λ ts. map signal_from_number ns ++ ts) (map_zeros signal_from_number count)
+dead_pushed ns count = grind (arith, common_steps, map-append, map_zeros)
 
 pub start_found : (ns : List ℕ) (place : ℕ) →
     signal_from_number (unwrap_or (slice_get ns place) 0) ≡ unwrap_or (slice_get (map signal_from_number ns) place) Zero
@@ -112,13 +106,11 @@ start_tests = same_tests signal_from_number signal_number signal_back same_signa
 
 pub demand_pushed : (ns : List ℕ) (d : Demand) →
     map demand_from_number (ns ++ demand_number d ∷ []) ≡ map demand_from_number ns ++ d ∷ []
-demand_pushed ns d = map-append demand_from_number ns (demand_number d ∷ [])
-    ∙ ap (λ t. map demand_from_number ns ++ t ∷ []) (demand_again d)
+demand_pushed ns d = grind (arith, common_steps, map-append, demand_again)
 
 pub dead_demands_pushed : (ns : List ℕ) (count : ℕ) →
     map demand_from_number (ns ++ replicate count 0) ≡ map demand_from_number ns ++ replicate count Demanded.Dead
-dead_demands_pushed ns count = map-append demand_from_number ns (replicate count 0)
-    ∙ ap (λ ts. map demand_from_number ns ++ ts) (map_zeros demand_from_number count)
+dead_demands_pushed ns count = grind (arith, common_steps, map-append, map_zeros)
 
 pub demand_found : (ns : List ℕ) (place : ℕ) →
     demand_from_number (unwrap_or (slice_get ns place) 0)

@@ -1,6 +1,7 @@
 -- Jobs and their shapes
 use Rattle.std.proofs.Common.{◌≡◌, ℕ, List, [], ◌∷◌, map, refl, sym, ap₂, ◌∙◌, arith, ℤ, pos, ◌+ℤ◌}
 use Rattle.std.proofs.lemmas.Int.{ints}
+use Rattle.std.proofs.lemmas.Grind.{common_steps}
 use Rattle.module_box.specs.Moves.{moved_signals}
 use Rattle.module_box.specs.Schedules.{Signals, signal_at}
 use Rattle.module_box.proofs.MovedBoxes.{cell_back, signals_back, signals_moved}
@@ -18,57 +19,18 @@ back_forth n = omega (arith, ints)
 pub stops_back : (dx dy ex ey : ℤ) (ss : List Stop) → dx +ℤ ex ≡ pos 0 → dy +ℤ ey ≡ pos 0 →
     map (moved_stop ex ey) (map (moved_stop dx dy) ss) ≡ ss
 stops_back dx dy ex ey [] p q = refl
-stops_back dx dy ex ey (s ∷ ss) p q =
-    let here : moved_stop ex ey (moved_stop dx dy s) ≡ s =
-    λ i. record { at = record { time = s.at.time; cell = cell_back dx dy ex ey s.at.cell p q i }; wire = s.wire } in
-    ap₂ (λ x xs. x ∷ xs) here (stops_back dx dy ex ey ss p q)
+stops_back dx dy ex ey (s ∷ ss) p q = grind (arith, common_steps, stops_back dx dy ex ey ss p q, cell_back)
 
 pub placed_again : (x y : ℕ) (s : Signals) →
     moved_signals (pos x) (pos y) (moved_signals (shift_to_origin x) (shift_to_origin y) s) ≡ s
-placed_again x y s = signals_back (shift_to_origin x) (shift_to_origin y) (pos x) (pos y) s (back_forth x)
-    (back_forth y)
+placed_again x y s = grind (arith, common_steps, signals_back, back_forth)
 
 pub shape_placed : (x y : ℕ) (wires gates : List ℕ) (s : ShapeView) → shape_of (placed x y wires gates s) ≡ s
-shape_placed x y wires gates s =
-    let edges = signals_back (pos x) (pos y) (shift_to_origin x) (shift_to_origin y) s.edges (forth_back x)
-    (forth_back y) in
-    let halos = signals_back (pos x) (pos y) (shift_to_origin x) (shift_to_origin y) s.halos (forth_back x)
-    (forth_back y) in
-    let stops = stops_back (pos x) (pos y) (shift_to_origin x) (shift_to_origin y) s.stops (forth_back x)
-    (forth_back y) in
-    λ i. record {
-      width = s.width;
-      height = s.height;
-      steps = s.steps;
-      netlist = s.netlist;
-      starts = s.starts;
-      demands = s.demands;
-      edges = edges i;
-      halos = halos i;
-      stops = stops i;
-      kept = s.kept;
-    }
+shape_placed x y wires gates s = grind (arith, common_steps, signals_back, forth_back, stops_back)
 
 pub placed_shape : (j : JobView) →
     placed j.area.x j.area.y j.locals.circuit_wires j.locals.circuit_gates (shape_of j) ≡ j
-placed_shape j =
-    let x = j.area.x in
-    let y = j.area.y in
-    let edges = placed_again x y j.edges in
-    let halos = placed_again x y j.halos in
-    let stops = stops_back (shift_to_origin x) (shift_to_origin y) (pos x) (pos y) j.stops (back_forth x)
-    (back_forth y) in
-    λ i. record {
-      area = j.area;
-      steps = j.steps;
-      locals = j.locals;
-      starts = j.starts;
-      demands = j.demands;
-      edges = edges i;
-      halos = halos i;
-      stops = stops i;
-      kept = j.kept;
-    }
+placed_shape j = grind (arith, common_steps, placed_again, stops_back, back_forth)
 
 pub job_is_placed_shape : ShapesAreParts
 job_is_placed_shape = record { whole = placed_shape; part = shape_placed }

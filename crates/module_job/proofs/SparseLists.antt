@@ -1,14 +1,15 @@
 -- A list of numbers from the entries of those that are not 0, and the search for an entry.
-use Rattle.std.proofs.Common.{◌≡◌, ◌≢◌, ℕ, zero, suc, ◌+◌, ◌-◌, ◌*◌, ◌/◌, ◌<◌, ◌≤◌, List, [], ◌∷◌, ◌++◌, true, false}
-use Rattle.std.proofs.Common.{length, take, drop, get_or, replicate, nat_eq, refl, sym, ap, ap₂, subst, ◌∙◌, arith}
-use Rattle.std.proofs.Common.{◌&&◌, inl, inr, ◌⊎◌, slice_get, unwrap_or}
+use Rattle.std.proofs.Common.{◌≡◌, ◌≢◌, ℕ, zero, suc, ◌+◌, ◌-◌, ◌*◌, ◌/◌, ◌<◌, ◌≤◌, List, [], ◌∷◌, ◌++◌, length, take}
+use Rattle.std.proofs.Common.{drop, get_or, replicate, nat_eq, refl, sym, ap, ap₂, subst, ◌∙◌, arith, ◌&&◌, inl, inr}
+use Rattle.std.proofs.Common.{◌⊎◌, slice_get, unwrap_or}
 use Rattle.std.specs.Cmp.Lexicographic.{pointwise}
 use Rattle.std.proofs.lemmas.Bool.{cases_Bool, cases_lt, cond-true, cond-false}
-use Rattle.std.proofs.lemmas.Bool.Decides.{Decides-eqb, nat_tests, same_from_decides}
+use Rattle.std.proofs.lemmas.Bool.Decides.{nat_tests, same_from_decides}
 use Rattle.std.proofs.lemmas.List.{append_assoc, append-nil, drop_more, get_or_append_left, get_or-append-add}
 use Rattle.std.proofs.lemmas.List.{get_or-append_right, get_or_past, length-append, length-drop, length-replicate}
 use Rattle.std.proofs.lemmas.List.{length-take, length-take-le, take-append-drop}
 use Rattle.std.proofs.lemmas.Option.{unwrap_or-slice_get}
+use Rattle.std.proofs.lemmas.Grind.{common_steps}
 use Rattle.module_box.proofs.EqualTests.{both, lists}
 use Rattle.module_job.specs.Keys.{sparse_entry, sparse_entries_from}
 use Rattle.module_job.specs.SparseNumbers.{numbers_from_entries}
@@ -39,17 +40,12 @@ unfolding numbers_from_entries
 passed count place [] from = refl
 passed zero place (p ∷ []) from = refl
 passed (suc count) place (p ∷ []) from = refl
-passed count place (p ∷ n ∷ es) from =
-    let above = from p (n ∷ es) refl in
-    let other : nat_eq p (place + 1) ≡ false = grind (arith, nat_tests, above) in
-    cond-false _ _ _ other
+passed count place (p ∷ n ∷ es) from = grind (arith, common_steps, nat_tests, cond-false)
 
 found : (count place n : ℕ) (es : List ℕ) →
     numbers_from_entries (suc count) place ((place + 1) ∷ n ∷ es) ≡ n ∷ numbers_from_entries count (place + 1) es
 unfolding numbers_from_entries
-found count place n es =
-    let here : nat_eq (place + 1) (place + 1) ≡ true = grind (arith, nat_tests) in
-    cond-true _ _ _ here
+found count place n es = grind (arith, common_steps, nat_tests, cond-true)
 
 pub numbers_back : (place : ℕ) (ns : List ℕ) →
     numbers_from_entries (length ns) place (sparse_entries_from place ns) ≡ ns
@@ -129,9 +125,7 @@ zeros_grow count n es are =
 
 one_entry : (place n : ℕ) → 0 < n → sparse_entries_from place (n ∷ []) ≡ (place + 1) ∷ n ∷ []
 unfolding sparse_entries_from
-one_entry place n more =
-    let other : nat_eq n 0 ≡ false = grind (arith, nat_tests, more) in
-    append-nil (sparse_entry place n) ∙ cond-false _ _ _ other
+one_entry place n more = grind (arith, common_steps, nat_tests, append-nil, cond-false)
 
 pub number_grows : (count n : ℕ) (es : List ℕ) → 0 < n → AreEntries count es →
     (numbers_from_entries (count + 1) 0 (es ++ (count + 1) ∷ n ∷ []) ≡ numbers_from_entries count 0 es ++ n ∷ [])
@@ -144,22 +138,14 @@ pub all_entered : (count : ℕ) (es old : List ℕ) → AreEntries count es →
     ((old ++ count ∷ []) ++ es) ++ 0 ∷ []
     ≡ old ++ (length (numbers_from_entries count 0 es) ∷ sparse_entries_from 0 (numbers_from_entries count 0 es) ++ 0
     ∷ [])
-all_entered count es old are =
-    append_assoc (old ++ count ∷ []) es (0 ∷ []) ∙ append_assoc old (count ∷ []) (es ++ 0 ∷ [])
-    ∙ ap₂ (λ (n : ℕ) (l : List ℕ). old ++ (n ∷ l ++ 0 ∷ [])) (sym (count_numbers count 0 es)) are
+all_entered count es old are = grind (arith, common_steps, append_assoc, count_numbers)
 
 -- ---- equal fields make equal lists
 
 pub same_fields : (n m : ℕ) (es fs : List ℕ) → AreEntries n es → AreEntries m fs →
     (nat_eq n m && pointwise nat_eq es fs)
     ≡ pointwise nat_eq (numbers_from_entries n 0 es) (numbers_from_entries m 0 fs)
-same_fields n m es fs are are' =
-    same_from_decides {P = numbers_from_entries n 0 es ≡ numbers_from_entries m 0 fs} _ _
-    (both _ _ (Decides-eqb n m) (lists nat_eq Decides-eqb es fs)
-    (λ count entries. ap₂ (λ (k : ℕ) (l : List ℕ). numbers_from_entries k 0 l) count entries)
-    (λ e. sym (count_numbers n 0 es) ∙ ap length e ∙ count_numbers m 0 fs)
-    (λ e. are ∙ ap (sparse_entries_from 0) e ∙ sym are'))
-    (lists nat_eq Decides-eqb (numbers_from_entries n 0 es) (numbers_from_entries m 0 fs))
+same_fields n m es fs are are' = grind (arith, common_steps, same_from_decides, both, lists, count_numbers)
 
 -- ---- places with the number 0
 
@@ -169,36 +155,25 @@ zeros_only (suc n) zero = refl
 zeros_only (suc n) (suc i) = zeros_only n i
 
 zero_stays : (ns : List ℕ) (n u : ℕ) → get_or ns u 0 ≡ 0 → get_or (ns ++ replicate n 0) u 0 ≡ 0
-zero_stays ns n u none = elim (cases_lt u (length ns)) [
-  | inl lt ↦ get_or_append_left ns (replicate n 0) 0 u lt ∙ none
-  | inr le ↦ get_or-append_right ns (replicate n 0) (length ns) u 0 refl le ∙ zeros_only n (u - length ns)
-]
+zero_stays ns n u none = grind (arith, common_steps, cases_lt, get_or_append_left, get_or-append_right, zeros_only)
 
 zero_elsewhere : (ns : List ℕ) (n u : ℕ) → u ≢ length ns → get_or ns u 0 ≡ 0 → get_or (ns ++ n ∷ []) u 0 ≡ 0
-zero_elsewhere ns n u other none = elim (cases_lt u (length ns)) [
-  | inl lt ↦ get_or_append_left ns (n ∷ []) 0 u lt ∙ none
-  | inr le ↦ get_or_past (ns ++ n ∷ []) u 0 (omega (arith, le, other, length-append ns (n ∷ [])))
-]
+zero_elsewhere ns n u other none = grind (arith, common_steps, cases_lt, get_or_append_left, get_or_past, length-append)
 
 pub zeros_unmarked : (count n u : ℕ) (es : List ℕ) → AreEntries count es →
     get_or (numbers_from_entries count 0 es) u 0 ≡ 0 →
     get_or (numbers_from_entries (count + n) 0 es) u 0 ≡ 0
-zeros_unmarked count n u es are none =
-    ap (λ (ns : List ℕ). get_or ns u 0) (zeros_grow count n es are).0
-    ∙ zero_stays (numbers_from_entries count 0 es) n u none
+zeros_unmarked count n u es are none = grind (arith, common_steps, zeros_grow, zero_stays)
 
 pub number_unmarked : (count n u : ℕ) (es : List ℕ) → 0 < n → AreEntries count es → u ≢ count →
     get_or (numbers_from_entries count 0 es) u 0 ≡ 0 →
     get_or (numbers_from_entries (count + 1) 0 (es ++ (count + 1) ∷ n ∷ [])) u 0 ≡ 0
 number_unmarked count n u es more are other none =
-    ap (λ (ns : List ℕ). get_or ns u 0) (number_grows count n es more are).0
-    ∙ zero_elsewhere (numbers_from_entries count 0 es) n u (λ e. other (e ∙ count_numbers count 0 es)) none
+    grind (arith, common_steps, number_grows, zero_elsewhere, count_numbers)
 
 pub past : (count place : ℕ) (es : List ℕ) → count ≤ place →
     0 ≡ unwrap_or (slice_get (numbers_from_entries count 0 es) place) 0
-past count place es le =
-    sym (unwrap_or-slice_get (numbers_from_entries count 0 es) place 0
-    ∙ get_or_past (numbers_from_entries count 0 es) place 0 (omega (arith, le, count_numbers count 0 es)))
+past count place es le = grind (arith, common_steps, unwrap_or-slice_get, get_or_past, count_numbers)
 
 -- ---- the search for an entry
 
@@ -206,37 +181,13 @@ even : (place : ℕ) (ns : List ℕ) →
     length (sparse_entries_from place ns) ≡ 2 * (length (sparse_entries_from place ns) / 2)
 unfolding sparse_entries_from
 even place [] = refl
-even place (n ∷ ns) =
-    let rest = even (place + 1) ns in
-    elim (forms place n) [
-      | inl none ↦
-          let same : length (sparse_entries_from place (n ∷ ns)) ≡ length (sparse_entries_from (place + 1) ns) =
-          ap (λ (l : List ℕ). length (l ++ sparse_entries_from (place + 1) ns)) none.1 in
-          omega (arith, same, rest)
-      | inr some ↦
-          let more : length (sparse_entries_from place (n ∷ ns))
-          ≡ suc (suc (length (sparse_entries_from (place + 1) ns))) =
-          ap (λ (l : List ℕ). length (l ++ sparse_entries_from (place + 1) ns)) some.1 in
-          omega (arith, more, rest)
-    ]
+even place (n ∷ ns) = grind (arith, common_steps, even (place + 1) ns, forms)
 
 -- at most one entry for each number
 few : (place : ℕ) (ns : List ℕ) → length (sparse_entries_from place ns) ≤ 2 * length ns
 unfolding sparse_entries_from
 few place [] = omega arith
-few place (n ∷ ns) =
-    let rest = few (place + 1) ns in
-    elim (forms place n) [
-      | inl none ↦
-          let same : length (sparse_entries_from place (n ∷ ns)) ≡ length (sparse_entries_from (place + 1) ns) =
-          ap (λ (l : List ℕ). length (l ++ sparse_entries_from (place + 1) ns)) none.1 in
-          omega (arith, same, rest)
-      | inr some ↦
-          let more : length (sparse_entries_from place (n ∷ ns))
-          ≡ suc (suc (length (sparse_entries_from (place + 1) ns))) =
-          ap (λ (l : List ℕ). length (l ++ sparse_entries_from (place + 1) ns)) some.1 in
-          omega (arith, more, rest)
-    ]
+few place (n ∷ ns) = grind (arith, common_steps, few (place + 1) ns, forms)
 
 -- entries of places among so many from this one on
 abbrev AreWithin : ℕ → ℕ → List ℕ → Type 0
@@ -375,19 +326,10 @@ module _ (place at : ℕ) (ns es : List ℕ) (lt : place < length ns) (are : es 
   found_there = subst (Found place ns) (sym are) (finds place ns lt)
 
   pub number_found : get_or es at 0 ≡ place + 1 → get_or es (at + 1) 0 ≡ unwrap_or (slice_get ns place) 0
-  number_found here = elim found_there [
-    | inl none ↦ absurd (none.1 (ap (λ i. get_or es i 0) (sym start) ∙ here))
-    | inr some ↦ ap (λ i. get_or es (i + 1) 0) start ∙ some.2 ∙ sym (unwrap_or-slice_get ns place 0)
-  ]
+  number_found here = grind (arith, common_steps, found_there, unwrap_or-slice_get)
 
   pub none_left : length es ≤ at + 1 → 0 ≡ unwrap_or (slice_get ns place) 0
-  none_left le = elim found_there [
-    | inl none ↦ sym (unwrap_or-slice_get ns place 0 ∙ none.0)
-    | inr some ↦ let more = some.0 in absurd (omega (arith, le, more, start))
-  ]
+  none_left le = grind (arith, common_steps, found_there, unwrap_or-slice_get)
 
   pub none_there : get_or es at 0 ≢ place + 1 → 0 ≡ unwrap_or (slice_get ns place) 0
-  none_there other = elim found_there [
-    | inl none ↦ sym (unwrap_or-slice_get ns place 0 ∙ none.0)
-    | inr some ↦ absurd (other (ap (λ i. get_or es i 0) start ∙ some.1))
-  ]
+  none_there other = grind (arith, common_steps, found_there, unwrap_or-slice_get)

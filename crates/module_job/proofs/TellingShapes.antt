@@ -1,12 +1,13 @@
 -- The numbers of a shape tell it, and the bytes of numbers tell them
 use Rattle.std.proofs.Common.{◌≡◌, ℕ, ◌<◌, ◌^◌, List, [], ◌∷◌, ◌++◌, refl, sym, ap, ap₂, ◌∙◌, arith, inl, inr, ◌⊎◌, ℤ}
-use Rattle.std.proofs.Common.{pos, negsuc, nat_lt, flat_map}
-use Rattle.std.specs.Int.{from_le_bytes, to_le_bytes, w16, w64}
+use Rattle.std.proofs.Common.{pos, negsuc, flat_map}
+use Rattle.std.specs.Int.{to_le_bytes, w16, w64}
 use Rattle.std.proofs.lemmas.Bool.{cases_Bool, cond-true, cond-false}
 use Rattle.std.proofs.lemmas.Bool.Decides.{nat_tests}
 use Rattle.std.proofs.lemmas.List.{append_assoc}
 use Rattle.std.proofs.lemmas.List.Elements.{All-head, All-tail}
 use Rattle.std.proofs.lemmas.Nat.{from_le_bytes-to_le_bytes_2, from_le_bytes-to_le_bytes_8}
+use Rattle.std.proofs.lemmas.Grind.{common_steps}
 use Rattle.module_box.specs.Numbers.{IsPrefixFree, length_prefixed, netlist_numbers}
 use Rattle.module_box.specs.declared.schedules.Signal.{Signal}
 use Rattle.module_box.specs.declared.schedules.Signal.TheVariants.{Zero, One, Wire}
@@ -61,32 +62,16 @@ integer_told (negsuc n) (negsuc m) e = ap negsuc (omega (arith, e))
 
 -- ---- cells, and what stands at them
 cells_tell : IsPrefixFree cell_numbers
-cells_tell c d r s e =
-    let x = one_tells zigzag_number integer_told c.x d.x (zigzag_number c.y ∷ r) (zigzag_number d.y ∷ s) e in
-    let y = one_tells zigzag_number integer_told c.y d.y r s x.1 in
-    (λ i. record { x = x.0 i; y = y.0 i }, y.1)
+cells_tell c d r s e = grind (arith, common_steps, one_tells, integer_told)
 
 all_times_list_tell : IsPrefixFree all_times_numbers
-all_times_list_tell h k r s e =
-    let cell = cells_tell h.cell k.cell (signal_number h.signal ∷ r) (signal_number k.signal ∷ s) e in
-    let signal = one_tells signal_number signal_told h.signal k.signal r s cell.1 in
-    (λ i. record { cell = cell.0 i; signal = signal.0 i }, signal.1)
+all_times_list_tell h k r s e = grind (arith, common_steps, cells_tell, one_tells, signal_told)
 
 events_tell : IsPrefixFree event_numbers
-events_tell h k r s e =
-    let time = one_tells (λ (n : ℕ). n) (λ n m is. is) h.at.time k.at.time
-    (cell_numbers h.at.cell ++ signal_number h.signal ∷ r) (cell_numbers k.at.cell ++ signal_number k.signal ∷ s) e in
-    let cell = cells_tell h.at.cell k.at.cell (signal_number h.signal ∷ r) (signal_number k.signal ∷ s) time.1 in
-    let signal = one_tells signal_number signal_told h.signal k.signal r s cell.1 in
-    (λ i. record { at = record { time = time.0 i; cell = cell.0 i }; signal = signal.0 i }, signal.1)
+events_tell h k r s e = grind (arith, common_steps, one_tells, cells_tell, signal_told)
 
 stops_tell : IsPrefixFree stop_numbers
-stops_tell h k r s e =
-    let time = one_tells (λ (n : ℕ). n) (λ n m is. is) h.at.time k.at.time (cell_numbers h.at.cell ++ h.wire ∷ r)
-    (cell_numbers k.at.cell ++ k.wire ∷ s) e in
-    let cell = cells_tell h.at.cell k.at.cell (h.wire ∷ r) (k.wire ∷ s) time.1 in
-    let wire = one_tells (λ (n : ℕ). n) (λ n m is. is) h.wire k.wire r s cell.1 in
-    (λ i. record { at = record { time = time.0 i; cell = cell.0 i }; wire = wire.0 i }, wire.1)
+stops_tell h k r s e = grind (arith, common_steps, one_tells, cells_tell)
 
 signals_tell : IsPrefixFree signals_numbers
 signals_tell a b r s e =
@@ -103,13 +88,7 @@ signals_tell a b r s e =
 -- ---- shapes
 in_turn : (a b c d e f g h r : List ℕ) →
     a ++ b ++ c ++ d ++ e ++ f ++ g ++ h ++ r ≡ a ++ (b ++ (c ++ (d ++ (e ++ (f ++ (g ++ (h ++ r)))))))
-in_turn a b c d e f g h r =
-    append_assoc (a ++ b ++ c ++ d ++ e ++ f ++ g) h r ∙ append_assoc (a ++ b ++ c ++ d ++ e ++ f) g (h ++ r)
-    ∙ append_assoc (a ++ b ++ c ++ d ++ e) f (g ++ (h ++ r))
-    ∙ append_assoc (a ++ b ++ c ++ d) e (f ++ (g ++ (h ++ r)))
-    ∙ append_assoc (a ++ b ++ c) d (e ++ (f ++ (g ++ (h ++ r))))
-    ∙ append_assoc (a ++ b) c (d ++ (e ++ (f ++ (g ++ (h ++ r)))))
-    ∙ append_assoc a b (c ++ (d ++ (e ++ (f ++ (g ++ (h ++ r))))))
+in_turn a b c d e f g h r = grind (arith, common_steps, append_assoc)
 
 abbrev sides : ShapeView → List ℕ
 sides s = s.width ∷ s.height ∷ s.steps ∷ []
@@ -161,58 +140,28 @@ Forms n = ((n < 254) × (number_bytes n ≡ n ∷ []))
     ⊎ (((n < 2 ^ 16) × (number_bytes n ≡ 254 ∷ to_le_bytes w16 n)) ⊎ (number_bytes n ≡ 255 ∷ to_le_bytes w64 n))
 
 forms : (n : ℕ) → Forms n
-forms n = elim (cases_Bool (nat_lt n 254)) [
-  | inl small ↦ inl (grind (arith, nat_tests, small), cond-true _ _ _ small)
-  | inr large ↦ elim (cases_Bool (nat_lt n 65536)) [
-    | inl middle ↦ inr (inl (grind (arith, nat_tests, middle), cond-false _ _ _ large ∙ cond-true _ _ _ middle))
-    | inr huge ↦ inr (inr (cond-false _ _ _ large ∙ cond-false _ _ _ huge))
-  ]
-]
+forms n = grind (arith, common_steps, cases_Bool, nat_tests, cond-true, cond-false)
 
 two_tell : (n m : ℕ) (r s : List ℕ) → n < 2 ^ 16 → m < 2 ^ 16 → to_le_bytes w16 n ++ r ≡ to_le_bytes w16 m ++ s →
     (n ≡ m) × (r ≡ s)
-two_tell n m r s few few' e =
-    let both = same_length (to_le_bytes w16 n) (to_le_bytes w16 m) r s refl e in (
-      sym (from_le_bytes-to_le_bytes_2 n few) ∙ ap (from_le_bytes w16) both.0 ∙ from_le_bytes-to_le_bytes_2 m few',
-      both.1,
-    )
+two_tell n m r s few few' e = grind (arith, common_steps, same_length, from_le_bytes-to_le_bytes_2)
 
 eight_tell : (n m : ℕ) (r s : List ℕ) → n < 2 ^ 64 → m < 2 ^ 64 → to_le_bytes w64 n ++ r ≡ to_le_bytes w64 m ++ s →
     (n ≡ m) × (r ≡ s)
-eight_tell n m r s few few' e =
-    let both = same_length (to_le_bytes w64 n) (to_le_bytes w64 m) r s refl e in (
-      sym (from_le_bytes-to_le_bytes_8 n few) ∙ ap (from_le_bytes w64) both.0 ∙ from_le_bytes-to_le_bytes_8 m few',
-      both.1,
-    )
+eight_tell n m r s few few' e = grind (arith, common_steps, same_length, from_le_bytes-to_le_bytes_8)
 
 bytes_tell : (n m : ℕ) (r s : List ℕ) → Forms n → Forms m → n < 2 ^ 64 → m < 2 ^ 64 →
     number_bytes n ++ r ≡ number_bytes m ++ s → (n ≡ m) × (r ≡ s)
 bytes_tell n m r s (inl f) (inl g) few few' e = let h = sym (ap (λ l. l ++ r) f.1) ∙ e ∙ ap (λ l. l ++ s) g.1 in
     (same_head n m r s h, same_tail n m r s h)
-bytes_tell n m r s (inl f) (inr (inl g)) few few' e =
-    let h = same_head n 254 r (to_le_bytes w16 m ++ s) (sym (ap (λ l. l ++ r) f.1) ∙ e ∙ ap (λ l. l ++ s) g.1) in
-    let lt = f.0 in absurd (omega (arith, h, lt))
-bytes_tell n m r s (inl f) (inr (inr g)) few few' e =
-    let h = same_head n 255 r (to_le_bytes w64 m ++ s) (sym (ap (λ l. l ++ r) f.1) ∙ e ∙ ap (λ l. l ++ s) g) in let lt =
-    f.0 in absurd (omega (arith, h, lt))
-bytes_tell n m r s (inr (inl f)) (inl g) few few' e =
-    let h = same_head 254 m (to_le_bytes w16 n ++ r) s (sym (ap (λ l. l ++ r) f.1) ∙ e ∙ ap (λ l. l ++ s) g.1) in
-    let lt = g.0 in absurd (omega (arith, h, lt))
-bytes_tell n m r s (inr (inl f)) (inr (inl g)) few few' e =
-    two_tell n m r s f.0 g.0 (same_tail 254 254 (to_le_bytes w16 n ++ r) (to_le_bytes w16 m ++ s)
-    (sym (ap (λ l. l ++ r) f.1) ∙ e ∙ ap (λ l. l ++ s) g.1))
-bytes_tell n m r s (inr (inl f)) (inr (inr g)) few few' e =
-    let h = same_head 254 255 (to_le_bytes w16 n ++ r) (to_le_bytes w64 m ++ s)
-    (sym (ap (λ l. l ++ r) f.1) ∙ e ∙ ap (λ l. l ++ s) g) in absurd (omega (arith, h))
-bytes_tell n m r s (inr (inr f)) (inl g) few few' e =
-    let h = same_head 255 m (to_le_bytes w64 n ++ r) s (sym (ap (λ l. l ++ r) f) ∙ e ∙ ap (λ l. l ++ s) g.1) in let lt =
-    g.0 in absurd (omega (arith, h, lt))
-bytes_tell n m r s (inr (inr f)) (inr (inl g)) few few' e =
-    let h = same_head 255 254 (to_le_bytes w64 n ++ r) (to_le_bytes w16 m ++ s)
-    (sym (ap (λ l. l ++ r) f) ∙ e ∙ ap (λ l. l ++ s) g.1) in absurd (omega (arith, h))
-bytes_tell n m r s (inr (inr f)) (inr (inr g)) few few' e =
-    eight_tell n m r s few few' (same_tail 255 255 (to_le_bytes w64 n ++ r) (to_le_bytes w64 m ++ s)
-    (sym (ap (λ l. l ++ r) f) ∙ e ∙ ap (λ l. l ++ s) g))
+bytes_tell n m r s (inl f) (inr (inl g)) few few' e = grind (arith, common_steps, same_head)
+bytes_tell n m r s (inl f) (inr (inr g)) few few' e = grind (arith, common_steps, same_head)
+bytes_tell n m r s (inr (inl f)) (inl g) few few' e = grind (arith, common_steps, same_head)
+bytes_tell n m r s (inr (inl f)) (inr (inl g)) few few' e = grind (arith, common_steps, two_tell, same_tail)
+bytes_tell n m r s (inr (inl f)) (inr (inr g)) few few' e = grind (arith, common_steps, same_head)
+bytes_tell n m r s (inr (inr f)) (inl g) few few' e = grind (arith, common_steps, same_head)
+bytes_tell n m r s (inr (inr f)) (inr (inl g)) few few' e = grind (arith, common_steps, same_head)
+bytes_tell n m r s (inr (inr f)) (inr (inr g)) few few' e = grind (arith, common_steps, eight_tell, same_tail)
 
 empty : (x : ℕ) (xs : List ℕ) → [] ≡ x ∷ xs → ⊥
 empty x xs e = cc

@@ -4,6 +4,7 @@ use Rattle.std.proofs.Common.{ap, subst, ◌∙◌, arith, append_assoc, append-
 use Rattle.std.proofs.lemmas.Bool.Decides.{nat_tests}
 use Rattle.std.proofs.lemmas.List.{map-append}
 use Rattle.std.proofs.lemmas.List.Folds.{list_any-append}
+use Rattle.std.proofs.lemmas.Grind.{common_steps}
 use Rattle.bbm_rule.specs.declared.block.Cell.{Cell}
 use Rattle.section_text.specs.Codes.{code_if}
 use Rattle.pattern.specs.declared.layout_line.Rectangle.{Rectangle}
@@ -16,7 +17,6 @@ use Rattle.pattern.specs.Lines.{has_later_kind_before, order_fault, limit_fault,
 use Rattle.pattern.specs.Lines.{cells_taken_at_start, ended, AreGoodAfter}
 use Rattle.pattern.proofs.Orders.{some, late_mirror, late_ball, late_in, late_out}
 use Rattle.section_text.specs.declared.code.RefusalCode.{RefusalCode}
-use Rattle.section_text.specs.declared.code.RefusalCode.TheVariants.{OutOfOrder}
 
 -- no code: the test was not failed
 pub no_code : (b : Bool) (code : RefusalCode) → code_if b code ≡ None → b ≡ false
@@ -59,57 +59,30 @@ module _ {A B C D : Type 0} (ks : List A) (ls : List B) (ms : List C) (ns : List
 module _ (p v : Pattern) (same : v ≡ p) (part : LayoutLine) (follows : order_fault (parts_of v) part ≡ None) where
   not_late : has_later_kind_before (parts_of p) part ≡ false
   unfolding order_fault
-  not_late = subst (λ (q : Pattern). has_later_kind_before (parts_of q) part ≡ false) same
-      (no_code (has_later_kind_before (parts_of v) part) OutOfOrder follows)
+  not_late = grind (arith, common_steps, no_code)
 
   on_old : (q : Pattern) → parts_of q ≡ parts_of p ++ part ∷ [] → parts_of q ≡ parts_of v ++ part ∷ []
   on_old q e = e ∙ ap (λ (u : Pattern). parts_of u ++ part ∷ []) (sym same)
 
   pub with_mirror : (r : Rectangle) (ms : List Rectangle) → part ≡ Mirror r → ms ≡ p.mirrors ++ r ∷ [] →
       parts_of (record p { mirrors = ms }) ≡ parts_of v ++ part ∷ []
-  with_mirror r ms is more =
-      let none = are_empty p.balls p.ins p.outs p.wastes
-      (sym (late_mirror p r) ∙ ap (has_later_kind_before (parts_of p)) (sym is) ∙ not_late) in
-      on_old (record p { mirrors = ms })
-      (rw (more, none.first, none.second, none.third, none.fourth, is, map-append Mirror p.mirrors (r ∷ []))
-      (simp (append-nil) refl))
+  with_mirror r ms is more = grind (arith, common_steps, are_empty, late_mirror, not_late, on_old, map-append)
 
   pub with_ball : (c : Cell) (bs : List Cell) → part ≡ Ball c → bs ≡ p.balls ++ c ∷ [] →
       parts_of (record p { balls = bs }) ≡ parts_of v ++ part ∷ []
-  with_ball c bs is more =
-      let none = are_empty p.ins p.ins p.outs p.wastes
-      (twice (some p.ins) (some p.outs) (some p.wastes)
-      (sym (late_ball p c) ∙ ap (has_later_kind_before (parts_of p)) (sym is) ∙ not_late)) in
-      on_old (record p { balls = bs })
-      (rw (more, none.second, none.third, none.fourth, is, map-append Ball p.balls (c ∷ []))
-      (simp (append-nil, append_assoc) refl))
-    where
-      twice : (a b c : Bool) → (a || (b || c)) ≡ false → (a || (a || (b || c))) ≡ false
-      twice a b c e = grind arith
+  with_ball c bs is more = grind (arith, common_steps, are_empty, some, late_ball, not_late, on_old, map-append)
 
   pub with_in : (q : Port) (is : List Port) → part ≡ In q → is ≡ p.ins ++ q ∷ [] →
       parts_of (record p { ins = is }) ≡ parts_of v ++ part ∷ []
-  with_in q ins is more =
-      let none = are_empty p.outs p.outs p.outs p.wastes
-      (thrice (some p.outs) (some p.wastes)
-      (sym (late_in p q) ∙ ap (has_later_kind_before (parts_of p)) (sym is) ∙ not_late)) in
-      on_old (record p { ins = ins })
-      (rw (more, none.third, none.fourth, is, map-append In p.ins (q ∷ [])) (simp (append-nil, append_assoc) refl))
-    where
-      thrice : (a b : Bool) → (a || b) ≡ false → (a || (a || (a || b))) ≡ false
-      thrice a b e = grind arith
+  with_in q ins is more = grind (arith, common_steps, are_empty, some, late_in, not_late, on_old, map-append)
 
   pub with_out : (q : Port) (os : List Port) → part ≡ Out q → os ≡ p.outs ++ q ∷ [] →
       parts_of (record p { outs = os }) ≡ parts_of v ++ part ∷ []
-  with_out q os is more =
-      let none = none_of p.wastes (sym (late_out p q) ∙ ap (has_later_kind_before (parts_of p)) (sym is) ∙ not_late) in
-      on_old (record p { outs = os })
-      (rw (more, none, is, map-append Out p.outs (q ∷ [])) (simp (append-nil, append_assoc) refl))
+  with_out q os is more = grind (arith, common_steps, none_of, late_out, not_late, on_old, map-append)
 
   pub with_waste : (c : Cell) (ws : List Cell) → part ≡ Waste c → ws ≡ p.wastes ++ c ∷ [] →
       parts_of (record p { wastes = ws }) ≡ parts_of v ++ part ∷ []
-  with_waste c ws is more =
-      on_old (record p { wastes = ws }) (rw (more, is, map-append Waste p.wastes (c ∷ [])) (simp (append_assoc) refl))
+  with_waste c ws is more = grind (arith, common_steps, on_old, map-append)
 
 -- ---- one more good line
 
@@ -127,10 +100,7 @@ good_push s before (q ∷ parts) part good limit cells = (
 pub good_more : (s : LayoutHeader) (p v : Pattern) (same : v ≡ p) (q : List LayoutLine) (part : LayoutLine) →
     AreGoodAfter s [] (parts_of p) → q ≡ parts_of v ++ part ∷ [] → limit_fault part ≡ None →
     cell_fault s (parts_of v) part ≡ None → AreGoodAfter s [] q
-good_more s p v same q part good more limit cells =
-    subst (AreGoodAfter s []) (sym more)
-    (good_push s [] (parts_of v) part
-    (subst (λ (u : Pattern). AreGoodAfter s [] (parts_of u)) (sym same) good) limit cells)
+good_more s p v same q part good more limit cells = grind (arith, common_steps, good_push)
 
 -- ---- the cells that are taken after one more line
 

@@ -1,5 +1,5 @@
 -- The cells of rows and rectangles.
-use Rattle.std.proofs.Common.{◌≡◌, ℕ, zero, suc, Bool, true, false, cond, ◌+◌, ◌-◌, ◌<◌, ◌≤◌, ◌||◌, pos, List, [], ◌∷◌}
+use Rattle.std.proofs.Common.{◌≡◌, ℕ, zero, suc, Bool, true, false, cond, ◌+◌, ◌-◌, ◌<◌, ◌≤◌, ◌||◌, List, [], ◌∷◌}
 use Rattle.std.proofs.Common.{◌++◌}
 use Rattle.std.proofs.Common.{arith, ap, ap₂, refl, ◌∙◌, append-nil, append_assoc, sym, to_z, w32, nat_lt, inl, inr}
 use Rattle.std.proofs.lemmas.Bool.{cases_Bool}
@@ -12,6 +12,7 @@ use Rattle.std.proofs.lemmas.List.Concat.{flat_map-append}
 use Rattle.std.proofs.lemmas.List.FromFn.{map-range_with_len_more, filter_of_map_range_with_len_more}
 use Rattle.std.proofs.lemmas.List.{map-id}
 use Rattle.std.proofs.Math.Bool.{or-true}
+use Rattle.std.proofs.lemmas.Grind.{common_steps}
 use Rattle.bbm_rule.specs.declared.block.Cell.{Cell}
 use Rattle.pattern.specs.Layout.{cell, row_cells}
 
@@ -30,20 +31,12 @@ flat_map_range_more f a n j e =
 
 -- a cell whose numbers were cast
 pub cast_cell : (x y : ℕ) → x < 512 → y < 512 → record { x = to_z w32 x; y = to_z w32 y } ≡ cell x y
-cast_cell x y a b =
-    let p : to_z w32 x ≡ pos x = omega (arith, ints) in
-    let q : to_z w32 y ≡ pos y = omega (arith, ints) in
-    λ i. record { x = p i; y = q i }
+cast_cell x y a b = grind (arith, common_steps, ints)
 
 pub row_pushed : (first out out' : List Cell) (x y c : ℕ) → x ≤ c → c < 512 → y < 512 →
     out ≡ first ++ row_cells x (c - x) y → out' ≡ out ++ record { x = to_z w32 c; y = to_z w32 y } ∷ [] →
     out' ≡ first ++ row_cells x (c + 1 - x) y
-row_pushed first out out' x y c from low row before now =
-    let n : c + 1 - x ≡ (c - x) + 1 = omega arith in
-    now ∙ ap (λ (d : Cell). out ++ d ∷ []) (cast_cell c y low row) ∙ ap (λ (l : List Cell). l ++ cell c y ∷ []) before
-    ∙ append_assoc first (row_cells x (c - x) y) (cell c y ∷ [])
-    ∙ ap (λ (l : List Cell). first ++ l) (sym (row_more x (c - x) y c (omega arith)))
-    ∙ ap (λ (k : ℕ). first ++ row_cells x k y) (sym n)
+row_pushed first out out' x y c from low row before now = grind (arith, common_steps, cast_cell, row_more)
 
 pub rows_pushed : (first out out' : List Cell) (x w y k : ℕ) → y ≤ k →
     out ≡ first ++ flat_map (row_cells x w) (range_with_len y (k - y)) → out' ≡ out ++ row_cells x w k →

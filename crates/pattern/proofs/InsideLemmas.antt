@@ -1,9 +1,10 @@
 -- The cells that are live at the start of a good layout lie inside it.
 use Rattle.std.proofs.Common.{◌≡◌, ℕ, zero, suc, ◌+◌, ◌≤◌, ◌<◌, ◌%◌, ℤ, pos, negsuc, Bool, true, false, not, ◌&&◌, ◌||◌}
-use Rattle.std.proofs.Common.{None, List, [], ◌∷◌, ◌++◌, map, length, get_or, refl, arith, ap, ◌∙◌, sym}
+use Rattle.std.proofs.Common.{None, List, [], ◌∷◌, ◌++◌, length, get_or, refl, arith}
 use Rattle.std.specs.List.{list_any, list_all}
-use Rattle.std.proofs.lemmas.Bool.Decides.{nat_tests, Decides-int_eq}
+use Rattle.std.proofs.lemmas.Bool.Decides.{nat_tests}
 use Rattle.std.proofs.lemmas.List.Folds.{list_all-append, list_all-map}
+use Rattle.std.proofs.lemmas.Grind.{common_steps}
 use Rattle.bbm_rule.specs.Plane.{is_at}
 use Rattle.bbm_rule.specs.Spans.{in_span}
 use Rattle.bbm_rule.specs.declared.block.Cell.{Cell}
@@ -18,7 +19,7 @@ use Rattle.pattern.specs.Layout.{parts_of}
 use Rattle.pattern.proofs.TakenLemmas.{mirror_fits}
 use Rattle.pattern.specs.Lines.{size_fault, cell_fault, is_inside, is_taken, is_layout_side, AreGoodAfter}
 use Rattle.section_text.specs.declared.code.RefusalCode.{RefusalCode}
-use Rattle.section_text.specs.declared.code.RefusalCode.TheVariants.{PastLimit, TakenCell}
+use Rattle.section_text.specs.declared.code.RefusalCode.TheVariants.{TakenCell}
 
 and_left : (a b : Bool) → (a && b) ≡ true → a ≡ true
 and_left true b h = refl
@@ -40,15 +41,11 @@ no_code true n e = refl
 no_code false n e = cc
 
 side_length : (n : ℕ) → is_layout_side n ≡ true → IsSideLength n
-side_length n e =
-    record { least = grind (arith, nat_tests); most = grind (arith, nat_tests); even = grind (arith, nat_tests) }
+side_length n e = grind (arith, common_steps, nat_tests)
 
 pub size_sides : (s : LayoutHeader) → size_fault s ≡ None → IsSideLength s.w × IsSideLength s.h
 unfolding size_fault
-size_sides s e =
-    let good : (is_layout_side s.w && is_layout_side s.h && _) ≡ true = no_code _ PastLimit e in
-    let both : (is_layout_side s.w && is_layout_side s.h) ≡ true = and_left _ _ good in
-    (side_length s.w (and_left _ _ both), side_length s.h (and_right _ _ both))
+size_sides s e = grind (arith, common_steps, no_code, and_left, side_length, and_right)
 
 -- ---- the parts
 
@@ -73,17 +70,7 @@ pub record BeginsInside (p : Pattern) : Type 0 where
   pub ins : list_all (λ q. is_inside p.size (In q)) p.ins ≡ true
 
 pub begins_inside : (p : Pattern) → AreGoodAfter p.size [] (parts_of p) → BeginsInside p
-begins_inside p h =
-    let all = parts_inside p.size [] (parts_of p) h in
-    let test : LayoutLine → Bool = is_inside p.size in
-    let one = sym (list_all-append test (map Mirror p.mirrors) _) ∙ all in
-    let two = sym (list_all-append test (map Ball p.balls) _) ∙ and_right _ _ one in
-    let three = sym (list_all-append test (map In p.ins) _) ∙ and_right _ _ two in
-    record {
-      mirrors = sym (list_all-map test Mirror p.mirrors) ∙ and_left _ _ one;
-      balls = sym (list_all-map test Ball p.balls) ∙ and_left _ _ two;
-      ins = sym (list_all-map test In p.ins) ∙ and_left _ _ three;
-    }
+begins_inside p h = grind (arith, common_steps, parts_inside, list_all-append, and_right, list_all-map, and_left)
 
 pub mirrors_fit : (s : LayoutHeader) (rs : List Rectangle) → list_all (λ r. is_inside s (Mirror r)) rs ≡ true →
     s.w ≤ 512 →
@@ -115,18 +102,11 @@ span_within a n m (negsuc x) fits e = cc
 rectangle_inside : (s : LayoutHeader) (r : Rectangle) (x y : ℤ) → is_inside s (Mirror r) ≡ true →
     in_rectangle r x y ≡ true →
     in_layout s x y ≡ true
-rectangle_inside s r x y e h =
-    let f = mirror_fits s r e in
-    let across : in_span 0 s.w x ≡ true = span_within r.x r.w s.w x f.0 (and_left _ _ h) in
-    let down : in_span 0 s.h y ≡ true = span_within r.y r.h s.h y f.1 (and_right _ _ h) in
-    rw (across, down) refl
+rectangle_inside s r x y e h = grind (arith, common_steps, mirror_fits, span_within, and_left, and_right)
 
 at_inside : (s : LayoutHeader) (c : Cell) (x y : ℤ) → in_layout s c.x c.y ≡ true → is_at c x y ≡ true →
     in_layout s x y ≡ true
-at_inside s c x y e h =
-    let across : c.x ≡ x = (Decides-int_eq c.x x).0 (and_left _ _ h) in
-    let down : c.y ≡ y = (Decides-int_eq c.y y).0 (and_right _ _ h) in
-    ap (λ (u : ℤ). in_layout s u y) (sym across) ∙ ap (λ (v : ℤ). in_layout s c.x v) (sym down) ∙ e
+at_inside s c x y e h = grind (arith, common_steps, and_left, and_right)
 
 ball_inside : (s : LayoutHeader) (c : Cell) (x y : ℤ) → is_inside s (Ball c) ≡ true → is_at c x y ≡ true →
     in_layout s x y ≡ true

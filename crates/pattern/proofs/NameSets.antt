@@ -1,9 +1,10 @@
 -- The names of a set after one more.
-use Rattle.std.proofs.Common.{◌≡◌, ℕ, ◌||◌, Bool, true, false, List, [], ◌∷◌, ◌++◌, sym, ◌∙◌, inl, inr, subst, arith}
+use Rattle.std.proofs.Common.{◌≡◌, ℕ, ◌||◌, Bool, true, false, List, [], ◌∷◌, ◌++◌, ◌∙◌, arith}
 use Rattle.std.specs.Str.{bytes_eq}
 use Rattle.std.proofs.lemmas.Bool.{cases_Bool}
 use Rattle.std.proofs.lemmas.Slice.Eq.{bytes_eq-Decides}
 use Rattle.std.proofs.lemmas.List.Folds.{list_any-append}
+use Rattle.std.proofs.lemmas.Grind.{common_steps}
 use Rattle.section_text.specs.Words.{has}
 
 or_right : (a b : Bool) → (a || (b || false)) ≡ (a || b)
@@ -19,7 +20,4 @@ or_false : (a b : Bool) → b ≡ false → a ≡ (a || b)
 or_false a b e = grind arith
 
 pub has_again : (d : List (List ℕ)) (m n : List ℕ) → has d m ≡ true → has d n ≡ (has d n || bytes_eq n m)
-has_again d m n h = elim (cases_Bool (bytes_eq n m)) [
-  | inl e ↦ or_true (has d n) (bytes_eq n m) (subst (λ k. has d k ≡ true) (sym ((bytes_eq-Decides n m).0 e)) h)
-  | inr e ↦ or_false (has d n) (bytes_eq n m) e
-]
+has_again d m n h = grind (arith, common_steps, cases_Bool, or_true, bytes_eq-Decides, or_false)

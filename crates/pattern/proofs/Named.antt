@@ -1,22 +1,19 @@
 -- The names of the ports of a layout that was read.
-use Rattle.std.proofs.Common.{◌≡◌, List, [], ◌∷◌, ◌++◌, Option, None}
+use Rattle.std.proofs.Common.{arith, ◌≡◌, List, [], ◌∷◌, ◌++◌, Option, None}
 use Rattle.std.specs.List.{AllByRecursion}
-use Rattle.std.proofs.lemmas.List.Elements.{All-from_recursion}
+use Rattle.std.proofs.lemmas.Grind.{common_steps}
 use Rattle.section_text.specs.Ports.{Named}
 use Rattle.section_text.proofs.Good.{AreFaultless, IsFaultless}
 use Rattle.pattern.specs.declared.layout_line.LayoutHeader.{LayoutHeader}
 use Rattle.pattern.specs.declared.layout_line.LayoutLine.{LayoutLine}
-use Rattle.pattern.specs.Lines.{AreNamed, cell_fault, limit_fault, line_fault, name_fault, order_fault}
-use Rattle.pattern.specs.Lines.{layout_line_fault}
+use Rattle.pattern.specs.Lines.{AreNamed, line_fault, name_fault, layout_line_fault}
 use Rattle.pattern.specs.Grammars.{layout_grammar}
 use Rattle.pattern.proofs.ReadingLemmas.{no_code_first, no_code_second}
 
 named_part : (ports : Option Named) (s : LayoutHeader) (before : List LayoutLine) (part : LayoutLine) →
     layout_line_fault ports s before part ≡ None → name_fault ports part ≡ None
 unfolding layout_line_fault line_fault
-named_part ports s before part e =
-    let line = no_code_first (line_fault ports before part) (cell_fault s before part) e in
-    no_code_second (limit_fault part) (name_fault ports part) (no_code_second (order_fault before part) _ line)
+named_part ports s before part e = grind (arith, common_steps, no_code_first, no_code_second)
 
 named_parts : (ports : Option Named) (s : LayoutHeader) (before parts : List LayoutLine) →
     AreFaultless (layout_grammar ports) s before parts → AllByRecursion (λ part. name_fault ports part ≡ None) parts
@@ -27,7 +24,4 @@ named_parts ports s before (part ∷ parts) good =
 -- where they have no fault
 pub faultless_named : (ports : Option Named) (s : LayoutHeader) (parts : List LayoutLine) →
     IsFaultless (layout_grammar ports) s parts → AreNamed ports parts
-faultless_named ports s parts good = record {
-  good = All-from_recursion (λ part. name_fault ports part ≡ None) parts (named_parts ports s [] parts good.each);
-  whole = good.end;
-}
+faultless_named ports s parts good = grind (arith, common_steps, named_parts)

@@ -1,8 +1,8 @@
 -- Lines in the order of their kinds.
-use Rattle.std.proofs.Common.{◌≡◌, ℕ, ◌||◌, ◌&&◌, Bool, false, not, List, [], ◌∷◌, ◌++◌, map, length, refl, arith}
-use Rattle.std.specs.Prelude.{nat_lt, ◌==◌}
+use Rattle.std.proofs.Common.{◌≡◌, ℕ, ◌||◌, ◌&&◌, Bool, false, not, List, [], ◌∷◌, map, length, arith, nat_lt, ◌==◌}
 use Rattle.std.specs.List.{list_any}
 use Rattle.std.proofs.lemmas.List.Folds.{list_any-append}
+use Rattle.std.proofs.lemmas.Grind.{common_steps}
 use Rattle.bbm_rule.specs.declared.block.Cell.{Cell}
 use Rattle.pattern.specs.declared.layout_line.Rectangle.{Rectangle}
 use Rattle.pattern.specs.declared.layout_line.Port.{Port}
@@ -30,20 +30,7 @@ module _ (p : Pattern) (k : ℕ) where
       || ((nat_lt k 1 && some p.balls)
       || ((nat_lt k 2 && some p.ins) || ((nat_lt k 3 && some p.outs) || (nat_lt k 4 && some p.wastes)))))
   unfolding rank_of
-  late_by =
-      rw (
-        list_any-append (λ b. nat_lt k (rank_of b)) (map Mirror p.mirrors)
-            (map Ball p.balls ++ (map In p.ins ++ (map Out p.outs ++ map Waste p.wastes))),
-        list_any-append (λ b. nat_lt k (rank_of b)) (map Ball p.balls)
-            (map In p.ins ++ (map Out p.outs ++ map Waste p.wastes)),
-        list_any-append (λ b. nat_lt k (rank_of b)) (map In p.ins) (map Out p.outs ++ map Waste p.wastes),
-        list_any-append (λ b. nat_lt k (rank_of b)) (map Out p.outs) (map Waste p.wastes),
-        any_map k Mirror (nat_lt k 0) (λ x. refl) p.mirrors,
-        any_map k Ball (nat_lt k 1) (λ x. refl) p.balls,
-        any_map k In (nat_lt k 2) (λ x. refl) p.ins,
-        any_map k Out (nat_lt k 3) (λ x. refl) p.outs,
-        any_map k Waste (nat_lt k 4) (λ x. refl) p.wastes,
-      ) refl
+  late_by = grind (arith, common_steps, list_any-append, any_map)
 
 module _ (p : Pattern) where
   pub late_mirror : (r : Rectangle) →

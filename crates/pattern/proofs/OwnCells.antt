@@ -1,9 +1,9 @@
 -- The ports of a good layout have cells of their own.
 use Rattle.std.proofs.Common.{◌≡◌, ℕ, zero, suc, ◌||◌, ℤ, Bool, true, false, not, List, [], ◌∷◌, ◌++◌, map, None, Some}
-use Rattle.std.proofs.Common.{refl, sym, ap, subst, ◌∙◌, arith, append_assoc, append-nil, slice_get}
+use Rattle.std.proofs.Common.{refl, sym, ap, subst, ◌∙◌, arith, append-nil, slice_get}
 use Rattle.std.proofs.lemmas.Bool.{true≢false}
 use Rattle.std.proofs.lemmas.Option.{same_Some}
-use Rattle.std.proofs.lemmas.Bool.Decides.{Decides-int_eq}
+use Rattle.std.proofs.lemmas.Grind.{common_steps}
 use Rattle.bbm_rule.specs.Plane.{State, is_at}
 use Rattle.bbm_rule.specs.declared.block.Cell.{Cell}
 use Rattle.section_text.specs.Codes.{code_if}
@@ -23,12 +23,10 @@ good_behind : (s : LayoutHeader) (before front back : List LayoutLine) → AreGo
 good_behind s before [] back good =
     subst (λ (l : List LayoutLine). AreGoodAfter s l back) (sym (append-nil before)) good
 good_behind s before (part ∷ front) back good =
-    subst (λ (l : List LayoutLine). AreGoodAfter s l back) (append_assoc before (part ∷ []) front)
-    (good_behind s (before ++ part ∷ []) front back good.2)
+    grind (arith, common_steps, good_behind s (before ++ part ∷ []) front back good.2)
 
 at_itself : (c : Cell) → is_at c c.x c.y ≡ true
-at_itself c = let across = (Decides-int_eq c.x c.x).1 refl in let down = (Decides-int_eq c.y c.y).1 refl in
-    rw (across, down) refl
+at_itself c = grind (arith, common_steps)
 
 or_left : (a b : Bool) → (a || b) ≡ false → a ≡ false
 or_left a b e = grind arith
@@ -56,8 +54,7 @@ module _ (make : Port → LayoutLine) (taken : List LayoutLine → State)
   free before (p ∷ ports) good zero q e = let same : p ≡ q = same_Some p q e in
       subst (λ (r : Port). taken before r.cell.x r.cell.y ≡ false) same (is_free s before p good.1)
   free before (p ∷ ports) good (suc i) q e =
-      or_left (taken before q.cell.x q.cell.y) _
-      (sym (one_more before p q.cell.x q.cell.y) ∙ free (before ++ make p ∷ []) ports good.2 i q e)
+      grind (arith, common_steps, free (before ++ make p ∷ []) ports good.2 i q e, or_left)
 
   -- the first port and a later one
   not_one : (before : List LayoutLine) (p : Port) (ports : List Port) →

@@ -1,11 +1,11 @@
 -- Boards that run on the plane.
 use Rattle.std.proofs.Common.{◌≡◌, ℕ, ◌+◌, ◌≤◌, ◌<◌, ℤ, Bool, true, false, List, length, get_or, refl, arith, ap, ◌∙◌}
-use Rattle.std.proofs.Common.{sym, subst, inl, inr, add-one, Result, Ok, Err, OnOk, OnErr}
+use Rattle.std.proofs.Common.{sym, subst, add-one, Result, Ok, Err, OnOk, OnErr}
 use Rattle.std.specs.Result.{is_err}
 use Rattle.std.proofs.lemmas.Bool.{cases_lt}
-use Rattle.std.proofs.lemmas.Bool.Decides.{Decides-int_eq}
 use Rattle.std.proofs.lemmas.List.Folds.{list_any_at}
-use Rattle.bbm_rule.specs.Plane.{State, step, run, is_at}
+use Rattle.std.proofs.lemmas.Grind.{common_steps}
+use Rattle.bbm_rule.specs.Plane.{State, step, run}
 use Rattle.bbm_rule.specs.Board.{Board, live, is_inside, IsStep, Leaves}
 use Rattle.bbm_rule.specs.declared.block.Cell.{Cell}
 use Rattle.bbm_rule.proofs.Boards.{inside_is_span, live_is_inside}
@@ -48,46 +48,24 @@ stays_none b s w h k le =
 pub stays_more : (first : State) (t : ℕ) (new : Board) (s : LayoutHeader) → new.width ≡ s.w → new.height ≡ s.h →
     ((x y : ℤ) → live new x y ≡ run first (t + 1) x y) → ((k : ℕ) → k ≤ t → IsDeadOutside s (run first k)) → (k : ℕ) →
     k ≤ t + 1 → IsDeadOutside s (run first k)
-stays_more first t new s w h same stays k le =
-    elim (cases_lt k (t + 1)) [
-      | inl lt ↦ stays k (omega arith)
-      | inr ge ↦
-          let e : t + 1 ≡ k = omega arith in
-          subst (λ (m : ℕ). IsDeadOutside s (run first m)) e
-          (subst (IsDeadOutside s) (same_state same) (board_stays new s w h))
-    ]
+stays_more first t new s w h same stays k le = grind (arith, common_steps, cases_lt, same_state, board_stays)
 
 pub run_leaves : (first : State) (t : ℕ) (old : Board) (s : LayoutHeader) → old.width ≡ s.w → old.height ≡ s.h →
     t + 1 ≤ s.steps → ((x y : ℤ) → live old x y ≡ run first t x y) → ((k : ℕ) → k ≤ t → IsDeadOutside s (run first k)) →
     Leaves t old → RunLeaves s first (t + 1)
-run_leaves first t old s w h within same stays leaves = record {
-  within = within;
-  stays = λ j lt. stays j (omega arith);
-  leaves = record {
-    x = leaves.x;
-    y = leaves.y;
-    lives = ap (λ (f : State). f leaves.x leaves.y) (run_more first t)
-        ∙ ap (λ (f : State). step t f leaves.x leaves.y) (sym (same_state same)) ∙ leaves.becomes_live;
-    outside = sym (inside_is_layout old s w h leaves.x leaves.y) ∙ leaves.outside;
-  };
-}
+run_leaves first t old s w h within same stays leaves =
+    grind (arith, common_steps, run_more, same_state, inside_is_layout)
 
 pub runs_inside : (first : State) (t : ℕ) (last : Board) (s : LayoutHeader) → t ≡ s.steps →
     ((x y : ℤ) → live last x y ≡ run first t x y) → ((k : ℕ) → k ≤ t → IsDeadOutside s (run first k)) →
     RunsInside s first (live last)
-runs_inside first t last s e same stays = record {
-  stays = λ k le. stays k (omega arith);
-  last = λ x y. same x y ∙ ap (λ (k : ℕ). run first k x y) e;
-}
+runs_inside first t last s e same stays = grind (arith, common_steps)
 
 -- ---- the cells that are set
 
 pub among : (cells : List Cell) (i : ℕ) (d : Cell) → i < length cells →
     in_cells cells (get_or cells i d).x (get_or cells i d).y ≡ true
-among cells i d lt =
-    let c : Cell = get_or cells i d in
-    list_any_at (λ (e : Cell). is_at e c.x c.y) cells i d lt
-    (rw ((Decides-int_eq c.x c.x).1 refl, (Decides-int_eq c.y c.y).1 refl) refl)
+among cells i d lt = grind (arith, common_steps, list_any_at)
 
 -- ---- the end of the run
 
@@ -98,13 +76,7 @@ leaves_at p on g k same leaves = subst (λ (s : State). RunLeaves p.size s k) (s
 pub ends_with : (p : Pattern) (on : List ℕ → Bool) (g g' : Board) (cells : List Cell) →
     ((x y : ℤ) → live g x y ≡ start p on x y) → RunsInside p.size (live g) (live g') →
     cells ≡ live_cells p.size (live g') → EndsWith p on cells
-ends_with p on g g' cells same runs e =
-    let from : live g ≡ start p on = same_state same in
-    record {
-      stays = subst (λ (s : State). (k : ℕ) → k ≤ p.size.steps → IsDeadOutside p.size (run s k)) from runs.stays;
-      cells = e ∙ ap (live_cells p.size) (same_state runs.last)
-          ∙ ap (λ (s : State). live_cells p.size (run s p.size.steps)) from;
-    }
+ends_with p on g g' cells same runs e = grind (arith, common_steps, same_state)
 
 -- ---- results
 

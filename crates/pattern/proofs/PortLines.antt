@@ -1,7 +1,8 @@
 -- The lines of a layout by their words.
-use Rattle.std.proofs.Common.{◌≡◌, ◌==◌, if◌then◌else◌, ℕ, Bool, true, false, List, [], ◌∷◌, length, Some, None, refl}
-use Rattle.std.proofs.Common.{sym, ap, ◌∙◌}
+use Rattle.std.proofs.Common.{arith, ◌≡◌, ◌==◌, if◌then◌else◌, ℕ, Bool, true, false, List, [], ◌∷◌, length, Some, None}
+use Rattle.std.proofs.Common.{refl, sym, ap}
 use Rattle.std.proofs.lemmas.Option.{same_Some}
+use Rattle.std.proofs.lemmas.Grind.{common_steps}
 use Rattle.section_text.specs.Words.{three, four, five, number_at, name_at}
 use Rattle.pattern.specs.Forms.{cell_of_words_from, cell_after_keyword, port_after_keyword, port_of, rectangle_of}
 use Rattle.pattern.specs.Forms.{size_of}
@@ -28,8 +29,7 @@ cell_by_words k x y = refl
 pub cell_found : (ws : List (List ℕ)) (k x y : List ℕ) → Some (k ∷ x ∷ y ∷ []) ≡ three ws →
     cell_from_words x y ≡ cell_after_keyword ws
 unfolding three
-cell_found ws k x y e = sym (cell_by_words k x y)
-    ∙ ap cell_after_keyword (sym (is_so_many (length ws == 3) ws (k ∷ x ∷ y ∷ []) (sym e)))
+cell_found ws k x y e = grind (arith, common_steps, cell_by_words, is_so_many)
 
 pub cell_missed : (ws : List (List ℕ)) → None ≡ three ws → None ≡ cell_after_keyword ws
 unfolding three cell_after_keyword
@@ -40,8 +40,7 @@ cell_missed ws e = rw (not_so_many (length ws == 3) ws (sym e)) refl
 pub port_found : (ws : List (List ℕ)) (k n x y : List ℕ) → Some (k ∷ n ∷ x ∷ y ∷ []) ≡ four ws →
     port_from_words n x y ≡ port_of ws
 unfolding four
-port_found ws k n x y e = sym (port_by_words k n x y)
-    ∙ ap port_of (sym (is_so_many (length ws == 4) ws (k ∷ n ∷ x ∷ y ∷ []) (sym e)))
+port_found ws k n x y e = grind (arith, common_steps, port_by_words, is_so_many)
 
 pub port_missed : (ws : List (List ℕ)) → None ≡ four ws → None ≡ port_of ws
 unfolding four port_of

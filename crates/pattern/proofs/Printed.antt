@@ -1,9 +1,8 @@
 -- The lists of a layout, printed one after the other, are its text.
-use Rattle.std.proofs.Common.{◌≡◌, ℕ, List, ◌++◌, map, refl, sym, ap, ap₂, ◌∙◌, append_assoc, codes, flat_map}
-use Rattle.std.proofs.lemmas.Grind.{flat_map-append}
+use Rattle.std.proofs.Common.{arith, ◌≡◌, ℕ, List, ◌++◌, refl, ap, append_assoc, codes, flat_map}
+use Rattle.std.proofs.lemmas.Grind.{flat_map-append, common_steps}
 use Rattle.std.proofs.lemmas.List.Folds.{flat_map-map}
 use Rattle.section_text.specs.Spelling.{line_text}
-use Rattle.pattern.specs.declared.layout_line.LayoutLine.TheVariants.{Mirror, Ball, In, Out, Waste}
 use Rattle.pattern.specs.Layout.{Pattern, parts_of}
 use Rattle.pattern.specs.Text.{cell_words, rectangle_words, port_words, size_words, part_text, layout_text}
 
@@ -25,16 +24,7 @@ module _ (p : Pattern) where
 
   parts_text : flat_map part_text (parts_of p) ≡ mirrors ++ (balls ++ (ins ++ (outs ++ wastes)))
   unfolding mirrors balls ins outs wastes
-  parts_text =
-      flat_map-append part_text (map Mirror p.mirrors)
-      (map Ball p.balls ++ (map In p.ins ++ (map Out p.outs ++ map Waste p.wastes)))
-      ∙ ap₂ (λ a b. a ++ b) (flat_map-map part_text Mirror p.mirrors) (
-      flat_map-append part_text (map Ball p.balls) (map In p.ins ++ (map Out p.outs ++ map Waste p.wastes))
-      ∙ ap₂ (λ a b. a ++ b) (flat_map-map part_text Ball p.balls) (
-      flat_map-append part_text (map In p.ins) (map Out p.outs ++ map Waste p.wastes)
-      ∙ ap₂ (λ a b. a ++ b) (flat_map-map part_text In p.ins) (
-      flat_map-append part_text (map Out p.outs) (map Waste p.wastes)
-      ∙ ap₂ (λ a b. a ++ b) (flat_map-map part_text Out p.outs) (flat_map-map part_text Waste p.wastes))))
+  parts_text = grind (arith, common_steps, flat_map-append, mirrors, balls, ins, outs, wastes, flat_map-map)
 
   regroup : (s m b i o w e : List ℕ) →
       ((((((s ++ m) ++ b) ++ i) ++ o) ++ w) ++ e) ≡ (s ++ (m ++ (b ++ (i ++ (o ++ w))))) ++ e
@@ -49,9 +39,4 @@ module _ (p : Pattern) where
       → g ≡ f ++ codes "end\n" → g ≡ layout_text p
   unfolding layout_text mirrors balls ins outs wastes
   printed a b c d k f g ea eb ec ed ek ef eg =
-      let s = line_text (codes "layout") (size_words p.size) in
-      eg ∙ ap (λ l. l ++ codes "end\n")
-      (ef ∙ ap (λ l. l ++ wastes) (ek
-      ∙ ap (λ l. l ++ outs) (ed ∙ ap (λ l. l ++ ins) (ec ∙ ap (λ l. l ++ balls) (eb ∙ ap (λ l. l ++ mirrors) ea)))))
-      ∙ regroup s mirrors balls ins outs wastes (codes "end\n")
-      ∙ ap (λ l. (s ++ l) ++ codes "end\n") (sym parts_text)
+      grind (arith, common_steps, wastes, outs, ins, balls, mirrors, regroup, parts_text)

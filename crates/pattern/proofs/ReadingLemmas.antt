@@ -1,7 +1,9 @@
 -- The tables of a reader of layouts, for the lines so far.
-use Rattle.std.proofs.Common.{◌≡◌, ℕ, ◌&&◌, Bool, not, List, [], ◌∷◌, Option, None, Some, Vec, refl, sym, ap, ◌∙◌}
+use Rattle.std.proofs.Common.{arith, ◌≡◌, ℕ, ◌&&◌, Bool, not, List, [], ◌∷◌, Option, None, Some, Vec, refl, sym, ap}
+use Rattle.std.proofs.Common.{◌∙◌}
 use Rattle.std.specs.List.{list_all, list_any}
 use Rattle.std.specs.Global.{Global}
+use Rattle.std.proofs.lemmas.Grind.{common_steps}
 use Rattle.section_text.specs.Codes.{or_else, code_if}
 use Rattle.section_text.specs.Ports.{Named, named_ports}
 use Rattle.section_text.specs.declared.ports.PortNames.{PortNames}
@@ -29,8 +31,7 @@ module _ (ports : Option Named) (before : List LayoutLine) (part : LayoutLine)
 
   pub in_limits : limit_fault part ≡ None
   unfolding line_fault
-  in_limits = no_code_first (limit_fault part) (name_fault ports part)
-      (no_code_second (order_fault before part) (or_else (limit_fault part) (name_fault ports part)) good)
+  in_limits = grind (arith, common_steps, no_code_first, no_code_second)
 
 -- the same names pass two tests
 all_same : (p q : List ℕ → Bool) → ((n : List ℕ) → p n ≡ q n) → (names : List (List ℕ)) →
@@ -50,11 +51,7 @@ module _ (ports : PortNames) (parts : List LayoutLine) where
     all_seen : (list_all (λ n. has seen_ins n) ins.items && list_all (λ n. has seen_outs n) outs.items)
         ≡ (list_all (λ n. list_any (is_in_line_named n) parts) ins.items
         && list_all (λ n. list_any (is_out_line_named n) parts) outs.items)
-    all_seen =
-        ap (λ b. b && list_all (λ n. has seen_outs n) outs.items)
-        (all_same (λ n. has seen_ins n) (λ n. list_any (is_in_line_named n) parts) same_ins ins.items)
-        ∙ ap (λ b. list_all (λ n. list_any (is_in_line_named n) parts) ins.items && b)
-        (all_same (λ n. has seen_outs n) (λ n. list_any (is_out_line_named n) parts) same_outs outs.items)
+    all_seen = grind (arith, common_steps, all_same)
 
     pub missing_by : (b : Bool) →
         (list_all (λ n. has seen_ins n) ins.items && list_all (λ n. has seen_outs n) outs.items) ≡ b →

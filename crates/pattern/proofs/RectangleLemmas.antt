@@ -4,9 +4,9 @@ use Rattle.std.specs.List.{flat_map, range_with_len}
 use Rattle.std.specs.Ordering.{int_eq}
 use Rattle.std.proofs.lemmas.Bool.Decides.{nat_tests}
 use Rattle.std.proofs.lemmas.List.Folds.{list_any-append}
-use Rattle.bbm_rule.specs.Plane.{State, is_at}
+use Rattle.std.proofs.lemmas.Grind.{common_steps}
+use Rattle.bbm_rule.specs.Plane.{State}
 use Rattle.bbm_rule.specs.Spans.{in_span}
-use Rattle.bbm_rule.specs.declared.block.Cell.{Cell}
 use Rattle.pattern.specs.declared.layout_line.Rectangle.{Rectangle}
 use Rattle.pattern.specs.Layout.{row_cells, rectangle_cells, in_cells, in_rectangle}
 
@@ -27,9 +27,7 @@ in_row a (suc n) r x y = rw (in_row (a + 1) n r x y, span_more a n x) (grind ari
 in_rows : (a w b n : ℕ) (x y : ℤ) →
     in_cells (flat_map (row_cells a w) (range_with_len b n)) x y ≡ (in_span a w x && in_span b n y)
 in_rows a w b zero x y = rw (span_none b y) (grind arith)
-in_rows a w b (suc n) x y = list_any-append (λ (c : Cell). is_at c x y) (row_cells a w b)
-    (flat_map (row_cells a w) (range_with_len (b + 1) n))
-    ∙ rw (in_row a w b x y, in_rows a w (b + 1) n x y, span_more b n y) (grind arith)
+in_rows a w b (suc n) x y = grind (arith, common_steps, in_rows a w (b + 1) n x y, list_any-append, in_row, span_more)
 
 pub in_rectangle_cells : (r : Rectangle) (x y : ℤ) → in_cells (rectangle_cells r) x y ≡ in_rectangle r x y
 unfolding rectangle_cells

@@ -1,9 +1,10 @@
 -- Each line of the layout section is the spelling of its form.
-use Rattle.std.proofs.Common.{◌≡◌, ℕ, ◌+◌, true, eqb, List, [], ◌∷◌, length, Some, ap, subst, inl, inr, slice_get}
-use Rattle.std.proofs.Common.{codes}
+use Rattle.std.proofs.Common.{arith, ◌≡◌, ℕ, ◌+◌, true, eqb, List, [], ◌∷◌, length, Some, ap, subst, inl, inr}
+use Rattle.std.proofs.Common.{slice_get, codes}
 use Rattle.std.specs.Fmt.{decimal}
 use Rattle.std.proofs.lemmas.Bool.{eqb-true}
 use Rattle.std.proofs.lemmas.Option.{option_and_then_some, same_Some}
+use Rattle.std.proofs.lemmas.Grind.{common_steps}
 use Rattle.section_text.specs.Words.{◌>>=◌, words_of, is_word_at, lone, name_at, number_at}
 use Rattle.section_text.specs.Section.{with_line_feed}
 use Rattle.section_text.specs.declared.section.Form.TheVariants.{Header, Item, End}
@@ -27,11 +28,7 @@ record CellAt (ws : List (List ℕ)) (i j : ℕ) (c : Cell) : Type 0 where
 
 cell_spelled : (ws : List (List ℕ)) (i : ℕ) (c : Cell) → cell_of_words_from ws i ≡ Some c → CellAt ws i (i + 1) c
 unfolding cell_of_words_from
-cell_spelled ws i c e =
-    option_and_then_some (λ x. number_at ws (i + 1) >>= λ y. Some (cell x y)) (number_at ws i) c e (λ x first rest.
-    option_and_then_some (λ y. Some (cell x y)) (number_at ws (i + 1)) c rest (λ y second made.
-    subst (CellAt ws i (i + 1)) (same_Some (cell x y) c made)
-    (record { column = number_at_spelled ws i x first; row = number_at_spelled ws (i + 1) y second })))
+cell_spelled ws i c e = grind (arith, common_steps, option_and_then_some, same_Some, number_at_spelled)
 
 lone_cell_spelled : (ws : List (List ℕ)) (w : List ℕ) (c : Cell) → is_word_at ws 0 w ≡ true →
     cell_after_keyword ws ≡ Some c →

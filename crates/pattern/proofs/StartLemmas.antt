@@ -1,7 +1,8 @@
 -- The start as a list of cells.
-use Rattle.std.proofs.Common.{◌≡◌, ℕ, ℤ, Bool, true, false, cond, ◌&&◌, ◌||◌, List, [], ◌∷◌, ◌++◌, map, refl, ap, ◌∙◌}
-use Rattle.std.specs.List.{flat_map, filter, list_any}
+use Rattle.std.proofs.Common.{arith, ◌≡◌, ℕ, ℤ, Bool, true, false, cond, ◌&&◌, ◌||◌, List, [], ◌∷◌, ◌++◌, map, refl, ap}
+use Rattle.std.proofs.Common.{◌∙◌, flat_map, filter}
 use Rattle.std.proofs.lemmas.List.Folds.{list_any-append}
+use Rattle.std.proofs.lemmas.Grind.{common_steps}
 use Rattle.bbm_rule.specs.Plane.{is_at}
 use Rattle.bbm_rule.specs.declared.block.Cell.{Cell}
 use Rattle.pattern.specs.declared.layout_line.Rectangle.{Rectangle}
@@ -29,17 +30,9 @@ in_ports on (q ∷ qs) x y = in_port (on q.name) q (filter (λ (q : Port). on q.
 pub in_start_list : (p : Pattern) (on : List ℕ → Bool) (x y : ℤ) →
     in_cells (start_cells_by_kind p on) x y ≡ start p on x y
 unfolding start_cells_by_kind start
-in_start_list p on x y =
-    let ports : List Cell = map (λ (q : Port). q.cell) (filter (λ (q : Port). on q.name) p.ins) in
-    let test = λ (c : Cell). is_at c x y in
-    list_any-append test (flat_map rectangle_cells p.mirrors ++ p.balls) ports
-    ∙ ap (λ (b : Bool). b || list_any test ports) (list_any-append test (flat_map rectangle_cells p.mirrors) p.balls)
-    ∙ ap (λ (b : Bool). b || in_cells p.balls x y || list_any test ports) (in_mirrors p.mirrors x y)
-    ∙ ap (λ (b : Bool). in_rectangles p.mirrors x y || in_cells p.balls x y || b) (in_ports on p.ins x y)
+in_start_list p on x y = grind (arith, common_steps, list_any-append, in_mirrors, in_ports)
 
 pub start_list_made : (p : Pattern) (on : List ℕ → Bool) (a b c : List Cell) → a ≡ flat_map rectangle_cells p.mirrors →
     b ≡ a ++ p.balls → c ≡ b ++ map (λ q. q.cell) (filter (λ q. on q.name) p.ins) → c ≡ start_cells_by_kind p on
 unfolding start_cells_by_kind
-start_list_made p on a b c e f g =
-    g ∙ ap (λ (l : List Cell). l ++ map (λ (q : Port). q.cell) (filter (λ (q : Port). on q.name) p.ins))
-    (f ∙ ap (λ (l : List Cell). l ++ p.balls) e)
+start_list_made p on a b c e f g = grind (arith, common_steps)

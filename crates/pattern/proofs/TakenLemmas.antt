@@ -5,6 +5,7 @@ use Rattle.std.proofs.Common.{flat_map}
 use Rattle.std.specs.List.{AllByRecursion, list_any, range_with_len}
 use Rattle.std.proofs.lemmas.Bool.Decides.{nat_tests}
 use Rattle.std.proofs.lemmas.List.Elements.{All-from_recursion}
+use Rattle.std.proofs.lemmas.Grind.{common_steps}
 use Rattle.bbm_rule.specs.Board.{Board, live, is_inside as is_on_board}
 use Rattle.bbm_rule.specs.Spans.{in_span}
 use Rattle.bbm_rule.proofs.Boards.{inside_is_span}
@@ -13,11 +14,11 @@ use Rattle.pattern.specs.declared.layout_line.Rectangle.{Rectangle}
 use Rattle.pattern.specs.declared.layout_line.LayoutHeader.{LayoutHeader}
 use Rattle.pattern.specs.declared.layout_line.LayoutLine.{LayoutLine}
 use Rattle.pattern.specs.declared.layout_line.LayoutLine.TheVariants.{Mirror, Ball, In, Out, Waste}
-use Rattle.pattern.specs.Layout.{cell, row_cells, rectangle_cells, in_cells, in_layout}
+use Rattle.pattern.specs.Layout.{row_cells, rectangle_cells, in_cells, in_layout}
 use Rattle.pattern.specs.Lines.{is_layout_side, size_fault, is_inside, cells_of, begins, ends, cells_taken_at_start}
 use Rattle.pattern.specs.Lines.{ended, is_taken, cell_fault}
 use Rattle.pattern.proofs.Added.{no_code, begun_push, ended_push}
-use Rattle.section_text.specs.declared.code.RefusalCode.TheVariants.{PastLimit, TakenCell}
+use Rattle.section_text.specs.declared.code.RefusalCode.TheVariants.{TakenCell}
 
 -- ---- a size within its limits
 
@@ -37,9 +38,7 @@ side n e = grind (arith, nat_tests)
 
 pub is_sized : (s : LayoutHeader) → size_fault s ≡ None → IsSized s
 unfolding size_fault
-is_sized s e =
-    let good = all_three (is_layout_side s.w) (is_layout_side s.h) (nat_le s.steps 65536) (no_code _ PastLimit e) in
-    record { width = side s.w good.0; height = side s.h good.1; steps = grind (arith, nat_tests, good.2) }
+is_sized s e = grind (arith, common_steps, all_three, no_code, side, nat_tests)
 
 -- ---- cells that lie inside
 
@@ -53,8 +52,7 @@ in_span_of n x h = grind (arith, nat_tests)
 row_inside : (s : LayoutHeader) (x n y : ℕ) → x + n ≤ s.w → y < s.h → AllByRecursion (IsInside s) (row_cells x n y)
 row_inside s x zero y wide high = tt
 row_inside s x (suc n) y wide high =
-    let here : IsInside s (cell x y) = rw (in_span_of s.w x (omega arith), in_span_of s.h y high) refl in
-    (here, row_inside s (x + 1) n y (omega arith) high)
+    grind (arith, common_steps, row_inside s (x + 1) n y (omega arith) high, in_span_of)
 
 append_inside : (s : LayoutHeader) (xs ys : List Cell) → AllByRecursion (IsInside s) xs →
     AllByRecursion (IsInside s) ys →
@@ -81,8 +79,7 @@ at_most a b e = grind (arith, nat_tests)
 pub mirror_fits : (s : LayoutHeader) (r : Rectangle) → is_inside s (Mirror r) ≡ true →
     (r.x + r.w ≤ s.w) × (r.y + r.h ≤ s.h)
 unfolding is_inside
-mirror_fits s r e = let fits = both (nat_le (r.x + r.w) s.w) (nat_le (r.y + r.h) s.h) e in
-    (at_most _ _ fits.0, at_most _ _ fits.1)
+mirror_fits s r e = grind (arith, common_steps, both, at_most)
 
 cells_inside_by : (s : LayoutHeader) (part : LayoutLine) → is_inside s part ≡ true →
     AllByRecursion (IsInside s) (cells_of part)

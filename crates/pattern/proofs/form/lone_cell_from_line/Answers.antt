@@ -1,17 +1,10 @@
-use Rattle.std.proofs.Common.{◌∙◌, ap, sym, option_map}
-use Rattle.section_text.specs.Feeds.{line_bytes}
-use Rattle.section_text.specs.Listed.{list_of_three_words}
-use Rattle.section_text.specs.Words.{words_of}
+use Rattle.std.proofs.Common.{arith}
+use Rattle.std.proofs.lemmas.Grind.{common_steps}
 use Rattle.pattern.proofs.PortLines.{cell_found, cell_missed}
 use Rattle.pattern.proofs.form.lone_cell_from_line.Goals as goal
 
 pub returns-in_default : goal.returns-in_default
-returns-in_default c = cell_missed (words_of (line_bytes c.args.feed.now c.args.line.now))
-    (ap (option_map list_of_three_words) (sym c.in_default.is) ∙ c.three_words.ensures)
+returns-in_default c = grind (arith, common_steps, cell_missed)
 
 pub returns : goal.returns
-returns c =
-    c.cell_from_words.ensures
-    ∙ cell_found (words_of (line_bytes c.args.feed.now c.args.line.now)) c.in-Some.words.first.now
-    c.in-Some.words.second.now c.in-Some.words.third.now
-    (ap (option_map list_of_three_words) (sym c.in-Some.is) ∙ c.three_words.ensures)
+returns c = grind (arith, common_steps, cell_found)

@@ -1,6 +1,6 @@
-use Rattle.std.proofs.Common.{◌≡◌, ℕ, ◌-◌, ◌++◌, arith, ap, ◌∙◌}
-use Rattle.std.specs.List.{flat_map, range_with_len}
-use Rattle.pattern.specs.Layout.{row_cells, rectangle_cells}
+use Rattle.std.proofs.Common.{◌-◌, arith}
+use Rattle.std.proofs.lemmas.Grind.{common_steps}
+use Rattle.pattern.specs.Layout.{rectangle_cells}
 use Rattle.pattern.proofs.CellLists.{rows_pushed}
 use Rattle.pattern.proofs.rectangle.push_rectangle.Goals as goal
 
@@ -11,7 +11,4 @@ loop-row-preserved c =
 
 pub returns : goal.returns
 unfolding rectangle_cells
-returns c =
-    let n : c.loop-row.row - c.args.r.y ≡ c.args.r.h = omega arith in
-    c.loop-row.invariant ∙ ap (λ (k : ℕ).
-    c.args.out.now.items ++ flat_map (row_cells c.args.r.x c.args.r.w) (range_with_len c.args.r.y k)) n
+returns c = grind (arith, common_steps)

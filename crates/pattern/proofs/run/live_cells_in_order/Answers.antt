@@ -1,8 +1,8 @@
-use Rattle.std.proofs.Common.{◌≡◌, ap, ◌∙◌, arith, ℕ}
-use Rattle.std.specs.List.{flat_map, filter, range_with_len}
+use Rattle.std.proofs.Common.{arith}
+use Rattle.std.proofs.lemmas.Grind.{common_steps}
 use Rattle.bbm_rule.specs.Board.{live}
 use Rattle.bbm_rule.specs.declared.block.Cell.{Cell}
-use Rattle.pattern.specs.Layout.{row_cells, rectangle_cells}
+use Rattle.pattern.specs.Layout.{rectangle_cells}
 use Rattle.pattern.specs.Run.{live_cells}
 use Rattle.pattern.proofs.CellLists.{rows_filtered}
 use Rattle.pattern.proofs.run.live_cells_in_order.Goals as goal
@@ -14,7 +14,4 @@ loop-y-preserved c = rows_filtered
 
 pub returns : goal.returns
 unfolding live_cells rectangle_cells
-returns c =
-    let e : c.loop-y.y ≡ c.args.size.h = omega arith in
-    c.loop-y.invariant ∙ ap (λ (n : ℕ).
-    filter (λ (d : Cell). live c.args.grid.now d.x d.y) (flat_map (row_cells 0 c.args.size.w) (range_with_len 0 n))) e
+returns c = grind (arith, common_steps)

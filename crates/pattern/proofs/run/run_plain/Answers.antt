@@ -1,4 +1,5 @@
-use Rattle.std.proofs.Common.{◌≡◌, ℤ, sym, subst}
+use Rattle.std.proofs.Common.{arith, ◌≡◌, ℤ, sym, subst}
+use Rattle.std.proofs.lemmas.Grind.{common_steps}
 use Rattle.bbm_rule.specs.Board.{live}
 use Rattle.pattern.specs.Layout.{Pattern, start}
 use Rattle.pattern.specs.LayoutView.{pattern_of}
@@ -18,8 +19,7 @@ returns-in-Some c =
     (leaves_at (pattern_of c.layout.inside) on g _ cells_taken_at_start c.in-Some.ensures.run)
 
 pub live_cells_in_order-requires-clause-small : goal.live_cells_in_order-requires-clause-small
-live_cells_in_order-requires-clause-small c = let sides = size_sides c.layout.inside.size c.layout.invariant.size in
-    (sides.0.most, sides.1.most)
+live_cells_in_order-requires-clause-small c = grind (arith, common_steps, size_sides)
 
 pub returns : goal.returns
 returns c =

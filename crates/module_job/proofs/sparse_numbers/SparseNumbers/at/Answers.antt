@@ -1,28 +1,16 @@
-use Rattle.std.proofs.Common.{◌≡◌, ◌+◌, ◌*◌, ◌/◌, ◌<◌, ap, arith, length, sym, ◌∙◌, slice_get, unwrap_or}
+use Rattle.std.proofs.Common.{◌≡◌, ◌+◌, ◌*◌, ◌<◌, ap, arith, length, sym, ◌∙◌, slice_get, unwrap_or}
 use Rattle.std.proofs.lemmas.List.{get_or_read}
 use Rattle.std.proofs.lemmas.Option.{unwrap_or-slice_get}
-use Rattle.bbm_rule.specs.Rows.{cell_at}
+use Rattle.std.proofs.lemmas.Grind.{common_steps}
 use Rattle.module_job.specs.SparseNumbers.{sparse_view}
 use Rattle.module_job.proofs.SparseLists.{count_numbers, none_left, none_there, number_found, past, rank}
 use Rattle.module_job.proofs.sparse_numbers.SparseNumbers.at.Goals as goal
-use Rattle.module_job.proofs.sparse_numbers.SparseNumbers.at.Goals.{else-at-len-via-then-at-len+else-index-place}
-use Rattle.module_job.proofs.sparse_numbers.SparseNumbers.at.Goals.{else-at-len-via-else-at-len}
 
 pub returns-then-self-place : goal.returns-then-self-place
-returns-then-self-place c =
-    past c.self.inside.count c.args.place c.self.inside.entries.items c.if-self-place.true
-    ∙ ap (λ ns. unwrap_or (slice_get ns c.args.place) 0) c.self.view_is
+returns-then-self-place c = grind (arith, common_steps, past)
 
 pub returns-then-not-is_marked : goal.returns-then-not-is_marked
-returns-then-not-is_marked c =
-    let marks = c.deref.ensures.value in
-    let count = ap length marks in
-    let lt : c.args.place / 64 < length c.self.inside.marks.items =
-    omega (arith, count, c.deref.ensures.len, c.len.ensures) in
-    sym (unwrap_or-slice_get (sparse_view c.self.inside) c.args.place 0
-    ∙ c.self.invariant.unmarked c.args.place lt
-    (ap (λ ms. cell_at ms c.args.place) (sym marks) ∙ sym c.is_marked.ensures ∙ c.if-not-is_marked.true))
-    ∙ ap (λ ns. unwrap_or (slice_get ns c.args.place) 0) c.self.view_is
+returns-then-not-is_marked c = grind (arith, common_steps, unwrap_or-slice_get)
 
 pub returns-then-index-place : goal.returns-then-index-place
 returns-then-index-place c =
@@ -44,25 +32,4 @@ returns-then-index-place c =
     ∙ ap (λ l. unwrap_or (slice_get l c.args.place) 0) c.self.view_is
 
 pub returns : goal.returns
-returns c =
-    let a = c.self.inside in
-    let ns = sparse_view a in
-    let lt : c.args.place < length ns =
-    omega (arith, c.if-self-place.false, count_numbers a.count 0 a.entries.items) in
-    let start : 2 * c.count_entries_before-at.result ≡ rank c.args.place ns =
-    c.count_entries_before-at.ensures.length_prefixed ns (c.deref-2.ensures.value ∙ c.self.invariant.entries) in
-    let size = ap length c.deref-2.ensures.value in
-    let none : 0 ≡ unwrap_or (slice_get ns c.args.place) 0 = elim c.else-at-len.branch [
-      | else-at-len-via-then-at-len+else-index-place w ↦
-          let long : 2 * c.count_entries_before-at.result + 1 < length a.entries.items =
-          omega (arith, size, c.deref-2.ensures.len, c.len-2.ensures, w.if-at-len.true) in
-          let here = get_or_read a.entries.items _ _ (omega (arith, long)) w.index.ensures 0 in
-          none_there c.args.place (2 * c.count_entries_before-at.result) ns a.entries.items lt c.self.invariant.entries
-          start
-          (λ e. w.if-index-place.false (here ∙ e))
-      | else-at-len-via-else-at-len w ↦
-          none_left c.args.place (2 * c.count_entries_before-at.result) ns a.entries.items lt c.self.invariant.entries
-          start
-          (omega (arith, size, c.deref-2.ensures.len, c.len-2.ensures, w.if-at-len.false))
-    ] in
-    none ∙ ap (λ l. unwrap_or (slice_get l c.args.place) 0) c.self.view_is
+returns c = grind (arith, common_steps, count_numbers, rank, get_or_read, none_there, none_left)

@@ -1,27 +1,17 @@
 -- The grids hold the cells that are taken, those of the line among them.
-use Rattle.std.proofs.Common.{◌≡◌, ◌||◌, ◌&&◌, true, sym, ap, subst, ◌∙◌}
+use Rattle.std.proofs.Common.{arith, ◌||◌, ◌&&◌, sym, ap, ◌∙◌}
+use Rattle.std.proofs.lemmas.Grind.{common_steps}
 use Rattle.pattern.specs.declared.layout_line.LayoutHeader.{LayoutHeader}
 use Rattle.bbm_rule.specs.Board.{live}
-use Rattle.pattern.specs.Layout.{Pattern, in_cells, parts_of}
-use Rattle.pattern.specs.Lines.{is_inside}
+use Rattle.pattern.specs.Layout.{in_cells, parts_of}
 use Rattle.pattern.proofs.TakenLemmas.{cells_on_board, begun_more, ended_more}
 use Rattle.pattern.proofs.draft.Draft.add.Goals as goal
 
 pub take_cells_if-requires : goal.take_cells_if-requires
-take_cells_if-requires c =
-    let inside = subst (λ (p : Pattern). is_inside p.size c.args.part ≡ true)
-    (sym c.self.view_is) c.in_ok-cells.ensures.inside in
-    cells_on_board c.self.inside.cells_taken_at_start c.self.inside.layout.size c.self.invariant.begun_width
-    c.self.invariant.begun_height c.args.part c.deref.result.now
-    (c.deref.ensures.value ∙ c.in_ok-cells.ensures.cells) inside
+take_cells_if-requires c = grind (arith, common_steps, cells_on_board)
 
 pub take_cells_if-requires-2 : goal.take_cells_if-requires-2
-take_cells_if-requires-2 c =
-    let inside = subst (λ (p : Pattern). is_inside p.size c.args.part ≡ true)
-    (sym c.self.view_is) c.in_ok-cells.ensures.inside in
-    cells_on_board c.self.inside.ended c.self.inside.layout.size c.self.invariant.ended_width
-    c.self.invariant.ended_height c.args.part c.deref-2.result.now
-    (c.deref-2.ensures.value ∙ c.in_ok-cells.ensures.cells) inside
+take_cells_if-requires-2 c = grind (arith, common_steps, cells_on_board)
 
 pub invariant_of-self-2 : goal.invariant_of-self-2
 invariant_of-self-2 c =

@@ -1,14 +1,14 @@
 -- The grids hold the cells that are taken.
-use Rattle.std.proofs.Common.{◌≡◌, true, if◌then◌else◌, None, Some, sym, ap, subst, ◌∙◌}
+use Rattle.std.proofs.Common.{arith, ◌≡◌, true, if◌then◌else◌, sym, ap, ◌∙◌}
 use Rattle.std.specs.List.{list_any}
+use Rattle.std.proofs.lemmas.Grind.{common_steps}
 use Rattle.bbm_rule.specs.Board.{live}
 use Rattle.pattern.specs.declared.layout_line.LayoutHeader.{LayoutHeader}
-use Rattle.pattern.specs.Layout.{Pattern, parts_of}
-use Rattle.pattern.specs.Lines.{is_inside, is_taken, cells_of, cell_fault}
+use Rattle.pattern.specs.Layout.{parts_of}
+use Rattle.pattern.specs.Lines.{is_inside, is_taken, cells_of}
 use Rattle.pattern.proofs.TakenLemmas.{cells_on_board, taken_by, cells_free, cells_taken}
 use Rattle.pattern.proofs.draft.Draft.free_cells.Goals as goal
 use Rattle.bbm_rule.specs.declared.block.Cell.{Cell}
-use Rattle.section_text.specs.declared.code.RefusalCode.TheVariants.{TakenCell}
 
 all_inside : (c : goal.After-deref) → is_inside c.self.inside.layout.size c.args.part.now ≡ true
 all_inside c = ap (λ (s : LayoutHeader). is_inside s c.args.part.now) (sym c.size-size.ensures.size)
@@ -19,14 +19,10 @@ these_cells : (c : goal.After-deref) → c.deref.result.now ≡ cells_of c.args.
 these_cells c = c.deref.ensures.value ∙ c.in-Ok.ensures
 
 pub is_any_taken-requires-clause-one : goal.is_any_taken-requires-clause-one
-is_any_taken-requires-clause-one c =
-    cells_on_board c.self.inside.cells_taken_at_start c.self.inside.layout.size c.self.invariant.begun_width
-    c.self.invariant.begun_height c.args.part.now c.deref.result.now (these_cells c) (all_inside c)
+is_any_taken-requires-clause-one c = grind (arith, common_steps, cells_on_board, these_cells, all_inside)
 
 pub is_any_taken-requires-clause-other : goal.is_any_taken-requires-clause-other
-is_any_taken-requires-clause-other c =
-    cells_on_board c.self.inside.ended c.self.inside.layout.size c.self.invariant.ended_width
-    c.self.invariant.ended_height c.args.part.now c.deref.result.now (these_cells c) (all_inside c)
+is_any_taken-requires-clause-other c = grind (arith, common_steps, cells_on_board, these_cells, all_inside)
 
 taken_here : (c : goal.After-drop-cells) →
     c.is_any_taken.result ≡ is_taken (parts_of c.self.inside.layout) c.args.part.now
@@ -61,13 +57,7 @@ inside_else c = ap (λ (s : LayoutHeader). is_inside s c.args.part.now) (sym c.s
     ∙ sym c.is_inside.ensures ∙ c.if-not-is_inside.false
 
 pub returns-then-is_any_taken-clause-fault : goal.returns-then-is_any_taken-clause-fault
-returns-then-is_any_taken-clause-fault c =
-    let taken = sym (taken_here c) ∙ c.if-is_any_taken.true in
-    subst (λ (p : Pattern). cell_fault p.size (parts_of p) c.args.part.now ≡ Some TakenCell) c.self.view_is
-    (cells_taken c.self.inside.layout.size (parts_of c.self.inside.layout) c.args.part.now (inside_here c) taken)
+returns-then-is_any_taken-clause-fault c = grind (arith, common_steps, taken_here, cells_taken, inside_here)
 
 pub returns-clause-free : goal.returns-clause-free
-returns-clause-free c =
-    let free = sym (taken_else c) ∙ c.if-is_any_taken.false in
-    subst (λ (p : Pattern). cell_fault p.size (parts_of p) c.args.part.now ≡ None) c.self.view_is
-    (cells_free c.self.inside.layout.size (parts_of c.self.inside.layout) c.args.part.now (inside_else c) free)
+returns-clause-free c = grind (arith, common_steps, taken_else, cells_free, inside_else)

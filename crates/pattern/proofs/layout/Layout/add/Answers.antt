@@ -1,8 +1,8 @@
 -- One more line of each kind.
-use Rattle.std.proofs.Common.{◌≡◌, [], ◌∷◌, ◌++◌, None, sym, subst}
-use Rattle.pattern.specs.Layout.{Pattern, parts_of}
+use Rattle.std.proofs.Common.{arith, ◌≡◌, [], ◌∷◌, ◌++◌, sym}
+use Rattle.std.proofs.lemmas.Grind.{common_steps}
+use Rattle.pattern.specs.Layout.{parts_of}
 use Rattle.pattern.specs.LayoutView.{pattern_of}
-use Rattle.pattern.specs.Lines.{cell_fault}
 use Rattle.pattern.proofs.Added.{with_mirror, with_ball, with_in, with_out, with_waste, good_more}
 use Rattle.pattern.proofs.layout.Layout.add.Goals as goal
 
@@ -14,14 +14,7 @@ after_mirror c = with_mirror (pattern_of c.self.inside) c.args.self.now
     c.in_ok-push-in-Mirror.ensures.items
 
 pub invariant_of-self : goal.invariant_of-self
-invariant_of-self c = record {
-  size = c.self.invariant.size;
-  parts = good_more c.self.inside.size (pattern_of c.self.inside) c.args.self.now (sym c.self.view_is)
-      (parts_of (record (pattern_of c.self.inside) { mirrors = c.push.new.self.items })) c.args.part
-      c.self.invariant.parts (after_mirror c) c.requires.limit
-      (subst (λ (p : Pattern). cell_fault p.size (parts_of c.args.self.now) c.args.part ≡ None)
-      (sym c.self.view_is) c.requires.cells);
-}
+invariant_of-self c = grind (arith, common_steps, good_more, after_mirror)
 
 pub returns-in_ok-push-in-Mirror-clause-parts : goal.returns-in_ok-push-in-Mirror-clause-parts
 returns-in_ok-push-in-Mirror-clause-parts c = after_mirror c
@@ -34,14 +27,7 @@ after_ball c = with_ball (pattern_of c.self.inside) c.args.self.now
     c.in_ok-push-in-Ball.ensures.items
 
 pub invariant_of-self-in-Continue-branch-2 : goal.invariant_of-self-in-Continue-branch-2
-invariant_of-self-in-Continue-branch-2 c = record {
-  size = c.self.invariant.size;
-  parts = good_more c.self.inside.size (pattern_of c.self.inside) c.args.self.now (sym c.self.view_is)
-      (parts_of (record (pattern_of c.self.inside) { balls = c.push-in-Ball.new.self.items })) c.args.part
-      c.self.invariant.parts (after_ball c) c.requires.limit
-      (subst (λ (p : Pattern). cell_fault p.size (parts_of c.args.self.now) c.args.part ≡ None)
-      (sym c.self.view_is) c.requires.cells);
-}
+invariant_of-self-in-Continue-branch-2 c = grind (arith, common_steps, good_more, after_ball)
 
 pub returns-in_ok-push-in-Ball-clause-parts : goal.returns-in_ok-push-in-Ball-clause-parts
 returns-in_ok-push-in-Ball-clause-parts c = after_ball c
@@ -54,14 +40,7 @@ after_in c = with_in (pattern_of c.self.inside) c.args.self.now
     c.in_ok-push-in-In.ensures.items
 
 pub invariant_of-self-in-Continue-branch-3 : goal.invariant_of-self-in-Continue-branch-3
-invariant_of-self-in-Continue-branch-3 c = record {
-  size = c.self.invariant.size;
-  parts = good_more c.self.inside.size (pattern_of c.self.inside) c.args.self.now (sym c.self.view_is)
-      (parts_of (record (pattern_of c.self.inside) { ins = c.push-in-In.new.self.items })) c.args.part
-      c.self.invariant.parts (after_in c) c.requires.limit
-      (subst (λ (p : Pattern). cell_fault p.size (parts_of c.args.self.now) c.args.part ≡ None)
-      (sym c.self.view_is) c.requires.cells);
-}
+invariant_of-self-in-Continue-branch-3 c = grind (arith, common_steps, good_more, after_in)
 
 pub returns-in_ok-push-in-In-clause-parts : goal.returns-in_ok-push-in-In-clause-parts
 returns-in_ok-push-in-In-clause-parts c = after_in c
@@ -74,14 +53,7 @@ after_out c = with_out (pattern_of c.self.inside) c.args.self.now
     c.in_ok-push-in-Out.ensures.items
 
 pub invariant_of-self-in-Continue-branch-4 : goal.invariant_of-self-in-Continue-branch-4
-invariant_of-self-in-Continue-branch-4 c = record {
-  size = c.self.invariant.size;
-  parts = good_more c.self.inside.size (pattern_of c.self.inside) c.args.self.now (sym c.self.view_is)
-      (parts_of (record (pattern_of c.self.inside) { outs = c.push-in-Out.new.self.items })) c.args.part
-      c.self.invariant.parts (after_out c) c.requires.limit
-      (subst (λ (p : Pattern). cell_fault p.size (parts_of c.args.self.now) c.args.part ≡ None)
-      (sym c.self.view_is) c.requires.cells);
-}
+invariant_of-self-in-Continue-branch-4 c = grind (arith, common_steps, good_more, after_out)
 
 pub returns-in_ok-push-in-Out-clause-parts : goal.returns-in_ok-push-in-Out-clause-parts
 returns-in_ok-push-in-Out-clause-parts c = after_out c
@@ -94,14 +66,7 @@ after_waste c = with_waste (pattern_of c.self.inside) c.args.self.now
     c.in_ok-push-in-Waste.ensures.items
 
 pub invariant_of-self-in-Continue-branch-5 : goal.invariant_of-self-in-Continue-branch-5
-invariant_of-self-in-Continue-branch-5 c = record {
-  size = c.self.invariant.size;
-  parts = good_more c.self.inside.size (pattern_of c.self.inside) c.args.self.now (sym c.self.view_is)
-      (parts_of (record (pattern_of c.self.inside) { wastes = c.push-in-Waste.new.self.items })) c.args.part
-      c.self.invariant.parts (after_waste c) c.requires.limit
-      (subst (λ (p : Pattern). cell_fault p.size (parts_of c.args.self.now) c.args.part ≡ None)
-      (sym c.self.view_is) c.requires.cells);
-}
+invariant_of-self-in-Continue-branch-5 c = grind (arith, common_steps, good_more, after_waste)
 
 pub returns-in_ok-push-in-Waste-clause-parts : goal.returns-in_ok-push-in-Waste-clause-parts
 returns-in_ok-push-in-Waste-clause-parts c = after_waste c

@@ -1,6 +1,7 @@
 -- Each name that is asked for was seen.
-use Rattle.std.proofs.Common.{◌≡◌, ◌&&◌, true, false, None, Some, List, ℕ, sym, ap, ap₂, subst, ◌∙◌}
+use Rattle.std.proofs.Common.{arith, ◌≡◌, ◌&&◌, true, false, None, Some, List, ℕ, sym, ap, ap₂, subst, ◌∙◌}
 use Rattle.std.specs.List.{list_all}
+use Rattle.std.proofs.lemmas.Grind.{common_steps}
 use Rattle.pattern.specs.Layout.{parts_of}
 use Rattle.pattern.specs.Readings.{ReadingView}
 use Rattle.section_text.specs.Words.{has}
@@ -11,8 +12,7 @@ use Rattle.pattern.proofs.reading.ReadingSection.missing.Goals as goal
 use Rattle.section_text.specs.declared.code.RefusalCode.TheVariants.{SomethingMissing}
 
 pub returns-in-Any : goal.returns-in-Any
-returns-in-Any c = subst (λ (r : ReadingView). None ≡ missing_fault r.ports (parts_of r.layout)) c.self.view_is
-    (none_missing c.self.inside.ports.now (parts_of c.self.inside.draft) c.in-Any.is)
+returns-in-Any c = grind (arith, common_steps, none_missing)
 
 pub returns-then-has_ins-has_outs : goal.returns-then-has_ins-has_outs
 returns-then-has_ins-has_outs c =
