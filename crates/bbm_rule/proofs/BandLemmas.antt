@@ -5,7 +5,6 @@ use Rattle.std.proofs.lemmas.Bool.Decides.{nat_tests}
 use Rattle.std.proofs.Math.Nat.{mul-le-mul_right}
 use Rattle.std.proofs.lemmas.Grind.{common_steps}
 use Rattle.bbm_rule.specs.Bits.{bit, AreSameBits, HasNoSetBit}
-use Rattle.bbm_rule.specs.Plane.{turned}
 use Rattle.bbm_rule.specs.Rows.{cell_at, mate, AreSameCells, HasWindow, FillsRun, SetsPlace, SetsWindow, TurnsRun}
 use Rattle.bbm_rule.specs.Rows.{TurnsRows}
 use Rattle.bbm_rule.specs.Marks.{IsUnmarked, MarksOne}
@@ -64,36 +63,12 @@ words_same i k changed told a b first second room room' so_far stays none =
 -- a pair stays where its cells are as they were
 pub pair_kept : (p s : ℕ) (old new : List ℕ) → s % 2 ≡ 0 →
     ((q : ℕ) → p ≤ q → q < p + 2 * s → cell_at new q ≡ cell_at old q) → TurnsRun p s s old old → TurnsRun p s s new new
-pair_kept p s old new whole same run = record {
-  upper = λ j l. let m = mate_lt j s whole l in
-      rw (
-        same (p + j) (omega arith) (omega arith),
-        same (p + s + mate j) (omega arith) (omega arith),
-        same (p + mate j) (omega arith) (omega arith),
-        same (p + s + j) (omega arith) (omega arith),
-      ) (run.upper j l);
-  lower = λ j l. let m = mate_lt j s whole l in
-      rw (
-        same (p + j) (omega arith) (omega arith),
-        same (p + s + mate j) (omega arith) (omega arith),
-        same (p + mate j) (omega arith) (omega arith),
-        same (p + s + j) (omega arith) (omega arith),
-      ) (run.lower j l);
-  before = λ q l. refl;
-  between = λ q low high. refl;
-  after = λ q l. refl;
-}
+pair_kept p s old new whole same run = grind (arith, common_steps, mate_lt)
 
 -- a pair stays where no cell of it changed when it was turned
 pub pair_settled : (p s : ℕ) (old new : List ℕ) → s % 2 ≡ 0 → TurnsRun p s s old new → AreSameCells old new →
     TurnsRun p s s new new
-pair_settled p s old new whole run same = pair_kept p s old new whole (λ q l h. same q) (record {
-  upper = λ j l. sym (same (p + j)) ∙ run.upper j l;
-  lower = λ j l. sym (same (p + s + j)) ∙ run.lower j l;
-  before = λ q l. refl;
-  between = λ q low high. refl;
-  after = λ q l. refl;
-})
+pair_settled p s old new whole run same = grind (arith, common_steps, pair_kept)
 
 after_pair : (k i s : ℕ) → k < i → 2 * (k * s) + 2 * s ≤ 2 * (i * s)
 after_pair k i s l = let h : (k + 1) * s ≤ i * s = mul-le-mul_right s (omega arith) in omega arith
@@ -120,7 +95,7 @@ pub calm_settled : (p s r k : ℕ) (marks marks' old new : List ℕ) → s % 2 �
     AreSameCells old new → SetsPlace k false marks marks' → AreRowPairsStable p s r marks old →
     AreRowPairsStable p s r marks' new
 calm_settled p s r k marks marks' old new whole run same sets calm i l free =
-    grind (arith, common_steps, by_eq_or_not, pair_settled, others_kept)
+    grind (arith, common_steps, common_steps, by_eq_or_not, pair_settled, others_kept)
 
 -- pairs stay where no cell changed
 pub calm_same : (p s r : ℕ) (marks old new : List ℕ) → s % 2 ≡ 0 → AreSameCells old new →
@@ -282,16 +257,4 @@ odd_fill s r u v n first second old new whole wide fills marked calm i l free =
 -- ---- no live cell
 pub none_calm : (p s r : ℕ) (marks words : List ℕ) → ((q : ℕ) → cell_at words q ≡ false) →
     AreRowPairsStable p s r marks words
-none_calm p s r marks words none i l free = record {
-  upper = λ j m. none (at + j) ∙ sym (dead (at + j) (at + s + mate j) (at + mate j) (at + s + j));
-  lower = λ j m. none (at + s + j) ∙ sym (dead (at + s + j) (at + mate j) (at + s + mate j) (at + j));
-  before = λ q m. refl;
-  between = λ q low high. refl;
-  after = λ q m. refl;
-}
-  where
-    at : ℕ
-    at = p + 2 * (i * s)
-
-    dead : (a b c d : ℕ) → turned (cell_at words a) (cell_at words b) (cell_at words c) (cell_at words d) ≡ false
-    dead a b c d = rw (none a) (rw (none b) (rw (none c) (rw (none d) dead_block)))
+none_calm p s r marks words none i l free = grind (arith, common_steps, dead_block)

@@ -48,39 +48,10 @@ word_set words i v room = record {
 pub windows_turned : (p s : ℕ) (va vb a b : ℕ) (old mid new : List ℕ) → 64 ≤ s → HasWindow old p va →
     HasWindow old (p + s) vb → ArePairsTurned va vb a b → SetsWindow p a old mid → SetsWindow (p + s) b mid new →
     TurnsRun p 64 s old new
-windows_turned p s va vb a b old mid new wide has_a has_b pairs set_a set_b = record {
-  upper = λ j l.
-      let m = mate_lt j 64 refl l in
-      rw (
-        set_b.before (p + j) (omega arith),
-        set_a.cells j l,
-        sym (has_a.cells j l),
-        sym (has_a.cells (mate j) m),
-        sym (has_b.cells j l),
-        sym (has_b.cells (mate j) m),
-      ) (pairs.upper j l);
-  lower = λ j l.
-      let m = mate_lt j 64 refl l in
-      rw (
-        set_b.cells j l,
-        sym (has_a.cells j l),
-        sym (has_a.cells (mate j) m),
-        sym (has_b.cells j l),
-        sym (has_b.cells (mate j) m),
-      ) (pairs.lower j l);
-  before = λ q l. set_b.before q (omega arith) ∙ set_a.before q l;
-  between = λ q low high. set_b.before q high ∙ set_a.after q low;
-  after = λ q l. set_b.after q l ∙ set_a.after q (omega arith);
-}
+windows_turned p s va vb a b old mid new wide has_a has_b pairs set_a set_b = grind (arith, common_steps, mate_lt)
 
 pub no_run : (p s : ℕ) (words : List ℕ) → TurnsRun p 0 s words words
-no_run p s words = record {
-  upper = λ j l. absurd (omega arith);
-  lower = λ j l. absurd (omega arith);
-  before = λ q l. refl;
-  between = λ q low high. refl;
-  after = λ q l. refl;
-}
+no_run p s words = grind (arith, common_steps)
 
 pub run_join : (p n s : ℕ) (first second third : List ℕ) → n % 2 ≡ 0 → n + 64 ≤ s → TurnsRun p n s first second →
     TurnsRun (p + n) 64 s second third → TurnsRun p (n + 64) s first third
@@ -134,12 +105,7 @@ run_join p n s first second third whole within one two = record {
 
 -- ---- rows
 pub no_rows : (p s : ℕ) (words : List ℕ) → TurnsRows p s 0 words words
-no_rows p s words = record {
-  upper = λ i j l m. absurd (omega arith);
-  lower = λ i j l m. absurd (omega arith);
-  before = λ q l. refl;
-  after = λ q l. refl;
-}
+no_rows p s words = grind (arith, common_steps)
 
 pub rows_join : (p s r : ℕ) (first second third : List ℕ) → s % 2 ≡ 0 → TurnsRows p s r first second →
     TurnsRun (p + 2 * (r * s)) s s second third → TurnsRows p s (r + 1) first third

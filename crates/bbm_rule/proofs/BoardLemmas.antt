@@ -154,23 +154,12 @@ odd_step t w h s r old new at_odd plane plane' rows e u v =
     ]
 
 inner_test : (w h x y : ℕ) → x < w → y < h → is_inside_margin w h (suc x) (suc y) ≡ true
-inner_test w h x y lx ly = rw (
-  le_test 1 (suc x) (omega arith),
-  le_test (suc x) w (omega arith),
-  le_test 1 (suc y) (omega arith),
-  le_test (suc y) h (omega arith),
-) refl
+inner_test w h x y lx ly = grind (arith, common_steps, le_test)
 
 inside_ext : (b : Board) (x y : ℕ) → is_inside_margin b.width b.height x y ≡ false → is_inside b (ext x) (ext y) ≡ false
 inside_ext b zero y outer = refl
 inside_ext b (suc x) zero outer = refl
-inside_ext b (suc x) (suc y) outer =
-    by_lt_or_le x b.width
-    (λ lx. by_lt_or_le y b.height
-    (λ ly. let inner : is_inside_margin b.width b.height (suc x) (suc y) ≡ true =
-    inner_test b.width b.height x y lx ly in cc)
-    (λ gy. rw (not_lt_test y b.height gy) (and-false (nat_lt x b.width))))
-    (λ gx. rw (not_lt_test x b.width gx) refl)
+inside_ext b (suc x) (suc y) outer = grind (arith, common_steps, by_lt_or_le, inner_test, not_lt_test, and-false)
 
 pub odd_leaves : (t w h s r : ℕ) (old new : List ℕ) → t % 2 ≡ 1 → IsPlane w h s old → TurnsRows 0 s r old new →
     2 * r ≡ h + 2 → HasLiveMargin w h s new → Leaves t (board w h s old)
@@ -220,13 +209,7 @@ board_same w h s old new same = grind (arith, common_steps, map_same)
 
 pub plane_same : (w h s : ℕ) (old new : List ℕ) → ((p : ℕ) → cell_at new p ≡ cell_at old p) → IsPlane w h s old →
     IsPlane w h s new
-plane_same w h s old new same plane = record {
-  width = plane.width;
-  height = plane.height;
-  row = plane.row;
-  room = plane.room;
-  margin = λ x y l outer. same (s * y + x) ∙ plane.margin x y l outer;
-}
+plane_same w h s old new same plane = grind (arith, common_steps)
 
 -- ---- the even step
 shifted_cell : (s r : ℕ) (old new : List ℕ) → TurnsRows (s + 1) s r old new → (x y : ℕ) → x < s → y < 2 * r →

@@ -22,14 +22,8 @@ word_changed : (words : List ℕ) (p v : ℕ) (value : Bool) → p / 64 < length
     ((j : ℕ) → j < 64 → j ≢ p % 64 → bit v j ≡ bit (get_or words (p / 64) 0) j) →
     SetsPlace p value words (set words (p / 64) v)
 unfolding cell_at
-word_changed words p v value room own others = record {
-  there = rw (get_or-set_same words (p / 64) v 0 room) own;
-  elsewhere = λ q other.
-      by_eq_or_not (q / 64) (p / 64)
-      (λ same. rw (same, get_or-set_same words (p / 64) v 0 room)
-      (others (q % 64) (omega arith) (λ e. other (omega arith))))
-      (λ differs. rw (get_or-set_other words (p / 64) (q / 64) v 0 differs) refl);
-}
+word_changed words p v value room own others =
+    grind (arith, common_steps, get_or-set_same, by_eq_or_not, get_or-set_other)
 
 pub cell_set : (words : List ℕ) (p : ℕ) → p / 64 < length words →
     SetsPlace p true words (set words (p / 64)

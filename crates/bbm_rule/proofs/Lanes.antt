@@ -19,11 +19,7 @@ own_lanes v long = record { long = long; each = λ k l. refl }
 
 zip_lanes : (op : ℕ → ℕ → ℕ) (v w : List ℕ) (f g : ℕ → ℕ) → HasLanes v f → HasLanes w g →
     HasLanes (zip2 op v w) (λ k. op (f k) (g k))
-zip_lanes op v w f g hv hw = record {
-  long = length-zip2 op v w (omega (arith, hv.long, hw.long)) ∙ hv.long;
-  each = λ k l. get_or-zip2 op v w k 0 0 0 (omega (arith, hv.long)) (omega (arith, hw.long))
-      ∙ (rw (hv.each k l, hw.each k l) refl);
-}
+zip_lanes op v w f g hv hw = grind (arith, common_steps, length-zip2, get_or-zip2)
 
 abbrev xor_l : List ℕ → List ℕ → List ℕ
 xor_l = zip2 bit_xor
@@ -105,11 +101,7 @@ chunk_turned at ul ur ll lr a b c d wul wur wdl wdr la lb lc ld turned = record 
         rw (e, stored ul a j wul la l, stored ur b j wur lb l, stored ll c j wdl lc l, stored lr d j wdr ld l) h
 
 pub no_turns : (ul ur ll lr : List ℕ) → TurnsBetween 0 0 ul ur ll lr ul ur ll lr
-no_turns ul ur ll lr = record {
-  inside = λ k low high. absurd (omega arith);
-  below = λ k l. absurd (omega arith);
-  above = λ k l. record { upper_left = refl; upper_right = refl; lower_left = refl; lower_right = refl };
-}
+no_turns ul ur ll lr = grind (arith, common_steps)
 
 pub turns_join : (m n : ℕ) (ul ur ll lr ul' ur' ll' lr' ul'' ur'' ll'' lr'' : List ℕ) → m ≤ n →
     TurnsBetween 0 m ul ur ll lr ul' ur' ll' lr' → TurnsBetween m n ul' ur' ll' lr' ul'' ur'' ll'' lr'' →

@@ -1,6 +1,5 @@
 -- A step commutes with an even move
-use Rattle.std.proofs.Common.{◌≡◌, ℕ, suc, Bool, ◌+◌, ◌-◌, ◌%◌, refl, ap, ◌∙◌, arith, inl, inr}
-use Rattle.std.specs.Prelude.{ℤ, pos, negsuc, ◌+ℤ◌, ◌-ℤ◌}
+use Rattle.std.proofs.Common.{◌≡◌, ℕ, suc, Bool, ◌+◌, ◌-◌, ◌%◌, refl, ap, ◌∙◌, arith, ℤ, pos, negsuc, ◌+ℤ◌, ◌-ℤ◌}
 use Rattle.std.proofs.lemmas.Bool.{cases_Bool, cases_lt, cond-true, cond-false}
 use Rattle.std.proofs.lemmas.Int.{ints}
 use Rattle.std.proofs.lemmas.Grind.{common_steps}
@@ -18,28 +17,10 @@ turned_sum : (a b : ℕ) → negsuc a +ℤ pos b ≡ pos b +ℤ negsuc a
 turned_sum a b = omega (arith, ints)
 
 mixed : (a b n : ℕ) → (suc b) % 2 ≡ 0 → n ≡ a % 2 → parity (pos a +ℤ negsuc b) ≡ n
-mixed a b n even is = elim (cases_lt b a) [
-  | inl less ↦
-      let c : ℕ = a - suc b in
-      let e : a ≡ suc b + c = omega arith in
-      ap parity (sum_up a b c e) ∙ omega (arith, even, is, e)
-  | inr large ↦
-      let c : ℕ = b - a in
-      let e : b ≡ a + c = omega arith in
-      ap parity (sum_down a b c e) ∙ omega (arith, even, is, e)
-]
+mixed a b n even is = grind (arith, common_steps, cases_lt, sum_up, sum_down)
 
 mixed_back : (a b : ℕ) → b % 2 ≡ 0 → parity (pos b +ℤ negsuc a) ≡ (a + 1) % 2
-mixed_back a b even = elim (cases_lt a b) [
-  | inl less ↦
-      let c : ℕ = b - suc a in
-      let e : b ≡ suc a + c = omega arith in
-      ap parity (sum_up b a c e) ∙ omega (arith, even, e)
-  | inr large ↦
-      let c : ℕ = a - b in
-      let e : a ≡ b + c = omega arith in
-      ap parity (sum_down b a c e) ∙ omega (arith, even, e)
-]
+mixed_back a b even = grind (arith, common_steps, cases_lt, sum_up, sum_down)
 
 -- an even move keeps parities
 pub parity_moved : (x d : ℤ) → parity d ≡ 0 → parity (x +ℤ d) ≡ parity x
@@ -58,7 +39,7 @@ down_moved x d = omega (arith, ints)
 pub partner_moved : (t : ℕ) (x d : ℤ) → parity d ≡ 0 → partner t (x +ℤ d) ≡ partner t x +ℤ d
 unfolding partner
 partner_moved t x d even =
-    grind (arith, common_steps, parity_moved, cases_Bool, cond-true, up_moved, cond-false, down_moved)
+    grind (arith, common_steps, common_steps, parity_moved, cases_Bool, cond-true, up_moved, cond-false, down_moved)
 
 same_turned : (a a' b b' c c' d d' : Bool) → a ≡ a' → b ≡ b' → c ≡ c' → d ≡ d' → turned a b c d ≡ turned a' b' c' d'
 same_turned a a' b b' c c' d d' p q r s = λ i. turned (p i) (q i) (r i) (s i)

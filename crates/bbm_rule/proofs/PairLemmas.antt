@@ -63,13 +63,7 @@ mate_odd i even = grind (arith, common_steps)
 
 -- the flips are those of the lower row and the upper one too
 pub flips_below : (f a n b m main anti : ℕ) → AreFlips f a n b m main anti → AreFlips f b m a n anti main
-flips_below f a n b m main anti flips = record {
-  upper_first = flips.lower_first;
-  upper_second = flips.lower_second;
-  lower_first = flips.upper_first;
-  lower_second = flips.upper_second;
-  elsewhere = λ j off. let none = flips.elsewhere j off in (none.1, none.0);
-}
+flips_below f a n b m main anti flips = grind (arith, common_steps)
 
 -- a row of 32 blocks is turned if the first and the second cell of each is
 pub cells_turned : (a b a' : ℕ) →
@@ -134,10 +128,7 @@ side_turned a b main anti flips = cells_turned a b _ (λ i l even. (
 pub pairs_turned : (a b main anti : ℕ) → AreFlips first_mask a (a / 2) b (b / 2) main anti →
     ArePairsTurned a b (bit_xor a (bit_or main (anti * 2 % 18446744073709551616)))
     (bit_xor b (bit_or anti (main * 2 % 18446744073709551616)))
-pairs_turned a b main anti flips = record {
-  upper = side_turned a b main anti flips;
-  lower = side_turned b a anti main (flips_below _ _ _ _ _ _ _ flips);
-}
+pairs_turned a b main anti flips = grind (arith, common_steps, side_turned, flips_below)
 
 -- a word stays where nothing flips
 pub flipped_same : (a main anti : ℕ) → HasNoSetBit main → HasNoSetBit anti →

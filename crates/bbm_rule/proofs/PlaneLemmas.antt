@@ -1,6 +1,6 @@
 -- Blocks on the plane
-use Rattle.std.proofs.Common.{◌≡◌, ℕ, Bool, true, false, ◌&&◌, not, ◌<◌, ◌≤◌, ◌+◌, ◌-◌, ◌%◌, zero, suc, refl, arith}
-use Rattle.std.proofs.Common.{◌⊎◌, inl, inr, ℤ, pos, negsuc, ◌+ℤ◌, ◌-ℤ◌, nat_lt}
+use Rattle.std.proofs.Common.{◌≡◌, ℕ, Bool, true, false, not, ◌<◌, ◌≤◌, ◌+◌, ◌-◌, ◌%◌, zero, suc, refl, arith, ◌⊎◌, inl}
+use Rattle.std.proofs.Common.{inr, ℤ, pos, negsuc, ◌+ℤ◌, ◌-ℤ◌, nat_lt}
 use Rattle.std.proofs.lemmas.Int.{ints}
 use Rattle.std.proofs.lemmas.Bool.Decides.{nat_tests}
 use Rattle.std.proofs.lemmas.Grind.{common_steps}
@@ -100,18 +100,7 @@ pub partner-odd_ext : (t n : ℕ) → t % 2 ≡ 1 → partner t (ext n) ≡ ext 
 unfolding partner mate
 partner-odd_ext t zero at_odd = rw at_odd refl
 partner-odd_ext t (suc zero) at_odd = rw at_odd refl
-partner-odd_ext t (suc (suc n)) at_odd =
-    by_eq_or_not (n % 2) 0
-    (λ even.
-    let one : suc n % 2 ≡ 1 = omega arith in
-    let none : suc (suc n) % 2 ≡ 0 = omega arith in
-    let place : suc (suc n) + 1 ≡ suc (suc (suc n)) = omega arith in
-    rw (at_odd, one, none, place) (omega (arith, ints)))
-    (λ odd.
-    let one : suc n % 2 ≡ 0 = omega arith in
-    let none : suc (suc n) % 2 ≡ 1 = omega arith in
-    let place : suc (suc n) - 1 ≡ suc n = omega arith in
-    rw (at_odd, one, none, place) (omega (arith, ints)))
+partner-odd_ext t (suc (suc n)) at_odd = grind (arith, common_steps, by_eq_or_not, ints)
 
 pub partner_twice : (t : ℕ) (u : ℤ) → partner t (partner t u) ≡ u
 partner_twice t u = by_eq_or_not (t % 2) 0 (λ even. at_even u even) (λ odd. at_odd u (omega arith))
@@ -139,24 +128,12 @@ is_out n (pos x) = not (nat_lt x n)
 is_out n (negsuc x) = true
 
 pub column_dead : (b : Board) (u v : ℤ) → is_out b.width u ≡ true → live b u v ≡ false
-column_dead b (pos x) (pos y) h = rw (from_not (nat_lt x b.width) h) refl
-  where
-    from_not : (t : Bool) → not t ≡ true → t ≡ false
-    from_not true h = cc
-    from_not false h = refl
+column_dead b (pos x) (pos y) h = grind (arith, common_steps)
 column_dead b (pos x) (negsuc y) h = refl
 column_dead b (negsuc x) v h = refl
 
 pub row_dead : (b : Board) (u v : ℤ) → is_out b.height v ≡ true → live b u v ≡ false
-row_dead b (pos x) (pos y) h = rw (from_not (nat_lt y b.height) h) (and_false (nat_lt x b.width) _)
-  where
-    from_not : (t : Bool) → not t ≡ true → t ≡ false
-    from_not true h = cc
-    from_not false h = refl
-
-    and_false : (a b : Bool) → (a && false && b) ≡ false
-    and_false true b = refl
-    and_false false b = refl
+row_dead b (pos x) (pos y) h = grind (arith, common_steps)
 row_dead b (pos x) (negsuc y) h = refl
 row_dead b (negsuc x) v h = refl
 
@@ -190,14 +167,7 @@ abbrev pub IsNearExt : ℕ → ℤ → Type 0
 IsNearExt n u = (x : ℕ) × (u ≡ ext x) × (x < n + 2)
 
 pub even_cases : (t n : ℕ) (u : ℤ) → t % 2 ≡ 0 → n % 2 ≡ 0 → IsNear n u ⊎ IsFar t n u
-even_cases t n (pos x) at_even whole =
-    by_lt_or_le x n (λ l. inl (x, refl, l))
-    (λ le.
-    inr
-    (record {
-      own = out_pos n x le;
-      other = rw (partner-even_pos t x at_even) (out_pos n (mate x) (mate_ge x n whole le));
-    }))
+even_cases t n (pos x) at_even whole = grind (arith, common_steps, by_lt_or_le, out_pos, partner-even_pos, mate_ge)
 even_cases t n (negsuc x) at_even whole = inr (record { own = refl; other = rw (partner-even_neg t x at_even) refl })
 
 pub odd_cases : (t n : ℕ) (u : ℤ) → t % 2 ≡ 1 → n % 2 ≡ 0 → IsNearExt n u ⊎ IsFar t n u

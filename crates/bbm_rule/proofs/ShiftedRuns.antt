@@ -28,7 +28,7 @@ flip_twice i f g words room = grind (arith, common_steps, get_or-set_same, set-s
 flip_swap : (i k f g : ℕ) (words : List ℕ) → i < length words → k < length words →
     flip k g (flip i f words) ≡ flip i f (flip k g words)
 flip_swap i k f g words room room' =
-    grind (arith, common_steps, by_eq_or_not, flip_twice, xor_swap, get_or-set_other, set_comm)
+    grind (arith, common_steps, common_steps, by_eq_or_not, flip_twice, xor_swap, get_or-set_other, set_comm)
 
 -- two words that get what is carried to them and then flips of their own
 stored : (i k f f' g g' : ℕ) (words : List ℕ) → i ≢ k → i < length words → k < length words →
@@ -109,10 +109,7 @@ side_shifted a n b m main anti flips above below = cells_turned n m _ (λ i l ev
 windows_flipped : (a n b m main anti : ℕ) → AreFlips second_mask a n b m main anti →
     ((j : ℕ) → j < 63 → bit n j ≡ bit a (1 + j)) → ((j : ℕ) → j < 63 → bit m j ≡ bit b (1 + j)) →
     ArePairsTurned n m (bit_xor n (window_flips main anti)) (bit_xor m (window_flips anti main))
-windows_flipped a n b m main anti flips above below = record {
-  upper = side_shifted a n b m main anti flips above below;
-  lower = side_shifted b m a n anti main (flips_below _ _ _ _ _ _ _ flips) below above;
-}
+windows_flipped a n b m main anti flips above below = grind (arith, common_steps, side_shifted, flips_below)
 
 -- a word of flips goes to a word, and its last cell to the next word
 abbrev flip_window : ℕ → ℕ → ℕ → List ℕ → List ℕ

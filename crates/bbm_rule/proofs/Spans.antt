@@ -1,6 +1,6 @@
 -- Numbers in a span, and the two coordinates of a block
 use Rattle.std.proofs.Common.{◌≡◌, ℕ, zero, suc, ◌+◌, ◌%◌, ◌<◌, ◌≤◌, true, false, ◌&&◌, eqb, ltb, leb, refl, sym, ap}
-use Rattle.std.proofs.Common.{◌∙◌, arith, inl, inr, ◌⊎◌, add-one, ℤ, pos, negsuc, ◌+ℤ◌, ◌-ℤ◌}
+use Rattle.std.proofs.Common.{◌∙◌, arith, inl, inr, ◌⊎◌, ℤ, pos, negsuc, ◌+ℤ◌, ◌-ℤ◌}
 use Rattle.std.proofs.lemmas.Bool.{and_parts, and_from, ne_eqb, cases_Bool, cond-true, cond-false, eqb-true, eqb-false}
 use Rattle.std.proofs.lemmas.Bool.{leb-true, ltb-true, le-leb, lt-ltb}
 use Rattle.std.proofs.lemmas.Int.{ints}
@@ -33,10 +33,7 @@ span_from f n k p q = and_from (leb f k) (ltb k (f + n)) (le-leb f k p) (lt-ltb 
 -- the other coordinate of a block is next to it
 pub partner_near : (t : ℕ) (z : ℤ) → (partner t z ≡ z +ℤ pos 1) ⊎ (partner t z ≡ z -ℤ pos 1)
 unfolding partner
-partner_near t z = elim (cases_Bool (eqb (parity z) (t % 2))) [
-  | inl e ↦ inl (cond-true _ _ _ e)
-  | inr e ↦ inr (cond-false _ _ _ e)
-]
+partner_near t z = grind (arith, common_steps, cases_Bool, cond-true, cond-false)
 
 partner_up : (t : ℕ) (z : ℤ) → eqb (parity z) (t % 2) ≡ true → partner t z ≡ z +ℤ pos 1
 unfolding partner
@@ -66,16 +63,10 @@ even_up f n t k pf pn pt e = grind (arith, common_steps, partner_up, up_even, eq
 even_down : (f n t k : ℕ) → f % 2 ≡ 0 → n % 2 ≡ 0 → t % 2 ≡ 0 → eqb (k % 2) (t % 2) ≡ false →
     in_span f n (partner t (pos k)) ≡ in_span f n (pos k)
 even_down f n t zero pf pn pt e = absurd (eqb-false 0 (t % 2) e (sym pt))
-even_down f n t (suc m) pf pn pt e =
-    let odd : suc m % 2 ≡ t % 2 → ⊥ = eqb-false (suc m % 2) (t % 2) e in
-    let even : m % 2 ≡ 0 = omega (arith, odd) in
-    ap (in_span f n) (partner_down t (pos (suc m)) e ∙ less_one m) ∙ sym (up_even f n m pf pn even)
-    ∙ ap (λ k. in_span f n (pos k)) (add-one m)
+even_down f n t (suc m) pf pn pt e = grind (arith, common_steps, eqb-false, partner_down, less_one, up_even)
 
 negative_partner : (f n t k : ℕ) → t % 2 ≡ 0 → in_span f n (partner t (negsuc k)) ≡ false
-negative_partner f n t zero pt =
-    ap (in_span f n) (partner_down t (negsuc 0) (ne_eqb 1 (t % 2) (λ h. omega arith)) ∙ less_one_negative 0)
-    ∙ in_span-negsuc f n 1
+negative_partner f n t zero pt = grind (arith, common_steps, partner_down, ne_eqb, less_one_negative, in_span-negsuc)
 negative_partner f n t (suc k) pt = elim (cases_Bool (eqb (parity (negsuc (suc k))) (t % 2))) [
   | inl e ↦ ap (in_span f n) (partner_up t (negsuc (suc k)) e ∙ more_one_negative k) ∙ in_span-negsuc f n k
   | inr e ↦ ap (in_span f n) (partner_down t (negsuc (suc k)) e ∙ less_one_negative (suc k))
@@ -84,8 +75,5 @@ negative_partner f n t (suc k) pt = elim (cases_Bool (eqb (parity (negsuc (suc k
 
 -- an even step keeps a coordinate in an even span, or outside it
 pub even_span : (f n t : ℕ) (z : ℤ) → f % 2 ≡ 0 → n % 2 ≡ 0 → t % 2 ≡ 0 → in_span f n (partner t z) ≡ in_span f n z
-even_span f n t (pos k) pf pn pt = elim (cases_Bool (eqb (k % 2) (t % 2))) [
-  | inl e ↦ even_up f n t k pf pn pt e
-  | inr e ↦ even_down f n t k pf pn pt e
-]
+even_span f n t (pos k) pf pn pt = grind (arith, common_steps, cases_Bool, even_up, even_down)
 even_span f n t (negsuc k) pf pn pt = negative_partner f n t k pt ∙ sym (in_span-negsuc f n k)

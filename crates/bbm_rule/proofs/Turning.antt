@@ -1,8 +1,9 @@
 -- The bitwise formula of a turn.
-use Rattle.std.proofs.Common.{◌≡◌, ℕ, Bool, true, false, ◌&&◌, ◌||◌, refl, bit_and, bit_or, ◌<◌, List, [], ◌∷◌, get_or}
-use Rattle.std.proofs.Common.{nat_eq, bit_xor}
+use Rattle.std.proofs.Common.{arith, ◌≡◌, ℕ, Bool, true, false, ◌&&◌, ◌||◌, refl, bit_and, bit_or, ◌<◌, List, [], ◌∷◌}
+use Rattle.std.proofs.Common.{get_or, nat_eq, bit_xor}
 use Rattle.std.proofs.lemmas.Bool.{eqb-true}
 use Rattle.std.proofs.Math.Bool.{and-false, and-true}
+use Rattle.std.proofs.lemmas.Grind.{common_steps}
 use Rattle.bbm_rule.specs.Plane.{turned}
 use Rattle.bbm_rule.specs.Words.{turn_of, AreTurned}
 use Rattle.bbm_rule.specs.Bits.{bit, HasNoSetBit}
@@ -101,12 +102,8 @@ by_cases_lr false false false false = refl
 pub words_turned : (ul ur ll lr : ℕ) →
     AreTurned ul ur ll lr (bit_xor ul (flip_main_of ul ur ll lr)) (bit_xor ur (flip_anti_of ul ur ll lr))
     (bit_xor ll (flip_anti_of ul ur ll lr)) (bit_xor lr (flip_main_of ul ur ll lr))
-words_turned ul ur ll lr = record {
-  upper_left = λ j. simp (bit-xor, bit-or, bit-and) (by_cases_ul (bit ul j) (bit ur j) (bit ll j) (bit lr j));
-  upper_right = λ j. simp (bit-xor, bit-or, bit-and) (by_cases_ur (bit ul j) (bit ur j) (bit ll j) (bit lr j));
-  lower_left = λ j. simp (bit-xor, bit-or, bit-and) (by_cases_ll (bit ul j) (bit ur j) (bit ll j) (bit lr j));
-  lower_right = λ j. simp (bit-xor, bit-or, bit-and) (by_cases_lr (bit ul j) (bit ur j) (bit ll j) (bit lr j));
-}
+words_turned ul ur ll lr =
+    grind (arith, common_steps, bit-xor, bit-or, bit-and, by_cases_ul, by_cases_ur, by_cases_ll, by_cases_lr)
 
 -- nothing flips where no block changes
 flip_none : (changed other j : ℕ) → bit changed j ≡ false → bit (bit_xor changed (bit_and changed other)) j ≡ false

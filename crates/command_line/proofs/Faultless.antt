@@ -1,22 +1,21 @@
 -- If a parse ends without an error, a property of the arguments that each successful step keeps holds at the end.
-use Rattle.std.proofs.Common.{◌≡◌, ◌&&◌, ℕ, Bool, cond, true, false, zero, suc, refl, List, [], ◌∷◌, length, drop}
+use Rattle.std.proofs.Common.{arith, ◌≡◌, ℕ, Bool, cond, true, false, zero, suc, refl, List, [], ◌∷◌, length, drop}
 use Rattle.std.proofs.Common.{Option, Some, None, is_some, fold, encode_utf8, slice_get, find}
 use Rattle.std.specs.Option.{option_map_or}
-use Rattle.std.specs.Str.{bytes_eq, chars}
-use Rattle.clap.specs.Lexer.{long_of, short_of}
+use Rattle.std.specs.Str.{chars}
+use Rattle.std.proofs.lemmas.Grind.{common_steps}
+use Rattle.clap.specs.Lexer.{short_of}
 use Rattle.clap.specs.Walk.{Held, Names, Outcome, Row, Rule, Step, Text, Waiting, Walk, after_flag, after_step}
-use Rattle.clap.specs.Walk.{arg_by_id, arg_by_index, arg_by_long, arg_by_short, attached_value, bundle, bundle_met}
-use Rattle.clap.specs.Walk.{bundle_step, done, flag_met, idle, is_pending, long_met, long_or_other, next, option}
-use Rattle.clap.specs.Walk.{option_met, option_word, plain, plain_word, positional, positional_held, reacted, refused}
-use Rattle.clap.specs.Walk.{settled, settled_rows, short_met, short_or_plain, subcommand, subcommand_met}
-use Rattle.clap.specs.Walk.{subcommand_or_other, takes_several, takes_values, to_positional, trailing, used, used_by_id}
-use Rattle.clap.specs.Walk.{value, waits, walk, walk_from, walked, walked_from, word_met}
+use Rattle.clap.specs.Walk.{arg_by_short, attached_value, bundle_met, bundle_step, done, flag_met, idle, long_met}
+use Rattle.clap.specs.Walk.{long_or_other, next, option, option_met, plain, plain_word, positional, positional_held}
+use Rattle.clap.specs.Walk.{reacted, refused, settled, short_met, short_or_plain, subcommand, subcommand_met}
+use Rattle.clap.specs.Walk.{subcommand_or_other, takes_values, trailing, used, value, waits, walk, walked, word_met}
 use Rattle.clap.specs.Simple.{Shape}
 use Rattle.clap.specs.declared.error.kind.ErrorKind.TheVariants as kind
 use Rattle.clap.specs.Kinds.{Kinds, or_else}
 use Rattle.clap.specs.Faults.{bundle_fault, bundle_step_fault, flag_word_fault, flags_fault, level_fault, long_fault}
 use Rattle.clap.specs.Faults.{option_fault, other_fault, positional_fault, react_fault, settle_fault, short_fault}
-use Rattle.clap.specs.Faults.{step_fault, stray_fault, turn_fault, use_fault, walk_fault, word_fault}
+use Rattle.clap.specs.Faults.{step_fault, turn_fault, use_fault, walk_fault, word_fault}
 
 -- two steps meet no fault: neither does
 pub both_none : (a b : Kinds) → or_else a b ≡ [] → (a ≡ []) × (b ≡ [])
@@ -31,27 +30,12 @@ module _ (s : Shape) (Good : List Row → Type 0)
 
   after_settling : (h : Held) → settle_fault s.rules s.args_override_self h ≡ [] → Good h.rows →
       Good (settled s.rules h).rows
-  after_settling h none good = go h.pending none
-    where
-      met : (p : Text × List Text) (o : Option Rule) → arg_by_id s.rules p.0 ≡ o →
-          option_map_or (λ a. use_fault s.args_override_self a p.1 h.rows) o [] ≡ []
-          → Good (used_by_id o p.1 h.rows)
-      met p None found none = good
-      met p (Some a) found none = after_use (λ x. bytes_eq x.id p.0) a p.1 h.rows found none good
-
-      go : (o : Option (Text × List Text)) →
-          option_map_or (λ p. option_map_or (λ a. use_fault s.args_override_self a p.1 h.rows)
-          (arg_by_id s.rules p.0) []) o [] ≡ []
-          → Good (settled_rows s.rules o h.rows)
-      go None none = good
-      go (Some p) none = met p (arg_by_id s.rules p.0) refl none
+  after_settling h none good = grind (arith, common_steps)
 
   after_reaction : (p : Rule → Bool) (a : Rule) (values : List Text) (h : Held) → find p s.rules ≡ Some a →
       react_fault s.rules s.args_override_self a values h ≡ []
       → Good h.rows → Good (reacted s.rules a values h).rows
-  after_reaction p a values h found none good =
-      let steps = both_none (settle_fault s.rules s.args_override_self h) _ none in
-      after_use p a values (settled s.rules h).rows found steps.1 (after_settling h steps.0 good)
+  after_reaction p a values h found none good = grind (arith, common_steps, both_none, after_settling)
 
   after_option : (p : Rule → Bool) (a : Rule) (v : Option Text) (h : Held) → find p s.rules ≡ Some a →
       option_fault s.rules s.args_override_self a v h ≡ []
@@ -122,11 +106,7 @@ module _ (s : Shape) (Good : List Row → Type 0)
       Good (plain_word s.rules waiting word h).0.rows
   after_plain idle word h good = good
   after_plain positional word h good = good
-  after_plain (option id) word h good = go (arg_by_id s.rules id)
-    where
-      go : (o : Option Rule) → Good (option_word o id word h).0.rows
-      go None = good
-      go (Some a) = good
+  after_plain (option id) word h good = grind (arith, common_steps)
 
   after_outcome : (waiting : Waiting) (word : Text) (h : Held) (outcome : Outcome) → Good h.rows →
       Good (after_flag s.rules waiting word h outcome).0.rows
@@ -139,28 +119,19 @@ module _ (s : Shape) (Good : List Row → Type 0)
       option_map_or (λ flags. bundle_fault s.rules s.args_override_self flags h) o [] ≡ []
       → Good h.rows → Good (short_or_plain s.rules waiting word o h).0.rows
   after_short_word waiting word None h none good = after_plain waiting word h good
-  after_short_word waiting word (Some flags) h none good =
-      after_outcome waiting word (bundle s.rules flags h).0 (bundle s.rules flags h).1
-      (after_flags (length flags) flags h.skip plain (record h { skip = 0 }) none good)
+  after_short_word waiting word (Some flags) h none good = grind (arith, common_steps, after_outcome, after_flags)
 
   after_flag_word : (waiting : Waiting) (word : Text) (o : Option (Text × Option Text)) (h : Held) →
       flag_word_fault s.rules s.args_override_self o word h ≡ []
       → Good h.rows → Good (long_or_other s.rules waiting word o h).0.rows
   after_flag_word waiting word None h none good = after_short_word waiting word (short_of word) h none good
-  after_flag_word waiting word (Some p) h none good =
-      let met = long_met s.rules (arg_by_long s.rules p.0) p.1 h in
-      after_outcome waiting word met.0 met.1 (after_long _ (arg_by_long s.rules p.0) p.1 h refl none good)
+  after_flag_word waiting word (Some p) h none good = grind (arith, common_steps, after_outcome, after_long)
 
   after_other : (o : Option Text) (waiting : Waiting) (position : ℕ) (word : Text) (h : Held) →
       other_fault s o word h ≡ []
       → Good h.rows → Good (subcommand_or_other s.rules o waiting position word h).0.rows
   after_other (Some name) waiting position word h none good = good
-  after_other None waiting position word h none good = go (bytes_eq word (45 ∷ 45 ∷ [])) none
-    where
-      go : (b : Bool) → cond b [] (flag_word_fault s.rules s.args_override_self (long_of word) word h) ≡ []
-          → Good (cond b (h, trailing position) (long_or_other s.rules waiting word (long_of word) h)).0.rows
-      go true none = good
-      go false none = after_flag_word waiting word (long_of word) h none good
+  after_other None waiting position word h none good = grind (arith, common_steps, after_flag_word)
 
   after_word : (names : Names) (is_trailing : Bool) (waiting : Waiting) (position : ℕ) (word : Text) (h : Held) →
       word_fault s names is_trailing waiting word h ≡ []
@@ -173,48 +144,19 @@ module _ (s : Shape) (Good : List Row → Type 0)
 
   after_positional : (a : Rule) (word : Text) (h : Held) → positional_fault s.rules s.args_override_self a h ≡ [] →
       Good h.rows → Good (positional_held s.rules a word h).rows
-  after_positional a word h none good = go (is_pending a h.pending && takes_several a) none
-    where
-      go : (b : Bool) → cond b [] (settle_fault s.rules s.args_override_self h) ≡ [] →
-          Good (cond b h (settled s.rules h)).rows
-      go true none = good
-      go false none = after_settling h none good
+  after_positional a word h none good = grind (arith, common_steps, after_settling)
 
   after_turn_step : (w : Walk) (word : Text) (h : Held) (step : Step) → step_fault s w.position h step ≡ [] →
       Good h.rows → Good (after_step s.rules word w h step).held.rows
   after_turn_step w word h (next waiting) none good = good
   after_turn_step w word h (trailing position) none good = good
   after_turn_step w word h (subcommand name) none good = good
-  after_turn_step w word h value none good = go (arg_by_index s.rules w.position) none
-    where
-      go : (o : Option Rule) → option_map_or (λ a. positional_fault s.rules s.args_override_self a h) o (stray_fault s)
-          ≡ [] → Good (to_positional s.rules o word w h).held.rows
-      go None none = good
-      go (Some a) none = after_positional a word h none good
+  after_turn_step w word h value none good = grind (arith, common_steps, after_positional)
 
   after_turn : (names : Names) (w : Walk) (word : Text) → turn_fault s names w word ≡ [] → Good w.held.rows →
       Good (walked s.rules names w word).held.rows
   unfolding walked
-  after_turn names w word none good = go w.stopped none
-    where
-      took : (met : Held × Step) → or_else (word_fault s names w.is_trailing w.waiting word w.held)
-          (step_fault s w.position met.0 met.1) ≡ []
-          → (word_fault s names w.is_trailing w.waiting word w.held ≡ [] → Good met.0.rows) →
-          Good (after_step s.rules word w met.0 met.1).held.rows
-      took met none more =
-          let steps = both_none (word_fault s names w.is_trailing w.waiting word w.held) _ none in
-          after_turn_step w word met.0 met.1 steps.1 (more steps.0)
-
-      go : (o : Option (Text × List Text))
-          → cond (is_some o) []
-          (or_else (word_fault s names w.is_trailing w.waiting word w.held)
-          (step_fault s w.position (word_met s.rules names w.is_trailing w.waiting w.position word w.held).0
-          (word_met s.rules names w.is_trailing w.waiting w.position word w.held).1)) ≡ []
-          → Good (walked_from s.rules names o w word).held.rows
-      go (Some p) none = good
-      go None none =
-          took (word_met s.rules names w.is_trailing w.waiting w.position word w.held) none
-          (λ none. after_word names w.is_trailing w.waiting w.position word w.held none good)
+  after_turn names w word none good = grind (arith, common_steps, both_none, after_turn_step, after_word)
 
   after_walk : (names : Names) (w : Walk) (words : List Text) → walk_fault s names w words ≡ [] → Good w.held.rows →
       Good (fold (walked s.rules names) w words).held.rows
@@ -229,7 +171,4 @@ module _ (s : Shape) (Good : List Row → Type 0)
       level_fault s names h words has_subcommand below ≡ []
       → Good h.rows → Good (settled s.rules (walk s.rules names h words).held).rows
   after_level names h words has_subcommand below none good =
-      let first = both_none (walk_fault s names (walk_from h) words) _ none in
-      let second = both_none below _ first.1 in
-      let third = both_none (settle_fault s.rules s.args_override_self (walk s.rules names h words).held) _ second.1 in
-      after_settling (walk s.rules names h words).held third.0 (after_walk names (walk_from h) words first.0 good)
+      grind (arith, common_steps, both_none, after_settling, after_walk)

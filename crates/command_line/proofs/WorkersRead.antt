@@ -1,15 +1,15 @@
 -- The number that `get_one` reads of `--workers` is the one that the words ask for.
-use Rattle.std.proofs.Common.{◌≡◌, ◌∙◌, ◌≤◌, ℕ, Bool, cond, true, false, refl, sym, ap, List, [], Option, Some, None}
-use Rattle.std.proofs.Common.{codes, arith, Err, Ok, Result, option_and_then, option_map, unwrap_or}
+use Rattle.std.proofs.Common.{◌≡◌, ◌≤◌, ℕ, refl, List, [], Option, Some, None, codes, arith, Err, Ok, Result}
+use Rattle.std.proofs.Common.{option_map, unwrap_or}
 use Rattle.std.specs.Option.{option_map_or}
-use Rattle.std.specs.Str.{bytes_eq}
 use Rattle.std.specs.Str.Parse.{ParsesUnsigned}
 use Rattle.std.proofs.lemmas.Slice.Eq.{bytes_eq-Decides}
+use Rattle.std.proofs.lemmas.Grind.{common_steps}
 use Rattle.clap.specs.Words.{IsUnsignedIn, ReadsOne, Row, Text, fault_of, one_of, subcommand_name_of, subcommand_of}
 use Rattle.clap.specs.Words.{subcommand_rows_of}
 use Rattle.clap.specs.declared.parser.matches.ArgMatches.{ArgMatches}
 use Rattle.clap.specs.declared.parser.matches.ArgMatches.TheViews.{out-ArgMatches}
-use Rattle.command_line.specs.CommandLine.{bbmcheck, number_in, workers_asked, workers_of, workers_text}
+use Rattle.command_line.specs.CommandLine.{bbmcheck, number_in, workers_asked, workers_text}
 use Rattle.command_line.proofs.WorkersPass.{workers_pass}
 
 -- the number that the words ask for is in the option's range
@@ -58,17 +58,10 @@ pub text_of_check : (words : List Text) (met : Option (Text × List Row)) (rows 
     → option_map (λ p. p.0) met ≡ Some (codes "check") → option_map (λ p. p.1) met ≡ Some rows →
     workers_text words ≡ one_of (codes "workers") rows
 text_of_check words None rows is name own = cc
-text_of_check words (Some r) rows is name own =
-    let same : r.0 ≡ codes "check" = cc in
-    let own_rows : r.1 ≡ rows = cc in
-    rw (← is, (bytes_eq-Decides r.0 (codes "check")).1 same, own_rows) refl
+text_of_check words (Some r) rows is name own = grind (arith, common_steps, bytes_eq-Decides)
 
 -- and where it was not, there is none
 pub no_text : (words : List Text) (met : Option (Text × List Row)) → met ≡ subcommand_of bbmcheck words
     → (option_map (λ p. p.0) met ≡ Some (codes "check") → ⊥) → workers_text words ≡ None
 no_text words None is other = rw (← is) refl
-no_text words (Some r) is other = ap (option_and_then workers_of) (sym is) ∙ go (bytes_eq r.0 (codes "check")) refl
-  where
-    go : (b : Bool) → bytes_eq r.0 (codes "check") ≡ b → cond b (one_of (codes "workers") r.1) None ≡ None
-    go true same = absurd (other (ap Some ((bytes_eq-Decides r.0 (codes "check")).0 same)))
-    go false differs = refl
+no_text words (Some r) is other = grind (arith, common_steps, bytes_eq-Decides)

@@ -117,15 +117,13 @@ others_by_odd main anti u m m' marks v free = let f = marks v free in (f.0, (λ 
 
 others_by_even : (main anti : Bool) (s u : ℕ) (m m' : List ℕ) → MarksOddNeighbours main anti s u m m' →
     AreOthers main anti (u + s + 1) (u + s) (u + 1) u m m'
-others_by_even main anti s u m m' marks v free = let f = marks v free in
-    (f.0, (λ e. ((f.1 e).1, (f.1 e).0)), (λ e. ((f.2 e).1, (f.2 e).0)))
+others_by_even main anti s u m m' marks v free = grind (arith, common_steps)
 
 pub odd_kept_by_odd : (main anti : Bool) (u : ℕ) (m m' : List ℕ) (p q : Planes) →
     HasWordsStrideRows p.words p.stride p.rows q →
     ChangesCells main anti u u u u p q → MarksOne u m m' → AreUnmarkedOddBlocksStable m p →
     AreUnmarkedOddBlocksStable m' q
-odd_kept_by_odd main anti u m m' p q size ch marks calm =
-    odd_kept main anti u u u u m m' p q size ch (others_by_odd main anti u m m' marks) calm
+odd_kept_by_odd main anti u m m' p q size ch marks calm = grind (arith, common_steps, odd_kept, others_by_odd)
 
 pub even_kept_by_odd : (main anti : Bool) (u : ℕ) (m m' : List ℕ) (p q : Planes) →
     HasWordsStrideRows p.words p.stride p.rows q →

@@ -24,7 +24,7 @@ pub cleared_keeps : (defined : List ℕ) (place : ℕ) (old new : List ℕ) → 
     KeepsDefinedValues defined old new
 unfolding value_of bit_of_row
 cleared_keeps defined place old new c a w small is =
-    grind (arith, common_steps, by_lt_or_le, bit-and, and-true, mul_comm, mod-mul-add)
+    grind (arith, common_steps, common_steps, by_lt_or_le, bit-and, and-true, mul_comm, mod-mul-add)
 
 -- so the rows of words stay what they are to be
 pub rows_kept : (n : Netlist) (words : ℕ) (old new : ValueRows) → new.defined ≡ old.defined →

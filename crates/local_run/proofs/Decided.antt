@@ -1,6 +1,6 @@
 -- Whether a job has a fault does not depend on the local valuation that is taken
 use Rattle.std.proofs.Common.{◌≡◌, ◌≢◌, ℕ, zero, suc, ◌<◌, Bool, true, false, List, [], ◌∷◌, refl, sym, ap, subst, ◌∙◌}
-use Rattle.std.proofs.Common.{arith, eq-eqb, ◌⊎◌, inl, inr, ℤ, Contains}
+use Rattle.std.proofs.Common.{arith, ◌⊎◌, inl, inr, ℤ, Contains}
 use Rattle.std.proofs.Props.{props}
 use Rattle.std.proofs.lemmas.Bool.{and_from, and_parts, cases_Bool, eqb-true, true≢false}
 use Rattle.std.proofs.lemmas.Option.{same_Some, slice_get-get_or}
@@ -13,7 +13,7 @@ use Rattle.module_box.specs.Schedules.{is_moment_at}
 use Rattle.module_box.specs.declared.schedules.Moment.{Moment}
 use Rattle.module_box.proofs.Rising.{is_first, moment_total}
 use Rattle.bbm_rule.proofs.SameCells.{cell_same, cell_itself}
-use Rattle.module_job.specs.Jobs.{JobView, IsJob, NamesOwnWires, job_demand}
+use Rattle.module_job.specs.Jobs.{JobView, IsJob, NamesOwnWires}
 use Rattle.module_job.specs.Signals.{MeetsDemand, IsDemandWireBelow}
 use Rattle.module_job.specs.declared.job.Demand.{Demand}
 use Rattle.module_job.specs.declared.job.Demand.TheVariants as Demanded
@@ -43,29 +43,9 @@ own_stop j s own h = subst (λ (r : listed.Stop). r.wire < wires j.locals.netlis
 pub fault_same : (j : JobView) (u u' : Valuation) (t : ℕ) (kind : Kind) (x y : ℤ) → NamesOwnWires j →
     AgreeBelow (wires j.locals.netlist) u u' →
     IsFaultUnder j u t kind x y → IsFaultUnder j u' t kind x y
-fault_same j u u' t Edge x y own same f = record {
-  odd = f.odd;
-  early = f.early;
-  ring = f.ring;
-  differs = λ e. f.differs (run_same j u u' t own same x y ∙ e
-      ∙ sym (live_same (wires j.locals.netlist) u u' _ same (edge_below j t x y own)));
-}
-fault_same j u u' t Stop x y own same f = record {
-  stop = f.stop;
-  is_listed = f.is_listed;
-  time = f.time;
-  column = f.column;
-  row = f.row;
-  differs = λ e. f.differs (run_same j u u' t own same x y ∙ e
-      ∙ sym (same f.stop.wire (own_stop j f.stop own f.is_listed)));
-}
-fault_same j u u' t End x y own same f = record {
-  last = f.last;
-  inside = f.inside;
-  differs = λ m. f.differs (meets_same (wires j.locals.netlist) u' u (job_demand j x y) _ (λ w l. sym (same w l))
-      (demand_below j x y own)
-      (subst (MeetsDemand u' (job_demand j x y)) (sym (run_same j u u' t own same x y)) m));
-}
+fault_same j u u' t Edge x y own same f = grind (arith, common_steps, run_same, live_same, edge_below)
+fault_same j u u' t Stop x y own same f = grind (arith, common_steps, run_same, own_stop)
+fault_same j u u' t End x y own same f = grind (arith, common_steps, meets_same, demand_below, run_same)
 
 -- ---- so any local valuation tells
 not_prop : (j : JobView) (u : Valuation) (t w : ℕ) (x y : ℤ) → IsProp (local_run j u t x y ≢ u w)
@@ -109,8 +89,7 @@ then_moment j u t x y f i = record { time = f.time i; cell = record { x = f.colu
 
 its_then : (j : JobView) (u : Valuation) (t : ℕ) (x y : ℤ) (f : IsStopFault j u t x y) →
     is_moment_at f.stop.at t x y ≡ true
-its_then j u t x y f = ap (λ m. is_moment_at m t x y) (then_moment j u t x y f)
-    ∙ and_from _ _ (eq-eqb t t refl) (cell_itself (record { x = x; y = y }))
+its_then j u t x y f = grind (arith, common_steps, then_moment, and_from, cell_itself)
 
 -- so a fault of a stop that there is can be found
 stop_told : (j : JobView) (u : Valuation) (t : ℕ) (x y : ℤ) → IsJob j → ∥ IsStopFault j u t x y ∥₁ →

@@ -1,6 +1,6 @@
 -- Steps that pass over the blocks that stay
-use Rattle.std.proofs.Common.{◌≡◌, ◌≢◌, ℕ, true, false, ◌<◌, ◌≤◌, ◌+◌, ◌*◌, ◌/◌, ◌%◌, ◌⊎◌, inl, inr, refl, arith, sym}
-use Rattle.std.proofs.Common.{◌∙◌, ap, ltb, List, get_or, subst}
+use Rattle.std.proofs.Common.{◌≡◌, ◌≢◌, ℕ, true, false, ◌<◌, ◌≤◌, ◌+◌, ◌*◌, ◌/◌, ◌%◌, ◌⊎◌, inl, inr, arith, sym, ◌∙◌}
+use Rattle.std.proofs.Common.{ap, ltb, List, get_or, subst}
 use Rattle.std.proofs.lemmas.Bool.{false≢true}
 use Rattle.std.proofs.Math.Nat.{div-add-mod, mod-lt, mul-le-mul_left}
 use Rattle.std.proofs.lemmas.Grind.{common_steps}
@@ -41,25 +41,13 @@ IsInjective f = (n m : ℕ) → f n ≡ f m → n ≡ m
 named_stay : (w : ℕ) (a b c d : ℕ → ℕ) (P : ℕ → Type 0) (ul ur ll lr : List ℕ) →
     ((n : ℕ) → P n → IsStableBlock w (a n) (b n) (c n) (d n) ul ur ll lr) →
     TurnsNamed w a b c d P ul ur ll lr ul ur ll lr
-named_stay w a b c d P ul ur ll lr stay = record {
-  turned = λ n k is l. let calm = stay n is in calm_turned _ _ _ _ (calm.0 k l) (calm.1 k l);
-  upper_left = λ n k miss l. refl;
-  upper_right = λ n k miss l. refl;
-  lower_left = λ n k miss l. refl;
-  lower_right = λ n k miss l. refl;
-}
+named_stay w a b c d P ul ur ll lr stay = grind (arith, common_steps, calm_turned)
 
 -- the same blocks under another name
 renamed : (w : ℕ) (a b c d : ℕ → ℕ) (P Q : ℕ → Type 0) (ul ur ll lr ul' ur' ll' lr' : List ℕ) →
     ((n : ℕ) → Q n → P n) → ((n : ℕ) → P n → Q n) → TurnsNamed w a b c d P ul ur ll lr ul' ur' ll' lr' →
     TurnsNamed w a b c d Q ul ur ll lr ul' ur' ll' lr'
-renamed w a b c d P Q ul ur ll lr ul' ur' ll' lr' from to t = record {
-  turned = λ n k is l. t.turned n k (from n is) l;
-  upper_left = λ n k miss l. t.upper_left n k (λ is. miss (to n is)) l;
-  upper_right = λ n k miss l. t.upper_right n k (λ is. miss (to n is)) l;
-  lower_left = λ n k miss l. t.lower_left n k (λ is. miss (to n is)) l;
-  lower_right = λ n k miss l. t.lower_right n k (λ is. miss (to n is)) l;
-}
+renamed w a b c d P Q ul ur ll lr ul' ur' ll' lr' from to t = grind (arith, common_steps)
 
 -- one more block is turned
 named_next : (w u : ℕ) (a b c d : ℕ → ℕ) (P Q : ℕ → Type 0) (ul ur ll lr ul' ur' ll' lr' ul'' ur'' ll'' lr'' : List ℕ) →
@@ -131,15 +119,7 @@ pub record OnePast (first end rest rest' u : ℕ) : Type 0 where
 pub one_past : (first end rest rest' t : ℕ) → first % 64 ≡ 0 → end ≤ first + 64 → t < 64 → first + t < end →
     bit rest t ≡ true → bit rest' t ≡ false → ((j : ℕ) → j ≢ t → bit rest' j ≡ bit rest j) →
     OnePast first end rest rest' (first + t)
-one_past first end rest rest' t aligned short small le set cleared same = record {
-  free = λ is. false≢true (sym is.2 ∙ ap (bit rest) place ∙ set);
-  here = (omega arith, le, ap (bit rest') place ∙ cleared);
-  from = λ n ne is. (is.0, is.1, sym (same (n % 64) (λ e. ne (omega (arith, e, is.0, is.1)))) ∙ is.2);
-  to = λ n ne is. (is.0, is.1, same (n % 64) (λ e. ne (omega (arith, e, is.0, is.1))) ∙ is.2);
-}
-  where
-    place : (first + t) % 64 ≡ t
-    place = omega arith
+one_past first end rest rest' t aligned short small le set cleared same = grind (arith, common_steps, false≢true)
 
 -- before the first mark of the rest all are
 pub past_before : (first end rest t n : ℕ) → first % 64 ≡ 0 → end ≤ first + 64 → end ≤ first + t →
@@ -189,8 +169,7 @@ odd_next p q r u P Q size first part free here from to =
 
 pub odd_renamed : (p q : Planes) (P Q : ℕ → Type 0) → ((n : ℕ) → Q n → P n) → ((n : ℕ) → P n → Q n) →
     TurnsOddBlocksWhere P p q → TurnsOddBlocksWhere Q p q
-odd_renamed p q P Q from to t =
-    renamed p.words (λ n. n) (λ n. n) (λ n. n) (λ n. n) P Q _ _ _ _ _ _ _ _ from to t
+odd_renamed p q P Q from to t = grind (arith, common_steps, renamed)
 
 pub odd_join : (p q r : Planes) (at end : ℕ) → HasWordsStrideRows p.words p.stride p.rows q → at ≤ end →
     TurnsOddBlocksBetween 0 at p q → TurnsOddBlocksBetween at end q r → TurnsOddBlocksBetween 0 end p r
@@ -235,8 +214,7 @@ odd_more_none p q k cells rest size some none calm s = by_lt_or_le (64 * k + 64)
 -- in the end all are
 pub odd_below_all : (p q : Planes) (at cells : ℕ) → cells ≤ at → TurnsOddBelow at cells p q →
     TurnsOddBlocksBetween 0 cells p q
-odd_below_all p q at cells l t = odd_renamed p q (λ n. (n < at) × (n < cells)) (λ n. (0 ≤ n) × (n < cells))
-    (λ n is. (omega (arith, is.1), is.1)) (λ n is. (omega arith, is.1)) t
+odd_below_all p q at cells l t = grind (arith, common_steps, odd_renamed)
 
 pub odd_all : (p q : Planes) (u : ℕ) → HasWordsStrideRows p.words p.stride p.rows q → u ≡ p.stride * p.rows →
     TurnsOddBlocksBetween 0 u p q →
@@ -274,8 +252,7 @@ even_next p q r u P Q size first part free here from to =
 
 pub even_renamed : (p q : Planes) (P Q : ℕ → Type 0) → ((n : ℕ) → Q n → P n) → ((n : ℕ) → P n → Q n) →
     TurnsEvenBlocksWhere P p q → TurnsEvenBlocksWhere Q p q
-even_renamed p q P Q from to t =
-    renamed p.words (λ n. n) (λ n. n + 1) (λ n. n + p.stride) (λ n. n + p.stride + 1) P Q _ _ _ _ _ _ _ _ from to t
+even_renamed p q P Q from to t = grind (arith, common_steps, renamed)
 
 -- one more mark is cleared: its block is turned, or is the last one of its row
 pub even_past : (p q r : Planes) (u first end rest rest' : ℕ) → OnePast first end rest rest' u →

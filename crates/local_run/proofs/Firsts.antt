@@ -1,6 +1,6 @@
 -- From the cells that were looked at, in order, to the first fault
-use Rattle.std.proofs.Common.{◌≡◌, ◌≢◌, ℕ, Bool, true, false, not, ◌&&◌, ◌⊎◌, inl, inr, ◌<◌, ◌≤◌, ◌+◌, ◌-◌, refl, arith}
-use Rattle.std.proofs.Common.{sym, ◌∙◌, ap, subst, Option, Some, None, ℤ, pos, negsuc, ◌+ℤ◌, ◌-ℤ◌, ◌<ℤ◌}
+use Rattle.std.proofs.Common.{◌≡◌, ◌≢◌, ℕ, Bool, true, false, not, ◌&&◌, ◌⊎◌, ◌<◌, ◌≤◌, ◌+◌, ◌-◌, refl, arith, sym, ◌∙◌}
+use Rattle.std.proofs.Common.{ap, subst, Option, Some, None, ℤ, pos, negsuc, ◌+ℤ◌, ◌-ℤ◌, ◌<ℤ◌}
 use Rattle.std.proofs.lemmas.Bool.{and_parts, and_from, false≢true}
 use Rattle.std.proofs.lemmas.Int.{ints}
 use Rattle.std.proofs.lemmas.Grind.{common_steps}
@@ -159,23 +159,9 @@ IsAtEnd w x stride = (stride ≡ 1) ⊎ ((x ≡ 0) ⊎ (w ≤ x + 1))
 
 pub still_at_end : (kind : Kind) (w h y x stride : ℕ) → IsScanStride kind w h y stride → IsAtEnd w x stride →
     IsAtEnd w (x + stride) stride
-still_at_end kind w h y x stride s at = elim s.2 [
-  | inl one ↦ inl one
-  | inr both ↦ let e = both.ends in elim at [
-    | inl one ↦ inl one
-    | inr rest ↦ inr (inr (omega arith))
-  ]
-]
+still_at_end kind w h y x stride s at = grind (arith, common_steps)
 
 pub passed_over : (j : JobView) (u : Valuation) (t : ℕ) (kind : Kind) (x x' y stride : ℕ) →
     IsScanStride kind j.area.w j.area.h y stride → IsAtEnd j.area.w x stride →
     x < x' → x' < x + stride → x' < j.area.w → ¬ IsFaultUnder j u t kind (box_coord j.area.x x') (box_coord j.area.y y)
-passed_over j u t kind x x' y stride s at after before within f = elim s.2 [
-  | inl one ↦ omega arith
-  | inr both ↦ let e = both.ends in elim at [
-    | inl one ↦ omega arith
-    | inr (inl start) ↦ edge_none j 1 (λ a. u) t kind _ _ both.edge
-        (not_in_ring j.area x' y (omega arith) (omega arith) both.between.0 both.between.1) 0 (omega arith) f
-    | inr (inr last) ↦ omega arith
-  ]
-]
+passed_over j u t kind x x' y stride s at after before within f = grind (arith, common_steps, edge_none, not_in_ring)

@@ -4,6 +4,7 @@ use Rattle.std.proofs.Common.{sym, ◌∙◌, List, ap, get_or, subst}
 use Rattle.std.proofs.lemmas.Bool.{false≢true}
 use Rattle.std.proofs.Math.Logic.{∥∥₁_elim, ∥∥₁_map}
 use Rattle.std.proofs.Props.{props}
+use Rattle.std.proofs.lemmas.Grind.{common_steps}
 use Rattle.bbm_rule.specs.Bits.{bit}
 use Rattle.bbm_rule.specs.Marks.{IsUnmarked}
 use Rattle.bbm_rule.specs.Rows.{cell_at}
@@ -66,12 +67,7 @@ turned_bits : (w a b c d : ℕ) (ul ur ll lr ul' ur' ll' lr' : List ℕ) →
     TurnsBits w (cell_word_bit w ul a) (cell_word_bit w ur b) (cell_word_bit w ll c) (cell_word_bit w lr d)
     (cell_word_bit w ul' a) (cell_word_bit w ur' b)
     (cell_word_bit w ll' c) (cell_word_bit w lr' d)
-turned_bits w a b c d ul ur ll lr ul' ur' ll' lr' t = record {
-  upper_left = λ k j lk lj. (t k lk).upper_left j;
-  upper_right = λ k j lk lj. (t k lk).upper_right j;
-  lower_left = λ k j lk lj. (t k lk).lower_left j;
-  lower_right = λ k j lk lj. (t k lk).lower_right j;
-}
+turned_bits w a b c d ul ur ll lr ul' ur' ll' lr' t = grind (arith, common_steps)
 
 same_bits : (w a : ℕ) (xs ys : List ℕ) → ((k : ℕ) → k < w → get_or ys (w * a + k) 0 ≡ get_or xs (w * a + k) 0) →
     StaysBits w (cell_word_bit w xs a) (cell_word_bit w ys a)
@@ -164,11 +160,7 @@ even_all_may p q end total t first = record {
 -- ---- frozen blocks after a step
 same_room : (b : FrozenBlocks) (p q : Planes) → HasWordsStrideRows p.words p.stride p.rows q → HasRoomForMarks b p →
     HasRoomForMarks b q
-same_room b p q size room = record {
-  odd = rw (size.1, size.2) room.odd;
-  even = rw (size.1, size.2) room.even;
-  empty = rw (size.1, size.2) room.empty;
-}
+same_room b p q size room = grind (arith, common_steps)
 
 pub frozen_odd : (b : FrozenBlocks) (p q : Planes) → HasWordsStrideRows p.words p.stride p.rows q → MayTurnOdd p q →
     IsFrozen b p → IsFrozen b q
@@ -302,13 +294,7 @@ room_found b p f e = ∥∥₁_elim f (room_prop b p) (λ h. (h e).room)
 
 -- they are the same blocks whether they are known to be frozen or not
 pub found_again : (b : FrozenBlocks) (v : Bool) (p : Planes) → IsFrozen b p → IsFrozen (record b { is_found = v }) p
-found_again b v p f = record {
-  room = record { odd = f.room.odd; even = f.room.even; empty = f.room.empty };
-  odd = f.odd;
-  empty = f.empty;
-  even = f.even;
-  last = f.last;
-}
+found_again b v p f = grind (arith, common_steps)
 
 -- ---- a cell of a block of the odd partition that is not frozen changes
 pub freezes_put : (main anti : Bool) (u : ℕ) (b : FrozenBlocks) (p q : Planes) →
@@ -375,15 +361,7 @@ dead_cell w u cells small dead k l = zero_word (get_or cells (w * u + k) 0) (sma
 
 dead_but : (b : FrozenBlocks) (l : LiveMarks) (p : Planes) → AreWords p → IsFrozen b p →
     AreCellsMarkedUnlessInBoth (p.stride * p.rows) b.odd.items b.empty.items l → AllUnmarkedDead l p
-dead_but b l p words f but = (
-  λ u h free. let m = (but u h).0 free in dead_cell p.words u p.odd.items words.odd (f.empty u h m.0 m.1).upper_left,
-  λ u h free. let m = (but u h).1 free in
-      dead_cell p.words u p.right.items words.right (f.empty u h m.0 m.1).upper_right,
-  λ u h free. let m = (but u h).2 free in
-      dead_cell p.words u p.down.items words.down (f.empty u h m.0 m.1).lower_left,
-  λ u h free. let m = (but u h).3 free in
-      dead_cell p.words u p.even.items words.even (f.empty u h m.0 m.1).lower_right,
-)
+dead_but b l p words f but = grind (arith, common_steps, dead_cell)
 
 pub dead_found : (b : FrozenBlocks) (l : LiveMarks) (p : Planes) → AreWords p → AreFrozenIfFound b p →
     b.is_found ≡ true →

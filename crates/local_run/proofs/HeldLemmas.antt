@@ -91,16 +91,10 @@ record IsCalmAt (a b c d : Bool) : Type 0 where
   lower_right : turned d a c b ≡ d
 
 calm_live : (a b c d : Bool) → (a || d) ≡ true → (b || c) ≡ true → IsCalmAt a b c d
-calm_live a b c d main anti = record {
-  upper_left = both_live a d b c main anti;
-  upper_right = both_live b c a d anti main;
-  lower_left = both_live c b d a (swap_live b c anti) (swap_live a d main);
-  lower_right = both_live d a c b (swap_live a d main) (swap_live b c anti);
-}
+calm_live a b c d main anti = grind (arith, common_steps, both_live, swap_live)
 
 calm_dead : (a b c d : Bool) → a ≡ false → b ≡ false → c ≡ false → d ≡ false → IsCalmAt a b c d
-calm_dead a b c d ea eb ec ed = rw (ea, eb, ec, ed)
-    (record { upper_left = none_live; upper_right = none_live; lower_left = none_live; lower_right = none_live })
+calm_dead a b c d ea eb ec ed = grind (arith, common_steps, none_live)
 
 one_live : (w : ℕ) (A D : Type 0) (a d : ℕ → ℕ → Bool) →
     (A × HasValueUnderAll true w a) ⊎ (D × HasValueUnderAll true w d) → (k j : ℕ) →
@@ -113,9 +107,7 @@ held_calm : (w : ℕ) (A B C D : Type 0) (a b c d : ℕ → ℕ → Bool) → Is
     j < 64 → IsCalmAt (a k j) (b k j) (c k j) (d k j)
 held_calm w A B C D a b c d (inl h) k j lk lj =
     calm_live _ _ _ _ (one_live w A D a d h.main k j lk lj) (one_live w B C b c h.anti k j lk lj)
-held_calm w A B C D a b c d (inr h) k j lk lj =
-    calm_dead _ _ _ _ (h.upper_left k j lk lj) (h.upper_right k j lk lj) (h.lower_left k j lk lj)
-    (h.lower_right k j lk lj)
+held_calm w A B C D a b c d (inr h) k j lk lj = grind (arith, common_steps, calm_dead)
 
 -- a block of words that is held
 pub held_block : (w a b c d : ℕ) (ul ur ll lr : List ℕ) (A B C D : Type 0) →
@@ -163,21 +155,12 @@ one_still w A D a d a' d' sa sd (inr h) = inr (h.0, still_all w true d d' (sd h.
 pub still_empty : (w : ℕ) (A B C D : Type 0) (a b c d a' b' c' d' : ℕ → ℕ → Bool) → (A → StaysBits w a a') →
     (B → StaysBits w b b') → (C → StaysBits w c c') → (D → StaysBits w d d') → IsEmptyBlock w A B C D a b c d →
     IsEmptyBlock w A B C D a' b' c' d'
-still_empty w A B C D a b c d a' b' c' d' sa sb sc sd h = record {
-  conditions = h.conditions;
-  upper_left = still_all w false a a' (sa h.conditions.0) h.upper_left;
-  upper_right = still_all w false b b' (sb h.conditions.1) h.upper_right;
-  lower_left = still_all w false c c' (sc h.conditions.2) h.lower_left;
-  lower_right = still_all w false d d' (sd h.conditions.3) h.lower_right;
-}
+still_empty w A B C D a b c d a' b' c' d' sa sb sc sd h = grind (arith, common_steps, still_all)
 
 -- and a block that is held is held still
 pub still_held : (w : ℕ) (A B C D : Type 0) (a b c d a' b' c' d' : ℕ → ℕ → Bool) → (A → StaysBits w a a') →
     (B → StaysBits w b b') → (C → StaysBits w c c') → (D → StaysBits w d d') → IsBlockHeldByCorners w A B C D a b c d →
     IsBlockHeldByCorners w A B C D a' b' c' d'
-still_held w A B C D a b c d a' b' c' d' sa sb sc sd (inl h) = inl (record {
-  main = one_still w A D a d a' d' sa sd h.main;
-  anti = one_still w B C b c b' c' sb sc h.anti;
-})
+still_held w A B C D a b c d a' b' c' d' sa sb sc sd (inl h) = grind (arith, common_steps, one_still)
 still_held w A B C D a b c d a' b' c' d' sa sb sc sd (inr h) =
     inr (still_empty w A B C D a b c d a' b' c' d' sa sb sc sd h)

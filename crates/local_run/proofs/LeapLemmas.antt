@@ -3,16 +3,15 @@ use Rattle.std.proofs.Common.{◌≡◌, ◌≢◌, ℕ, zero, suc, ◌<◌, ◌
 use Rattle.std.proofs.Common.{None, Less, Greater, refl, arith, sym, ◌∙◌, ap, ap₂, inl, inr, subst, rules, true, false}
 use Rattle.std.proofs.Common.{ℤ, ◌+ℤ◌, slice_get, unwrap_or, int_eq, nat_cmp}
 use Rattle.std.proofs.lemmas.Option.{slice_get_within}
-use Rattle.std.specs.Ordering.{ordering_then}
 use Rattle.std.proofs.lemmas.Bool.{and_parts, false≢true}
 use Rattle.std.proofs.lemmas.Grind.{common_steps}
-use Rattle.bbm_rule.specs.Plane.{State, is_at, partner, turned, step}
+use Rattle.bbm_rule.specs.Plane.{State, is_at, partner, step}
 use Rattle.bbm_rule.specs.declared.block.Cell.{Cell}
 use Rattle.module_box.specs.declared.schedules.AllTimes.{AllTimes}
 use Rattle.bbm_rule.proofs.BitLemmas.{by_lt_or_le}
 use Rattle.circuit.specs.Meaning.{Valuation}
 use Rattle.module_box.specs.Boxes.{in_box, in_halo}
-use Rattle.module_box.specs.Moments.{cell_cmp, moment_cmp}
+use Rattle.module_box.specs.Moments.{moment_cmp}
 use Rattle.module_box.specs.Schedules.{IsRising, Signals, event_at, all_times_at, moment_of, signal_at}
 use Rattle.module_box.specs.declared.schedules.TimedSignal.{TimedSignal}
 use Rattle.module_box.specs.declared.schedules.Moment.{Moment}
@@ -32,8 +31,7 @@ use Rattle.local_run.proofs.LocalRuns.{even_or_odd, local_even, local_odd, step_
 -- ---- the signal of an event
 pub event_there : (es : List TimedSignal) (k : ℕ) (m : Moment) (e : TimedSignal) → IsRising moment_cmp moment_of es →
     slice_get es k ≡ Some e → e.at ≡ m → event_at es m.time m.cell.x m.cell.y ≡ Some e.signal
-event_there es k m e rising at same =
-    event_found es k e m same at (is_first moment_cmp moment_of es k e moment_total rising at)
+event_there es k m e rising at same = grind (arith, common_steps, event_found, is_first, moment_total)
 
 int_same : (a b : ℤ) → int_eq a b ≡ true → a ≡ b
 int_same a b e = search rules
@@ -79,8 +77,7 @@ partner_alike k m x e = rw e refl
 
 step_alike : (k m : ℕ) (s : State) (x y : ℤ) → k % 2 ≡ m % 2 → step k s x y ≡ step m s x y
 unfolding step
-step_alike k m s x y e = ap₂ (λ px py. turned (s x y) (s px py) (s px y) (s x py)) (partner_alike k m x e)
-    (partner_alike k m y e)
+step_alike k m s x y e = grind (arith, common_steps, partner_alike)
 
 with_halo_alike : (j : JobView) (u : Valuation) (k m : ℕ) (s s' : State) (x y : ℤ) → s x y ≡ s' x y →
     signal_at j.halos k x y ≡ signal_at j.halos m x y →
@@ -170,17 +167,11 @@ no_new_faults j u t o n k x y of stays halos edges from l f =
 -- ---- events by their times
 pub met : (es : List TimedSignal) (t low high : ℕ) → high ≤ low → IsTimeBetween es t low high →
     IsTimeBetween es t low low
-met es t low high l b = record {
-  below = b.below;
-  above = λ i e from ei. b.above i e (omega arith) ei;
-}
+met es t low high l b = grind (arith, common_steps)
 
 -- before the search nothing is known, and then that events at a place and before it are earlier
 pub any_place : (es : List TimedSignal) (t : ℕ) → IsTimeBetween es t 0 (length es)
-any_place es t = record {
-  below = λ i e l ei. absurd (omega arith);
-  above = λ i e from ei. let h = slice_get_within es i e ei in absurd (omega arith);
-}
+any_place es t = grind (arith, common_steps, slice_get_within)
 
 nat_less : (a b : ℕ) → nat_cmp a b ≢ Greater → a ≤ b
 nat_less a b h = grind arith
@@ -190,8 +181,7 @@ less_greater e = cc
 
 moment_less : (m n : Moment) → moment_cmp m n ≡ Less → m.time ≤ n.time
 unfolding moment_cmp
-moment_less m n h = nat_less m.time n.time
-    (λ e. less_greater (sym h ∙ ap (λ o. ordering_then o (cell_cmp m.cell n.cell)) e))
+moment_less m n h = grind (arith, common_steps, nat_less, less_greater)
 
 later : (es : List TimedSignal) (i j : ℕ) (a b : TimedSignal) → IsRising moment_cmp moment_of es → i ≤ j →
     slice_get es i ≡ Some a →
@@ -205,10 +195,7 @@ later es i j a b rising le ea eb = by_lt_or_le i j
 
 pub raise_time : (es : List TimedSignal) (t low high m : ℕ) (a : TimedSignal) → IsRising moment_cmp moment_of es →
     IsTimeBetween es t low high → slice_get es m ≡ Some a → a.at.time < t → IsTimeBetween es t (m + 1) high
-raise_time es t low high m a rising b at less = record {
-  below = λ i e l ei. let h = later es i m e a rising (omega arith) ei at in omega arith;
-  above = b.above;
-}
+raise_time es t low high m a rising b at less = grind (arith, common_steps, later)
 
 pub sure : (es : List TimedSignal) (t place : ℕ) (a : TimedSignal) → IsRising moment_cmp moment_of es → 0 < place →
     slice_get es (place - 1) ≡ Some a → a.at.time < t → IsTimeBetween es t place (length es)
@@ -219,10 +206,7 @@ sure es t place a rising some at less =
 
 pub drop_time : (es : List TimedSignal) (t low high m : ℕ) (a : TimedSignal) → IsRising moment_cmp moment_of es →
     IsTimeBetween es t low high → slice_get es m ≡ Some a → t ≤ a.at.time → IsTimeBetween es t low m
-drop_time es t low high m a rising b at le = record {
-  below = b.below;
-  above = λ i e l ei. let h = later es m i a e rising l at ei in omega arith;
-}
+drop_time es t low high m a rising b at le = grind (arith, common_steps, later)
 
 -- the bounds have met at an event: there is none between t and its time
 pub none_until : (es : List TimedSignal) (t low high n : ℕ) (a : TimedSignal) → IsRising moment_cmp moment_of es →

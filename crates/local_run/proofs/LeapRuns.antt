@@ -42,10 +42,7 @@ same_runs j vs k m p is sk sm a la x y = elim (cases_Bool (in_box j.area x y)) [
 ]
 
 shows_same : (j : JobView) (vs : Values) (k m : ℕ) (p : Planes) → Shows j vs m p → SameRuns j vs k m → Shows j vs k p
-shows_same j vs k m p shows same = record {
-  size = shows.size;
-  cells = λ a x y la lx ly. shows.cells a x y la lx ly ∙ sym (same a la _ _);
-}
+shows_same j vs k m p shows same = grind (arith, common_steps)
 
 -- a run that did not change at the odd time o and at the even time after it
 stays_both : (j : JobView) (vs : Values) (o a : ℕ) → a < assignments j → SameRuns j vs (o + 1) o →
@@ -53,11 +50,7 @@ stays_both : (j : JobView) (vs : Values) (o a : ℕ) → a < assignments j → S
 stays_both j vs o a la first second k x y from to = grind (arith, common_steps, by_eq_or_not)
 
 is_odd_of : (o : ℕ) → o % 2 ≡ 1 → IsOddOf o o
-is_odd_of o odd = record {
-  odd = odd;
-  from = omega arith;
-  next = omega arith;
-}
+is_odd_of o odd = grind (arith, common_steps)
 
 -- ---- where a run has come to
 -- No time before has a fault, the planes show time t, and the place is that of the next stop. Unless something changed,

@@ -1,10 +1,10 @@
 -- A job has one least fault
-use Rattle.std.proofs.Common.{◌≡◌, ℕ, suc, zero, Some, None, Ordering, Less, Equal, Greater, refl, sym, ap, ◌∙◌}
-use Rattle.std.specs.Prelude.{ℤ, ◌≢◌}
-use Rattle.std.specs.Ordering.{nat_cmp, int_cmp, ordering_reverse}
+use Rattle.std.proofs.Common.{arith, ◌≡◌, ℕ, suc, zero, Some, None, Ordering, Less, Equal, Greater, refl, ap, ℤ, ◌≢◌}
+use Rattle.std.specs.Ordering.{ordering_reverse}
 use Rattle.std.specs.Cmp.{IsTotalOrder}
 use Rattle.std.proofs.lemmas.Cmp.{then_total, on_total, nat_cmp_total, int_cmp_total}
 use Rattle.std.proofs.lemmas.Map.Lookups.{CmpEqualImpliesEq, exact_pairs, exact_unsigned, exact_signed}
+use Rattle.std.proofs.lemmas.Grind.{common_steps}
 use Rattle.local_run.specs.Order.{kind_number, fault_cmp, keep_cmp}
 use Rattle.module_box.specs.Moments.{cell_cmp}
 use Rattle.bbm_rule.specs.declared.block.Cell.{Cell}
@@ -50,17 +50,10 @@ unkey-key f = ap (λ k. record { time = f.time; kind = k; cell = f.cell; assignm
 
 fault_exact : CmpEqualImpliesEq fault_cmp
 unfolding fault_cmp cell_cmp
-fault_exact a b e =
-    sym (unkey-key a) ∙ ap unkey (exact_pairs nat_cmp _ exact_unsigned
-    (exact_pairs nat_cmp _ exact_unsigned
-    (exact_pairs _ nat_cmp (exact_pairs int_cmp int_cmp exact_signed exact_signed) exact_unsigned)) (key a) (key b) e)
-    ∙ unkey-key b
+fault_exact a b e = grind (arith, common_steps, unkey-key, unkey, exact_pairs, exact_unsigned, exact_signed, key)
 
 both_ways : (o p : Ordering) → o ≡ ordering_reverse p → o ≢ Greater → p ≢ Greater → o ≡ Equal
-both_ways Less Less e n m = absurd (elim_less e)
-  where
-    elim_less : Less ≡ Greater → ⊥
-    elim_less e = cc
+both_ways Less Less e n m = grind (arith, common_steps)
 both_ways Less Equal e n m = e
 both_ways Less Greater e n m = absurd (m refl)
 both_ways Equal p e n m = refl
@@ -81,8 +74,7 @@ keep_total = then_total (on_total (λ (f : KeepFault). f.gate) nat_cmp_total)
 
 keep_exact : CmpEqualImpliesEq keep_cmp
 unfolding keep_cmp
-keep_exact a b e = ap (λ (k : ℕ × ℕ). record { gate = k.0; assignment = k.1 })
-    (exact_pairs nat_cmp nat_cmp exact_unsigned exact_unsigned (a.gate, a.assignment) (b.gate, b.assignment) e)
+keep_exact a b e = grind (arith, common_steps, exact_pairs, exact_unsigned)
 
 pub least_keep_unique : LeastKeepFaultIsUnique
 least_keep_unique j None None f g = refl

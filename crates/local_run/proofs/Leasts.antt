@@ -60,20 +60,8 @@ pub not_greater : (f g : Fault) → ¬ (g.time < f.time) →
     (f.time ≡ g.time → kind_number f.kind ≡ kind_number g.kind → f.cell.y ≡ g.cell.y → f.cell.x ≡ g.cell.x →
     ¬ (g.assignment < f.assignment)) → fault_cmp f g ≢ Greater
 unfolding fault_cmp cell_cmp
-not_greater f g t k y x a h = elim (then_greater _ _ h) [
-  | inl e ↦ t (nat_greater _ _ e)
-  | inr p ↦ let et = nat_equal f.time g.time p.0 in elim (then_greater _ _ p.1) [
-    | inl e ↦ k et (nat_greater _ _ e)
-    | inr q ↦ let ek = nat_equal _ _ q.0 in elim (then_greater _ _ q.1) [
-      | inl e ↦ elim (then_greater (int_cmp f.cell.y g.cell.y) (int_cmp f.cell.x g.cell.x) e) [
-        | inl e' ↦ y et ek (int_greater _ _ e')
-        | inr r ↦ x et ek (int_equal _ _ r.0) (int_greater _ _ r.1)
-      ]
-      | inr r ↦ let both = then_equal (int_cmp f.cell.y g.cell.y) (int_cmp f.cell.x g.cell.x) r.0 in
-          a et ek (int_equal _ _ both.0) (int_equal _ _ both.1) (nat_greater _ _ r.1)
-    ]
-  ]
-]
+not_greater f g t k y x a h =
+    grind (arith, common_steps, then_greater, nat_greater, nat_equal, int_greater, int_equal, then_equal)
 
 kind_same : (k k' : Kind) → kind_number k ≡ kind_number k' → k ≡ k'
 kind_same Edge Edge e = refl
@@ -94,8 +82,7 @@ undefined_no_fault j f k ordered u h =
 
 rows_at : (j : JobView) (vs : Values) (a : ℕ) → IsReady j vs → a < assignments j →
     AreRowsAt j.locals.netlist vs.words a vs.rows.values.items vs.rows.undefined.items vs.rows.defined.items
-rows_at j vs a ready small = ready.rows.each a
-    (let count = ready.count in let room = ready.room in omega (arith, small, count, room))
+rows_at j vs a ready small = grind (arith, common_steps)
 
 -- what a fault is under the values that are given
 pub under : (j : JobView) (vs : Values) (f : Fault) → IsReady j vs → IsFault j f →

@@ -1,7 +1,8 @@
 -- Cells that are known to be dead, and blocks of which one cell at most is live
 use Rattle.std.proofs.Common.{◌≡◌, ◌≢◌, ℕ, Bool, true, false, ◌<◌, ◌≤◌, ◌+◌, ◌-◌, ◌*◌, ◌⊎◌, arith, refl, sym, ◌∙◌, ap}
-use Rattle.std.proofs.Common.{subst, List, get_or, set, length, inl, inr}
+use Rattle.std.proofs.Common.{List, get_or, set, length, inl, inr}
 use Rattle.std.proofs.lemmas.List.{get_or-set_other, get_or-set_same}
+use Rattle.std.proofs.lemmas.Grind.{common_steps}
 use Rattle.bbm_rule.specs.Bits.{bit}
 use Rattle.bbm_rule.specs.Plane.{turned}
 use Rattle.bbm_rule.specs.Words.{AreTurned}
@@ -20,10 +21,7 @@ use Rattle.local_run.proofs.TurnLemmas.{same_beside}
 -- ---- words that change places, one after another
 beside_more : (a k m : ℕ) (xs xs' xs'' : List ℕ) → SameBeside a k xs xs' → SameBeside (a + k) m xs' xs'' →
     SameBeside a (k + m) xs xs''
-beside_more a k m xs xs' xs'' s t = record {
-  below = λ n l. t.below n (omega (arith, l)) ∙ s.below n l;
-  above = λ n l. t.above n (omega (arith, l)) ∙ s.above n (omega (arith, l));
-}
+beside_more a k m xs xs' xs'' s t = grind (arith, common_steps)
 
 swapped_more : (a b k m : ℕ) (ys xs' ys' xs'' : List ℕ) →
     ((j : ℕ) → j < k → get_or xs' (a + j) 0 ≡ get_or ys (b + j) 0) →
@@ -38,12 +36,7 @@ swapped_more a b k m ys xs' ys' xs'' first beside second later j l = by_lt_or_le
 
 pub swaps_more : (a b k m : ℕ) (xs ys xs' ys' xs'' ys'' : List ℕ) → SwapsPart a b k xs ys xs' ys' →
     SwapsPart (a + k) (b + k) m xs' ys' xs'' ys'' → SwapsPart a b (k + m) xs ys xs'' ys''
-swaps_more a b k m xs ys xs' ys' xs'' ys'' s t = record {
-  first = swapped_more a b k m ys xs' ys' xs'' s.first s.second_beside t.first t.first_beside;
-  second = swapped_more b a k m xs ys' xs' ys'' s.second s.first_beside t.second t.second_beside;
-  first_beside = beside_more a k m xs xs' xs'' s.first_beside t.first_beside;
-  second_beside = beside_more b k m ys ys' ys'' s.second_beside t.second_beside;
-}
+swaps_more a b k m xs ys xs' ys' xs'' ys'' s t = grind (arith, common_steps, swapped_more, beside_more)
 
 -- ---- blocks of which no cell is live
 none_turned : turned false false false false ≡ false
@@ -55,10 +48,7 @@ none_stays a b c d ea eb ec ed j = rw (ea, eb, ec, ed, bit-zero j) (none_turned,
 
 pub dead_calm : (w a b c d : ℕ) (ul ur ll lr : List ℕ) → IsDeadCell w a ul → IsDeadCell w b ur → IsDeadCell w c ll →
     IsDeadCell w d lr → IsStableBlock w a b c d ul ur ll lr
-dead_calm w a b c d ul ur ll lr da db dc dd = (
-  (λ k l. none_stays _ _ _ _ (da k l) (dd k l) (db k l) (dc k l)),
-  (λ k l. none_stays _ _ _ _ (db k l) (dc k l) (da k l) (dd k l)),
-)
+dead_calm w a b c d ul ur ll lr da db dc dd = grind (arith, common_steps, none_stays)
 
 -- ---- blocks of which one cell at most is live
 lone_here : (a b : Bool) → (a ≡ false) ⊎ (b ≡ false) → turned a b false false ≡ b
@@ -86,20 +76,12 @@ swapped (inl a) = inr a
 swapped (inr b) = inl b
 
 main_moved : (x y b c x' y' : ℕ) → (x ≡ 0) ⊎ (y ≡ 0) → b ≡ 0 → c ≡ 0 → x' ≡ y → y' ≡ x → AreTurned x b c y x' b c y'
-main_moved x y b c x' y' one eb ec ex ey = rw (eb, ec, ex, ey) (record {
-  upper_left = λ j. rw (bit-zero j) (sym (lone_here (bit x j) (bit y j) (one_dead x y j one)));
-  upper_right = λ j. rw (bit-zero j) (sym (lone_beside (bit x j) (bit y j) (one_dead x y j one)));
-  lower_left = λ j. rw (bit-zero j) (sym (lone_beside (bit y j) (bit x j) (swapped (one_dead x y j one))));
-  lower_right = λ j. rw (bit-zero j) (sym (lone_here (bit y j) (bit x j) (swapped (one_dead x y j one))));
-})
+main_moved x y b c x' y' one eb ec ex ey =
+    grind (arith, common_steps, bit-zero, lone_here, one_dead, lone_beside, swapped)
 
 anti_moved : (a x y d x' y' : ℕ) → (x ≡ 0) ⊎ (y ≡ 0) → a ≡ 0 → d ≡ 0 → x' ≡ y → y' ≡ x → AreTurned a x y d a x' y' d
-anti_moved a x y d x' y' one ea ed ex ey = rw (ea, ed, ex, ey) (record {
-  upper_left = λ j. rw (bit-zero j) (sym (lone_beside (bit x j) (bit y j) (one_dead x y j one)));
-  upper_right = λ j. rw (bit-zero j) (sym (lone_here (bit x j) (bit y j) (one_dead x y j one)));
-  lower_left = λ j. rw (bit-zero j) (sym (lone_here (bit y j) (bit x j) (swapped (one_dead x y j one))));
-  lower_right = λ j. rw (bit-zero j) (sym (lone_beside (bit y j) (bit x j) (swapped (one_dead x y j one))));
-})
+anti_moved a x y d x' y' one ea ed ex ey =
+    grind (arith, common_steps, bit-zero, lone_beside, one_dead, lone_here, swapped)
 
 one_word : (w a b k : ℕ) (xs ys : List ℕ) → k < w → IsDeadCell w a xs ⊎ IsDeadCell w b ys →
     (get_or xs (w * a + k) 0 ≡ 0) ⊎ (get_or ys (w * b + k) 0 ≡ 0)
@@ -109,53 +91,32 @@ one_word w a b k xs ys l (inr d) = inr (d k l)
 pub lone_main : (w a b c d : ℕ) (ul ur ll lr ul' ur' ll' lr' : List ℕ) → SwapsPart (w * a) (w * d) w ul lr ul' lr' →
     ur' ≡ ur → ll' ≡ ll → IsDeadCell w b ur → IsDeadCell w c ll → IsDeadCell w a ul ⊎ IsDeadCell w d lr →
     TurnsPart (w * a) (w * b) (w * c) (w * d) w ul ur ll lr ul' ur' ll' lr'
-lone_main w a b c d ul ur ll lr ul' ur' ll' lr' s eb ec db dc one = rw (eb, ec) (record {
-  turned = λ k l. main_moved _ _ _ _ _ _ (one_word w a d k ul lr l one) (db k l) (dc k l) (s.first k l) (s.second k l);
-  upper_left = s.first_beside;
-  upper_right = same_beside (w * b) w ur;
-  lower_left = same_beside (w * c) w ll;
-  lower_right = s.second_beside;
-})
+lone_main w a b c d ul ur ll lr ul' ur' ll' lr' s eb ec db dc one =
+    grind (arith, common_steps, main_moved, one_word, same_beside)
 
 pub lone_anti : (w a b c d : ℕ) (ul ur ll lr ul' ur' ll' lr' : List ℕ) → SwapsPart (w * b) (w * c) w ur ll ur' ll' →
     ul' ≡ ul → lr' ≡ lr → IsDeadCell w a ul → IsDeadCell w d lr → IsDeadCell w b ur ⊎ IsDeadCell w c ll →
     TurnsPart (w * a) (w * b) (w * c) (w * d) w ul ur ll lr ul' ur' ll' lr'
-lone_anti w a b c d ul ur ll lr ul' ur' ll' lr' s ea ed da dd one = rw (ea, ed) (record {
-  turned = λ k l. anti_moved _ _ _ _ _ _ (one_word w b c k ur ll l one) (da k l) (dd k l) (s.first k l) (s.second k l);
-  upper_left = same_beside (w * a) w ul;
-  upper_right = s.first_beside;
-  lower_left = s.second_beside;
-  lower_right = same_beside (w * d) w lr;
-})
+lone_anti w a b c d ul ur ll lr ul' ur' ll' lr' s ea ed da dd one =
+    grind (arith, common_steps, anti_moved, one_word, same_beside)
 
 -- words that change places, the other way round
 pub swap_back : (a b long : ℕ) (xs ys xs' ys' : List ℕ) → SwapsPart a b long xs ys xs' ys' →
     SwapsPart b a long ys xs ys' xs'
-swap_back a b long xs ys xs' ys' s =
-    record { first = s.second; second = s.first; first_beside = s.second_beside; second_beside = s.first_beside }
+swap_back a b long xs ys xs' ys' s = grind (arith, common_steps)
 
 -- ---- which cells change
 pub main_cells : (odd right down even : ℕ) (p q : Planes) →
     SwapsPart (p.words * odd) (p.words * even) p.words p.odd.items p.even.items q.odd.items q.even.items →
     q.right ≡ p.right → q.down ≡ p.down →
     ChangesCells true false odd right down even p q
-main_cells odd right down even p q s er ed = record {
-  odd_same = λ v k l ne. other_cell p.words odd v k p.odd.items q.odd.items s.first_beside l (ne refl);
-  right_same = λ v k l ne. ap (λ r. get_or r.items (p.words * v + k) 0) er;
-  down_same = λ v k l ne. ap (λ r. get_or r.items (p.words * v + k) 0) ed;
-  even_same = λ v k l ne. other_cell p.words even v k p.even.items q.even.items s.second_beside l (ne refl);
-}
+main_cells odd right down even p q s er ed = grind (arith, common_steps, other_cell)
 
 pub anti_cells : (odd right down even : ℕ) (p q : Planes) →
     SwapsPart (p.words * right) (p.words * down) p.words p.right.items p.down.items q.right.items q.down.items →
     q.odd ≡ p.odd → q.even ≡ p.even →
     ChangesCells false true odd right down even p q
-anti_cells odd right down even p q s eo ee = record {
-  odd_same = λ v k l ne. ap (λ r. get_or r.items (p.words * v + k) 0) eo;
-  right_same = λ v k l ne. other_cell p.words right v k p.right.items q.right.items s.first_beside l (ne refl);
-  down_same = λ v k l ne. other_cell p.words down v k p.down.items q.down.items s.second_beside l (ne refl);
-  even_same = λ v k l ne. ap (λ r. get_or r.items (p.words * v + k) 0) ee;
-}
+anti_cells odd right down even p q s eo ee = grind (arith, common_steps, other_cell)
 
 -- ---- which cells are dead afterwards
 -- those whose marks and words changed places
@@ -163,10 +124,8 @@ swap_dead : (w n a b : ℕ) (m o m' xs ys xs' : List ℕ) → b < n → AreUnmar
     AreUnmarkedCellsDead w n o ys →
     TakesMarkOfOther a b m o m' → SameBeside (w * a) w xs xs' →
     ((k : ℕ) → k < w → get_or xs' (w * a + k) 0 ≡ get_or ys (w * b + k) 0) → AreUnmarkedCellsDead w n m' xs'
-swap_dead w n a b m o m' xs ys xs' lb dead others takes beside moved v l free k h = elim (takes v free) [
-  | inl kept ↦ other_cell w a v k xs xs' beside h kept.0 ∙ dead v l kept.1 k h
-  | inr taken ↦ subst (λ (z : ℕ). get_or xs' (w * z + k) 0 ≡ 0) (sym taken.0) (moved k h ∙ others b lb taken.1 k h)
-]
+swap_dead w n a b m o m' xs ys xs' lb dead others takes beside moved v l free k h =
+    grind (arith, common_steps, other_cell)
 
 pub main_dead : (odd even : ℕ) (l l' : LiveMarks) (p q : Planes) → HasWordsStrideRows p.words p.stride p.rows q →
     odd < p.stride * p.rows → even < p.stride * p.rows →
@@ -206,8 +165,7 @@ anti_dead right down l l' p q size lr ld s eo ee tr td mo me dead = rw (size.0, 
 kept_dead : (changes : Bool) (w n c : ℕ) (m m' xs ys : List ℕ) → MarksCellIf changes c m m' →
     ((u k : ℕ) → k < w → (changes ≡ true → u ≢ c) → get_or ys (w * u + k) 0 ≡ get_or xs (w * u + k) 0) →
     AreUnmarkedCellsDead w n m xs → AreUnmarkedCellsDead w n m' ys
-kept_dead changes w n c m m' xs ys marks same dead u l free k h = let f = marks u free in
-    same u k h f.1 ∙ dead u l f.0 k h
+kept_dead changes w n c m m' xs ys marks same dead u l free k h = grind (arith, common_steps)
 
 pub cells_dead : (main anti : Bool) (odd right down even : ℕ) (l l' : LiveMarks) (p q : Planes) →
     HasWordsStrideRows p.words p.stride p.rows q → ChangesCells main anti odd right down even p q →
@@ -215,61 +173,34 @@ pub cells_dead : (main anti : Bool) (odd right down even : ℕ) (l l' : LiveMark
     MarksCellIf anti down l.down.items l'.down.items → MarksCellIf main even l.even.items l'.even.items →
     AllUnmarkedDead l p →
     AllUnmarkedDead l' q
-cells_dead main anti odd right down even l l' p q size ch mo mr md me dead = rw (size.0, size.1, size.2) (
-  kept_dead main p.words (p.stride * p.rows) odd l.odd.items l'.odd.items p.odd.items q.odd.items mo ch.odd_same dead.0,
-  kept_dead anti p.words (p.stride * p.rows) right l.right.items l'.right.items p.right.items q.right.items mr
-      ch.right_same dead.1,
-  kept_dead anti p.words (p.stride * p.rows) down l.down.items l'.down.items p.down.items q.down.items md ch.down_same
-      dead.2,
-  kept_dead main p.words (p.stride * p.rows) even l.even.items l'.even.items p.even.items q.even.items me ch.even_same
-      dead.3,
-)
+cells_dead main anti odd right down even l l' p q size ch mo mr md me dead = grind (arith, common_steps, kept_dead)
 
 -- those without a mark, after marks were taken off dead ones
 unmark_dead_cells : (w n c : ℕ) (m m' xs : List ℕ) → UnmarksIfDead w c xs m m' → AreUnmarkedCellsDead w n m xs →
     AreUnmarkedCellsDead w n m' xs
-unmark_dead_cells w n c m m' xs drops dead u l free k h = elim (drops u free) [
-  | inl kept ↦ dead u l kept k h
-  | inr dropped ↦ subst (λ (z : ℕ). get_or xs (w * z + k) 0 ≡ 0) (sym dropped.0) (dropped.1 k h)
-]
+unmark_dead_cells w n c m m' xs drops dead u l free k h = grind (arith, common_steps)
 
 pub drops_dead : (odd right down even : ℕ) (l l' : LiveMarks) (p : Planes) →
     UnmarksIfDead p.words odd p.odd.items l.odd.items l'.odd.items →
     UnmarksIfDead p.words right p.right.items l.right.items l'.right.items →
     UnmarksIfDead p.words down p.down.items l.down.items l'.down.items →
     UnmarksIfDead p.words even p.even.items l.even.items l'.even.items → AllUnmarkedDead l p → AllUnmarkedDead l' p
-drops_dead odd right down even l l' p od rd dd ed dead = (
-  unmark_dead_cells p.words (p.stride * p.rows) odd l.odd.items l'.odd.items p.odd.items od dead.0,
-  unmark_dead_cells p.words (p.stride * p.rows) right l.right.items l'.right.items p.right.items rd dead.1,
-  unmark_dead_cells p.words (p.stride * p.rows) down l.down.items l'.down.items p.down.items dd dead.2,
-  unmark_dead_cells p.words (p.stride * p.rows) even l.even.items l'.even.items p.even.items ed dead.3,
-)
+drops_dead odd right down even l l' p od rd dd ed dead = grind (arith, common_steps, unmark_dead_cells)
 
 -- none, where all have marks
 pub marked_dead : (n : ℕ) (l : LiveMarks) (p : Planes) → p.stride * p.rows ≤ n → AreFirstCellsMarked n l →
     AllUnmarkedDead l p
-marked_dead n l p room all = (
-  λ u h free. absurd ((all u (omega (arith, room, h))).0 free),
-  λ u h free. absurd ((all u (omega (arith, room, h))).1 free),
-  λ u h free. absurd ((all u (omega (arith, room, h))).2 free),
-  λ u h free. absurd ((all u (omega (arith, room, h))).3 free),
-)
+marked_dead n l p room all = grind (arith, common_steps)
 
 -- and whichever have marks, where all cells are dead
 pub dead_all : (l : LiveMarks) (p : Planes) → AreAllCellsDead p → AllUnmarkedDead l p
-dead_all l p dead = (
-  (λ u h free k i. (dead u k i).0),
-  (λ u h free k i. (dead u k i).1),
-  (λ u h free k i. (dead u k i).2),
-  (λ u h free k i. (dead u k i).3),
-)
+dead_all l p dead = grind (arith, common_steps)
 
 -- the four cells with a number, where none has a mark
 pub dead_at : (u : ℕ) (l : LiveMarks) (p : Planes) → u < p.stride * p.rows → AllUnmarkedDead l p →
     AreBlockCellsUnmarked l u u u u →
     AreFourCellsDead u p
-dead_at u l p h dead free k i =
-    (dead.0 u h free.0 k i, dead.1 u h free.1 k i, dead.2 u h free.2 k i, dead.3 u h free.3 k i)
+dead_at u l p h dead free k i = grind (arith, common_steps)
 
 -- a block of the even partition of which no cell has a mark
 pub dead_block : (u : ℕ) (l : LiveMarks) (p : Planes) → u + p.stride + 1 < p.stride * p.rows → AllUnmarkedDead l p →
@@ -295,33 +226,8 @@ dead_even marks p dead u l inside free = dead_calm p.words u (u + 1) (u + p.stri
 pub one_turned : (a b c d a' b' c' d' : ℕ) (ul ur ll lr : List ℕ) → a < length ul → b < length ur → c < length ll →
     d < length lr → AreTurned (get_or ul a 0) (get_or ur b 0) (get_or ll c 0) (get_or lr d 0) a' b' c' d' →
     TurnsPart a b c d 1 ul ur ll lr (set ul a a') (set ur b b') (set ll c c') (set lr d d')
-one_turned a b c d a' b' c' d' ul ur ll lr la lb lc ld t = record {
-  turned = λ k l.
-      let ea : a + k ≡ a = omega arith in
-      let eb : b + k ≡ b = omega arith in
-      let ec : c + k ≡ c = omega arith in
-      let ed : d + k ≡ d = omega arith in
-      rw (
-        ea,
-        eb,
-        ec,
-        ed,
-        get_or-set_same ul a a' 0 la,
-        get_or-set_same ur b b' 0 lb,
-        get_or-set_same ll c c' 0 lc,
-        get_or-set_same lr d d' 0 ld,
-      ) t;
-  upper_left = beside_one a a' ul;
-  upper_right = beside_one b b' ur;
-  lower_left = beside_one c c' ll;
-  lower_right = beside_one d d' lr;
-}
-  where
-    beside_one : (a v : ℕ) (xs : List ℕ) → SameBeside a 1 xs (set xs a v)
-    beside_one a v xs = record {
-      below = λ n l. get_or-set_other xs a n v 0 (λ e. omega (arith, e, l));
-      above = λ n l. get_or-set_other xs a n v 0 (λ e. omega (arith, e, l));
-    }
+one_turned a b c d a' b' c' d' ul ur ll lr la lb lc ld t =
+    grind (arith, common_steps, get_or-set_same, get_or-set_other)
 
 times_one : (w a : ℕ) → w ≡ 1 → w * a ≡ a
 times_one w a e = rw e (omega arith)
@@ -329,5 +235,4 @@ times_one w a e = rw e (omega arith)
 pub part_of_one : (w a b c d : ℕ) (ul ur ll lr ul' ur' ll' lr' : List ℕ) → w ≡ 1 →
     TurnsPart a b c d 1 ul ur ll lr ul' ur' ll' lr' →
     TurnsPart (w * a) (w * b) (w * c) (w * d) w ul ur ll lr ul' ur' ll' lr'
-part_of_one w a b c d ul ur ll lr ul' ur' ll' lr' e t =
-    rw (times_one w a e, times_one w b e, times_one w c e, times_one w d e, e) t
+part_of_one w a b c d ul ur ll lr ul' ur' ll' lr' e t = grind (arith, common_steps, times_one)

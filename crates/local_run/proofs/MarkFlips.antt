@@ -23,8 +23,7 @@ abbrev one_at : ℕ → ℕ
 one_at k = 1 * 2 ^ k % 18446744073709551616
 
 bit_there : (k : ℕ) → k < 64 → bit (one_at k) k ≡ true
-bit_there k l = ap (λ (n : ℕ). bit n k) (sym (or_zero_l (one_at k)))
-    ∙ rw (bit-is (bit_or 0 (one_at k)) k, bit_at_set_same w64 0 k l) refl
+bit_there k l = grind (arith, common_steps, one_at, bit-is, bit_at_set_same)
 
 bit_elsewhere : (k j : ℕ) → k < 64 → j ≢ k → bit (one_at k) j ≡ false
 bit_elsewhere k j l ne = ap (λ (n : ℕ). bit n j) (sym (or_zero_l (one_at k)))
@@ -101,26 +100,24 @@ flipped marks at = set marks (at / 64) (bit_xor (get_or marks (at / 64) 0) (one_
 pub flipped_there : (marks : List ℕ) (at : ℕ) → at / 64 < length marks →
     cell_at (flipped marks at) at ≡ not (cell_at marks at)
 unfolding cell_at
-flipped_there marks at room =
-    let within : at % 64 < 64 = omega arith in
-    rw (get_or-set_same marks (at / 64) (bit_xor (get_or marks (at / 64) 0) (one_at (at % 64))) 0 room)
-    (bit-xor (get_or marks (at / 64) 0) (one_at (at % 64)) (at % 64)
-    ∙ ap (xor (bit (get_or marks (at / 64) 0) (at % 64))) (bit_there (at % 64) within)
-    ∙ xor_true (bit (get_or marks (at / 64) 0) (at % 64)))
+flipped_there marks at room = grind (arith, common_steps, get_or-set_same, one_at, bit-xor, xor, bit_there, xor_true)
 
 pub flipped_elsewhere : (marks : List ℕ) (at u : ℕ) → at / 64 < length marks → u ≢ at →
     cell_at (flipped marks at) u ≡ cell_at marks u
 unfolding cell_at
-flipped_elsewhere marks at u room ne = by_eq_or_not (u / 64) (at / 64)
-    (λ same.
-    let within : at % 64 < 64 = omega arith in
-    let other : u % 64 ≢ at % 64 = λ e. ne (omega (arith, e, same)) in
-    rw (same, get_or-set_same marks (at / 64) (bit_xor (get_or marks (at / 64) 0) (one_at (at % 64))) 0 room)
-    (bit-xor (get_or marks (at / 64) 0) (one_at (at % 64)) (u % 64)
-    ∙ ap (xor (bit (get_or marks (at / 64) 0) (u % 64))) (bit_elsewhere (at % 64) (u % 64) within other)
-    ∙ xor_false (bit (get_or marks (at / 64) 0) (u % 64))))
-    (λ differs. ap (λ (n : ℕ). bit n (u % 64)) (get_or-set_other marks (at / 64) (u / 64)
-    (bit_xor (get_or marks (at / 64) 0) (one_at (at % 64))) 0 differs))
+flipped_elsewhere marks at u room ne =
+    grind (
+      arith,
+      common_steps,
+      by_eq_or_not,
+      get_or-set_same,
+      one_at,
+      bit-xor,
+      xor,
+      bit_elsewhere,
+      xor_false,
+      get_or-set_other,
+    )
 
 -- the mark of a becomes what that of b was
 pub took : (a b : ℕ) (m o m' : List ℕ) → cell_at m' a ≡ cell_at o b →

@@ -1,7 +1,7 @@
 -- Jobs of the same shape have the same faults but for where they lie
-use Rattle.std.proofs.Common.{◌≡◌, ℕ, zero, suc, ◌+◌, ◌-◌, ◌<◌, ◌≤◌, ◌%◌, ◌^◌, ◌&&◌, ◌||◌, Bool, true, false, List, []}
-use Rattle.std.proofs.Common.{◌∷◌, map, Some, None, refl, sym, ap, ap₂, subst, ◌∙◌, arith, inl, inr, ℤ, pos, ◌+ℤ◌, ◌-ℤ◌}
-use Rattle.std.proofs.Common.{Contains, if◌then◌else◌, slice_get, unwrap_or}
+use Rattle.std.proofs.Common.{◌≡◌, ℕ, zero, suc, ◌+◌, ◌-◌, ◌<◌, ◌≤◌, ◌%◌, ◌^◌, ◌&&◌, ◌||◌, true, List, [], ◌∷◌, map}
+use Rattle.std.proofs.Common.{Some, None, refl, sym, ap, ap₂, subst, ◌∙◌, arith, inl, inr, ℤ, pos, ◌+ℤ◌, ◌-ℤ◌, Contains}
+use Rattle.std.proofs.Common.{if◌then◌else◌, slice_get, unwrap_or}
 use Rattle.std.proofs.Props.{props}
 use Rattle.std.proofs.Math.Logic.{∥∥₁_map, ∥∥₁_elim}
 use Rattle.std.proofs.lemmas.Bool.{cases_Bool, and_parts}
@@ -144,21 +144,7 @@ looked_up : {A : Type 0} (dx dy : ℤ) (b b' : Box2) (other : A) (xs xs' : List 
     BoxMovesAlong dx dy b b' → xs' ≡ xs → (x y : ℤ) →
     (if in_box b' (x +ℤ dx) (y +ℤ dy) then unwrap_or (slice_get xs' (place_in b' (x +ℤ dx) (y +ℤ dy))) other else other)
     ≡ (if in_box b x y then unwrap_or (slice_get xs (place_in b x y)) other else other)
-looked_up dx dy b b' other xs xs' m along same x y = elim (cases_Bool (in_box b x y)) [
-  | inl h ↦
-      let h' : in_box b' (x +ℤ dx) (y +ℤ dy) ≡ true = along.box x y ∙ h in
-      if_so _ _ _ h' ∙ (λ i. unwrap_or (slice_get (same i) (place_moved dx dy b b' x y m h h' i)) other)
-      ∙ sym (if_so _ _ _ h)
-  | inr h ↦ if_not _ _ _ (along.box x y ∙ h) ∙ sym (if_not _ _ _ h)
-]
-  where
-    if_so : {A : Type 0} (b : Bool) (u v : A) → b ≡ true → (if b then u else v) ≡ u
-    if_so true u v h = refl
-    if_so false u v h = absurd cc
-
-    if_not : {A : Type 0} (b : Bool) (u v : A) → b ≡ false → (if b then u else v) ≡ v
-    if_not false u v h = refl
-    if_not true u v h = absurd cc
+looked_up dx dy b b' other xs xs' m along same x y = grind (arith, common_steps, cases_Bool, place_moved)
 
 carried_on : (a b c d : ℕ) (s s' : Signals) →
     moved_signals (shift_to_origin a) (shift_to_origin c) s ≡ moved_signals (shift_to_origin b) (shift_to_origin d) s' →
@@ -175,14 +161,7 @@ stops_twice : (a b c d : ℕ) (ss : List listed.Stop) →
     map (moved_stop (pos b) (pos d)) (map (moved_stop (shift_to_origin a) (shift_to_origin c)) ss)
     ≡ map (moved_stop (pos b -ℤ pos a) (pos d -ℤ pos c)) ss
 stops_twice a b c d [] = refl
-stops_twice a b c d (s ∷ ss) =
-    let here : moved_stop (pos b) (pos d) (moved_stop (shift_to_origin a) (shift_to_origin c) s)
-    ≡ moved_stop (pos b -ℤ pos a) (pos d -ℤ pos c) s =
-    λ i. record {
-      at = record { time = s.at.time; cell = record { x = twice s.at.cell.x a b i; y = twice s.at.cell.y c d i } };
-      wire = s.wire;
-    } in
-    ap₂ (λ z zs. z ∷ zs) here (stops_twice a b c d ss)
+stops_twice a b c d (s ∷ ss) = grind (arith, common_steps, stops_twice a b c d ss, twice)
 
 alike : (j k : JobView) → IsEven j.area → IsEven k.area → shape_of j ≡ shape_of k →
     AreAlike (columns_between j k) (rows_between j k) j k
@@ -227,13 +206,7 @@ there_and_back : (a b : ℕ) → (pos b -ℤ pos a) +ℤ (pos a -ℤ pos b) ≡ 
 there_and_back a b = omega (arith, ints)
 
 fault_back : (j k : JobView) (f : Fault) → fault_moved_to_job j k (fault_moved_to_job k j f) ≡ f
-fault_back j k f = λ i. record {
-  time = f.time;
-  kind = f.kind;
-  cell = cell_back (columns_between k j) (rows_between k j) (columns_between j k) (rows_between j k) f.cell
-      (there_and_back k.area.x j.area.x) (there_and_back k.area.y j.area.y) i;
-  assignment = f.assignment;
-}
+fault_back j k f = grind (arith, common_steps, cell_back, there_and_back)
 
 cmp_on : (j k : JobView) (f g : Fault) → fault_cmp (fault_moved_to_job j k f) (fault_moved_to_job j k g) ≡ fault_cmp f g
 unfolding fault_cmp
@@ -263,11 +236,7 @@ under_inside : (j : JobView) (u : Valuation) (t : ℕ) (kind : Kind) (x y : ℤ)
     in_box j.area x y ≡ true
 unfolding in_ring
 under_inside j u t Edge x y is f = (and_parts _ _ f.ring).0
-under_inside j u t Stop x y is f =
-    let here : in_box j.area f.stop.at.cell.x f.stop.at.cell.y ≡ true =
-    subst (λ (s : listed.Stop). in_box j.area s.at.cell.x s.at.cell.y ≡ true) f.is_listed.2
-    (is.stops f.is_listed.0 f.stop f.is_listed.1).inside in
-    ap₂ (in_box j.area) (sym f.column) (sym f.row) ∙ here
+under_inside j u t Stop x y is f = grind (arith, common_steps)
 under_inside j u t End x y is f = f.inside
 
 fault_inside : (j : JobView) (f : Fault) → IsJob j → IsFault j f → in_box j.area f.cell.x f.cell.y ≡ true

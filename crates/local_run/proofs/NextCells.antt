@@ -34,15 +34,13 @@ placed b x y = grind (arith, common_steps)
 pub start_dead : (j : JobView) (x y : ℕ) → unwrap_or (slice_get j.starts (j.area.w * y + x)) Zero ≡ Zero →
     job_start j (box_coord j.area.x x) (box_coord j.area.y y) ≡ Zero
 unfolding job_start
-start_dead j x y none =
-    either _ _ _ (ap (λ (p : ℕ). unwrap_or (slice_get j.starts p) Zero) (placed j.area x y) ∙ none)
+start_dead j x y none = grind (arith, common_steps, either, placed)
 
 pub demand_dead : (j : JobView) (x y : ℕ) →
     unwrap_or (slice_get j.demands (j.area.w * y + x)) Demanded.Dead ≡ Demanded.Dead →
     job_demand j (box_coord j.area.x x) (box_coord j.area.y y) ≡ Demanded.Dead
 unfolding job_demand
-demand_dead j x y none =
-    either _ _ _ (ap (λ (p : ℕ). unwrap_or (slice_get j.demands p) Demanded.Dead) (placed j.area x y) ∙ none)
+demand_dead j x y none = grind (arith, common_steps, either, placed)
 
 -- such a cell is dead at time 0
 pub dead_start : (j : JobView) (u : Valuation) (x y : ℤ) → job_start j x y ≡ Zero → false ≡ local_run j u 0 x y
@@ -66,7 +64,7 @@ pub free_to : (j : JobView) (vs : Values) (t : ℕ) (kind : Kind) (x next y : �
     ((a k : ℕ) → a < 64 * p.words → x ≤ k → k < next → lane p a (1 + k) (1 + y) ≡ false) →
     (k a : ℕ) → k < next → k < j.area.w → a < assignments j → FreeAt j vs t kind k y a
 free_to j vs t kind x next y p ready sought shows ly before end must dead k a lk lw la =
-    grind (arith, common_steps, by_lt_or_le, end_free)
+    grind (arith, common_steps, common_steps, by_lt_or_le, end_free)
 
 -- only at the last time are cells passed over, and there the next one is looked at after each
 pub next_at_end : (kind : Kind) (w h y x next stride : ℕ) → IsScanStride kind w h y stride → x ≤ next →

@@ -41,8 +41,7 @@ lacks_line b x y old new keeps (inr free) = inr (keeps (own_mark_number_at b x y
 
 pub still_marked : (b : Box2) (c : Cell) (old new : List ℕ) → KeepsMarks old new → IsCellMarked b c old →
     IsCellMarked b c new
-still_marked b c old new keeps marked x y lx ly ex ey free =
-    marked x y lx ly ex ey (lacks_line b x y old new keeps free)
+still_marked b c old new keeps marked x y lx ly ex ey free = grind (arith, common_steps, lacks_line)
 
 -- where no line names the cell at the time, its signal is `Zero`
 pub zero_signal : (s : Signals) (t : ℕ) (x y : ℤ) →
@@ -69,8 +68,7 @@ still_all_times s b old new keeps all_times i h at = still_marked b h.cell old n
 pub quiet_in : (s : Signals) (b : Box2) (t : ℕ) (marks : List ℕ) → AreAllTimesCellsMarked s b marks →
     ((i : ℕ) (e : TimedSignal) → slice_get s.events i ≡ Some e → e.at.time ≡ t → IsCellMarked b e.at.cell marks) →
     IsZeroAtUnmarked s b t marks
-quiet_in s b t marks all_times events x y lx ly free = zero_signal s t (halo_coord b.x x) (halo_coord b.y y)
-    (λ i h at e. all_times i h at x y lx ly e.0 e.1 free) (λ i v at same e. events i v at same x y lx ly e.0 e.1 free)
+quiet_in s b t marks all_times events x y lx ly free = grind (arith, common_steps, zero_signal)
 
 pub still_quiet : (s : Signals) (b : Box2) (t : ℕ) (old new : List ℕ) → KeepsMarks old new →
     IsZeroAtUnmarked s b t old →

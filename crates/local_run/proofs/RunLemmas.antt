@@ -1,6 +1,7 @@
 -- Steps that turn runs of blocks, and pass over the blocks between them
-use Rattle.std.proofs.Common.{◌≡◌, ◌≢◌, ℕ, true, ◌<◌, ◌≤◌, ◌+◌, ◌-◌, ◌*◌, ◌%◌, refl, arith, ◌∙◌, List, ap, get_or}
+use Rattle.std.proofs.Common.{◌≡◌, ◌≢◌, ℕ, true, ◌<◌, ◌≤◌, ◌+◌, ◌-◌, ◌*◌, ◌%◌, refl, arith, List, ap, get_or}
 use Rattle.std.proofs.Math.Nat.{mul-le-mul_left}
+use Rattle.std.proofs.lemmas.Grind.{common_steps}
 use Rattle.bbm_rule.specs.Rows.{cell_at}
 use Rattle.bbm_rule.specs.Words.{AreTurned}
 use Rattle.bbm_rule.proofs.BitLemmas.{by_lt_or_le}
@@ -74,13 +75,7 @@ odd_skip p q marks at end calm room marked t le = record {
     out n g is = absurd (omega (arith, is.1))
 
 pub odd_nothing : (p : Planes) → TurnsOddBlocksBetween 0 0 p p
-odd_nothing p = record {
-  turned = λ n k is l. absurd (omega (arith, is.1));
-  upper_left = λ n k miss l. refl;
-  upper_right = λ n k miss l. refl;
-  lower_left = λ n k miss l. refl;
-  lower_right = λ n k miss l. refl;
-}
+odd_nothing p = grind (arith, common_steps)
 
 -- ---- the even partition
 pub even_part : (p q : Planes) (first len end : ℕ) → first + len ≡ end →
@@ -132,13 +127,7 @@ even_skip p q marks at end calm room marked t le = record {
     out n g is = absurd (omega (arith, is.1))
 
 pub even_nothing : (p : Planes) → TurnsEvenBlocksBetween 0 0 p p
-even_nothing p = record {
-  turned = λ n k is l. absurd (omega (arith, is.1));
-  upper_left = λ n k miss l. refl;
-  upper_right = λ n k miss l. refl;
-  lower_left = λ n k miss l. refl;
-  lower_right = λ n k miss l. refl;
-}
+even_nothing p = grind (arith, common_steps)
 
 -- ---- the cells that are in no block of the even partition
 pub first_none : (p : Planes) → KeepsFirst p p
@@ -162,8 +151,4 @@ first_part p q first long part = record {
 
 pub first_join : (p q r : Planes) → HasWordsStrideRows p.words p.stride p.rows q → KeepsFirst p q → KeepsFirst q r →
     KeepsFirst p r
-first_join p q r size s t = record {
-  odd = λ u k h l. let f = t.odd in let f = rw (size.0, size.1) at f in f u k h l ∙ s.odd u k h l;
-  right = λ u k h l. let f = t.right in let f = rw (size.0, size.1) at f in f u k h l ∙ s.right u k h l;
-  down = λ u k h l. let f = t.down in let f = rw size.0 at f in f u k h l ∙ s.down u k h l;
-}
+first_join p q r size s t = grind (arith, common_steps)

@@ -1,14 +1,14 @@
 -- Jobs whose halos say the same at each odd time have the same faults
-use Rattle.std.proofs.Common.{◌≡◌, ℕ, zero, suc, ◌<◌, ◌≤◌, ◌%◌, ◌&&◌, ◌||◌, List, refl, sym, ap, ap₂, subst, ◌∙◌, arith}
-use Rattle.std.proofs.Common.{inl, inr, ℤ, Contains, All}
+use Rattle.std.proofs.Common.{◌≡◌, ℕ, zero, suc, ◌<◌, ◌≤◌, ◌%◌, ◌&&◌, List, refl, sym, ap, subst, ◌∙◌, arith, inl, inr}
+use Rattle.std.proofs.Common.{ℤ, Contains, All}
 use Rattle.std.proofs.lemmas.Bool.{cases_Bool}
 use Rattle.std.proofs.Math.Logic.{∥∥₁_map}
+use Rattle.std.proofs.lemmas.Grind.{common_steps}
 use Rattle.bbm_rule.specs.Plane.{State}
 use Rattle.circuit.specs.Meaning.{Valuation}
-use Rattle.module_box.specs.Boxes.{in_box, in_halo}
-use Rattle.module_box.specs.Schedules.{Signals, signal_at}
+use Rattle.module_box.specs.Boxes.{in_box}
+use Rattle.module_box.specs.Schedules.{Signals}
 use Rattle.module_job.specs.Jobs.{JobView, job_demand, job_start}
-use Rattle.module_job.specs.Signals.{MeetsDemand, is_live}
 use Rattle.module_job.specs.declared.job.Stop as listed
 use Rattle.local_run.specs.Faults.{HasFault, IsFaultUnder}
 use Rattle.local_run.specs.Laws.{JobsWithSameHalosAgree, HasSameHaloSignals}
@@ -29,12 +29,7 @@ module _ (j : JobView) (halos : Signals) (same : HasSameHaloSignals j halos) whe
   halo_same : (u : Valuation) (t : ℕ) (s s' : State) (x y : ℤ) → t % 2 ≡ 1 → t < j.steps → s x y ≡ s' x y →
       with_halo j u t s x y ≡ with_halo k u t s' x y
   unfolding with_halo
-  halo_same u t s s' x y odd early e = elim (cases_Bool (in_halo j.area x y)) [
-    | inl here ↦ λ i. e i || (in_halo j.area x y && is_live u (same t x y odd early here i))
-    | inr other ↦
-        ap₂ (λ a b. a || (b && is_live u (signal_at j.halos t x y))) e other
-        ∙ ap (λ b. s' x y || (b && is_live u (signal_at halos t x y))) (sym other)
-  ]
+  halo_same u t s s' x y odd early e = grind (arith, common_steps, cases_Bool)
 
   run_same : (u : Valuation) (t : ℕ) → t ≤ j.steps → (x y : ℤ) → local_run j u t x y ≡ local_run k u t x y
   unfolding local_run job_start
@@ -58,27 +53,9 @@ module _ (j : JobView) (halos : Signals) (same : HasSameHaloSignals j halos) whe
   under_same : (u : Valuation) (t : ℕ) (kind : Kind) (x y : ℤ) → All (λ s. s.at.time ≤ j.steps) j.stops →
       IsFaultUnder j u t kind x y → IsFaultUnder k u t kind x y
   unfolding job_demand
-  under_same u t Edge x y early f = record {
-    odd = f.odd;
-    early = f.early;
-    ring = f.ring;
-    differs = λ e. f.differs (run_same u t (early_is t j.steps f.early) x y ∙ e);
-  }
-  under_same u t Stop x y early f = record {
-    stop = f.stop;
-    is_listed = f.is_listed;
-    time = f.time;
-    column = f.column;
-    row = f.row;
-    differs = λ e. f.differs (run_same u t
-        (subst (λ n. n ≤ j.steps) f.time (stop_time j j.stops f.stop early f.is_listed)) x y ∙ e);
-  }
-  under_same u t End x y early f = record {
-    last = f.last;
-    inside = f.inside;
-    differs = λ m. f.differs (subst (MeetsDemand u (job_demand j x y))
-        (sym (run_same u t (last_is t j.steps f.last) x y)) m);
-  }
+  under_same u t Edge x y early f = grind (arith, common_steps, run_same, early_is)
+  under_same u t Stop x y early f = grind (arith, common_steps, run_same, stop_time)
+  under_same u t End x y early f = grind (arith, common_steps, run_same, last_is)
 
 pub same_halos_agree : JobsWithSameHalosAgree
 same_halos_agree j halos f early same is = record { in_range = is.in_range; shown = ∥∥₁_map is.shown moved }

@@ -67,8 +67,7 @@ pub lane_in_word : (p : Planes) (s : List ℕ) (x y k b v d : ℕ) → b < 64 �
     p.words * (p.stride * (y / 2) + x / 2) + k < length s →
     v ≡ get_or s (p.words * (p.stride * (y / 2) + x / 2) + k) d → bit v b ≡ lane p (64 * k + b) x y
 unfolding lane
-lane_in_word p s x y k b v d l es room e =
-    rw (quotient k b l, remainder k b l, es) (ap (λ n. bit n b) (e ∙ get_or_any s _ d 0 room))
+lane_in_word p s x y k b v d l es room e = grind (arith, common_steps, quotient, remainder, get_or_any)
 
 pub plane_odd : (p : Planes) (x y : ℕ) → x % 2 ≡ 0 → y % 2 ≡ 0 → plane_of p x y ≡ p.odd.items
 unfolding plane_of
@@ -125,11 +124,7 @@ pub differs_bits : (vs : Values) (p : Planes) (x y k : ℕ) (s : Signal) (cells 
     bit (bit_and (bit_xor cells wanted) defined) b ≡ differs vs p x y s (64 * k + b)
 unfolding bit_of_row
 differs_bits vs p x y k s cells wanted defined d are should room is b l =
-    let whole : bit defined b ≡ is_defined_under vs (64 * k + b) =
-    ap (λ n. bit n b) (is ∙ get_or_any vs.rows.defined.items k d 0 room)
-    ∙ ap₂ (λ i j. bit (get_or vs.rows.defined.items i 0) j) (sym (quotient k b l)) (sym (remainder k b l)) in
-    bit-and (bit_xor cells wanted) defined b
-    ∙ ap₂ (λ (u v : Bool). u && v) (bit-xor cells wanted b ∙ ap₂ xor (are b l) (should b l)) whole
+    grind (arith, common_steps, get_or_any, quotient, remainder, bit-and, bit-xor, xor)
 
 -- a cell is as the signal says, where each of its words is
 pub shown_all : (vs : Values) (p : Planes) (x y : ℕ) (s : Signal) (n : ℕ) →
@@ -234,21 +229,7 @@ pub sets_odd : (p q : Planes) (x y k word : ℕ) → q.words ≡ p.words → q.s
     x % 2 ≡ 0 → y % 2 ≡ 0 → q.odd.items ≡ set p.odd.items (p.words * (p.stride * (y / 2) + x / 2) + k) word →
     q.right.items ≡ p.right.items → q.down.items ≡ p.down.items → q.even.items ≡ p.even.items → SetsWord x y k word p q
 sets_odd p q x y k word ew es lx lk room px py e_odd e_right e_down e_even =
-    sets_word p q x y k word ew es lx lk
-    (subst (λ (z : List ℕ). p.words * (p.stride * (y / 2) + x / 2) + k < length z) (sym (plane_odd p x y px py)) room)
-    (λ x' y' ex ey. plane_odd q x' y' (ex ∙ px) (ey ∙ py) ∙ e_odd
-    ∙ ap (λ z. set z (p.words * (p.stride * (y / 2) + x / 2) + k) word) (sym (plane_odd p x y px py)))
-    (λ x' y' ex ey. plane_odd p x' y' (ex ∙ px) (ey ∙ py) ∙ sym (plane_odd p x y px py))
-    (λ x' y' differ. by_eq_or_not (x' % 2) 0
-    (λ ex. by_eq_or_not (y' % 2) 0
-    (λ ey. absurd (differ (omega arith, omega arith)))
-    (λ oy. plane_down q x' y' (omega arith) (omega arith) ∙ e_down
-    ∙ sym (plane_down p x' y' (omega arith) (omega arith))))
-    (λ ox. by_eq_or_not (y' % 2) 0
-    (λ ey. plane_right q x' y' (omega arith) (omega arith) ∙ e_right
-    ∙ sym (plane_right p x' y' (omega arith) (omega arith)))
-    (λ oy. plane_even q x' y' (omega arith) (omega arith) ∙ e_even
-    ∙ sym (plane_even p x' y' (omega arith) (omega arith)))))
+    grind (arith, common_steps, sets_word, plane_odd, by_eq_or_not, plane_down, plane_right, plane_even)
 
 pub sets_down : (p q : Planes) (x y k word : ℕ) → q.words ≡ p.words → q.stride ≡ p.stride → x / 2 < p.stride →
     k < p.words → p.words * (p.stride * (y / 2) + x / 2) + k < length p.down.items →
@@ -256,20 +237,7 @@ pub sets_down : (p q : Planes) (x y k word : ℕ) → q.words ≡ p.words → q.
     q.down.items ≡ set p.down.items (p.words * (p.stride * (y / 2) + x / 2) + k) word → q.even.items ≡ p.even.items →
     SetsWord x y k word p q
 sets_down p q x y k word ew es lx lk room px py e_odd e_right e_down e_even =
-    sets_word p q x y k word ew es lx lk
-    (subst (λ (z : List ℕ). p.words * (p.stride * (y / 2) + x / 2) + k < length z) (sym (plane_down p x y px py)) room)
-    (λ x' y' ex ey. plane_down q x' y' (ex ∙ px) (ey ∙ py) ∙ e_down
-    ∙ ap (λ z. set z (p.words * (p.stride * (y / 2) + x / 2) + k) word) (sym (plane_down p x y px py)))
-    (λ x' y' ex ey. plane_down p x' y' (ex ∙ px) (ey ∙ py) ∙ sym (plane_down p x y px py))
-    (λ x' y' differ. by_eq_or_not (x' % 2) 0
-    (λ ex. by_eq_or_not (y' % 2) 0
-    (λ ey. plane_odd q x' y' (omega arith) (omega arith) ∙ e_odd ∙ sym (plane_odd p x' y' (omega arith) (omega arith)))
-    (λ oy. absurd (differ (omega arith, omega arith))))
-    (λ ox. by_eq_or_not (y' % 2) 0
-    (λ ey. plane_right q x' y' (omega arith) (omega arith) ∙ e_right
-    ∙ sym (plane_right p x' y' (omega arith) (omega arith)))
-    (λ oy. plane_even q x' y' (omega arith) (omega arith) ∙ e_even
-    ∙ sym (plane_even p x' y' (omega arith) (omega arith)))))
+    grind (arith, common_steps, sets_word, plane_down, by_eq_or_not, plane_odd, plane_right, plane_even)
 
 pub sets_right : (p q : Planes) (x y k word : ℕ) → q.words ≡ p.words → q.stride ≡ p.stride → x / 2 < p.stride →
     k < p.words → p.words * (p.stride * (y / 2) + x / 2) + k < length p.right.items →
@@ -277,37 +245,11 @@ pub sets_right : (p q : Planes) (x y k word : ℕ) → q.words ≡ p.words → q
     q.right.items ≡ set p.right.items (p.words * (p.stride * (y / 2) + x / 2) + k) word → q.down.items ≡ p.down.items →
     q.even.items ≡ p.even.items → SetsWord x y k word p q
 sets_right p q x y k word ew es lx lk room px py e_odd e_right e_down e_even =
-    sets_word p q x y k word ew es lx lk
-    (subst (λ (z : List ℕ). p.words * (p.stride * (y / 2) + x / 2) + k < length z) (sym (plane_right p x y px py)) room)
-    (λ x' y' ex ey. plane_right q x' y' (ex ∙ px) (ey ∙ py) ∙ e_right
-    ∙ ap (λ z. set z (p.words * (p.stride * (y / 2) + x / 2) + k) word) (sym (plane_right p x y px py)))
-    (λ x' y' ex ey. plane_right p x' y' (ex ∙ px) (ey ∙ py) ∙ sym (plane_right p x y px py))
-    (λ x' y' differ. by_eq_or_not (x' % 2) 0
-    (λ ex. by_eq_or_not (y' % 2) 0
-    (λ ey. plane_odd q x' y' (omega arith) (omega arith) ∙ e_odd ∙ sym (plane_odd p x' y' (omega arith) (omega arith)))
-    (λ oy. plane_down q x' y' (omega arith) (omega arith) ∙ e_down
-    ∙ sym (plane_down p x' y' (omega arith) (omega arith))))
-    (λ ox. by_eq_or_not (y' % 2) 0
-    (λ ey. absurd (differ (omega arith, omega arith)))
-    (λ oy. plane_even q x' y' (omega arith) (omega arith) ∙ e_even
-    ∙ sym (plane_even p x' y' (omega arith) (omega arith)))))
+    grind (arith, common_steps, sets_word, plane_right, by_eq_or_not, plane_odd, plane_down, plane_even)
 
 pub sets_even : (p q : Planes) (x y k word : ℕ) → q.words ≡ p.words → q.stride ≡ p.stride → x / 2 < p.stride →
     k < p.words → p.words * (p.stride * (y / 2) + x / 2) + k < length p.even.items →
     x % 2 ≡ 1 → y % 2 ≡ 1 → q.odd.items ≡ p.odd.items → q.right.items ≡ p.right.items → q.down.items ≡ p.down.items →
     q.even.items ≡ set p.even.items (p.words * (p.stride * (y / 2) + x / 2) + k) word → SetsWord x y k word p q
 sets_even p q x y k word ew es lx lk room px py e_odd e_right e_down e_even =
-    sets_word p q x y k word ew es lx lk
-    (subst (λ (z : List ℕ). p.words * (p.stride * (y / 2) + x / 2) + k < length z) (sym (plane_even p x y px py)) room)
-    (λ x' y' ex ey. plane_even q x' y' (ex ∙ px) (ey ∙ py) ∙ e_even
-    ∙ ap (λ z. set z (p.words * (p.stride * (y / 2) + x / 2) + k) word) (sym (plane_even p x y px py)))
-    (λ x' y' ex ey. plane_even p x' y' (ex ∙ px) (ey ∙ py) ∙ sym (plane_even p x y px py))
-    (λ x' y' differ. by_eq_or_not (x' % 2) 0
-    (λ ex. by_eq_or_not (y' % 2) 0
-    (λ ey. plane_odd q x' y' (omega arith) (omega arith) ∙ e_odd ∙ sym (plane_odd p x' y' (omega arith) (omega arith)))
-    (λ oy. plane_down q x' y' (omega arith) (omega arith) ∙ e_down
-    ∙ sym (plane_down p x' y' (omega arith) (omega arith))))
-    (λ ox. by_eq_or_not (y' % 2) 0
-    (λ ey. plane_right q x' y' (omega arith) (omega arith) ∙ e_right
-    ∙ sym (plane_right p x' y' (omega arith) (omega arith)))
-    (λ oy. absurd (differ (omega arith, omega arith)))))
+    grind (arith, common_steps, sets_word, plane_even, by_eq_or_not, plane_odd, plane_down, plane_right)

@@ -38,14 +38,7 @@ pub dead_lane : (p : Planes) (x y a : ℕ) → AreFourCellsDead (p.stride * (y /
     lane p a x y ≡ false
 unfolding lane
 dead_lane p x y a dead l =
-    let d = dead (a / 64) (omega arith) in
-    by_eq_or_not (x % 2) 0
-    (λ ex. by_eq_or_not (y % 2) 0
-    (λ ey. rw (plane_odd p x y ex ey, d.0) (bit-zero (a % 64)))
-    (λ oy. rw (plane_down p x y ex (omega arith), d.2) (bit-zero (a % 64))))
-    (λ ox. by_eq_or_not (y % 2) 0
-    (λ ey. rw (plane_right p x y (omega arith) ey, d.1) (bit-zero (a % 64)))
-    (λ oy. rw (plane_even p x y (omega arith) (omega arith), d.3) (bit-zero (a % 64))))
+    grind (arith, common_steps, by_eq_or_not, plane_odd, bit-zero, plane_down, plane_right, plane_even)
 
 -- a cell of the box is in the planes as in the run
 shown_at : (j : JobView) (vs : Values) (p : Planes) (t x y a : ℕ) → Shows j vs t p → a < assignments j →
@@ -92,12 +85,7 @@ silent_halo j vs p t column row ready shows silent x y lx ly ex ey a l outside =
 pub silent_from : (j : JobView) (p : Planes) (t u : ℕ) (marks : List ℕ) → p.stride ≡ j.area.w / 2 + 1 →
     AreFourCellsDead u p →
     AreLines j t marks → IsUnmarked marks u → IsSilent j t p u
-silent_from j p t u marks es dead lines free = record {
-  dead = λ a x y l lx ly e. dead_lane p x y a
-      (subst (λ n. AreFourCellsDead n p) (sym e ∙ ap (λ s. s * (y / 2) + x / 2) (sym es)) dead) l;
-  edge = λ x y lx ly e. lines.edges x y lx ly (inl (subst (IsUnmarked marks) (sym e) free));
-  halo = λ x y lx ly e. lines.halos x y lx ly (inl (subst (IsUnmarked marks) (sym e) free));
-}
+silent_from j p t u marks es dead lines free = grind (arith, common_steps, dead_lane)
 
 -- ---- cells outside the box have no edge fault
 pub outer_edge : (j : JobView) (vs : Values) (t x y : ℕ) → IsHaloCountOutsideBox j.area x y → IsEdgeCorrectAt j vs t x y
@@ -225,7 +213,7 @@ pub passed_halo : (j : JobView) (vs : Values) (p : Planes) (t from to x y : ℕ)
     x < j.area.w + 2 → y < j.area.h + 2 → from ≤ number_at j.area x y → number_at j.area x y < to →
     IsHaloCellSet j vs t p x y
 passed_halo j vs p t from to x y marks ready shows lines passed lx ly after before =
-    grind (arith, common_steps, number_in, silent_halo, silent_from)
+    grind (arith, common_steps, common_steps, number_in, silent_halo, silent_from)
 
 -- the cells with a number are those in one column and row
 pub same_place : (s column row x y : ℕ) → column < s → x / 2 < s → s * row + column ≡ s * (y / 2) + x / 2 →

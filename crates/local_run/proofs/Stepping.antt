@@ -1,6 +1,6 @@
 -- The steps of the planes are those of the definition
 use Rattle.std.proofs.Common.{◌≡◌, ◌≢◌, ℕ, zero, suc, Bool, true, false, ◌&&◌, ◌||◌, ◌<◌, ◌≤◌, ◌+◌, ◌-◌, ◌*◌, ◌/◌}
-use Rattle.std.proofs.Common.{◌%◌, refl, arith, sym, ◌∙◌, ap, ap₂, subst, eq-eqb, ne_eqb, add-one, inl, inr}
+use Rattle.std.proofs.Common.{◌%◌, refl, arith, sym, ◌∙◌, ap, ap₂, subst, eq-eqb, ne_eqb, add-one}
 use Rattle.std.specs.Prelude.{ℤ, pos, negsuc, ◌+ℤ◌, ◌-ℤ◌}
 use Rattle.std.proofs.lemmas.Bool.{and_parts, and_from, cases_Bool, false≢true, cond-true, cond-false, not_from_false}
 use Rattle.std.proofs.lemmas.Int.{ints}
@@ -135,18 +135,7 @@ even_shows j vs t p q ready even shows size turns = record {
 -- the cells of the box stayed
 pub inside_shows : (j : JobView) (vs : Values) (t : ℕ) (p q : Planes) → IsReady j vs → Shows j vs t p →
     HasWordsStrideRows p.words p.stride p.rows q → AreSameInBox p q → Shows j vs t q
-inside_shows j vs t p q ready shows size same = record {
-  size = (size.0 ∙ shows.size.0, size.1 ∙ shows.size.1, size.2 ∙ shows.size.2);
-  cells = λ a x y la lx ly.
-      let room = ready.room in
-      let count = ready.count in
-      let ew = ready.job.even.w in
-      let eh = ready.job.even.h in
-      let s0 = shows.size.0 in
-      let s1 = shows.size.1 in
-      let s2 = shows.size.2 in
-      same a x y (omega arith) (omega arith) (omega arith) ∙ shows.cells a x y la lx ly;
-}
+inside_shows j vs t p q ready shows size same = grind (arith, common_steps)
 
 -- ---- an odd step
 pub odd_shows : (j : JobView) (vs : Values) (t : ℕ) (p q : Planes) → IsReady j vs → t % 2 ≡ 1 →
@@ -192,14 +181,7 @@ span_outer_parts c n x h = grind (arith, common_steps, false≢true, less_none, 
 pub box_out : (b : Box2) (x y : ℕ) → IsHaloCountOutsideBox b x y →
     in_box b (halo_coord b.x x) (halo_coord b.y y) ≡ false
 unfolding in_box
-box_out b x y m = elim (cases_Bool (in_span b.x b.w (halo_coord b.x x) && in_span b.y b.h (halo_coord b.y y))) [
-  | inr h ↦ h
-  | inl h ↦
-      let p = and_parts _ _ h in
-      let px = span_outer_parts b.x b.w x p.0 in
-      let py = span_outer_parts b.y b.h y p.1 in
-      absurd (m (px.0, px.1, py.0, py.1))
-]
+box_out b x y m = grind (arith, common_steps, cases_Bool, and_parts, span_outer_parts)
 
 or_first : (a b c : Bool) → a ≡ true → (a || b || c) ≡ true
 or_first a b c e = grind arith
@@ -255,8 +237,7 @@ with_halo_inside j u t s x y h = grind (arith, common_steps, or-false)
 with_halo_outside : (j : JobView) (u : Valuation) (t : ℕ) (s : State) (x y : ℤ) → s x y ≡ false →
     in_halo j.area x y ≡ true → with_halo j u t s x y ≡ is_live u (signal_at j.halos t x y)
 unfolding with_halo
-with_halo_outside j u t s x y dead h =
-    ap₂ (λ p q. p || (q && is_live u (signal_at j.halos t x y))) dead h
+with_halo_outside j u t s x y dead h = grind (arith, common_steps)
 
 pub halo_cells : (j : JobView) (vs : Values) (t : ℕ) (p : Planes) → IsReady j vs → Shows j vs t p → IsHaloSet j vs t p →
     (a x y : ℕ) → a < assignments j → x < j.area.w + 2 → y < j.area.h + 2 →

@@ -6,6 +6,7 @@ use Rattle.std.specs.Ordering.{nat_cmp, int_cmp, ordering_then}
 use Rattle.std.proofs.lemmas.Bool.{cases_lt}
 use Rattle.std.proofs.lemmas.Int.{ints}
 use Rattle.std.proofs.lemmas.Option.{same_Some, slice_get_within, slice_get-get_or}
+use Rattle.std.proofs.lemmas.Grind.{common_steps}
 use Rattle.circuit.specs.Meaning.{Valuation}
 use Rattle.module_box.specs.Moments.{cell_cmp, moment_cmp}
 use Rattle.module_box.specs.Schedules.{IsRising}
@@ -45,16 +46,7 @@ IsLater x y x' y' = (y <ℤ y') ⊎ ((y ≡ y') × (x <ℤ x'))
 later_moment : (m n : Moment) → moment_cmp m n ≡ Less →
     (m.time < n.time) ⊎ ((m.time ≡ n.time) × IsLater m.cell.x m.cell.y n.cell.x n.cell.y)
 unfolding moment_cmp cell_cmp
-later_moment m n h = elim (then_less _ _ h) [
-  | inl e ↦ inl (nat_less m.time n.time e)
-  | inr p ↦ inr (
-    nat_equal m.time n.time p.0,
-    elim (then_less (int_cmp m.cell.y n.cell.y) (int_cmp m.cell.x n.cell.x) p.1) [
-      | inl e ↦ inl (int_less _ _ e)
-      | inr q ↦ inr (int_equal _ _ q.0, int_less _ _ q.1)
-    ],
-  )
-]
+later_moment m n h = grind (arith, common_steps, then_less, nat_less, nat_equal, int_less, int_equal)
 
 -- ---- the stops that were looked at
 
@@ -74,21 +66,7 @@ below_or_there k n l = grind arith
 pub one_more : (j : JobView) (vs : Values) (t place : ℕ) (s : listed.Stop) → AreTried j vs t place →
     slice_get j.stops place ≡ Some s → s.at.time ≡ t →
     IsLeastBelow (assignments j) (λ b. IsStopMissed j vs b s) None → AreTried j vs t (place + 1)
-one_more j vs t place s tried e at none = record {
-  within = (let lt = slice_get_within j.stops place s e in omega (arith, lt));
-  before = λ k r l h. elim (below_or_there k place l) [
-    | inl lt ↦ tried.before k r lt h
-    | inr same ↦ (let is : r ≡ s = same_Some _ _ (sym h ∙ ap (slice_get j.stops) same ∙ e) in let time =
-        ap (λ (x : listed.Stop). x.at.time) is in omega (arith, time, at))
-  ];
-  from = λ k r l h. tried.from k r (omega (arith, l)) h;
-  free = λ k r a l h time la. elim (below_or_there k place l) [
-    | inl lt ↦ tried.free k r a lt h time la
-    | inr same ↦
-        let is : s ≡ r = same_Some _ _ (sym e ∙ ap (slice_get j.stops) (sym same) ∙ h) in
-        subst (λ (x : listed.Stop). ¬ IsStopMissed j vs a x) is (none a la)
-  ];
-}
+one_more j vs t place s tried e at none = grind (arith, common_steps, slice_get_within, below_or_there, same_Some)
 
 -- the stop of a fault stands in the list
 stop_at : (j : JobView) (u : Valuation) (t : ℕ) (x y : ℤ) (f : IsStopFault j u t x y) →
@@ -272,16 +250,8 @@ later_stop j i k s r rising le e h = elim (three_ways k i) [
 -- a place is that of the next stop also at later times, up to that of the stop
 pub next_later : (j : JobView) (t n place : ℕ) (s : listed.Stop) → IsRising moment_cmp stop_moment j.stops →
     IsNextStop j t place → slice_get j.stops place ≡ Some s → t ≤ n → n ≤ s.at.time → IsNextStop j n place
-next_later j t n place s rising next e from to = record {
-  within = next.within;
-  before = λ k r l h. (let lt = next.before k r l h in omega (arith, lt, from));
-  from = λ k r ge h. (let le = later_stop j place k s r rising ge e h in omega (arith, le, to));
-}
+next_later j t n place s rising next e from to = grind (arith, common_steps, later_stop)
 
 pub next_at_end : (j : JobView) (t n place : ℕ) → IsNextStop j t place → length j.stops ≤ place → t ≤ n →
     IsNextStop j n place
-next_at_end j t n place next past from = record {
-  within = next.within;
-  before = λ k r l h. (let lt = next.before k r l h in omega (arith, lt, from));
-  from = λ k r ge h. absurd (let lt = slice_get_within j.stops k r h in omega (arith, lt, past, ge));
-}
+next_at_end j t n place next past from = grind (arith, common_steps, slice_get_within)

@@ -1,6 +1,6 @@
 -- Parts of lists whose blocks are turned, and blocks that stay
-use Rattle.std.proofs.Common.{◌≡◌, ℕ, false, ◌<◌, ◌≤◌, ◌+◌, ◌*◌, refl, arith, sym, ◌∙◌, ap, List, length, get_or, inl}
-use Rattle.std.proofs.Common.{inr, nat_eq, not, bit_and, bit_or, ◌↔◌, bit_xor}
+use Rattle.std.proofs.Common.{◌≡◌, ℕ, false, ◌<◌, ◌≤◌, ◌+◌, ◌*◌, refl, arith, sym, ◌∙◌, ap, List, length, inl, inr}
+use Rattle.std.proofs.Common.{nat_eq, not, bit_and, bit_or, ◌↔◌, bit_xor}
 use Rattle.std.proofs.lemmas.Nat.{and_or_self, or_comm}
 use Rattle.std.specs.Int.Bits.{and_zero_l, xor_assoc, xor_self, xor_zero_l, xor_zero_r}
 use Rattle.std.specs.Int.{bit_at}
@@ -27,13 +27,7 @@ none_first a m h = none_last m a (or_comm m a ∙ h)
 -- four words joined are zero if and only if each is
 pub four_zero : (a b d e : ℕ) → (not (nat_eq (bit_or (bit_or (bit_or a b) d) e) 0) ≡ false)
     ↔ ((a ≡ 0) × (b ≡ 0) × (d ≡ 0) × (e ≡ 0))
-four_zero a b d e = (
-  λ h. let all = eqb-true _ _ (not-false _ h) in
-      let three = none_first _ _ all in
-      let two = none_first _ _ three in
-      (none_first _ _ two, none_last _ _ two, none_last _ _ three, none_last _ _ all),
-  λ z. rw (z.0, z.1, z.2, z.3) refl,
-)
+four_zero a b d e = grind (arith, common_steps, eqb-true, not-false, none_first, none_last)
 
 pub same_word : (a b : ℕ) → bit_xor a b ≡ 0 → a ≡ b
 same_word a b e = sym (xor_zero_r a) ∙ ap (λ (n : ℕ). bit_xor a n) (sym (xor_self b)) ∙ sym (xor_assoc a b b)
@@ -42,14 +36,7 @@ same_word a b e = sym (xor_zero_r a) ∙ ap (λ (n : ℕ). bit_xor a n) (sym (xo
 -- ---- what is turned in parts of slices
 beside : (a k long : ℕ) (xs ys : List ℕ) → k ≡ long → a + long ≤ length xs → length ys ≡ long →
     SameBeside a long xs (put_mid a k xs ys)
-beside a k long xs ys e room l = record {
-  below = λ n h. sym (get_or-take a (put_mid a k xs ys) n 0 h)
-      ∙ ap (λ zs. get_or zs n 0) (take-put_mid_below a k xs ys a (omega arith) (omega arith)) ∙ get_or-take a xs n 0 h;
-  above = λ n h. let z : n + 0 ≡ n = omega arith in
-      ap (λ m. get_or (put_mid a k xs ys) m 0) (sym z) ∙ sym (get_or-drop n (put_mid a k xs ys) 0 0)
-      ∙ ap (λ zs. get_or zs 0 0) (drop-put_mid a k xs ys n (omega arith) (omega arith) (omega arith))
-      ∙ get_or-drop n xs 0 0 ∙ ap (λ m. get_or xs m 0) z;
-}
+beside a k long xs ys e room l = grind (arith, common_steps, get_or-take, take-put_mid_below, get_or-drop, drop-put_mid)
 
 pub part_turned : (a b c d ka kb kc kd long : ℕ) (ul ur ll lr p q r s : List ℕ) → ka ≡ long → kb ≡ long → kc ≡ long →
     kd ≡ long →
@@ -101,12 +88,7 @@ anti_stays ul ur ll lr e j =
 
 pub calm_turned : (ul ur ll lr : ℕ) → DiagonalStays ul lr ur ll → DiagonalStays ur ll ul lr →
     AreTurned ul ur ll lr ul ur ll lr
-calm_turned ul ur ll lr main anti = record {
-  upper_left = λ j. sym (main j).0;
-  upper_right = λ j. sym (anti j).0;
-  lower_left = λ j. sym (anti j).1;
-  lower_right = λ j. sym (main j).1;
-}
+calm_turned ul ur ll lr main anti = grind (arith, common_steps)
 
 -- a word is what its bits are
 word_of_bits : (a b : ℕ) → ((j : ℕ) → bit a j ≡ bit b j) → a ≡ b
@@ -139,10 +121,4 @@ anti_words ul ur ll lr ul' ur' ll' lr' stays t =
 -- one block that stays
 pub calm_block : (w a b c d : ℕ) (ul ur ll lr : List ℕ) → IsStableBlock w a b c d ul ur ll lr →
     TurnsPart (w * a) (w * b) (w * c) (w * d) w ul ur ll lr ul ur ll lr
-calm_block w a b c d ul ur ll lr calm = record {
-  turned = λ k l. calm_turned _ _ _ _ (calm.0 k l) (calm.1 k l);
-  upper_left = same_beside _ w ul;
-  upper_right = same_beside _ w ur;
-  lower_left = same_beside _ w ll;
-  lower_right = same_beside _ w lr;
-}
+calm_block w a b c d ul ur ll lr calm = grind (arith, common_steps, calm_turned, same_beside)

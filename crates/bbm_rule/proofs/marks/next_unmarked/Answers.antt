@@ -1,4 +1,4 @@
-use Rattle.std.proofs.Common.{arith, ◌/◌}
+use Rattle.std.proofs.Common.{arith}
 use Rattle.std.proofs.lemmas.Grind.{common_steps}
 use Rattle.bbm_rule.proofs.BitLemmas.{by_lt_or_le}
 use Rattle.bbm_rule.proofs.GapLemmas.{all_before, all_in_word, first_unmarked}
@@ -14,9 +14,4 @@ pub returns-then-found-end-clause-unmarked : goal.returns-then-found-end-clause-
 returns-then-found-end-clause-unmarked c = grind (arith, common_steps, first_unmarked)
 
 pub search-preserved : goal.search-preserved
-search-preserved c = record {
-  after = omega arith;
-  passed = λ u l h. by_lt_or_le u c.search.at (c.search.invariant.passed u l)
-      (λ g. all_in_word c.args.marks.now c.search.at u (omega arith) (c.type_inv.marks (c.search.at / 64)).fits
-      c.if-rest-ne0.false g h);
-}
+search-preserved c = grind (arith, common_steps, by_lt_or_le, all_in_word)

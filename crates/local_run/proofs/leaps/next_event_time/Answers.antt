@@ -5,11 +5,7 @@ use Rattle.local_run.proofs.LeapLemmas.{above_at, none_until, none_before, none_
 use Rattle.local_run.proofs.leaps.next_event_time.Goals as goal
 
 pub returns-then-next-end-clause-range : goal.returns-then-next-end-clause-range
-returns-then-next-end-clause-range c = (
-  above_at c.args.events.now _ _ _ _ c.first_event_place-first.ensures.first (omega arith)
-      (slice_get-get_or c.args.events.now c.first_event_place-first.result _ c.if-first-events.true),
-  omega (arith, c.if-next-end.true),
-)
+returns-then-next-end-clause-range c = grind (arith, common_steps, above_at, slice_get-get_or)
 
 pub returns-then-next-end-clause-none : goal.returns-then-next-end-clause-none
 returns-then-next-end-clause-none c = grind (arith, common_steps, none_before, slice_get-get_or)

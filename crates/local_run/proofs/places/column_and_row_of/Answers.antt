@@ -1,6 +1,7 @@
 use Rattle.std.proofs.Common.{◌≡◌, true, ◌+◌, ◌-◌, ◌<◌, ◌≤◌, ℕ, rules, ap, ◌∙◌, arith, SFits, w32, to_z-of_z, ℤ, pos}
 use Rattle.std.specs.Int.RustNames.{unsigned_abs}
 use Rattle.std.proofs.lemmas.Bool.{and_parts}
+use Rattle.std.proofs.lemmas.Grind.{common_steps}
 use Rattle.bbm_rule.specs.Spans.{in_span}
 use Rattle.module_box.specs.Boxes.{in_box}
 use Rattle.module_box.specs.declared.boxes.Box2.{Box2}
@@ -48,17 +49,7 @@ overflow_sub-y c =
     p.late
 
 pub returns-clause-column : goal.returns-clause-column
-returns-clause-column c =
-    let f : SFits w32 c.args.cell.x = search rules in
-    let e : c.unsigned_abs.result ≡ unsigned_abs c.args.cell.x = simp to_z-of_z at c.unsigned_abs.ensures.value in
-    let p = from_abs _ _ _ _ _ (ap (λ (b : Box2). b.x) c.area-area.ensures.area)
-    (box_parts c.args.job.now.area c.args.cell.x c.args.cell.y c.requires).0 e in
-    (p.below, p.is)
+returns-clause-column c = grind (arith, common_steps, from_abs, box_parts)
 
 pub returns-clause-row : goal.returns-clause-row
-returns-clause-row c =
-    let f : SFits w32 c.args.cell.y = search rules in
-    let e : c.unsigned_abs-2.result ≡ unsigned_abs c.args.cell.y = simp to_z-of_z at c.unsigned_abs-2.ensures.value in
-    let p = from_abs _ _ _ _ _ (ap (λ (b : Box2). b.y) c.area-area.ensures.area)
-    (box_parts c.args.job.now.area c.args.cell.x c.args.cell.y c.requires).1 e in
-    (p.below, p.is)
+returns-clause-row c = grind (arith, common_steps, from_abs, box_parts)

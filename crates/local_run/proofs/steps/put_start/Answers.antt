@@ -25,9 +25,7 @@ pub cells-init : goal.cells-init
 cells-init c = grind (arith, common_steps, dead_start)
 
 pub put_start_cell-requires-clause-dead : goal.put_start_cell-requires-clause-dead
-put_start_cell-requires-clause-dead c a la =
-    let ew : c.area-area.result.w ≡ c.args.job.now.area.w = ap (λ (b : Box2). b.w) c.area-area.ensures.area in
-    c.cells.invariant.beside a c.cells.x la (omega arith) (omega arith)
+put_start_cell-requires-clause-dead c a la = grind (arith, common_steps)
 
 pub cells-preserved : goal.cells-preserved
 cells-preserved c =

@@ -1,5 +1,6 @@
-use Rattle.std.proofs.Common.{◌≡◌, ◌/◌, ◌%◌, ℕ, List, get_or, length, replicate}
+use Rattle.std.proofs.Common.{arith, ◌≡◌, ◌/◌, ◌%◌, ℕ, List, get_or, length, replicate}
 use Rattle.std.proofs.lemmas.List.{get_or-replicate, get_or_past, length-replicate}
+use Rattle.std.proofs.lemmas.Grind.{common_steps}
 use Rattle.bbm_rule.specs.Marks.{IsUnmarked}
 use Rattle.bbm_rule.specs.Rows.{cell_at}
 use Rattle.bbm_rule.proofs.BitLemmas.{bit-zero, by_lt_or_le}
@@ -17,9 +18,4 @@ unfolding cell_at
 unmarked n marks u e = rw (e, zero_word n (u / 64)) (bit-zero (u % 64))
 
 pub returns-clause-none : goal.returns-clause-none
-returns-clause-none c u = (
-  unmarked c.args.long _ u (c.in_ok-vec.ensures.items_if_clones_equal (λ y e. e)),
-  unmarked c.args.long _ u (c.in_ok-vec-2.ensures.items_if_clones_equal (λ y e. e)),
-  unmarked c.args.long _ u (c.in_ok-vec-3.ensures.items_if_clones_equal (λ y e. e)),
-  unmarked c.args.long _ u (c.in_ok-vec-4.ensures.items_if_clones_equal (λ y e. e)),
-)
+returns-clause-none c u = grind (arith, common_steps, unmarked)

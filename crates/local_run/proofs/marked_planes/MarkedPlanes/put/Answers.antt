@@ -1,6 +1,7 @@
-use Rattle.std.proofs.Common.{◌≡◌, ◌≤◌, ◌+◌, ◌*◌, ◌/◌, List, ℕ, length, ap, arith, sym, subst}
+use Rattle.std.proofs.Common.{◌+◌, ◌*◌, ◌/◌, List, ℕ, length, ap, arith, sym, subst}
 use Rattle.std.proofs.lemmas.List.{with_items_is}
 use Rattle.std.proofs.Math.Nat.{mul-le-mul_left}
+use Rattle.std.proofs.lemmas.Grind.{common_steps}
 use Rattle.bbm_rule.specs.Marks.{IsUnmarked}
 use Rattle.local_run.specs.Calm.{AreUnmarkedOddBlocksStable, AreUnmarkedEvenBlocksStable}
 use Rattle.local_run.specs.declared.frozen.FrozenBlocks.{FrozenBlocks}
@@ -61,13 +62,4 @@ invariant_of-self-clause-freezes c =
     (given_up f.frozen c.give_up_if_frozen.new.self _ f.planes kept f.freezes)
 
 pub give_up_if_frozen-requires : goal.give_up_if_frozen-requires
-give_up_if_frozen-requires c = record {
-  room = λ found.
-      let f = c.args.self.now in
-      let room = room_found f.frozen f.planes f.freezes found in
-      let p = f.planes in
-      let row : p.stride * (c.args.y / 2 + 1) ≤ p.stride * p.rows = mul-le-mul_left p.stride (omega arith) in
-      let at : c.stride-stride.result * (c.args.y / 2) ≡ p.stride * (c.args.y / 2) =
-      ap (λ (s : ℕ). s * (c.args.y / 2)) c.stride-stride.ensures.stride_is_exact in
-      omega (arith, room.odd, row, at);
-}
+give_up_if_frozen-requires c = grind (arith, common_steps, room_found, mul-le-mul_left)

@@ -2,6 +2,7 @@ use Rattle.std.proofs.Common.{ℕ, subst, ap, ◌∙◌, arith, ◌^◌, ◌≡�
 use Rattle.std.proofs.Math.Pow.{pow_mono}
 use Rattle.std.proofs.lemmas.Nat.{pow_pos}
 use Rattle.std.specs.Int.{div_ceil}
+use Rattle.std.proofs.lemmas.Grind.{common_steps}
 use Rattle.circuit.specs.Meaning.{AreOrdered, Netlist}
 use Rattle.module_box.specs.LocalValues.{AreValueRows}
 use Rattle.local_run.specs.Faults.{assignments}
@@ -21,8 +22,7 @@ enough n w few e = by_size (1 * 2 ^ n % 18446744073709551616) (omega (arith, shi
     by_size m some small h = (omega (arith, h), omega (arith, h), omega (arith, h))
 
 pub value_rows-requires : goal.value_rows-requires
-value_rows-requires c = (enough c.cuts-count.result c.div_ceil-words.result c.cuts-count.ensures.at_most_12
-    c.div_ceil-words.ensures).1
+value_rows-requires c = grind (arith, common_steps, enough)
 
 pub returns : goal.returns
 returns c =
