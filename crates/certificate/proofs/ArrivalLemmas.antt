@@ -9,6 +9,7 @@ use Rattle.std.proofs.lemmas.List.Elements.{All-nil, All-cons, All-head, All-tai
 use Rattle.std.proofs.lemmas.List.Elements.{Contains-append_left, Contains-append_right}
 use Rattle.std.proofs.lemmas.List.Folds.{list_all-append}
 use Rattle.std.proofs.lemmas.Option.{same_Some}
+use Rattle.std.proofs.lemmas.Grind.{common_steps}
 use Rattle.circuit.specs.declared.circuit_line.GateKind.{GateKind}
 use Rattle.circuit.specs.declared.circuit_line.GateKind.TheVariants.{Source, Fredkin, Cswap, Interact, Switch, Delay}
 use Rattle.circuit.specs.declared.circuit_line.GateKind.TheVariants.{Unswitch, Uninteract}
@@ -114,24 +115,17 @@ gap_before (Some k) (Some g) e = by_case (nat_lt g k) refl e
 own_gap : (c : Circuit) (ss : List StopLine) (ins outs : List ℕ) (a b : ℕ) (gap : StopGap) →
     gap_between (first_wire_time (last_seen c ss) ins) (first_wire_time (first_seen c ss) outs) ≡ gap →
     ins ≡ a ∷ [] → outs ≡ b ∷ [] → gap_between (last_seen c ss a) (first_seen c ss b) ≡ gap
-own_gap c ss ins outs a b gap e one_in one_out =
-    sym (ap (λ (ws : List ℕ). gap_between (first_wire_time (last_seen c ss) ws)
-    (first_wire_time (first_seen c ss) outs)) one_in
-    ∙ ap (λ (ws : List ℕ). gap_between (last_seen c ss a) (first_wire_time (first_seen c ss) ws)) one_out) ∙ e
+own_gap c ss ins outs a b gap e one_in one_out = grind (arith, common_steps)
 
 takes : (c : Circuit) (ss : List StopLine) (m a b : ℕ) → gap_between (last_seen c ss a) (first_seen c ss b) ≡ Steps m →
     TakesSteps c ss m a b
-takes c ss m a b e =
-    let h = gap_steps (last_seen c ss a) (first_seen c ss b) m e in
-    record { leaves = h.0; last = is_last c ss a h.0 h.1; first = is_first c ss b (h.0 + m) h.2 }
+takes c ss m a b e = grind (arith, common_steps, gap_steps, is_last, is_first)
 
 gap_tells : (c : Circuit) (ss : List StopLine) (a b : ℕ) (gap : StopGap) →
     gap_between (last_seen c ss a) (first_seen c ss b) ≡ gap → IsDelayGapTrue c ss gap a b
 gap_tells c ss a b (Steps m) e = takes c ss m a b e
 gap_tells c ss a b NoStop e = λ s t last first. gap_missing _ _ s t e (last_is c ss a s last) (first_is c ss b t first)
-gap_tells c ss a b Before e =
-    let h = gap_before (last_seen c ss a) (first_seen c ss b) e in
-    (h.0, h.1, is_last c ss a h.0 h.2, is_first c ss b h.1 h.3, h.4)
+gap_tells c ss a b Before e = grind (arith, common_steps, gap_before, is_last, is_first)
 
 -- ---- meetings
 
@@ -165,13 +159,7 @@ equal_all t (u ∷ ts) h =
 
 agreed_all : (ts : List ℕ) (t : ℕ) → common_time ts ≡ Some t → All (λ u. u ≡ t) ts
 agreed_all [] t e = absurd cc
-agreed_all (a ∷ ts) t e = by_case (list_all (λ u. u == a) ts) refl e
-  where
-    by_case : (b : Bool) → list_all (λ u. u == a) ts ≡ b → (if b then Some a else None) ≡ Some t →
-        All (λ u. u ≡ t) (a ∷ ts)
-    by_case true all e = let same = same_Some a t e in
-        All-cons (λ u. u ≡ t) a ts same (subst (λ (r : ℕ). All (λ u. u ≡ r) ts) same (all_equal a ts all))
-    by_case false all e = absurd cc
+agreed_all (a ∷ ts) t e = grind (arith, common_steps, same_Some, all_equal)
 
 none_agreed : (ts : List ℕ) (t : ℕ) → 0 < length ts → common_time ts ≡ None → All (λ u. u ≡ t) ts → ⊥
 none_agreed [] t lt e h = omega (arith, lt)
@@ -228,28 +216,13 @@ delay_lines_tell c ss k Fredkin g at is = All-nil (IsTimeLineTrue c ss)
 delay_lines_tell c ss k Cswap g at is = All-nil (IsTimeLineTrue c ss)
 delay_lines_tell c ss k Interact g at is = All-nil (IsTimeLineTrue c ss)
 delay_lines_tell c ss k Switch g at is = All-nil (IsTimeLineTrue c ss)
-delay_lines_tell c ss k (Delay n) g at is =
-    All-cons (IsTimeLineTrue c ss) _ []
-    (g, at, is, λ a b one_in one_out. gap_tells c ss a b _ (own_gap c ss g.ins g.outs a b _ refl one_in one_out))
-    (All-nil (IsTimeLineTrue c ss))
+delay_lines_tell c ss k (Delay n) g at is = grind (arith, common_steps, gap_tells, own_gap)
 delay_lines_tell c ss k Unswitch g at is = All-nil (IsTimeLineTrue c ss)
 delay_lines_tell c ss k Uninteract g at is = All-nil (IsTimeLineTrue c ss)
 
 meet_lines_tell : (c : Circuit) (ss : List StopLine) (k : ℕ) (g : Gate) → slice_get c.netlist.gates k ≡ Some g →
     All (IsTimeLineTrue c ss) (meet_line (last_seen c ss) k g)
-meet_lines_tell c ss k g at = by_case (nat_le 2 (length ts)) refl
-  where
-    ts : List ℕ
-    ts = last_times (last_seen c ss) g.ins
-
-    two : nat_le 2 (length ts) ≡ true → 0 < length ts
-    two e = grind (arith, nat_tests)
-
-    by_case : (b : Bool) → nat_le 2 (length ts) ≡ b →
-        All (IsTimeLineTrue c ss) (if b then line.Meet k (common_time ts) ∷ [] else [])
-    by_case true e = All-cons (IsTimeLineTrue c ss) _ [] (g, at, meet_tells c ss g.ins _ (two e) refl)
-        (All-nil (IsTimeLineTrue c ss))
-    by_case false e = All-nil (IsTimeLineTrue c ss)
+meet_lines_tell c ss k g at = grind (arith, common_steps, nat_tests, meet_tells)
 
 all_numbered : (P : TimeLine → Type 0) (f : ℕ → Gate → List TimeLine) (all : List Gate) →
     ((k : ℕ) (g : Gate) → slice_get all k ≡ Some g → All P (f k g)) →

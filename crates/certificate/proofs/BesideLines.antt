@@ -1,9 +1,10 @@
 -- The lines beside a module, one after the other
 use Rattle.std.proofs.Common.{◌≡◌, ℕ, ◌+◌, ◌<◌, ◌≤◌, Bool, true, false, if◌then◌else◌, List, [], ◌∷◌, ◌++◌, drop}
-use Rattle.std.proofs.Common.{length, map, get_or, Some, inl, inr, refl, sym, ap, subst, ◌∙◌, arith, append_assoc}
+use Rattle.std.proofs.Common.{length, map, get_or, Some, inl, inr, refl, sym, ap, subst, ◌∙◌, arith}
 use Rattle.std.proofs.Common.{slice_get, filter, flat_map}
 use Rattle.std.proofs.lemmas.List.{append-nil, drop-drop, drop_all, length-map, length_push, map-append}
 use Rattle.std.proofs.lemmas.Option.{slice_get_read, slice_get_within}
+use Rattle.std.proofs.lemmas.Grind.{common_steps}
 use Rattle.circuit.specs.Meaning.{Circuit}
 use Rattle.pattern.specs.Layout.{Pattern}
 use Rattle.module_box.proofs.Rising.{pushed}
@@ -34,23 +35,16 @@ cond_append false x xs ys = refl
 pub filter-append : {A : Type 0} (test : A → Bool) (xs ys : List A) →
     filter test (xs ++ ys) ≡ filter test xs ++ filter test ys
 filter-append test [] ys = refl
-filter-append test (x ∷ xs) ys =
-    ap (λ l. if test x then x ∷ l else l) (filter-append test xs ys)
-    ∙ cond_append (test x) x (filter test xs) (filter test ys)
+filter-append test (x ∷ xs) ys = grind (arith, common_steps, filter-append test xs ys, cond_append)
 
 -- ---- the modules of lines
-
-pub no_parts : (es : List CertificateLine) → map slice_lines [] ++ modules_of (drop 0 es) ≡ modules_of es
-no_parts es = refl
 
 pub other_line_on : (es : List CertificateLine) (place : ℕ) (e : CertificateLine) (ps : List ModuleSlice) →
     place < length es →
     e ≡ get_or es place e → is_module e ≡ false →
     map slice_lines ps ++ modules_of (drop place es) ≡ modules_of es →
     map slice_lines ps ++ modules_of (drop (place + 1) es) ≡ modules_of es
-other_line_on es place e ps lt at other h =
-    ap (λ ms. map slice_lines ps ++ ms)
-    (sym (split_other e (drop (place + 1) es) other) ∙ sym (ap modules_of (line_here es place e lt at))) ∙ h
+other_line_on es place e ps lt at other h = grind (arith, common_steps, split_other, line_here)
 
 one_module_more : (es : List CertificateLine) (place : ℕ) (area : Box2) (part : ModuleSlice)
     (ps qs : List ModuleSlice) →
@@ -60,13 +54,7 @@ one_module_more : (es : List CertificateLine) (place : ℕ) (area : Box2) (part 
     map slice_lines ps ++ modules_of (drop place es) ≡ modules_of es →
     map slice_lines qs ++ modules_of (drop (place + 1) es) ≡ modules_of es
 one_module_more es place area part ps qs lt at is grown h =
-    ap (λ l. map slice_lines l ++ modules_of (drop (place + 1) es)) grown
-    ∙ ap (λ l. l ++ modules_of (drop (place + 1) es)) (map-append slice_lines ps (part ∷ []))
-    ∙ append_assoc (map slice_lines ps) (slice_lines part ∷ []) (modules_of (drop (place + 1) es))
-    ∙ ap (λ m. map slice_lines ps ++ m ∷ modules_of (drop (place + 1) es)) is
-    ∙ ap (λ ms. map slice_lines ps ++ ms)
-    (sym (split_module area (drop (place + 1) es)) ∙ sym (ap modules_of (line_here es place (Module area) lt at)))
-    ∙ h
+    grind (arith, common_steps, map-append, split_module, line_here)
 
 -- the module that begins at the place, and the lines from the next one on
 pub one_part : (es : List CertificateLine) (place : ℕ) (area : Box2) (part : ModuleSlice) (ps qs : List ModuleSlice)
@@ -124,8 +112,7 @@ within_module es place area ps counts n lt at counted few h =
 
 pub all_parts : (es : List CertificateLine) (place : ℕ) (ps : List ModuleSlice) → length es ≤ place →
     map slice_lines ps ++ modules_of (drop place es) ≡ modules_of es → map slice_lines ps ≡ modules_of es
-all_parts es place ps le h = sym (append-nil (map slice_lines ps))
-    ∙ ap (λ ms. map slice_lines ps ++ ms) (sym (ap modules_of (drop_all place es le) ∙ nothing_left)) ∙ h
+all_parts es place ps le h = grind (arith, common_steps, append-nil, drop_all, nothing_left)
 
 -- ---- the jobs of the modules before a module
 
@@ -148,21 +135,12 @@ module _ (g : Setting) (es : List CertificateLine) where
   pub one_list_less : {X : Type 0} (f : X → List ℕ) (done : ℕ) (old new : List X) → length new ≡ length old →
       ((i : ℕ) → (i ≡ done → ⊥) → list_at_or_empty (map f new) i ≡ list_at_or_empty (map f old) i) →
       HaveListsFrom g es done (map f old) → HaveListsFrom g es (done + 1) (map f new)
-  one_list_less f done old new count others h = record {
-    count = length-map new f ∙ count ∙ sym (length-map old f) ∙ h.count;
-    each = λ i m le at.
-        ap (edge_lines_at es) (others i (λ e. omega (arith, e, le))) ∙ h.each i m (omega (arith, le)) at;
-  }
+  one_list_less f done old new count others h = grind (arith, common_steps, length-map)
 
   module _ (parts : List ModuleSlice) (are : map slice_lines parts ≡ modules_of es) where
     pub within_lists : {X : Type 0} (f : X → List ℕ) (done k : ℕ) (lists : List X) →
         HaveListsFrom g es done (map f lists) → k < length parts → k < length lists
-    within_lists f done k lists h lt =
-        let a = length-map parts slice_lines in
-        let b = length-map lists f in
-        let same = ap length are in
-        let count = h.count in
-        omega (arith, a, b, same, count, lt)
+    within_lists f done k lists h lt = grind (arith, common_steps, length-map)
 
 -- these are the lines of the module of this number with its halo lines, and they are good
 pub record IsFullPart (g : Setting) (ms : List ModuleLines) (number : ℕ) (part : ModuleSlice)

@@ -1,9 +1,10 @@
 -- The edge and halo lines of a module rise, those with a `*` by their cells, the others by time and cell.
 use Rattle.std.proofs.Common.{◌≡◌, ℕ, ◌+◌, Bool, true, false, ◌||◌, List, [], ◌∷◌, Option, Some, None, Ordering, Less}
-use Rattle.std.proofs.Common.{Equal, Greater, refl, ap, subst, ◌∙◌, arith, map}
+use Rattle.std.proofs.Common.{Equal, Greater, refl, arith, map}
 use Rattle.std.specs.List.{flat_map, list_all}
 use Rattle.std.specs.Ordering.{nat_cmp, is_lt, ordering_then}
 use Rattle.std.proofs.lemmas.Bool.{and_parts}
+use Rattle.std.proofs.lemmas.Grind.{common_steps}
 use Rattle.module_box.specs.Moments.{cell_cmp, moment_cmp}
 use Rattle.module_box.specs.Schedules.{IsRising, moment_of, cell_of as all_times_cell}
 use Rattle.module_box.specs.declared.schedules.TimedSignal.{TimedSignal}
@@ -114,12 +115,10 @@ halo_alone (Halo e) = (tt, tt)
 halo_alone (Stop s) = tt
 
 pub edges_rise : (lines : List CertificateLine) → AreInOrder lines → Pairs Before (flat_map edge_in lines)
-edges_rise lines o = pairs_flat (λ i j. may_precede i j ≡ true) Before edge_in edges_between edge_alone lines
-    (pairs_of_order lines o)
+edges_rise lines o = grind (arith, common_steps, pairs_flat, edges_between, edge_alone, pairs_of_order)
 
 pub halos_rise : (lines : List CertificateLine) → AreInOrder lines → Pairs Before (flat_map halo_in lines)
-halos_rise lines o = pairs_flat (λ i j. may_precede i j ≡ true) Before halo_in halos_between halo_alone lines
-    (pairs_of_order lines o)
+halos_rise lines o = grind (arith, common_steps, pairs_flat, halos_between, halo_alone, pairs_of_order)
 
 -- ---- what the lines say
 
@@ -142,10 +141,7 @@ earlier_later a b Greater h = grind arith
 
 both_timed : (a b : Option ℕ) (t v : ℕ) (c : Ordering) → a ≡ Some t → b ≡ Some v →
     ordering_then (nat_cmp (time_rank a) (time_rank b)) c ≡ Less → ordering_then (nat_cmp t v) c ≡ Less
-both_timed (Some a) (Some b) t v c s u h =
-    let e : nat_cmp a b ≡ nat_cmp (a + 1) (b + 1) = earlier_later a b _ refl in
-    subst (λ x. ordering_then (nat_cmp x v) c ≡ Less) (some_is a t s)
-    (subst (λ y. ordering_then (nat_cmp a y) c ≡ Less) (some_is b v u) (ap (λ o. ordering_then o c) e ∙ h))
+both_timed (Some a) (Some b) t v c s u h = grind (arith, common_steps, earlier_later, some_is)
 both_timed None b t v c s u h = absurd cc
 both_timed (Some a) None t v c s u h = absurd cc
 
@@ -192,15 +188,11 @@ module _ (σ : BorderLine → Signal) where
 
   all_times_pairs : (es : List BorderLine) → Pairs Before es →
       Pairs HeldBefore (flat_map (λ e. all_times_of_line e e.time (σ e)) es)
-  all_times_pairs es p = pairs_flat Before HeldBefore (λ e. all_times_of_line e e.time (σ e))
-      (λ d. all_times_by_time d d.time refl)
-      (λ d. all_times_alone d d.time) es p
+  all_times_pairs es p = grind (arith, common_steps, pairs_flat, all_times_by_time, all_times_alone)
 
   event_pairs : (es : List BorderLine) → Pairs Before es →
       Pairs EventBefore (flat_map (λ e. events_of_line e e.time (σ e)) es)
-  event_pairs es p = pairs_flat Before EventBefore (λ e. events_of_line e e.time (σ e))
-      (λ d. event_by_time d d.time refl)
-      (λ d. event_alone d d.time) es p
+  event_pairs es p = grind (arith, common_steps, pairs_flat, event_by_time, event_alone)
 
   -- also by other numbers of the wires
   pub all_times_rises : (f : ℕ → ℕ) (es : List BorderLine) → Pairs Before es → (hs : List AllTimes) →

@@ -1,11 +1,11 @@
 -- Lists of what cells carry and must be, that grow row by row.
-use Rattle.std.proofs.Common.{◌≡◌, ℕ, zero, suc, ◌+◌, ◌-◌, ◌<◌, ◌≤◌, List, [], ◌∷◌, ◌++◌, map, replicate, append-nil}
-use Rattle.std.proofs.Common.{append_assoc, pos, true, refl, sym, ap, ap₂, subst, to_z, w32, ◌∙◌, arith, All, flat_map}
+use Rattle.std.proofs.Common.{◌≡◌, ℕ, zero, suc, ◌+◌, ◌-◌, ◌<◌, ◌≤◌, List, [], ◌∷◌, ◌++◌, map, replicate}
+use Rattle.std.proofs.Common.{pos, true, refl, sym, ap, to_z, w32, ◌∙◌, arith, All, flat_map}
 use Rattle.std.specs.List.{range_with_len}
 use Rattle.std.proofs.lemmas.List.{map-append}
 use Rattle.std.proofs.lemmas.Bool.{and_from}
-use Rattle.std.proofs.lemmas.List.Elements.{All-append, All-push}
 use Rattle.std.proofs.lemmas.Simd.{get_or-replicate, length-replicate}
+use Rattle.std.proofs.lemmas.Grind.{common_steps}
 use Rattle.bbm_rule.specs.declared.block.Cell.{Cell}
 use Rattle.bbm_rule.proofs.Spans.{span_from}
 use Rattle.circuit.specs.Meaning.{Circuit, wires}
@@ -39,17 +39,13 @@ mapped_same : {A B : Type 0} (g : A → B) (f : Cell → B) (v : A) (x n y : ℕ
     ((j : ℕ) → x ≤ j → j < x + n → f (cell j y) ≡ g v) → map g (replicate n v) ≡ map f (row_cells x n y)
 mapped_same g f v x zero y same = refl
 mapped_same g f v x (suc n) y same =
-    ap₂ (λ b bs. b ∷ bs) (sym (same x (omega arith) (omega arith)))
-    (mapped_same g f v (x + 1) n y (λ j low high. same j (omega arith) (omega arith)))
+    grind (arith, common_steps, mapped_same g f v (x + 1) n y (λ j low high. same j (omega arith) (omega arith)))
 
 module _ {A B : Type 0} (g : A → B) (f : Cell → B) (first old new : List A) (x k y : ℕ) (from : x ≤ k)
     (was : map g old ≡ map g first ++ map f (row_cells x (k - x) y)) where
   grown : (cells : List Cell) (values : List A) → new ≡ old ++ values → map g values ≡ map f cells →
       map g new ≡ map g first ++ map f (row_cells x (k - x) y ++ cells)
-  grown cells values pushed same =
-      ap (map g) pushed ∙ map-append g old values ∙ ap₂ (λ bs cs. bs ++ cs) was same
-      ∙ append_assoc (map g first) (map f (row_cells x (k - x) y)) (map f cells)
-      ∙ ap (λ (l : List B). map g first ++ l) (sym (map-append f (row_cells x (k - x) y) cells))
+  grown cells values pushed same = grind (arith, common_steps, map-append)
 
   -- the same value for the cells up to the column n
   pub grow_same : (v : A) (n : ℕ) → k ≤ n → new ≡ old ++ replicate (n - k) v →
@@ -89,22 +85,13 @@ grow_row g f old new x w y k from was now =
 
 pub all_same : {A : Type 0} (P : A → Type 0) (old new : List A) (n : ℕ) (v : A) → new ≡ old ++ replicate n v → P v →
     All P old → All P new
-all_same P old new n v pushed own all =
-    subst (All P) (sym pushed) (All-append P old (replicate n v) all
-    (λ k d l. subst P (sym (get_or-replicate n k v d (omega (arith, length-replicate n v)))) own))
+all_same P old new n v pushed own all = grind (arith, common_steps, get_or-replicate, length-replicate)
 
 -- ---- the lists of a row
 
 pub add_none : (c : Circuit) (p : Pattern) (l : LocalNet) (first : CellLists) (x y : ℕ) →
     AddsCells c p l (row_cells x (x - x) y) first first
-add_none c p l first x y =
-    let n : x - x ≡ 0 = omega arith in
-    rw n (record {
-      starts = sym (append-nil (map (renumber_signal (circuit_wire l)) first.starts));
-      starts_own = λ own. own;
-      demands = sym (append-nil (map (renumber_demand (circuit_wire l)) first.demands));
-      demands_own = λ own. own;
-    })
+add_none c p l first x y = grind (arith, common_steps)
 
 module _ (c : Circuit) (p : Pattern) (l : LocalNet) (first old new : CellLists) (x k y : ℕ) (from : x ≤ k)
     (was : AddsCells c p l (row_cells x (k - x) y) first old) where
@@ -119,16 +106,8 @@ module _ (c : Circuit) (p : Pattern) (l : LocalNet) (first old new : CellLists) 
       ((j : ℕ) → k ≤ j → j < n → start_signal c p (pos j) (pos y) ≡ Zero) →
       ((j : ℕ) → k ≤ j → j < n → end_demand c p (pos j) (pos y) ≡ Demanded.Dead) →
       AddsCells c p l (row_cells x (n - x) y) first new
-  add_dead n le starts demands no_start no_demand = record {
-    starts = grow_same (renumber_signal (circuit_wire l)) starts_at first.starts old.starts new.starts
-        x k y from was.starts Zero n le starts no_start;
-    starts_own = λ own. all_same (IsSignalWireBelow (wires l.netlist)) old.starts new.starts (n - k) Zero starts tt
-        (was.starts_own own);
-    demands = grow_same (renumber_demand (circuit_wire l)) demands_at first.demands old.demands
-        new.demands x k y from was.demands Demanded.Dead n le demands no_demand;
-    demands_own = λ own. all_same (IsDemandWireBelow (wires l.netlist)) old.demands new.demands (n - k)
-        Demanded.Dead demands tt (was.demands_own own);
-  }
+  add_dead n le starts demands no_start no_demand =
+      grind (arith, common_steps, grow_same, starts_at, all_same, demands_at)
 
   pub add_cell : (start : Signal) (demand : Demand) → k < 512 → y < 512 →
       new.starts ≡ old.starts ++ start ∷ [] → new.demands ≡ old.demands ++ demand ∷ [] →
@@ -136,24 +115,14 @@ module _ (c : Circuit) (p : Pattern) (l : LocalNet) (first old new : CellLists) 
       IsSignalWireBelow (wires l.netlist) start →
       renumber_demand (circuit_wire l) demand ≡ end_demand c p (to_z w32 k) (to_z w32 y) →
       IsDemandWireBelow (wires l.netlist) demand → AddsCells c p l (row_cells x (k + 1 - x) y) first new
-  add_cell start demand low row starts demands own_start start_below own_demand demand_below = record {
-    starts = grow_cell (renumber_signal (circuit_wire l)) starts_at first.starts old.starts new.starts
-        x k y from was.starts start low row starts own_start;
-    starts_own = λ own. subst (All (IsSignalWireBelow (wires l.netlist))) (sym starts)
-        (All-push (IsSignalWireBelow (wires l.netlist)) old.starts start (was.starts_own own) start_below);
-    demands = grow_cell (renumber_demand (circuit_wire l)) demands_at first.demands old.demands
-        new.demands x k y from was.demands demand low row demands own_demand;
-    demands_own = λ own. subst (All (IsDemandWireBelow (wires l.netlist))) (sym demands)
-        (All-push (IsDemandWireBelow (wires l.netlist)) old.demands demand (was.demands_own own) demand_below);
-  }
+  add_cell start demand low row starts demands own_start start_below own_demand demand_below =
+      grind (arith, common_steps, grow_cell, starts_at, demands_at)
 
 -- a cell of a box, whose numbers were cast
 cell_inside : (b : Box2) (x y : ℕ) → b.x ≤ x → x < b.x + b.w → b.y ≤ y → y < b.y + b.h → in_box b (pos x) (pos y) ≡ true
 unfolding in_box
-cell_inside b x y left right top bottom =
-    and_from _ _ (span_from b.x b.w x left right) (span_from b.y b.h y top bottom)
+cell_inside b x y left right top bottom = grind (arith, common_steps, and_from, span_from)
 
 pub cast_inside : (b : Box2) (x y : ℕ) → x < 512 → y < 512 → b.x ≤ x → x < b.x + b.w → b.y ≤ y → y < b.y + b.h →
     in_box b (to_z w32 x) (to_z w32 y) ≡ true
-cast_inside b x y low row left right top bottom =
-    ap (λ (d : Cell). in_box b d.x d.y) (cast_cell x y low row) ∙ cell_inside b x y left right top bottom
+cast_inside b x y low row left right top bottom = grind (arith, common_steps, cast_cell, cell_inside)

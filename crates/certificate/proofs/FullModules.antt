@@ -1,8 +1,8 @@
 -- The modules of version 2 as modules of version 1
-use Rattle.std.proofs.Common.{◌≡◌, ℕ, zero, suc, ◌<◌, ◌≤◌, ℤ, Bool, true, false, not, ◌&&◌, ◌||◌, List, [], ◌∷◌, ◌++◌}
+use Rattle.std.proofs.Common.{◌≡◌, ℕ, zero, suc, ◌<◌, ◌≤◌, ℤ, Bool, true, false, ◌&&◌, ◌||◌, List, [], ◌∷◌, ◌++◌}
 use Rattle.std.proofs.Common.{map, length, Option, Some, None, Ordering, Less, Equal, Greater, option_map, refl, sym}
 use Rattle.std.proofs.Common.{ap, ap₂, subst, ◌∙◌, inl, inr, arith, ◌≢◌, slice_get, nat_lt, IfSome, IsTrue, All, filter}
-use Rattle.std.proofs.Common.{flat_map, option_to_list, is_lt, nat_cmp}
+use Rattle.std.proofs.Common.{flat_map, option_to_list, is_lt}
 use Rattle.std.specs.List.{list_all, list_any}
 use Rattle.std.specs.Ordering.{ordering_then}
 use Rattle.std.proofs.lemmas.Bool.{and_parts, cases_Bool, cond-true, cond-false, true≢false}
@@ -10,18 +10,18 @@ use Rattle.std.proofs.lemmas.Grind.{flat_map-append}
 use Rattle.std.proofs.lemmas.List.{length-map}
 use Rattle.std.proofs.lemmas.List.Elements.{All-nil, All-cons}
 use Rattle.std.proofs.lemmas.Option.{slice_get-map}
+use Rattle.std.proofs.lemmas.Grind.{common_steps}
 use Rattle.bbm_rule.specs.declared.block.Cell.{Cell}
 use Rattle.circuit.specs.Meaning.{wire_of}
 use Rattle.module_box.specs.Boxes.{in_box, in_halo, in_ring, Tile}
 use Rattle.module_box.specs.Locals.{AreLocalLines, local_wires}
-use Rattle.module_box.specs.Moments.{cell_cmp}
 use Rattle.module_box.specs.declared.boxes.Box2.{Box2}
 use Rattle.module_box.proofs.Rising.{cell_exact}
-use Rattle.certificate_lines.specs.Entries.{Setting, ModuleLines, areas, cut_in, use_in, keep_in, edge_in, halo_in}
+use Rattle.certificate_lines.specs.Entries.{Setting, ModuleLines, areas, edge_in, halo_in}
 use Rattle.certificate_lines.specs.Entries.{stop_in, cuts, gates, keeps, edges, halos, stops, known, cut_wires}
 use Rattle.certificate_lines.specs.Modules.{AreModules, StarsExcludeLaterTimes, HasPorts, IsEdge, IsHalo, IsKeep}
 use Rattle.certificate_lines.specs.Modules.{IsModule, IsStop}
-use Rattle.certificate_lines.specs.Orders.{AreInOrder, cell_of, line_cmp, may_precede, number_of, rank_of, time_rank}
+use Rattle.certificate_lines.specs.Orders.{AreInOrder, cell_of, line_cmp, may_precede, number_of, rank_of}
 use Rattle.certificate_lines.specs.Rules.{is_local, whole}
 use Rattle.certificate_lines.specs.Versions.{edge_lines_beside, in_order, precedes_halos, is_halo, is_haloless_version}
 use Rattle.certificate_lines.specs.Versions.{is_nonlocal_signal, lacks_edge_wire_beside, border_line_cmp}
@@ -31,7 +31,7 @@ use Rattle.certificate_lines.specs.declared.certificate_line.CertificateLine.{Ce
 use Rattle.certificate_lines.specs.declared.certificate_line.StopLine.{StopLine}
 use Rattle.certificate_lines.specs.declared.certificate_line.CertificateLine.TheVariants.{Module, Cut, Use, Keep, Edge}
 use Rattle.certificate_lines.specs.declared.certificate_line.CertificateLine.TheVariants.{Halo, Stop}
-use Rattle.certificate.proofs.BorderOrder.{Before, edges_rise, pairs_of_order}
+use Rattle.certificate.proofs.BorderOrder.{edges_rise, pairs_of_order}
 use Rattle.certificate_lines.proofs.LineOrder.{AreDistinct, In, Rises, each_in, filter_in, in_each, in_filter, in_flat}
 use Rattle.certificate_lines.proofs.LineOrder.{in_ordered, ordered_rises, pairs_filter, pairs_each, rising_distinct}
 use Rattle.certificate_lines.proofs.Lists.{any_at, some_is}
@@ -168,37 +168,20 @@ full_parts : {X : Type 0} (f : CertificateLine → List X) (lines : List Certifi
     flat_map f (lines_with_halos lines hs)
     ≡ flat_map f (filter precedes_halos lines) ++ flat_map f (map Halo hs)
     ++ flat_map f (map Stop (flat_map stop_in lines))
-full_parts f lines hs =
-    flat_map-append f (filter precedes_halos lines ++ map Halo hs) (map Stop (flat_map stop_in lines))
-    ∙ ap (λ l. l ++ flat_map f (map Stop (flat_map stop_in lines)))
-    (flat_map-append f (filter precedes_halos lines) (map Halo hs))
+full_parts f lines hs = grind (arith, common_steps, flat_map-append)
 
 pub other_lines : {X : Type 0} (f : CertificateLine → List X) → IsOfEarly f →
     (lines : List CertificateLine) (hs : List BorderLine) →
     flat_map f (lines_with_halos lines hs) ≡ flat_map f lines
-other_lines f none lines hs =
-    full_parts f lines hs
-    ∙ ap₂ (λ xs ys. flat_map f (filter precedes_halos lines) ++ xs ++ ys) (nothing_in f Halo none.halo hs)
-    (nothing_in f Stop none.stop (flat_map stop_in lines))
-    ∙ append_none (flat_map f (filter precedes_halos lines) ++ [])
-    ∙ append_none (flat_map f (filter precedes_halos lines))
-    ∙ early_same f none lines
+other_lines f none lines hs = grind (arith, common_steps, full_parts, nothing_in, append_none, early_same)
 
 pub halo_lines : (lines : List CertificateLine) (hs : List BorderLine) →
     flat_map halo_in (lines_with_halos lines hs) ≡ hs
-halo_lines lines hs =
-    full_parts halo_in lines hs
-    ∙ ap₂ (λ xs ys. xs ++ flat_map halo_in (map Halo hs) ++ ys) (early_halos lines)
-    (nothing_in halo_in Stop (λ s. refl) (flat_map stop_in lines))
-    ∙ append_none (flat_map halo_in (map Halo hs)) ∙ one_each halo_in Halo (λ e. refl) hs
+halo_lines lines hs = grind (arith, common_steps, full_parts, early_halos, nothing_in, append_none, one_each)
 
 pub stop_lines : (lines : List CertificateLine) (hs : List BorderLine) →
     flat_map stop_in (lines_with_halos lines hs) ≡ flat_map stop_in lines
-stop_lines lines hs =
-    full_parts stop_in lines hs
-    ∙ ap₂ (λ xs ys. xs ++ ys ++ flat_map stop_in (map Stop (flat_map stop_in lines))) (early_stops lines)
-    (nothing_in stop_in Halo (λ e. refl) hs)
-    ∙ one_each stop_in Stop (λ s. refl) (flat_map stop_in lines)
+stop_lines lines hs = grind (arith, common_steps, full_parts, early_stops, nothing_in, one_each)
 
 -- ---- their order
 
@@ -256,11 +239,7 @@ each_mapped P to (x ∷ xs) h = (h x (inl refl), each_mapped P to xs (λ y i. h 
 halo_pairs : (hs : List BorderLine) → Rises hs → Pairs (λ i j. may_precede i j ≡ true) (map Halo hs)
 unfolding Pairs
 halo_pairs [] p = tt
-halo_pairs (d ∷ hs) p = (
-  each_mapped (λ j. may_precede (Halo d) j ≡ true) Halo hs
-      (λ e i. halos_follow d e (each_in (λ x. border_line_cmp d x ≡ Less) hs p.0 e i)),
-  halo_pairs hs p.1,
-)
+halo_pairs (d ∷ hs) p = grind (arith, common_steps, halo_pairs hs p.1, each_mapped, halos_follow, each_in)
 
 -- the stops among lines
 unfoldable is_stop : CertificateLine → Bool
@@ -321,14 +300,12 @@ equal_parts Greater b h = absurd cc
 
 same_place : (d e : BorderLine) → border_line_cmp d e ≡ Equal → d.cell ≡ e.cell
 unfolding border_line_cmp
-same_place d e h = cell_exact d.cell e.cell
-    (equal_parts (nat_cmp (time_rank d.time) (time_rank e.time)) (cell_cmp d.cell e.cell) h)
+same_place d e h = grind (arith, common_steps, cell_exact, equal_parts)
 
 -- the edge lines of a module, as its lines are in order
 pub edges_rising : (lines : List CertificateLine) → AreInOrder lines → Rises (flat_map edge_in lines)
 unfolding border_line_cmp
-edges_rising lines o = pairs_each Before (λ d e. border_line_cmp d e ≡ Less) (λ d e h. h) (flat_map edge_in lines)
-    (edges_rise lines o)
+edges_rising lines o = grind (arith, common_steps, pairs_each, edges_rise)
 
 ring_inside : (b : Box2) (x y : ℤ) → in_ring b x y ≡ true → in_box b x y ≡ true
 unfolding in_ring
@@ -372,27 +349,17 @@ module _ (g : Setting) (ms : List ModuleLines) (good : AreModules g ms) where
   pub in_beside : (area : Box2) (e : BorderLine) → In e (edge_lines_beside g ms area) →
       (nat_lt 1 g.size.steps ≡ true) × (in_halo area e.cell.x e.cell.y ≡ true) × In e (flat_map edges ms)
   unfolding edge_lines_beside In
-  in_beside area e i = elim (cases_Bool (nat_lt 1 g.size.steps)) [
-    | inl long ↦ let r = in_filter (λ (e : BorderLine). in_halo area e.cell.x e.cell.y) e (flat_map edges ms)
-        (subst (In e) (cond-true _ _ _ long) i) in (long, r.1, r.0)
-    | inr short ↦ absurd (subst (In e) (cond-false _ _ _ short) i)
-  ]
+  in_beside area e i = grind (arith, common_steps, cases_Bool, in_filter, cond-true, cond-false)
 
   pub beside_in : (area : Box2) (e : BorderLine) → nat_lt 1 g.size.steps ≡ true →
       in_halo area e.cell.x e.cell.y ≡ true →
       In e (flat_map edges ms) → In e (edge_lines_beside g ms area)
   unfolding edge_lines_beside
-  beside_in area e long h i = subst (In e) (sym (cond-true _ _ _ long))
-      (filter_in (λ (e : BorderLine). in_halo area e.cell.x e.cell.y) e (flat_map edges ms) i h)
+  beside_in area e long h i = grind (arith, common_steps, cond-true, filter_in)
 
   pub distinct_beside : (area : Box2) → AreDistinct (edge_lines_beside g ms area)
   unfolding edge_lines_beside Pairs
-  distinct_beside area = elim (cases_Bool (nat_lt 1 g.size.steps)) [
-    | inl long ↦ subst AreDistinct (sym (cond-true _ _ _ long))
-        (pairs_filter (λ d e. border_line_cmp d e ≢ Equal) (λ (e : BorderLine). in_halo area e.cell.x e.cell.y)
-        (flat_map edges ms) all_distinct)
-    | inr short ↦ subst AreDistinct (sym (cond-false _ _ _ short)) tt
-  ]
+  distinct_beside area = grind (arith, common_steps, cases_Bool, cond-true, pairs_filter, all_distinct, cond-false)
 
   pub full_rises : (area : Box2) → Rises (in_order (edge_lines_beside g ms area))
   full_rises area = ordered_rises (edge_lines_beside g ms area) (distinct_beside area)
@@ -409,18 +376,15 @@ module _ (g : Setting) (ms : List ModuleLines) (good : AreModules g ms) where
 
     pub full_cuts : cuts full ≡ cuts m
     unfolding with_halos
-    full_cuts = other_lines cut_in (record { halo = λ e. refl; stop = λ s. refl }) m.lines
-        (in_order (edge_lines_beside g ms m.area))
+    full_cuts = grind (arith, common_steps, other_lines)
 
     pub full_gates : gates full ≡ gates m
     unfolding with_halos
-    full_gates = other_lines use_in (record { halo = λ e. refl; stop = λ s. refl }) m.lines
-        (in_order (edge_lines_beside g ms m.area))
+    full_gates = grind (arith, common_steps, other_lines)
 
     pub full_edges : edges full ≡ edges m
     unfolding with_halos
-    full_edges = other_lines edge_in (record { halo = λ e. refl; stop = λ s. refl }) m.lines
-        (in_order (edge_lines_beside g ms m.area))
+    full_edges = grind (arith, common_steps, other_lines)
 
     pub full_halos : halos full ≡ in_order (edge_lines_beside g ms m.area)
     unfolding with_halos
@@ -428,8 +392,7 @@ module _ (g : Setting) (ms : List ModuleLines) (good : AreModules g ms) where
 
     pub full_keeps : keeps full ≡ keeps m
     unfolding with_halos
-    full_keeps = other_lines keep_in (record { halo = λ e. refl; stop = λ s. refl }) m.lines
-        (in_order (edge_lines_beside g ms m.area))
+    full_keeps = grind (arith, common_steps, other_lines)
 
     pub full_stops : stops full ≡ stops m
     unfolding with_halos
@@ -444,11 +407,7 @@ module _ (g : Setting) (ms : List ModuleLines) (good : AreModules g ms) where
     one_or_local_wire : (s : Option (List ℕ)) → is_nonlocal_signal g.circuit (known g.circuit m) s ≡ false →
         IfSome s (λ name. IsTrue (is_local g.circuit (known g.circuit m) name))
     one_or_local_wire None h = tt
-    one_or_local_wire (Some name) h = not_not (is_local g.circuit (known g.circuit m) name) h
-      where
-        not_not : (b : Bool) → not b ≡ false → b ≡ true
-        not_not true h = refl
-        not_not false h = sym h
+    one_or_local_wire (Some name) h = grind (arith, common_steps)
 
     -- the edge lines beside it may be its halo lines
     halo_here : (e : BorderLine) → In e (edge_lines_beside g ms m.area) →
@@ -495,10 +454,7 @@ module _ (g : Setting) (ms : List ModuleLines) (good : AreModules g ms) where
 
     pub full_ports : HasPorts g m → HasPorts g full
     unfolding with_halos
-    full_ports h = record {
-      local = λ i p at inside. subst (λ ws. IsTrue (is_local g.circuit ws p.name)) (sym full_known)
-          (h.local i p at inside);
-    }
+    full_ports h = grind (arith, common_steps, full_known)
 
   -- ---- all modules
 
@@ -512,22 +468,13 @@ module _ (g : Setting) (ms : List ModuleLines) (good : AreModules g ms) where
 
   none_passes : {A : Type 0} (test : A → Bool) (xs : List A) → list_any test xs ≡ false → (x : A) → In x xs →
       test x ≡ false
-  none_passes test xs none x i = elim (cases_Bool (test x)) [
-    | inl holds ↦ absurd (let p = placed x xs i in true≢false (sym (any_at test xs p.0 x p.1 holds) ∙ none))
-    | inr fails ↦ fails
-  ]
+  none_passes test xs none x i = grind (arith, common_steps, cases_Bool, placed, true≢false, any_at)
 
   none_strange : lacks_edge_wire_beside g ms ≡ false → (m : ModuleLines) → In m ms → (e : BorderLine) →
       In e (edge_lines_beside g ms m.area) →
       is_nonlocal_signal g.circuit (known g.circuit m) e.signal ≡ false
   unfolding lacks_edge_wire_beside
-  none_strange none m at e i =
-      none_passes (λ (e : BorderLine). is_nonlocal_signal g.circuit (known g.circuit m) e.signal)
-      (edge_lines_beside g ms m.area)
-      (none_passes (λ (m : ModuleLines).
-      list_any (λ e. is_nonlocal_signal g.circuit (known g.circuit m) e.signal) (edge_lines_beside g ms m.area)) ms none
-      m at) e
-      i
+  none_strange none m at e i = grind (arith, common_steps, none_passes)
 
   pub full_modules : lacks_edge_wire_beside g ms ≡ false → AreModules g (map (with_halos g ms) ms)
   full_modules none = record {
@@ -551,19 +498,7 @@ full_areas_of_all g ms (n ∷ ns) = ap (λ bs. n.area ∷ bs) (full_areas_of_all
 pub meant_areas : (version : ℕ) (g : Setting) (ms : List ModuleLines) →
     areas (modules_by_version version g ms) ≡ areas ms
 unfolding modules_by_version
-meant_areas version g ms = elim (cases_Bool (is_haloless_version version)) [
-  | inl new ↦ ap areas (cond-true _ _ _ new) ∙ full_areas_of_all g ms ms
-  | inr old ↦ ap areas (cond-false _ _ _ old)
-]
-
--- and there are as many
-pub meant_count : (version : ℕ) (g : Setting) (ms : List ModuleLines) →
-    length (modules_by_version version g ms) ≡ length ms
-unfolding modules_by_version
-meant_count version g ms = elim (cases_Bool (is_haloless_version version)) [
-  | inl new ↦ ap length (cond-true _ _ _ new) ∙ length-map ms (with_halos g ms)
-  | inr old ↦ ap length (cond-false _ _ _ old)
-]
+meant_areas version g ms = grind (arith, common_steps, cases_Bool, cond-true, full_areas_of_all, cond-false)
 
 pub meant_old : (version : ℕ) (g : Setting) (ms : List ModuleLines) → is_haloless_version version ≡ false →
     modules_by_version version g ms ≡ ms

@@ -1,12 +1,12 @@
 -- Lists of the places of edge lines, as places are added
 use Rattle.std.proofs.Common.{◌≡◌, ℕ, zero, suc, ◌<◌, Bool, true, false, not, ◌&&◌, ◌||◌, if◌then◌else◌, eqb, List, []}
-use Rattle.std.proofs.Common.{◌∷◌, ◌++◌, length, map, get_or, Option, Some, refl, sym, ap, ap₂, subst, ◌∙◌, inl, inr}
-use Rattle.std.proofs.Common.{arith, append_assoc, ℤ, pos, ◌+ℤ◌, ◌-ℤ◌, slice_get, slice_set, filter, flat_map}
-use Rattle.std.proofs.Common.{option_to_list}
+use Rattle.std.proofs.Common.{◌∷◌, ◌++◌, length, map, get_or, Some, refl, sym, ap, ap₂, ◌∙◌, inl, inr}
+use Rattle.std.proofs.Common.{arith, append_assoc, ℤ, pos, ◌+ℤ◌, ◌-ℤ◌, slice_get, slice_set, filter}
 use Rattle.std.proofs.lemmas.Bool.{cases_Bool, cond-true, cond-false, eqb-true, eqb-false, and_parts, and_from}
 use Rattle.std.proofs.lemmas.List.{append-nil}
 use Rattle.std.proofs.lemmas.Option.{slice_get_within}
 use Rattle.std.proofs.lemmas.Grind.{flat_map-append}
+use Rattle.std.proofs.lemmas.Grind.{common_steps}
 use Rattle.bbm_rule.specs.Plane.{partner}
 use Rattle.bbm_rule.specs.Spans.{in_span}
 use Rattle.bbm_rule.specs.declared.block.Cell.{Cell}
@@ -15,7 +15,6 @@ use Rattle.module_box.specs.Boxes.{in_box, in_halo, IsEven}
 use Rattle.module_box.specs.Tiling.{AreOwners, Owning, owner_of, rectangle}
 use Rattle.module_box.specs.declared.boxes.Box2.{Box2}
 use Rattle.module_box.proofs.RingTests.{ring_read}
-use Rattle.certificate_lines.specs.Entries.{edge_in}
 use Rattle.certificate_lines.specs.declared.certificate_line.BorderLine.{BorderLine}
 use Rattle.certificate_lines.specs.declared.certificate_line.CertificateLine.{CertificateLine}
 use Rattle.certificate_lines.specs.declared.certificate_line.CertificateLine.TheVariants.{Edge}
@@ -58,20 +57,15 @@ module _ {X : Type 0} (f : X → List ℕ) where
 
 pub owner_within : (boxes : List Box2) (o : Owning) (x y : ℤ) → AreOwners o boxes →
     in_box (rectangle o) x y ≡ true → owner_of o x y < length boxes
-owner_within boxes o x y good inside =
-    let named = good.named x y inside in slice_get_within boxes (owner_of o x y) named.0 named.1
+owner_within boxes o x y good inside = grind (arith, common_steps, slice_get_within)
 
 module _ (boxes : List Box2) (o : Owning) (good : AreOwners o boxes) (x y : ℤ)
     (inside : in_box (rectangle o) x y ≡ true) where
   owner_is : (i : ℕ) (b : Box2) → slice_get boxes i ≡ Some b → in_box b x y ≡ true → i ≡ owner_of o x y
-  owner_is i b at here =
-      let named = good.named x y inside in
-      good.tile.once x y i (owner_of o x y) b named.0 at named.1 here named.2
+  owner_is i b at here = grind (arith, common_steps)
 
   owner_box : (b : Box2) → slice_get boxes (owner_of o x y) ≡ Some b → in_box b x y ≡ true
-  owner_box b at =
-      let named = good.named x y inside in
-      subst (λ (z : Box2). in_box z x y ≡ true) (some_is named.0 b (sym named.1 ∙ at)) named.2
+  owner_box b at = grind (arith, common_steps, some_is)
 
   same_box : (i : ℕ) (b a : Box2) → slice_get boxes i ≡ Some b → slice_get boxes (owner_of o x y) ≡ Some a →
       i ≡ owner_of o x y → b ≡ a
@@ -81,21 +75,7 @@ module _ (boxes : List Box2) (o : Owning) (good : AreOwners o boxes) (x y : ℤ)
     -- if that box is to have none
     pub no_place : (lists : List (List ℕ)) → q a ≡ true →
         HavePlace boxes (λ b. in_box b x y && not (q b)) place lists lists
-    no_place lists taken = record {
-      count = refl;
-      each = λ i b at.
-          let none : (in_box b x y && not (q b)) ≡ false = elim (cases_Bool (in_box b x y)) [
-            | inl here ↦ ap (λ t. in_box b x y && not t)
-                (ap q (same_box i b a at own (owner_is i b at here)) ∙ taken) ∙ and_none (in_box b x y)
-            | inr out ↦ ap (λ t. t && not (q b)) out
-          ] in
-          sym (append-nil (list_at_or_empty lists i))
-          ∙ ap (λ l. list_at_or_empty lists i ++ l) (sym (cond-false _ _ _ none));
-    }
-      where
-        and_none : (t : Bool) → (t && false) ≡ false
-        and_none true = refl
-        and_none false = refl
+    no_place lists taken = grind (arith, common_steps, cases_Bool, same_box, owner_is, append-nil, cond-false)
 
     pub one_place : (old new : List (List ℕ)) → q a ≡ false → length new ≡ length old →
         list_at_or_empty new (owner_of o x y) ≡ list_at_or_empty old (owner_of o x y) ++ place ∷ [] →
@@ -125,10 +105,7 @@ module _ (boxes : List Box2) (o : Owning) (good : AreOwners o boxes) (x y : ℤ)
 
 pub same_test : (boxes : List Box2) (p q : Box2 → Bool) (place : ℕ) (old new : List (List ℕ)) →
     ((b : Box2) → p b ≡ q b) → HavePlace boxes p place old new → HavePlace boxes q place old new
-same_test boxes p q place old new same h = record {
-  count = h.count;
-  each = λ i b at. h.each i b at ∙ ap (λ t. list_at_or_empty old i ++ (if t then place ∷ [] else [])) (same b);
-}
+same_test boxes p q place old new same h = grind (arith, common_steps)
 
 -- ---- a place more for each box that has a cell in its halo
 
@@ -209,10 +186,7 @@ not_true false h = absurd cc
 
 partner_in : (f n : ℕ) (z : ℤ) → in_span f n (z -ℤ pos 1) ≡ true → in_span f n (z +ℤ pos 1) ≡ true →
     in_span f n (partner 1 z) ≡ true
-partner_in f n z below above = elim (partner_near 1 z) [
-  | inl e ↦ ap (in_span f n) e ∙ above
-  | inr e ↦ ap (in_span f n) e ∙ below
-]
+partner_in f n z below above = grind (arith, common_steps, partner_near, above)
 
 -- the cells of its block at odd times are in the box too
 pub inner_block : (b : Box2) (c : Cell) → IsInnerCell b c →
@@ -234,11 +208,7 @@ inner_block b c inner =
 edges_more : (es : List CertificateLine) (l : List ℕ) (t : Bool) (place : ℕ) (e : BorderLine) →
     slice_get es place ≡ Some (Edge e) →
     edge_lines_at es (l ++ (if t then place ∷ [] else [])) ≡ edge_lines_at es l ++ (if t then e ∷ [] else [])
-edges_more es l true place e at =
-    let line = λ (k : ℕ). flat_map edge_in (option_to_list (slice_get es k)) in
-    let grown : edge_lines_at es (l ++ place ∷ []) ≡ edge_lines_at es l ++ (line place ++ []) =
-    flat_map-append line l (place ∷ []) in
-    grown ∙ ap (λ (m : Option CertificateLine). edge_lines_at es l ++ (flat_map edge_in (option_to_list m) ++ [])) at
+edges_more es l true place e at = grind (arith, common_steps, flat_map-append)
 edges_more es l false place e at = ap (edge_lines_at es) (append-nil l) ∙ sym (append-nil (edge_lines_at es l))
 
 module _ (es : List CertificateLine) (boxes : List Box2) where
@@ -251,8 +221,7 @@ module _ (es : List CertificateLine) (boxes : List Box2) where
   }
 
   pub no_edges : (lists : List (List ℕ)) → HaveEdges es boxes [] lists lists
-  no_edges lists =
-      record { count = refl; each = λ i b box. sym (append-nil (edge_lines_at es (list_at_or_empty lists i))) }
+  no_edges lists = grind (arith, common_steps, append-nil)
 
   pub edges_then : (more next : List BorderLine) (old l new : List (List ℕ)) → HaveEdges es boxes more old l →
       HaveEdges es boxes next l new → HaveEdges es boxes (more ++ next) old new
@@ -269,9 +238,4 @@ module _ (es : List CertificateLine) (boxes : List Box2) where
 
 pub still_ready : (boxes : List Box2) (o : Owning) (old new : List (List ℕ)) → AreReady boxes o old →
     length new ≡ length old → AreReady boxes o new
-still_ready boxes o old new h same = record {
-  small = h.small;
-  owners = h.owners;
-  even = h.even;
-  count = same ∙ h.count;
-}
+still_ready boxes o old new h same = grind (arith, common_steps)

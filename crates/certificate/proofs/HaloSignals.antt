@@ -4,6 +4,7 @@ use Rattle.std.proofs.Common.{Option, Some, None, Less, refl, sym, ap, ap₂, su
 use Rattle.std.proofs.Common.{nat_lt, unwrap_or, filter, flat_map}
 use Rattle.std.proofs.lemmas.Bool.{cases_Bool, cond-true, cond-false}
 use Rattle.std.proofs.lemmas.Bool.Decides.{nat_tests}
+use Rattle.std.proofs.lemmas.Grind.{common_steps}
 use Rattle.bbm_rule.specs.Plane.{is_at}
 use Rattle.bbm_rule.specs.declared.block.Cell.{Cell}
 use Rattle.circuit.specs.Meaning.{Circuit}
@@ -137,12 +138,7 @@ module _ (g : Setting) (ms : List ModuleLines) (good : AreModules g ms) (k : ℕ
   of_owner : (e : BorderLine) → In e (at_cell x y (in_order (edge_lines_beside g ms area))) →
       In e (at_cell x y (edges owner))
   unfolding at_cell
-  of_owner e i =
-      let r = in_filter (λ (e : BorderLine). is_at e.cell x y) e (in_order (edge_lines_beside g ms area)) i in
-      let b = in_beside g ms good area e (in_ordered e (edge_lines_beside g ms area) r.0) in
-      let n = in_flat edges e ms b.2 in
-      filter_in (λ (e : BorderLine). is_at e.cell x y) e (edges owner)
-      (subst (λ (m : ModuleLines). In e (edges m)) (owns e n.0 n.1 n.2 r.1) n.2) r.1
+  of_owner e i = grind (arith, common_steps, in_filter, in_beside, in_ordered, in_flat, filter_in, owns)
 
   of_halo : (e : BorderLine) → In e (at_cell x y (edges owner)) →
       In e (at_cell x y (in_order (edge_lines_beside g ms area)))

@@ -6,6 +6,7 @@ use Rattle.std.proofs.lemmas.Bool.{and_parts, cases_Bool, cond-true, cond-false}
 use Rattle.std.proofs.lemmas.List.{append-nil, drop_all, length-drop}
 use Rattle.std.proofs.lemmas.Option.{slice_get-get_or}
 use Rattle.std.proofs.lemmas.Bool.Decides.{nat_tests}
+use Rattle.std.proofs.lemmas.Grind.{common_steps}
 use Rattle.module_box.specs.Boxes.{in_box, in_halo, in_ring, IsEven}
 use Rattle.module_box.specs.declared.boxes.Box2.{Box2}
 use Rattle.certificate_lines.specs.Entries.{ModuleLines, Setting, areas, edge_in, edges, modules_of}
@@ -32,9 +33,7 @@ use Rattle.certificate.proofs.TimeLemmas.{inner_within}
 slice_left : {X : Type 0} (xs : List X) (n k : ℕ) → slice_get (drop n xs) k ≡ slice_get xs (n + k)
 slice_left xs zero k = ap (slice_get xs) (omega arith)
 slice_left [] (suc n) k = refl
-slice_left (x ∷ xs) (suc n) k =
-    let same : suc n + k ≡ suc (n + k) = omega arith in
-    slice_left xs n k ∙ ap (slice_get (x ∷ xs)) (sym same)
+slice_left (x ∷ xs) (suc n) k = grind (arith, common_steps, slice_left xs n k)
 
 none_at : (k : ℕ) (e : CertificateLine) → slice_get [] k ≡ Some e → ⊥
 none_at k e at = absurd cc
@@ -57,16 +56,11 @@ line_of_inner (x ∷ xs) k e at = elim (cases_Bool (is_module x)) [
 
 pub lines_from : (es : List CertificateLine) (from : ℕ) (lines : List CertificateLine) →
     lines ≡ inner (drop from es) → AreLinesFrom es from lines
-lines_from es from lines are k e at =
-    sym (slice_left es from k) ∙ line_of_inner (drop from es) k e (ap (λ l. slice_get l k) (sym are) ∙ at)
+lines_from es from lines are k e at = grind (arith, common_steps, slice_left, line_of_inner)
 
 pub few_from : (es lines : List CertificateLine) (place : ℕ) → lines ≡ inner (drop (place + 1) es) → place < length es →
     length es ≤ 4294967295 → place + 1 + length lines ≤ 4294967295
-few_from es lines place are lt few =
-    let within = inner_within (drop (place + 1) es) in
-    let rest = length-drop (place + 1) es in
-    let same = ap length are in
-    omega (arith, within, rest, same, lt, few)
+few_from es lines place are lt few = grind (arith, common_steps, inner_within, length-drop)
 
 module_line : (e : CertificateLine) → is_module e ≡ true → (b : Box2) × (e ≡ Module b)
 module_line (Module b) h = (b, refl)
@@ -83,23 +77,15 @@ module _ (es : List CertificateLine) (place : ℕ) (e : CertificateLine) (lt : p
   pub edges_of_module : is_module e ≡ true → (lines : List CertificateLine) → lines ≡ inner (drop (place + 1) es) →
       flat_map edges (modules_of (drop place es))
       ≡ flat_map edge_in lines ++ flat_map edges (modules_of (drop (place + 1) es))
-  edges_of_module here lines are =
-      let m = module_line e here in
-      ap (λ l. flat_map edges (modules_of l)) (line_here es place e lt is)
-      ∙ ap (λ i. flat_map edges (modules_of (i ∷ drop (place + 1) es))) m.1
-      ∙ ap (flat_map edges) (split_module m.0 (drop (place + 1) es))
-      ∙ ap (λ l. flat_map edge_in l ++ flat_map edges (modules_of (drop (place + 1) es))) (sym are)
+  edges_of_module here lines are = grind (arith, common_steps, module_line, line_here, split_module)
 
   pub edges_of_other : is_module e ≡ false →
       flat_map edges (modules_of (drop place es)) ≡ flat_map edges (modules_of (drop (place + 1) es))
-  edges_of_other other = ap (flat_map edges)
-      (ap modules_of (line_here es place e lt is) ∙ split_other e (drop (place + 1) es) other)
+  edges_of_other other = grind (arith, common_steps, line_here, split_other)
 
 pub none_more : (es : List CertificateLine) (place : ℕ) (more total : List BorderLine) → length es ≤ place →
     more ++ flat_map edges (modules_of (drop place es)) ≡ total → more ≡ total
-none_more es place more total le h =
-    sym (append-nil more)
-    ∙ ap (λ l. more ++ flat_map edges l) (sym (ap modules_of (drop_all place es le) ∙ nothing_left)) ∙ h
+none_more es place more total le h = grind (arith, common_steps, append-nil, drop_all, nothing_left)
 
 -- ---- modules that are good
 
@@ -140,10 +126,7 @@ module _ (g : Setting) (es : List CertificateLine) where
   pub none_placed : (lists : List (List ℕ)) → g.size.steps ≤ 1 → length lists ≡ length (modules_of es) →
       ((i : ℕ) → list_at_or_empty lists i ≡ []) → AreHaloPlaces g es lists
   unfolding edge_lines_beside
-  none_placed lists few count empty = record {
-    count = count;
-    each = λ i m at. ap (edge_lines_at es) (empty i) ∙ sym (cond-false _ _ _ (short g.size.steps few));
-  }
+  none_placed lists few count empty = grind (arith, common_steps, cond-false, short)
 
   pub all_placed : (boxes : List Box2) (old new : List (List ℕ)) → 1 < g.size.steps → boxes ≡ areas (modules_of es) →
       length old ≡ length (modules_of es) → ((i : ℕ) → list_at_or_empty old i ≡ []) →

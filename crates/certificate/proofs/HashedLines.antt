@@ -1,8 +1,9 @@
 -- Lines that are hashed one after the other
-use Rattle.std.proofs.Common.{◌≡◌, ℕ, ◌+◌, ◌<◌, ◌≤◌, List, [], ◌∷◌, ◌++◌, length, take, get_or, sym, ap, ◌∙◌}
-use Rattle.std.proofs.Common.{append_assoc, append-nil, refl, subst, codes, decimal, flat_map}
+use Rattle.std.proofs.Common.{arith, ◌≡◌, ℕ, ◌+◌, ◌<◌, ◌≤◌, List, [], ◌∷◌, ◌++◌, length, take, get_or, sym}
+use Rattle.std.proofs.Common.{append-nil, refl, subst, codes, decimal, flat_map}
 use Rattle.std.proofs.lemmas.Grind.{flat_map-append}
 use Rattle.std.proofs.lemmas.List.{take_all, take_more}
+use Rattle.std.proofs.lemmas.Grind.{common_steps}
 use Rattle.sha2.specs.Hashers.{Holds256}
 use Rattle.sha2.specs.declared.Sha256.{Sha256}
 use Rattle.section_text.specs.Spelling.{line_text}
@@ -18,13 +19,7 @@ pub one_more_hashed : (es : List CertificateLine) (i : ℕ) (e : CertificateLine
     e ≡ get_or es i e →
     Holds256 h ((m ++ flat_map entry_text (take i es)) ++ entry_text e) →
     Holds256 h (m ++ flat_map entry_text (take (i + 1) es))
-one_more_hashed es i e h m lt is holds =
-    let grown : take (i + 1) es ≡ take i es ++ e ∷ [] = take_more es i e lt ∙ ap (λ x. take i es ++ x ∷ []) (sym is) in
-    subst (Holds256 h)
-    (append_assoc m (flat_map entry_text (take i es)) (entry_text e)
-    ∙ ap (λ l. m ++ (flat_map entry_text (take i es) ++ l)) (sym (append-nil (entry_text e)))
-    ∙ ap (λ l. m ++ l) (sym (flat_map-append entry_text (take i es) (e ∷ [])))
-    ∙ ap (λ l. m ++ flat_map entry_text l) (sym grown)) holds
+one_more_hashed es i e h m lt is holds = grind (arith, common_steps, take_more, flat_map-append)
 
 pub all_hashed : (es : List CertificateLine) (i : ℕ) (h : Sha256) (m : List ℕ) → length es ≤ i →
     Holds256 h (m ++ flat_map entry_text (take i es)) → Holds256 h (m ++ flat_map entry_text es)

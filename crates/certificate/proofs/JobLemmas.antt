@@ -2,6 +2,7 @@
 use Rattle.std.proofs.Common.{◌≡◌, ℕ, ◌+◌, ◌<◌, ◌≤◌, ◌^◌, length, List, None, sym, ap, subst, ◌∙◌, arith, get_or}
 use Rattle.std.proofs.Common.{IsTrue, All}
 use Rattle.std.proofs.lemmas.Option.{slice_get-get_or, slice_get_within}
+use Rattle.std.proofs.lemmas.Grind.{common_steps}
 use Rattle.circuit.specs.Bridge.{circuit_of, netlist_of}
 use Rattle.circuit.specs.Meaning.{Netlist}
 use Rattle.circuit.specs.declared.circuit_line.CircuitLine.{CircuitLine}
@@ -41,21 +42,16 @@ pub within_layout : (g : Setting) (m : ModuleLines) (s : LayoutHeader) → s ≡
     IsModule g m →
     ((m.area.x + m.area.w ≤ g.size.w) × (m.area.x + m.area.w ≤ 512))
     × ((m.area.y + m.area.h ≤ g.size.h) × (m.area.y + m.area.h ≤ 512))
-within_layout g m s is limits h =
-    let near = within_512 g m s is limits h in ((h.inside.right, near.0), (h.inside.bottom, near.1))
+within_layout g m s is limits h = grind (arith, common_steps, within_512)
 
 -- the wires that edge and halo lines name are the module's
 pub edges_named : (g : Setting) (m : ModuleLines) (l : LocalNet) → l.circuit_wires ≡ known g.circuit m → IsModule g m →
     All (HasLocalWire g.circuit l) (edges m)
-edges_named g m l is h k d lt =
-    subst (λ ws. HasLocalWire g.circuit (record l { circuit_wires = ws }) (get_or (edges m) k d)) (sym is)
-    (h.edge_lines k d lt).border.signal
+edges_named g m l is h k d lt = grind (arith, common_steps)
 
 pub halos_named : (g : Setting) (m : ModuleLines) (l : LocalNet) → l.circuit_wires ≡ known g.circuit m → IsModule g m →
     All (HasLocalWire g.circuit l) (halos m)
-halos_named g m l is h k d lt =
-    subst (λ ws. HasLocalWire g.circuit (record l { circuit_wires = ws }) (get_or (halos m) k d)) (sym is)
-    (h.halo_lines k d lt).border.signal
+halos_named g m l is h k d lt = grind (arith, common_steps)
 
 -- ---- what was made of the lines, where ls are the lines of the circuit cs
 
@@ -66,18 +62,12 @@ few_gates ls cs n e count few = subst (λ k. k ≤ 1024) (count ∙ ap (λ l. le
 pub lists_local : (ls cs : List CircuitLine) (p : Pattern) (m : ModuleLines) (cw gs : List ℕ) → ls ≡ cs →
     cw ≡ cut_wires (circuit_of ls) m → gs ≡ gates m →
     IsModule (setting_of cs p) m → AreLocalLines (netlist_of ls) cw gs
-lists_local ls cs p m cw gs e ce ge h =
-    let of_lines : AreLocalLines (netlist_of ls) (cut_wires (circuit_of ls) m) (gates m) =
-    subst (λ l. AreLocalLines (netlist_of l) (cut_wires (circuit_of l) m) (gates m)) (sym e) h.local in
-    subst (λ c. AreLocalLines (netlist_of ls) c gs) (sym ce)
-    (subst (AreLocalLines (netlist_of ls) (cut_wires (circuit_of ls) m)) (sym ge) of_lines)
+lists_local ls cs p m cw gs e ce ge h = grind (arith, common_steps)
 
 pub wires_known : (ls cs : List CircuitLine) (m : ModuleLines) (cw gs ws : List ℕ) → ls ≡ cs →
     cw ≡ cut_wires (circuit_of ls) m → gs ≡ gates m →
     ws ≡ local_wires (netlist_of ls) cw gs → ws ≡ known (circuit_of cs) m
-wires_known ls cs m cw gs ws e ce ge we =
-    we ∙ ap (λ c. local_wires (netlist_of ls) c gs) ce
-    ∙ ap (local_wires (netlist_of ls) (cut_wires (circuit_of ls) m)) ge ∙ ap (λ l. known (circuit_of l) m) e
+wires_known ls cs m cw gs ws e ce ge we = grind (arith, common_steps)
 
 pub cut_count : (ls cs : List CircuitLine) (p : Pattern) (m : ModuleLines) (cw : List ℕ) (n : ℕ) → ls ≡ cs →
     cw ≡ cut_wires (circuit_of ls) m → n ≡ length cw →
@@ -87,8 +77,4 @@ cut_count ls cs p m cw n e ce ne h = ne ∙ ap length ce ∙ ap (λ l. length (c
 -- the gates that a module keeps are used
 pub keeps_used : (g : Setting) (m : ModuleLines) (gs : List ℕ) → gs ≡ gates m → IsModule g m →
     All (λ k. IsTrue (is_among gs k)) (keeps m)
-keeps_used g m gs is h k d lt =
-    subst (λ us. IsTrue (is_among us (get_or (keeps m) k d))) (sym is) (h.keep_lines k d lt).among
-
-pub few_used : (g : Setting) (m : ModuleLines) (gs : List ℕ) → gs ≡ gates m → IsModule g m → length gs ≤ 64
-few_used g m gs is h = subst (λ us. length us ≤ 64) (sym is) h.local.few_gates
+keeps_used g m gs is h k d lt = grind (arith, common_steps)

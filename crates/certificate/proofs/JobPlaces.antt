@@ -1,5 +1,6 @@
 -- A job whose lists have an element for each cell of its box
-use Rattle.std.proofs.Common.{◌≡◌, true, if◌then◌else◌, Bool, false, refl, ap, ◌∙◌, ℤ, slice_get, unwrap_or, IsTrue}
+use Rattle.std.proofs.Common.{arith, ◌≡◌, true, if◌then◌else◌, Bool, false, refl, ℤ, slice_get, unwrap_or, IsTrue}
+use Rattle.std.proofs.lemmas.Grind.{common_steps}
 use Rattle.circuit.specs.Meaning.{Circuit}
 use Rattle.pattern.specs.Layout.{Pattern}
 use Rattle.module_box.specs.Boxes.{in_box}
@@ -23,11 +24,7 @@ pub start_found : (c : Circuit) (p : Pattern) (b : Box2) (j : JobView) → j.are
     → (x y : ℤ) → IsTrue (in_box b x y) →
     renumber_signal (circuit_wire j.locals) (job_start j x y) ≡ start_signal c p x y
 unfolding job_start
-start_found c p b j is each x y h =
-    let inside : in_box j.area x y ≡ true = ap (λ (a : Box2). in_box a x y) is ∙ h in
-    ap (renumber_signal (circuit_wire j.locals))
-    (if_true (in_box j.area x y) _ Zero inside
-    ∙ ap (λ (a : Box2). unwrap_or (slice_get j.starts (place_in a x y)) Zero) is) ∙ each x y h
+start_found c p b j is each x y h = grind (arith, common_steps, if_true)
 
 pub demand_found : (c : Circuit) (p : Pattern) (b : Box2) (j : JobView) → j.area ≡ b
     → ((x y : ℤ) → IsTrue (in_box b x y) →
@@ -36,8 +33,4 @@ pub demand_found : (c : Circuit) (p : Pattern) (b : Box2) (j : JobView) → j.ar
     → (x y : ℤ) → IsTrue (in_box b x y) →
     renumber_demand (circuit_wire j.locals) (job_demand j x y) ≡ end_demand c p x y
 unfolding job_demand
-demand_found c p b j is each x y h =
-    let inside : in_box j.area x y ≡ true = ap (λ (a : Box2). in_box a x y) is ∙ h in
-    ap (renumber_demand (circuit_wire j.locals))
-    (if_true (in_box j.area x y) _ Demanded.Dead inside
-    ∙ ap (λ (a : Box2). unwrap_or (slice_get j.demands (place_in a x y)) Demanded.Dead) is) ∙ each x y h
+demand_found c p b j is each x y h = grind (arith, common_steps, if_true)

@@ -1,8 +1,10 @@
 -- The inverse gates that no module keeps
-use Rattle.std.proofs.Common.{◌≡◌, ℕ, ◌+◌, ◌<◌, ◌≤◌, ◌&&◌, Bool, not, cond, List, [], ◌∷◌, ◌++◌, drop, get_or, length}
-use Rattle.std.proofs.Common.{slice_get, Some, sym, ap, ap₂, ◌∙◌, append_assoc, add-one, drop-cons, drop_of_length-le}
+use Rattle.std.proofs.Common.{arith, ◌≡◌, ℕ, ◌+◌, ◌<◌, ◌≤◌, ◌&&◌, Bool, not, cond, List, [], ◌∷◌, ◌++◌, drop, get_or}
+use Rattle.std.proofs.Common.{length}
+use Rattle.std.proofs.Common.{slice_get, Some, sym, ap, ap₂, ◌∙◌, append_assoc, add-one, drop-cons}
 use Rattle.std.proofs.lemmas.List.{append-nil}
 use Rattle.std.proofs.lemmas.Option.{get_or_from_slice_get}
+use Rattle.std.proofs.lemmas.Grind.{common_steps}
 use Rattle.circuit.specs.Gates.{is_inverse}
 use Rattle.circuit.specs.Meaning.{Gate}
 use Rattle.certificate_lines.specs.Entries.{ModuleLines}
@@ -29,5 +31,4 @@ unkept_more all out new ms gs n g inverse kept within at is_inv is_kept more so_
 pub unkept_all : (all out : List ℕ) (ms : List ModuleLines) (gs : List Gate) (n : ℕ) → length gs ≤ n →
     out ++ unkept_from ms n (drop n gs) ≡ all → out ≡ all
 unfolding unkept_from
-unkept_all all out ms gs n past so_far =
-    sym (append-nil out) ∙ sym (ap (λ (l : List Gate). out ++ unkept_from ms n l) (drop_of_length-le gs past)) ∙ so_far
+unkept_all all out ms gs n past so_far = grind (arith, common_steps, append-nil)

@@ -11,6 +11,7 @@ use Rattle.std.proofs.lemmas.List.{append-nil, get_or-drop, get_or-take, length-
 use Rattle.std.proofs.lemmas.List.{take_all}
 use Rattle.std.proofs.lemmas.List.Elements.{All-head, All-tail}
 use Rattle.std.proofs.lemmas.List.Sums.{AllPass-from_list_all}
+use Rattle.std.proofs.lemmas.Grind.{common_steps}
 use Rattle.bbm_rule.proofs.BitLemmas.{by_lt_or_le}
 use Rattle.certificate_lines.specs.Entries.{cut_in, edge_in, halo_in, keep_in, stop_in, use_in}
 use Rattle.certificate_lines.specs.Orders.{AreInOrder, is_cut, line_cmp, may_precede, rank_of}
@@ -42,8 +43,7 @@ unfolding may_precede line_cmp
 no_higher_first i j lt = rw (sym (nat_cmp_is (rank_of i) (rank_of j) Greater lt)) (not_both_cuts i j lt)
 
 rank_rises : (i j : CertificateLine) → may_precede i j ≡ true → rank_of i ≤ rank_of j
-rank_rises i j h = by_lt_or_le (rank_of j) (rank_of i)
-    (λ lt. absurd (let never : true ≡ false = sym h ∙ no_higher_first i j lt in cc)) (λ le. le)
+rank_rises i j h = grind (arith, common_steps, by_lt_or_le, no_higher_first)
 
 pub ranks_rise : (lines : List CertificateLine) → AreInOrder lines → IsNonDecreasingBy rank_of lines
 unfolding AreInOrder

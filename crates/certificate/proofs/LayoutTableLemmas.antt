@@ -1,10 +1,12 @@
 -- The indexes of a layout's cells, and the ports in a module's box.
-use Rattle.std.proofs.Common.{◌≡◌, ℕ, ◌+◌, ℤ, Bool, true, false, ◌||◌, if◌then◌else◌, List, [], ◌∷◌, ◌++◌, map, ◌<◌}
+use Rattle.std.proofs.Common.{arith, ◌≡◌, ℕ, ◌+◌, ℤ, Bool, true, false, ◌||◌, if◌then◌else◌, List, [], ◌∷◌, ◌++◌, map}
+use Rattle.std.proofs.Common.{◌<◌}
 use Rattle.std.proofs.Common.{◌≤◌, get_or, length, Option, Some, None, refl, sym, ap, subst, ◌∙◌, slice_get, IsTrue}
-use Rattle.std.proofs.Common.{IfSome, option_map, flat_map}
+use Rattle.std.proofs.Common.{IfSome, flat_map}
 use Rattle.std.proofs.lemmas.List.Folds.{list_any-append}
 use Rattle.std.proofs.lemmas.List.Elements.{All-append}
 use Rattle.std.proofs.lemmas.Option.{slice_get-get_or, slice_get-map}
+use Rattle.std.proofs.lemmas.Grind.{common_steps}
 use Rattle.bbm_rule.specs.Plane.{is_at}
 use Rattle.bbm_rule.specs.declared.block.Cell.{Cell}
 use Rattle.circuit.specs.Bridge.{circuit_of}
@@ -114,13 +116,11 @@ end_nothing c p x y mirror h =
 -- the cells of a row that no grid has
 pub start_dead : (c : Circuit) (a : Inside) → AreLayoutTables a → (x y : ℤ) → live a.mirrors x y ≡ false →
     live a.others x y ≡ false → start_signal c a.layout.now x y ≡ Zero
-start_dead c a are x y mirror other =
-    sym (start_nothing c a.layout.now x y (sym (are.mirrors x y) ∙ mirror) (are.others x y other))
+start_dead c a are x y mirror other = grind (arith, common_steps, start_nothing)
 
 pub end_dead : (c : Circuit) (a : Inside) → AreLayoutTables a → (x y : ℤ) → live a.mirrors x y ≡ false →
     live a.others x y ≡ false → end_demand c a.layout.now x y ≡ Demanded.Dead
-end_dead c a are x y mirror other =
-    sym (end_nothing c a.layout.now x y (sym (are.mirrors x y) ∙ mirror) (are.others x y other))
+end_dead c a are x y mirror other = grind (arith, common_steps, end_nothing)
 
 pub start_mirror : (c : Circuit) (p : Pattern) (x y : ℤ) → in_rectangles p.mirrors x y ≡ true →
     One ≡ start_signal c p x y
@@ -142,18 +142,7 @@ no_port (q ∷ ports) x y e = no_port_here (is_at q.cell x y) (in_cells (map (λ
 
 port_cells_inside : (s : LayoutHeader) (ports : List Port) → AreOnBoard s ports →
     AllInLayout s (map (λ (q : Port). q.cell) ports)
-port_cells_inside s ports on k d lt =
-    let cell : Port → Cell = λ q. q.cell in
-    let at : slice_get (map cell ports) k ≡ Some (get_or (map cell ports) k d) =
-    slice_get-get_or (map cell ports) k d lt in
-    let there = some_mapped (slice_get ports k) cell (get_or (map cell ports) k d)
-    (sym (slice_get-map cell ports k) ∙ at) in
-    ap (λ (c : Cell). in_layout s c.x c.y) (sym there.2) ∙ on k there.0 there.1
-  where
-    some_mapped : (o : Option Port) (f : Port → Cell) (c : Cell) → option_map f o ≡ Some c →
-        (q : Port) × (o ≡ Some q) × (f q ≡ c)
-    some_mapped None f c e = absurd cc
-    some_mapped (Some q) f c e = (q, refl, cc)
+port_cells_inside s ports on k d lt = grind (arith, common_steps, slice_get-get_or, slice_get-map)
 
 abbrev IsInLayout : LayoutHeader → Cell → Type 0
 IsInLayout s c = in_layout s c.x c.y ≡ true
@@ -177,16 +166,10 @@ neither false b e = (refl, e)
 
 apart : (xs ys : List Cell) (x y : ℤ) → in_cells (xs ++ ys) x y ≡ false →
     (in_cells xs x y ≡ false) × (in_cells ys x y ≡ false)
-apart xs ys x y e = neither (in_cells xs x y) (in_cells ys x y)
-    (sym (list_any-append (λ (c : Cell). is_at c x y) xs ys) ∙ e)
+apart xs ys x y e = grind (arith, common_steps, neither, list_any-append)
 
 pub no_others : (p : Pattern) (x y : ℤ) → in_cells (non_mirror_cells p) x y ≡ false → HasMirrorOrNothing p x y
-no_others p x y e =
-    let outs = apart ((p.balls ++ p.wastes) ++ map (λ (q : Port). q.cell) p.ins)
-    (map (λ (q : Port). q.cell) p.outs) x y e in
-    let ins = apart (p.balls ++ p.wastes) (map (λ (q : Port). q.cell) p.ins) x y outs.0 in
-    let both = apart p.balls p.wastes x y ins.0 in
-    record { balls = both.0; wastes = both.1; ins = no_port p.ins x y ins.1; outs = no_port p.outs x y outs.1 }
+no_others p x y e = grind (arith, common_steps, apart, no_port)
 
 -- ---- the mirrors of a layout
 
@@ -210,11 +193,7 @@ pub mirrors_on_board : (p : Pattern) (s : LayoutHeader) → s ≡ p.size → Are
     (cells : List Cell) →
     cells ≡ flat_map rectangle_cells p.mirrors → AllInLayout s cells
 mirrors_on_board p s is good cells are k d lt =
-    let all = begins_inside p (subst (λ (t : LayoutHeader). AreGoodAfter t [] (parts_of p)) is good) in
-    let c = get_or cells k d in
-    let among_them : in_rectangles p.mirrors c.x c.y ≡ true =
-    sym (in_mirrors p.mirrors c.x c.y) ∙ ap (λ (l : List Cell). in_cells l c.x c.y) (sym are) ∙ among cells k d lt in
-    ap (λ (t : LayoutHeader). in_layout t c.x c.y) is ∙ in_mirrors_inside p all c.x c.y among_them
+    grind (arith, common_steps, begins_inside, in_mirrors, among, in_mirrors_inside)
 
 -- ---- the box of a module
 

@@ -1,10 +1,11 @@
 -- The signal of one line for its cell at its time
-use Rattle.std.proofs.Common.{◌≡◌, ℕ, ◌+◌, ◌==◌, Bool, true, false, not, ◌&&◌, ◌||◌, List, [], ◌∷◌, ◌++◌, Option, Some}
+use Rattle.std.proofs.Common.{◌≡◌, ℕ, ◌+◌, Bool, true, false, not, ◌&&◌, ◌||◌, List, [], ◌∷◌, ◌++◌, Option, Some}
 use Rattle.std.proofs.Common.{None, Ordering, Less, Greater, refl, sym, ap, ap₂, subst, ◌∙◌, inl, inr, arith, unwrap_or}
 use Rattle.std.proofs.Common.{flat_map, nat_cmp}
 use Rattle.std.specs.List.{list_all}
 use Rattle.std.specs.Ordering.{ordering_then}
 use Rattle.std.proofs.lemmas.Bool.{and_parts, cases_Bool, cond-true, cond-false, eqb-true, true≢false}
+use Rattle.std.proofs.lemmas.Grind.{common_steps}
 use Rattle.bbm_rule.specs.Plane.{is_at}
 use Rattle.bbm_rule.specs.declared.block.Cell.{Cell}
 use Rattle.circuit.specs.Meaning.{Circuit}
@@ -38,10 +39,7 @@ same_key d e time cell less =
     (sym cell) ∙ less)
 
 other_cell : (d e : BorderLine) → d.time ≡ e.time → border_line_cmp d e ≡ Less → is_at d.cell e.cell.x e.cell.y ≡ false
-other_cell d e time less = elim (cases_Bool (is_at d.cell e.cell.x e.cell.y)) [
-  | inl here ↦ absurd (same_key d e time (cell_same d.cell e.cell here) less)
-  | inr other ↦ other
-]
+other_cell d e time less = grind (arith, common_steps, cases_Bool, same_key, cell_same)
 
 -- a line with a `*` is not after one with a time
 ranked : (a : ℕ) (o : Ordering) → ordering_then (nat_cmp (a + 1) 0) o ≡ Less → ⊥
@@ -126,11 +124,7 @@ module _ (c : Circuit) where
 
   after_timed : (e d : BorderLine) (t : ℕ) → e.time ≡ Some t → border_line_cmp e d ≡ Less →
       is_starred_line_at e.cell d ≡ false
-  after_timed e d t et less = by d.time refl
-    where
-      by : (time : Option ℕ) → d.time ≡ time → is_starred_line_at e.cell d ≡ false
-      by None dt = absurd (timed_first e d t et dt less)
-      by (Some u) dt = ap (λ x. is_star x && same_cell e.cell d.cell) dt
+  after_timed e d t et less = grind (arith, common_steps, timed_first)
 
   timed_itself : (e : BorderLine) (t : ℕ) → e.time ≡ Some t → is_starred_line_at e.cell e ≡ false
   timed_itself e t et = ap (λ x. is_star x && same_cell e.cell e.cell) et
@@ -165,14 +159,7 @@ module _ (c : Circuit) where
       event_at (events_of_line e time s ++ rest) t e.cell.x e.cell.y ≡ Some s
   unfolding event_at
   event_first e None t s rest et = absurd cc
-  event_first e (Some u) t s rest et =
-      cond-true _ _ _ (ap₂ (λ a b. a && b) (same_time u t (some_same et)) (cell_itself e.cell))
-    where
-      some_same : {a b : ℕ} → ◌≡◌ {A = Option ℕ} (Some a) (Some b) → a ≡ b
-      some_same e = cc
-
-      same_time : (a b : ℕ) → a ≡ b → (a == b) ≡ true
-      same_time a b e = grind arith
+  event_first e (Some u) t s rest et = grind (arith, common_steps, cond-true, cell_itself)
 
   event_skips : (d e : BorderLine) (time : Option ℕ) (t : ℕ) → d.time ≡ time → e.time ≡ Some t →
       border_line_cmp d e ≡ Less →
@@ -180,11 +167,8 @@ module _ (c : Circuit) where
       event_at (events_of_line d time s ++ rest) t e.cell.x e.cell.y ≡ event_at rest t e.cell.x e.cell.y
   unfolding event_at
   event_skips d e None t dt et less s rest = refl
-  event_skips d e (Some u) t dt et less s rest = elim (cases_Bool (u == t)) [
-    | inl same ↦ event_past d (Some u) s rest t e.cell.x e.cell.y
-        (other_cell d e (dt ∙ ap Some (eqb-true u t same) ∙ sym et) less)
-    | inr other ↦ cond-false _ _ _ (ap (λ b. b && is_at d.cell e.cell.x e.cell.y) other)
-  ]
+  event_skips d e (Some u) t dt et less s rest =
+      grind (arith, common_steps, cases_Bool, event_past, other_cell, eqb-true, cond-false)
 
   event_there : (e : BorderLine) (t : ℕ) (es : List BorderLine) → Rises es → In e es → e.time ≡ Some t →
       event_at (events_of es) t e.cell.x e.cell.y ≡ Some (one_or_named_wire c e.signal)

@@ -1,14 +1,14 @@
 -- The stops and kept gates of the modules that lines mean are those of the lines
-use Rattle.std.proofs.Common.{◌≡◌, ℕ, ◌+◌, ◌&&◌, ◌||◌, Bool, not, if◌then◌else◌, List, [], ◌∷◌, ◌++◌, map, refl}
-use Rattle.std.proofs.Common.{ap, ap₂, ◌∙◌, inl, inr}
+use Rattle.std.proofs.Common.{arith, ◌≡◌, ℕ, ◌+◌, ◌||◌, List, [], ◌∷◌, ◌++◌, map, refl}
+use Rattle.std.proofs.Common.{ap, ap₂}
 use Rattle.std.proofs.lemmas.Bool.{cases_Bool}
-use Rattle.circuit.specs.Gates.{is_inverse}
+use Rattle.std.proofs.lemmas.Grind.{common_steps}
 use Rattle.circuit.specs.Meaning.{Circuit, Gate}
 use Rattle.module_box.specs.Locals.{is_among}
-use Rattle.certificate_lines.specs.Entries.{Setting, ModuleLines, keep_in, keeps, stops}
+use Rattle.certificate_lines.specs.Entries.{Setting, ModuleLines, keeps, stops}
 use Rattle.certificate.specs.Keeps.{is_kept, unkept, unkept_from}
-use Rattle.certificate.specs.Times.{all_stops, first_seen, last_seen, time_lines_of_gates, delay_and_meet_lines}
-use Rattle.certificate_lines.specs.Versions.{edge_lines_beside, in_order, is_haloless_version, modules_by_version}
+use Rattle.certificate.specs.Times.{all_stops, delay_and_meet_lines}
+use Rattle.certificate_lines.specs.Versions.{edge_lines_beside, in_order, modules_by_version}
 use Rattle.certificate_lines.specs.Versions.{with_halos}
 use Rattle.certificate.proofs.FullModules.{meant_new, meant_old, other_lines, stop_lines}
 
@@ -19,8 +19,7 @@ module _ (g : Setting) (ms : List ModuleLines) where
 
   keeps_full : (m : ModuleLines) → keeps (with_halos g ms m) ≡ keeps m
   unfolding with_halos
-  keeps_full m = other_lines keep_in (record { halo = λ e. refl; stop = λ s. refl }) m.lines
-      (in_order (edge_lines_beside g ms m.area))
+  keeps_full m = grind (arith, common_steps, other_lines)
 
   pub stops_of_all : (ns : List ModuleLines) → all_stops (map (with_halos g ms) ns) ≡ all_stops ns
   stops_of_all [] = refl
@@ -32,32 +31,22 @@ module _ (g : Setting) (ms : List ModuleLines) where
 
 pub stops_meant : (version : ℕ) (g : Setting) (ms : List ModuleLines) →
     all_stops (modules_by_version version g ms) ≡ all_stops ms
-stops_meant version g ms = elim (cases_Bool (is_haloless_version version)) [
-  | inl new ↦ ap all_stops (meant_new version g ms new) ∙ stops_of_all g ms ms
-  | inr old ↦ ap all_stops (meant_old version g ms old)
-]
+stops_meant version g ms = grind (arith, common_steps, cases_Bool, meant_new, stops_of_all, meant_old)
 
 pub times_meant : (version : ℕ) (g : Setting) (c : Circuit) (ms : List ModuleLines) →
     delay_and_meet_lines c (modules_by_version version g ms) ≡ delay_and_meet_lines c ms
-times_meant version g c ms = ap (λ ss. time_lines_of_gates (first_seen c ss) (last_seen c ss) c.netlist.gates)
-    (stops_meant version g ms)
+times_meant version g c ms = grind (arith, common_steps, stops_meant)
 
 pub kept_meant : (version : ℕ) (g : Setting) (ms : List ModuleLines) (k : ℕ) →
     is_kept (modules_by_version version g ms) k ≡ is_kept ms k
-kept_meant version g ms k = elim (cases_Bool (is_haloless_version version)) [
-  | inl new ↦ ap (λ ns. is_kept ns k) (meant_new version g ms new) ∙ kept_of_all g ms ms k
-  | inr old ↦ ap (λ ns. is_kept ns k) (meant_old version g ms old)
-]
+kept_meant version g ms k = grind (arith, common_steps, cases_Bool, meant_new, kept_of_all, meant_old)
 
 unkept_same : (ms ns : List ModuleLines) → ((k : ℕ) → is_kept ms k ≡ is_kept ns k) → (n : ℕ) (gs : List Gate) →
     unkept_from ms n gs ≡ unkept_from ns n gs
 unfolding unkept_from
 unkept_same ms ns same n [] = refl
-unkept_same ms ns same n (g ∷ gs) =
-    ap₂ (λ (b : Bool) (rest : List ℕ). (if is_inverse g.kind && not b then n ∷ [] else []) ++ rest) (same n)
-    (unkept_same ms ns same (n + 1) gs)
+unkept_same ms ns same n (g ∷ gs) = grind (arith, common_steps, unkept_same ms ns same (n + 1) gs)
 
 pub unkept_meant : (version : ℕ) (g : Setting) (ms : List ModuleLines) →
     unkept g (modules_by_version version g ms) ≡ unkept g ms
-unkept_meant version g ms = unkept_same (modules_by_version version g ms) ms
-    (kept_meant version g ms) 0 g.circuit.netlist.gates
+unkept_meant version g ms = grind (arith, common_steps, unkept_same, kept_meant)

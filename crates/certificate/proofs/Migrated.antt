@@ -1,15 +1,14 @@
 -- Lines that are good are good without the halo lines
-use Rattle.std.proofs.Common.{◌≡◌, ℕ, ◌≤◌, Bool, true, false, not, ◌&&◌, ◌||◌, if◌then◌else◌, List, [], ◌∷◌, ◌++◌, map}
-use Rattle.std.proofs.Common.{length, Option, Some, None, option_map, refl, sym, ap, ap₂, subst, ◌∙◌, arith, nat_le}
-use Rattle.std.proofs.Common.{nat_lt, filter, flat_map, fold, option_to_list}
+use Rattle.std.proofs.Common.{◌≡◌, ℕ, ◌≤◌, Bool, true, false, not, ◌&&◌, ◌||◌, List, [], ◌∷◌, ◌++◌, map}
+use Rattle.std.proofs.Common.{length, Option, Some, None, option_map, refl, sym, ap, ap₂, ◌∙◌, arith, nat_le}
+use Rattle.std.proofs.Common.{filter, flat_map, fold}
 use Rattle.std.specs.List.{list_all, list_any}
 use Rattle.std.proofs.lemmas.Bool.{and_parts}
 use Rattle.std.proofs.lemmas.Bool.Decides.{nat_tests}
 use Rattle.std.proofs.lemmas.List.{append-nil, length-map, map-append}
+use Rattle.std.proofs.lemmas.Grind.{common_steps}
 use Rattle.section_text.specs.Codes.{or_else, code_if}
-use Rattle.circuit.specs.Meaning.{Circuit, wire_of}
-use Rattle.module_box.specs.Boxes.{in_box, in_halo}
-use Rattle.module_box.specs.Locals.{local_wires}
+use Rattle.circuit.specs.Meaning.{Circuit}
 use Rattle.module_box.specs.declared.boxes.Box2.{Box2}
 use Rattle.certificate_lines.specs.Entries.{Setting, ModuleLines, add_line, areas, change_last, cut_in, cuts, edge_in}
 use Rattle.certificate_lines.specs.Entries.{edges, gates, halos, known, last_of, modules_of, last_module, stop_in}
@@ -18,13 +17,13 @@ use Rattle.certificate.specs.Laws.{AreFaultlessLines, GoodWithoutHalos, IsSectio
 use Rattle.certificate.specs.Grammars.{certificate_grammar}
 use Rattle.certificate_lines.specs.Modules.{AreModules}
 use Rattle.certificate_lines.specs.Orders.{may_follow, may_precede}
-use Rattle.certificate_lines.specs.Rules.{cut_fault, is_edge_place_and_time, is_starred_line_at, use_fault}
-use Rattle.certificate_lines.specs.Rules.{keep_line_code, is_stop_place_and_time, border_count, border_line_code}
-use Rattle.certificate_lines.specs.Rules.{border_limit, end_fault, entry_fault, body_line_code}
-use Rattle.certificate_lines.specs.Rules.{is_last_module_incomplete, is_local, has_nonlocal_port, leaves_gap}
+use Rattle.certificate_lines.specs.Rules.{cut_fault, use_fault}
+use Rattle.certificate_lines.specs.Rules.{keep_line_code, border_count, border_line_code}
+use Rattle.certificate_lines.specs.Rules.{end_fault, entry_fault, body_line_code}
+use Rattle.certificate_lines.specs.Rules.{is_last_module_incomplete, has_nonlocal_port, leaves_gap}
 use Rattle.certificate_lines.specs.Rules.{line_fault, module_fault, box_fault, is_misplaced, is_wrong_side, overlaps}
 use Rattle.certificate_lines.specs.Rules.{content_code}
-use Rattle.certificate_lines.specs.Versions.{AreGoodLines, edge_lines_beside, in_order, precedes_halos, is_halo}
+use Rattle.certificate_lines.specs.Versions.{AreGoodLines, edge_lines_beside, precedes_halos, is_halo}
 use Rattle.certificate_lines.specs.Versions.{is_haloless_version, is_nonlocal_signal, lacks_edge_wire_beside}
 use Rattle.certificate_lines.specs.Versions.{modules_by_version, haloless_module, with_halos, without_halos}
 use Rattle.certificate_lines.specs.declared.certificate_line.BorderLine.{BorderLine}
@@ -37,7 +36,7 @@ use Rattle.certificate_lines.proofs.ModulePushes.{both_none, no_code}
 use Rattle.certificate.proofs.Soundness.{faultless_modules}
 use Rattle.section_text.proofs.Good.{AreFaultless}
 use Rattle.section_text.specs.declared.code.RefusalCode.{RefusalCode}
-use Rattle.section_text.specs.declared.code.RefusalCode.TheVariants.{NoForm, PastLimit, OutOfOrder, MisplacedBox}
+use Rattle.section_text.specs.declared.code.RefusalCode.TheVariants.{PastLimit, MisplacedBox}
 use Rattle.section_text.specs.declared.code.RefusalCode.TheVariants.{SomethingMissing}
 
 pub without_append : (xs ys : List CertificateLine) → without_halos (xs ++ ys) ≡ without_halos xs ++ without_halos ys
@@ -66,13 +65,11 @@ alone (Stop s) o = refl
 stored_line : (i : CertificateLine) → is_halo i ≡ false → (m : ModuleLines) →
     haloless_module (module_with_line i m) ≡ module_with_line i (haloless_module m)
 unfolding haloless_module without_halos is_halo
-stored_line i other m = ap (λ l. record m { lines = l })
-    (without_append m.lines (i ∷ []) ∙ ap (λ l. without_halos m.lines ++ l) (alone i other))
+stored_line i other m = grind (arith, common_steps, without_append, alone)
 
 dropped_line : (e : BorderLine) (m : ModuleLines) → haloless_module (module_with_line (Halo e) m) ≡ haloless_module m
 unfolding haloless_module without_halos is_halo
-dropped_line e m = ap (λ l. record m { lines = l })
-    (without_append m.lines (Halo e ∷ []) ∙ append-nil (without_halos m.lines))
+dropped_line e m = grind (arith, common_steps, without_append, append-nil)
 
 inner_step : (i : CertificateLine) → is_halo i ≡ false → (ms : List ModuleLines) →
     map haloless_module (change_last (module_with_line i) ms)
@@ -95,24 +92,19 @@ modules_on : (es : List CertificateLine) (ms : List ModuleLines) →
 unfolding without_halos is_halo add_line
 modules_on [] ms = refl
 modules_on (Module b ∷ es) ms =
-    ap (λ l. fold add_line l (without_halos es)) (sym (module_step b ms))
-    ∙ modules_on es (ms ++ record { area = b; lines = [] } ∷ [])
+    grind (arith, common_steps, modules_on es (ms ++ record { area = b; lines = [] } ∷ []), module_step)
 modules_on (Cut n ∷ es) ms = ap (λ l. fold add_line l (without_halos es)) (sym (inner_step (Cut n) refl ms))
     ∙ modules_on es (change_last (module_with_line (Cut n)) ms)
 modules_on (Use k ∷ es) ms = ap (λ l. fold add_line l (without_halos es)) (sym (inner_step (Use k) refl ms))
     ∙ modules_on es (change_last (module_with_line (Use k)) ms)
 modules_on (Keep k ∷ es) ms =
-    ap (λ l. fold add_line l (without_halos es)) (sym (inner_step (Keep k) refl ms))
-    ∙ modules_on es (change_last (module_with_line (Keep k)) ms)
+    grind (arith, common_steps, modules_on es (change_last (module_with_line (Keep k)) ms), inner_step)
 modules_on (Edge e ∷ es) ms =
-    ap (λ l. fold add_line l (without_halos es)) (sym (inner_step (Edge e) refl ms))
-    ∙ modules_on es (change_last (module_with_line (Edge e)) ms)
+    grind (arith, common_steps, modules_on es (change_last (module_with_line (Edge e)) ms), inner_step)
 modules_on (Halo e ∷ es) ms =
-    ap (λ l. fold add_line l (without_halos es)) (sym (halo_step e ms))
-    ∙ modules_on es (change_last (module_with_line (Halo e)) ms)
+    grind (arith, common_steps, modules_on es (change_last (module_with_line (Halo e)) ms), halo_step)
 modules_on (Stop s ∷ es) ms =
-    ap (λ l. fold add_line l (without_halos es)) (sym (inner_step (Stop s) refl ms))
-    ∙ modules_on es (change_last (module_with_line (Stop s)) ms)
+    grind (arith, common_steps, modules_on es (change_last (module_with_line (Stop s)) ms), inner_step)
 
 pub modules_without : (es : List CertificateLine) → modules_of (without_halos es) ≡ map haloless_module (modules_of es)
 unfolding modules_of
@@ -149,13 +141,11 @@ module _ (g : Setting) (m : ModuleLines) where
   stops_kept = without_same stop_in (λ e. refl) m.lines
 
   pub known_kept : known g.circuit (haloless_module m) ≡ known g.circuit m
-  known_kept = ap₂ (λ cs gs. local_wires g.circuit.netlist (flat_map (λ n. option_to_list (wire_of g.circuit n)) cs) gs)
-      cuts_kept gates_kept
+  known_kept = grind (arith, common_steps, cuts_kept, gates_kept)
 
   lacks_kept : has_nonlocal_port g (haloless_module m) ≡ has_nonlocal_port g m
   unfolding has_nonlocal_port haloless_module
-  lacks_kept = ap (λ ws. list_any (λ p. in_box m.area p.cell.x p.cell.y && not (is_local g.circuit ws p.name)) g.ports)
-      known_kept
+  lacks_kept = grind (arith, common_steps, known_kept)
 
   fewer_halos : length (halos (haloless_module m)) ≡ 0
   unfolding haloless_module
@@ -218,9 +208,7 @@ smaller limit n k le h = grind (arith, nat_tests)
 border_less : (c : Circuit) (n k : ℕ) (local : List ℕ) (placed : Bool) (s : Option (List ℕ)) → n ≤ k →
     border_line_code c k local placed s ≡ None → border_line_code c n local placed s ≡ None
 unfolding border_line_code
-border_less c n k local placed s le h =
-    let parts = both_none _ _ h in
-    none_both _ _ (coded _ PastLimit (smaller border_limit n k le (no_code _ PastLimit parts.0))) parts.1
+border_less c n k local placed s le h = grind (arith, common_steps, both_none, none_both, coded, smaller, no_code)
 
 words_kept : (g : Setting) (m : ModuleLines) (i : CertificateLine) → is_halo i ≡ false → content_code g m i ≡ None →
     content_code g (haloless_module m) i ≡ None
@@ -229,29 +217,14 @@ words_kept g m (Module b) o h = refl
 words_kept g m (Cut n) o h = ap₂ (λ cs ws. cut_fault g.circuit (length cs) ws n) (cuts_kept g m) (known_kept g m) ∙ h
 words_kept g m (Use k) o h = ap₂ (λ gs ws. use_fault g.circuit (length gs) ws k) (gates_kept g m) (known_kept g m) ∙ h
 words_kept g m (Keep k) o h = ap (λ gs. keep_line_code g.circuit gs k) (gates_kept g m) ∙ h
-words_kept g m (Edge e) o h =
-    border_less g.circuit (border_count (haloless_module m)) (border_count m)
-    (known g.circuit (haloless_module m)) _ e.signal
-    (fewer g m)
-    (ap₂ (λ es ws. border_line_code g.circuit (border_count m) ws
-    (is_edge_place_and_time g.size m.area (list_any (is_starred_line_at e.cell) es) e) e.signal) (edges_kept g m)
-    (known_kept g m) ∙ h)
+words_kept g m (Edge e) o h = grind (arith, common_steps, border_less, fewer, edges_kept, known_kept)
 words_kept g m (Halo e) o h = absurd cc
-words_kept g m (Stop s) o h =
-    border_less g.circuit (border_count (haloless_module m)) (border_count m) (known g.circuit (haloless_module m)) _
-    (Some s.wire)
-    (fewer g m)
-    (ap (λ ws. border_line_code g.circuit (border_count m) ws (is_stop_place_and_time g.size m.area s) (Some s.wire))
-    (known_kept g m) ∙ h)
+words_kept g m (Stop s) o h = grind (arith, common_steps, border_less, fewer, known_kept)
 
 line_kept : (g : Setting) (m : ModuleLines) (i : CertificateLine) → is_halo i ≡ false → line_fault g m i ≡ None →
     line_fault g (haloless_module m) i ≡ None
 unfolding haloless_module
-line_kept g m i o h =
-    let parts = both_none _ (content_code g m i) h in
-    none_both _ (content_code g (haloless_module m) i)
-    (ap (λ b. code_if (not b) OutOfOrder) (follow_less m.lines i (true_of _ (no_code _ OutOfOrder parts.0))))
-    (words_kept g m i o parts.1)
+line_kept g m i o h = grind (arith, common_steps, both_none, none_both, follow_less, true_of, no_code, words_kept)
 
 inner_kept : (g : Setting) (p : Option ModuleLines) (i : CertificateLine) → is_halo i ≡ false →
     body_line_code g p i ≡ None →
@@ -324,8 +297,7 @@ good_more : (g : Setting) (i : CertificateLine) (es before : List CertificateLin
     entry_fault g before i ≡ None →
     AreGoodLines g (without_halos (before ++ i ∷ [])) (without_halos es) →
     AreGoodLines g (without_halos before) (i ∷ without_halos es)
-good_more g i es before o good later =
-    (entry_kept g before i o good, subst (λ bs. AreGoodLines g bs (without_halos es)) (without_one before i o) later)
+good_more g i es before o good later = grind (arith, common_steps, entry_kept, without_one)
 
 pub good_on : (g : Setting) (es before : List CertificateLine) → AreGoodLines g before es →
     AreGoodLines g (without_halos before) (without_halos es)
@@ -342,8 +314,7 @@ good_on g (Keep k ∷ es) before good =
 good_on g (Edge e ∷ es) before good =
     good_more g (Edge e) es before refl good.0 (good_on g es (before ++ Edge e ∷ []) good.1)
 good_on g (Halo e ∷ es) before good =
-    subst (λ bs. AreGoodLines g bs (without_halos es)) (without_last before e)
-    (good_on g es (before ++ Halo e ∷ []) good.1)
+    grind (arith, common_steps, good_on g es (before ++ Halo e ∷ []) good.1, without_last)
 good_on g (Stop s ∷ es) before good =
     good_more g (Stop s) es before refl good.0 (good_on g es (before ++ Stop s ∷ []) good.1)
 
@@ -363,9 +334,7 @@ edges_stripped g (m ∷ ms) = ap₂ (λ xs ys. xs ++ ys) (edges_kept g m) (edges
 beside_stripped : (g : Setting) (ms : List ModuleLines) (area : Box2) →
     edge_lines_beside g (map haloless_module ms) area ≡ edge_lines_beside g ms area
 unfolding edge_lines_beside
-beside_stripped g ms area = ap
-    (λ es. if nat_lt 1 g.size.steps then filter (λ (e : BorderLine). in_halo area e.cell.x e.cell.y) es else [])
-    (edges_stripped g ms)
+beside_stripped g ms area = grind (arith, common_steps, edges_stripped)
 
 early_without : (lines : List CertificateLine) →
     filter precedes_halos (without_halos lines) ≡ filter precedes_halos lines
@@ -382,16 +351,7 @@ early_without (Stop s ∷ lines) = early_without lines
 full_same : (g : Setting) (ms : List ModuleLines) (m : ModuleLines) →
     with_halos g (map haloless_module ms) (haloless_module m) ≡ with_halos g ms m
 unfolding with_halos haloless_module
-full_same g ms m =
-    ap₂ (λ (lines : List CertificateLine) (hs : List BorderLine).
-    record m { lines = lines ++ map Halo (in_order hs) ++ map Stop (stops (haloless_module m)) })
-    (early_without m.lines)
-    (beside_stripped g ms m.area)
-    ∙ ap
-    (λ ss.
-    record m
-    { lines = filter precedes_halos m.lines ++ map Halo (in_order (edge_lines_beside g ms m.area)) ++ map Stop ss })
-    (stops_kept g m)
+full_same g ms m = grind (arith, common_steps, early_without, beside_stripped, stops_kept)
 
 fulls_same : (g : Setting) (ms ns : List ModuleLines) →
     map (with_halos g (map haloless_module ms)) (map haloless_module ns) ≡ map (with_halos g ms) ns
@@ -400,8 +360,7 @@ fulls_same g ms (n ∷ ns) = ap₂ (λ x xs. x ∷ xs) (full_same g ms n) (fulls
 
 pub migrated_modules : (g : Setting) (es : List CertificateLine) →
     modules_by_version 2 g (modules_of (without_halos es)) ≡ map (with_halos g (modules_of es)) (modules_of es)
-migrated_modules g es = meant_new 2 g (modules_of (without_halos es)) refl
-    ∙ ap (λ ms. map (with_halos g ms) ms) (modules_without es) ∙ fulls_same g (modules_of es) (modules_of es)
+migrated_modules g es = grind (arith, common_steps, meant_new, modules_without, fulls_same)
 
 lacks_one : (g : Setting) (ms : List ModuleLines) (m : ModuleLines) →
     list_any (λ e. is_nonlocal_signal g.circuit (known g.circuit (haloless_module m)) e.signal)
@@ -429,10 +388,7 @@ migrated_lacks g es = ap (lacks_edge_wire_beside g) (modules_without es) ∙ lac
 
 good_of : (g : Setting) (es before : List CertificateLine) → AreFaultlessLines g 1 before es → AreGoodLines g before es
 good_of g [] before h = tt
-good_of g (i ∷ es) before h = (
-  (both_none (code_if (is_haloless_version 1 && is_halo i) NoForm) (entry_fault g before i) h.0).1,
-  good_of g es (before ++ i ∷ []) h.1,
-)
+good_of g (i ∷ es) before h = grind (arith, common_steps, good_of g es (before ++ i ∷ []) h.1, both_none)
 
 faultless_two : (g : Setting) (es before : List CertificateLine) → AreGoodLines g before (without_halos es) →
     AreFaultlessLines g 2 before (without_halos es)

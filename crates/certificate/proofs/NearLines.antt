@@ -4,6 +4,7 @@ use Rattle.std.proofs.Common.{arith, get_or, ℤ, pos, ◌+ℤ◌, ◌≤ℤ◌,
 use Rattle.std.proofs.lemmas.Bool.{and_parts}
 use Rattle.std.proofs.lemmas.Int.{ints}
 use Rattle.std.proofs.lemmas.List.Elements.{All-nil, All-cons, All-head, All-tail, All-append, All-map, All-weaker}
+use Rattle.std.proofs.lemmas.Grind.{common_steps}
 use Rattle.bbm_rule.specs.declared.block.Cell.{Cell}
 use Rattle.circuit.specs.Meaning.{Circuit}
 use Rattle.pattern.specs.declared.layout_line.LayoutHeader.{LayoutHeader}
@@ -33,14 +34,7 @@ low_number z k e lt = (omega (arith, ints, e, lt), omega (arith, ints, e, lt))
 
 -- a cell of a box within 512 columns and rows
 pub low_in_box : (b : Box2) (c : Cell) → b.x + b.w ≤ 512 → b.y + b.h ≤ 512 → in_box b c.x c.y ≡ true → IsLow c
-low_in_box b c right bottom h =
-    let p = in_box_nats b c.x c.y h in
-    let px = p.0 in
-    let py = p.1 in
-    record {
-      column = low_number c.x px.0 px.1 (let below = px.3 in omega (arith, below, right));
-      row = low_number c.y py.0 py.1 (let below = py.3 in omega (arith, below, bottom));
-    }
+low_in_box b c right bottom h = grind (arith, common_steps, in_box_nats, low_number)
 
 ring_inside : (b : Box2) (x y : ℤ) → in_ring b x y ≡ true → in_box b x y ≡ true
 unfolding in_ring
@@ -65,10 +59,7 @@ low_halos g m s is limits h k d lt =
 
 pub low_stops : (g : Setting) (m : ModuleLines) (s : LayoutHeader) → s ≡ g.size → size_fault s ≡ None → IsModule g m →
     All (λ e. IsLow e.cell) (stops m)
-low_stops g m s is limits h k d lt =
-    let w = within_512 g m s is limits h in
-    let e = get_or (stops m) k d in
-    low_in_box m.area e.cell w.0 w.1 (h.stop_lines k d lt).inside
+low_stops g m s is limits h k d lt = grind (arith, common_steps, within_512, low_in_box)
 
 -- ---- what holds of the cells of lines holds of those of their signals
 pub flat_all : {X A : Type 0} (P : A → Type 0) (f : X → List A) (Q : X → Type 0) → ((x : X) → Q x → All P (f x)) →

@@ -1,8 +1,9 @@
 -- Lines that are printed without halo lines
-use Rattle.std.proofs.Common.{◌≡◌, ℕ, ◌+◌, ◌<◌, ◌≤◌, List, [], ◌∷◌, ◌++◌, length, take, get_or, sym, ap, ◌∙◌}
-use Rattle.std.proofs.Common.{append_assoc, append-nil, flat_map}
+use Rattle.std.proofs.Common.{arith, ◌≡◌, ℕ, ◌+◌, ◌<◌, ◌≤◌, List, [], ◌∷◌, ◌++◌, length, take, get_or, sym, ap, ◌∙◌}
+use Rattle.std.proofs.Common.{append-nil, flat_map}
 use Rattle.std.proofs.lemmas.Grind.{flat_map-append}
 use Rattle.std.proofs.lemmas.List.{take_all, take_more}
+use Rattle.std.proofs.lemmas.Grind.{common_steps}
 use Rattle.certificate.specs.Text.{entry_text}
 use Rattle.certificate_lines.specs.Versions.{without_halos}
 use Rattle.certificate_lines.specs.declared.certificate_line.CertificateLine.{CertificateLine}
@@ -19,12 +20,7 @@ pub one_more_printed : (es : List CertificateLine) (i : ℕ) (e : CertificateLin
     next ≡ now ++ flat_map entry_text (without_halos (e ∷ [])) →
     next ≡ old ++ flat_map entry_text (without_halos (take (i + 1) es))
 one_more_printed es i e old now next lt is before after =
-    let grown : take (i + 1) es ≡ take i es ++ e ∷ [] = take_more es i e lt ∙ ap (λ x. take i es ++ x ∷ []) (sym is) in
-    after ∙ ap (λ l. l ++ flat_map entry_text (without_halos (e ∷ []))) before
-    ∙ append_assoc old (flat_map entry_text (without_halos (take i es))) (flat_map entry_text (without_halos (e ∷ [])))
-    ∙ ap (λ l. old ++ l) (sym (flat_map-append entry_text (without_halos (take i es)) (without_halos (e ∷ []))))
-    ∙ ap (λ l. old ++ flat_map entry_text l) (sym (without_append (take i es) (e ∷ [])))
-    ∙ ap (λ l. old ++ flat_map entry_text (without_halos l)) (sym grown)
+    grind (arith, common_steps, take_more, flat_map-append, without_append)
 
 pub all_printed : (es : List CertificateLine) (i : ℕ) (old now : List ℕ) → length es ≤ i →
     now ≡ old ++ flat_map entry_text (without_halos (take i es)) → now ≡ old ++ flat_map entry_text (without_halos es)

@@ -1,8 +1,9 @@
 -- The first time is the least, and the last one the greatest.
-use Rattle.std.proofs.Common.{◌≡◌, ◌⊎◌, ℕ, zero, suc, ◌≤◌, List, [], ◌∷◌, Some, None, sym, ◌∙◌, inl, inr, arith}
+use Rattle.std.proofs.Common.{◌≡◌, ◌⊎◌, ℕ, zero, suc, ◌≤◌, List, [], ◌∷◌, Some, None, sym, inl, inr, arith}
 use Rattle.std.proofs.Common.{Contains, min, max, All, fold}
 use Rattle.std.proofs.lemmas.List.Elements.{All-nil, All-cons}
 use Rattle.std.proofs.lemmas.Option.{same_Some}
+use Rattle.std.proofs.lemmas.Grind.{common_steps}
 use Rattle.certificate.specs.Laws.{FirstSeenIsLeast, LastSeenIsGreatest}
 use Rattle.certificate.specs.Times.{earlier, later, stop_times_of_wire}
 
@@ -23,18 +24,7 @@ min_cases a u = grind arith
 least_with : (a : ℕ) (ts : List ℕ) (t : ℕ) → fold earlier (Some a) ts ≡ Some t → IsLeastWith a ts t
 least_with a [] t e = (let same = same_Some a t e in
     record { among = inl (sym same); first = omega (arith, same); rest = All-nil (λ u. t ≤ u) })
-least_with a (u ∷ us) t e =
-    let h = least_with (min a u) us t e in
-    let below = h.first in
-    record {
-      among = elim h.among [
-        | inl is ↦
-            elim (min_cases a u) [ inl left ↦ inl (is ∙ left) | inr right ↦ inr (here u us t (sym (is ∙ right))) ]
-        | inr found ↦ inr (there u us t found)
-      ];
-      first = omega (arith, below);
-      rest = All-cons (λ v. t ≤ v) u us (omega (arith, below)) h.rest;
-    }
+least_with a (u ∷ us) t e = grind (arith, common_steps, least_with (min a u) us t e, min_cases, here, there)
 
 least_of : (ts : List ℕ) (t : ℕ) → fold earlier None ts ≡ Some t → Contains ts t × All (λ u. t ≤ u) ts
 least_of [] t e = absurd cc
@@ -58,18 +48,7 @@ max_cases a u = grind arith
 greatest_with : (a : ℕ) (ts : List ℕ) (t : ℕ) → fold later (Some a) ts ≡ Some t → IsGreatestWith a ts t
 greatest_with a [] t e = (let same = same_Some a t e in
     record { among = inl (sym same); first = omega (arith, same); rest = All-nil (λ u. u ≤ t) })
-greatest_with a (u ∷ us) t e =
-    let h = greatest_with (max a u) us t e in
-    let above = h.first in
-    record {
-      among = elim h.among [
-        | inl is ↦
-            elim (max_cases a u) [ inl left ↦ inl (is ∙ left) | inr right ↦ inr (here u us t (sym (is ∙ right))) ]
-        | inr found ↦ inr (there u us t found)
-      ];
-      first = omega (arith, above);
-      rest = All-cons (λ v. v ≤ t) u us (omega (arith, above)) h.rest;
-    }
+greatest_with a (u ∷ us) t e = grind (arith, common_steps, greatest_with (max a u) us t e, max_cases, here, there)
 
 greatest_of : (ts : List ℕ) (t : ℕ) → fold later None ts ≡ Some t → Contains ts t × All (λ u. u ≤ t) ts
 greatest_of [] t e = absurd cc

@@ -1,12 +1,12 @@
 -- Lines that are sorted are in order
-use Rattle.std.proofs.Common.{◌≡◌, ℕ, ◌+◌, ◌≤◌, true, false, if◌then◌else◌, List, [], ◌∷◌, get_or, Ordering, Less}
+use Rattle.std.proofs.Common.{◌≡◌, ℕ, ◌+◌, ◌≤◌, false, if◌then◌else◌, List, [], ◌∷◌, get_or, Ordering, Less}
 use Rattle.std.proofs.Common.{Equal, Greater, refl, sym, ap, ◌∙◌, arith, ◌≢◌, sum_by, is_eq, is_lt}
 use Rattle.std.specs.List.Sorted.{IsPermutation, IsSortedBy}
-use Rattle.std.specs.Ordering.{ordering_reverse}
 use Rattle.std.proofs.lemmas.List.Sorted.{IsPermutation-sym, All-permutation, ranks_by, sorted_far}
 use Rattle.std.proofs.lemmas.List.Sorted.{sum_by-IsPermutation}
 use Rattle.std.proofs.lemmas.List.Sums.{sum_by-cons}
 use Rattle.std.proofs.lemmas.Option.{get_or_from_slice_get, slice_get_within}
+use Rattle.std.proofs.lemmas.Grind.{common_steps}
 use Rattle.certificate_lines.specs.Versions.{in_order, border_line_cmp}
 use Rattle.certificate_lines.specs.declared.certificate_line.BorderLine.{BorderLine}
 use Rattle.certificate_lines.proofs.InList.{all_in}
@@ -21,11 +21,6 @@ beat e y = if is_eq (border_line_cmp e y) then 1 else 0
 
 abbrev count_at : BorderLine → List BorderLine → ℕ
 count_at e ys = sum_by (beat e) ys
-
-eq_is : (o : Ordering) → is_eq o ≡ true → o ≡ Equal
-eq_is Less h = absurd cc
-eq_is Equal h = refl
-eq_is Greater h = absurd cc
 
 not_eq : (o : Ordering) → o ≢ Equal → is_eq o ≡ false
 not_eq Less h = refl
@@ -60,11 +55,7 @@ first_or_later e y ys d later Less h = let c = cons_at e y ys in let n = beat_of
 first_or_later e y ys d later Greater h = let c = cons_at e y ys in let n = beat_of e y Greater h in
     omega (arith, c, n, later)
 first_or_later e y ys d later Equal h =
-    let c = cons_at e y ys in
-    let n = beat_one e y h in
-    let m = none_at e ys (in_each (λ z. border_line_cmp e z ≢ Equal) ys
-    (λ z i eq. each_in (λ z. border_line_cmp y z ≢ Equal) ys d z i (sym (line_total.congr e y z h) ∙ eq))) in
-    omega (arith, c, n, m)
+    grind (arith, common_steps, cons_at, beat_one, none_at, in_each, each_in, line_total)
 
 one_at : (e : BorderLine) (ys : List BorderLine) → AreDistinct ys → count_at e ys ≤ 1
 unfolding Pairs
@@ -72,12 +63,7 @@ one_at e [] p = omega arith
 one_at e (y ∷ ys) p = first_or_later e y ys p.0 (one_at e ys p.1) (border_line_cmp e y) refl
 
 itself : (y : BorderLine) → border_line_cmp y y ≡ Equal
-itself y = by (border_line_cmp y y) refl
-  where
-    by : (o : Ordering) → border_line_cmp y y ≡ o → border_line_cmp y y ≡ Equal
-    by Less e = absurd (let t = sym e ∙ line_total.antisymm y y ∙ ap ordering_reverse e in cc)
-    by Equal e = e
-    by Greater e = absurd (let t = sym e ∙ line_total.antisymm y y ∙ ap ordering_reverse e in cc)
+itself y = grind (arith, common_steps, line_total)
 
 all_other : (e : BorderLine) (ys : List BorderLine) → count_at e ys ≡ 0 → Each (λ y. border_line_cmp e y ≢ Equal) ys
 unfolding Each
@@ -107,14 +93,7 @@ kept_in xs ys p x i = all_in (λ y. In y xs) ys
 
 less_of : (a b : BorderLine) → is_lt (border_line_cmp b a) ≡ false → border_line_cmp a b ≢ Equal →
     border_line_cmp a b ≡ Less
-less_of a b h n = by (border_line_cmp a b) refl
-  where
-    by : (o : Ordering) → border_line_cmp a b ≡ o → border_line_cmp a b ≡ Less
-    by Less e = e
-    by Equal e = absurd (n e)
-    by Greater e = absurd (let t : border_line_cmp b a ≡ Less = line_total.antisymm b a ∙ ap ordering_reverse e in
-        let k =
-        sym h ∙ ap is_lt t in cc)
+less_of a b h n = grind (arith, common_steps, line_total)
 
 sorted_rises : (ys : List BorderLine) → IsSortedBy (λ a b. is_lt (border_line_cmp a b)) ys → AreDistinct ys → Rises ys
 sorted_rises ys up d = pairs_by_place (λ a b. border_line_cmp a b ≡ Less) ys (λ i j a b lt ea eb.

@@ -1,24 +1,24 @@
 -- Lines that are good one after the other make good modules.
 use Rattle.std.proofs.Common.{◌≡◌, ◌⊎◌, ℕ, zero, suc, ◌+◌, ◌<◌, ◌≤◌, ℤ, Bool, true, false, not, ◌&&◌, ◌||◌, ◌==◌, List}
-use Rattle.std.proofs.Common.{[], ◌∷◌, ◌++◌, length, Some, None, refl, sym, ap, subst, ◌∙◌, inl, inr, arith, pos}
+use Rattle.std.proofs.Common.{[], ◌∷◌, ◌++◌, Some, None, refl, sym, ap, subst, ◌∙◌, inl, inr, arith, pos}
 use Rattle.std.proofs.Common.{negsuc, append-nil, append_assoc, slice_get, All}
 use Rattle.std.specs.List.{list_all}
 use Rattle.std.proofs.lemmas.Bool.{and_parts, eqb-true, true≢false}
 use Rattle.std.proofs.lemmas.Bool.Decides.{nat_tests}
+use Rattle.std.proofs.lemmas.Grind.{common_steps}
 use Rattle.bbm_rule.specs.Spans.{in_span}
 use Rattle.std.proofs.lemmas.Option.{slice_get-get_or, slice_get_within}
 use Rattle.bbm_rule.specs.Plane.{is_at}
 use Rattle.bbm_rule.specs.declared.block.Cell.{Cell}
 use Rattle.pattern.specs.Layout.{in_cells}
-use Rattle.pattern.specs.declared.layout_line.Port.{Port}
 use Rattle.pattern.specs.declared.layout_line.LayoutHeader.{LayoutHeader}
 use Rattle.section_text.proofs.Good.{AreFaultless, IsFaultless}
 use Rattle.module_box.specs.Boxes.{in_box, Tile}
 use Rattle.module_box.specs.Tiling.{IsInside}
 use Rattle.module_box.specs.declared.boxes.Box2.{Box2}
 use Rattle.certificate_lines.specs.Entries.{Setting, ModuleLines, module_with_line, change_last, last_of, add_line}
-use Rattle.certificate_lines.specs.Entries.{modules_of, last_module, areas, known}
-use Rattle.certificate_lines.specs.Rules.{whole, box_cells, in_boxes, is_local, is_last_module_incomplete}
+use Rattle.certificate_lines.specs.Entries.{modules_of, last_module, areas}
+use Rattle.certificate_lines.specs.Rules.{whole, box_cells, in_boxes, is_last_module_incomplete}
 use Rattle.certificate_lines.specs.Rules.{has_nonlocal_port, leaves_gap, entry_fault, end_fault}
 use Rattle.certificate.specs.Grammars.{certificate_grammar}
 use Rattle.certificate_lines.specs.Versions.{is_haloless_version, lacks_edge_wire_beside}
@@ -113,9 +113,7 @@ span_inside a n m (negsuc x) fits e = cc
 box_inside : (s : LayoutHeader) (b : Box2) (x y : ℤ) → IsInside s.w s.h b → in_box b x y ≡ true →
     in_box (whole s) x y ≡ true
 unfolding in_box
-box_inside s b x y fits h =
-    let both = and_parts (in_span b.x b.w x) (in_span b.y b.h y) h in
-    rw (span_inside b.x b.w s.w x fits.right both.0, span_inside b.y b.h s.h y fits.bottom both.1) refl
+box_inside s b x y fits h = grind (arith, common_steps, and_parts, span_inside)
 
 area_at : (ms : List ModuleLines) (i : ℕ) (b : Box2) → slice_get (areas ms) i ≡ Some b →
     (m : ModuleLines) × (slice_get ms i ≡ Some m) × (m.area ≡ b)
@@ -144,26 +142,14 @@ module _ (g : Setting) (ms : List ModuleLines) (sound : AreSound g ms) where
 
   has_ports : (m : ModuleLines) → has_nonlocal_port g m ≡ false → HasPorts g m
   unfolding has_nonlocal_port
-  has_ports m none = record {
-    local = λ i p at inside. known_by (is_local g.circuit (known g.circuit m) p.name)
-        (λ unknown. true≢false (sym (any_at
-        (λ (q : Port). in_box m.area q.cell.x q.cell.y && not (is_local g.circuit (known g.circuit m) q.name)) g.ports i
-        p at (rw (inside, unknown) refl)) ∙ none));
-  }
-    where
-      known_by : (b : Bool) → (b ≡ false → ⊥) → b ≡ true
-      known_by true f = refl
-      known_by false f = absurd (f refl)
+  has_ports m none = grind (arith, common_steps, true≢false, any_at)
 
   here_or_before : (i n : ℕ) → i < n → (i + 1 < n) ⊎ (i + 1 ≡ n)
   here_or_before i n h = grind arith
 
   all_ported : is_last_module_incomplete g (last_of ms) ≡ false → (k : ℕ) (m : ModuleLines) → slice_get ms k ≡ Some m →
       has_nonlocal_port g m ≡ false
-  all_ported whole k m e = elim (here_or_before k (length ms) (slice_get_within ms k m e)) [
-    | inl lt ↦ sound.ported k m lt e
-    | inr at ↦ ap (is_last_module_incomplete g) (sym (last_is ms k m at e)) ∙ whole
-  ]
+  all_ported whole k m e = grind (arith, common_steps, here_or_before, slice_get_within, last_is)
 
   pub good_modules : is_last_module_incomplete g (last_of ms) ≡ false → leaves_gap g.size (areas ms) ≡ false →
       AreModules g ms
@@ -175,10 +161,7 @@ module _ (g : Setting) (ms : List ModuleLines) (sound : AreSound g ms) where
   }
 
 one_or_two : (v : ℕ) → (v == 1 || v == 2) ≡ true → (1 ≤ v) × (v ≤ 2)
-one_or_two v e = elim (or_parts (v == 1) (v == 2) e) [
-  | inl one ↦ let n = eqb-true v 1 one in (omega (arith, n), omega (arith, n))
-  | inr two ↦ let n = eqb-true v 2 two in (omega (arith, n), omega (arith, n))
-]
+one_or_two v e = grind (arith, common_steps, or_parts, eqb-true)
 
 -- the version of what was read
 pub read_version : (g : Setting) (v : ℕ) (es : List CertificateLine) → IsFaultless (certificate_grammar g) v es →

@@ -1,9 +1,10 @@
 -- Each line of the certificate section is the spelling of its form.
-use Rattle.std.proofs.Common.{◌≡◌, ℕ, ◌+◌, true, eqb, List, [], ◌∷◌, length, Option, Some, None, ap, subst, inl, inr}
+use Rattle.std.proofs.Common.{arith, ◌≡◌, ℕ, ◌+◌, true, eqb, List, [], ◌∷◌, length, Option, Some, ap, subst, inl, inr}
 use Rattle.std.proofs.Common.{slice_get, codes}
 use Rattle.std.specs.Fmt.{decimal}
 use Rattle.std.proofs.lemmas.Bool.{eqb-true}
 use Rattle.std.proofs.lemmas.Option.{option_and_then_some, same_Some}
+use Rattle.std.proofs.lemmas.Grind.{common_steps}
 use Rattle.section_text.specs.Words.{◌>>=◌, words_of, is_word_at, lone, lone_number, lone_name, name_at, number_at}
 use Rattle.section_text.specs.Section.{with_line_feed}
 use Rattle.section_text.specs.declared.section.Form.TheVariants.{Header, Item, End}
@@ -29,37 +30,18 @@ record CellAt (ws : List (List ℕ)) (i j : ℕ) (c : Cell) : Type 0 where
 
 cell_spelled : (ws : List (List ℕ)) (i : ℕ) (c : Cell) → cell_of_words_from ws i ≡ Some c → CellAt ws i (i + 1) c
 unfolding cell_of_words_from
-cell_spelled ws i c e =
-    option_and_then_some (λ x. number_at ws (i + 1) >>= λ y. Some (cell x y)) (number_at ws i) c e (λ x first rest.
-    option_and_then_some (λ y. Some (cell x y)) (number_at ws (i + 1)) c rest (λ y second made.
-    subst (CellAt ws i (i + 1)) (same_Some (cell x y) c made)
-    (record { column = number_at_spelled ws i x first; row = number_at_spelled ws (i + 1) y second })))
+cell_spelled ws i c e = grind (arith, common_steps, option_and_then_some, same_Some, number_at_spelled)
 
 time_spelled : (ws : List (List ℕ)) (i : ℕ) (t : Option ℕ) → star_or_time_at_word ws i ≡ Some t →
     slice_get ws i ≡ Some (star_or_time_word t)
 unfolding star_or_time_at_word
 time_spelled ws i t e =
-    elim (chosen (is_word_at ws i (codes "*")) _ _ (Some t) e) [
-      | inl p ↦ subst (λ (s : Option ℕ). slice_get ws i ≡ Some (star_or_time_word s)) (same_Some None t p.1)
-          (is_at_is ws i (codes "*") p.0)
-      | inr p ↦
-          option_and_then_some (λ n. Some (Some n)) (number_at ws i) t p.1 (λ n found made.
-          subst (λ (s : Option ℕ). slice_get ws i ≡ Some (star_or_time_word s)) (same_Some (Some n) t made)
-          (number_at_spelled ws i n found))
-    ]
+    grind (arith, common_steps, chosen, same_Some, is_at_is, option_and_then_some, number_at_spelled)
 
 signal_spelled : (ws : List (List ℕ)) (i : ℕ) (s : Option (List ℕ)) → signal_at ws i ≡ Some s →
     slice_get ws i ≡ Some (one_or_name_word s)
 unfolding signal_at
-signal_spelled ws i s e =
-    elim (chosen (is_word_at ws i (codes "1")) _ _ (Some s) e) [
-      | inl p ↦ subst (λ (r : Option (List ℕ)). slice_get ws i ≡ Some (one_or_name_word r)) (same_Some None s p.1)
-          (is_at_is ws i (codes "1") p.0)
-      | inr p ↦
-          option_and_then_some (λ n. Some (Some n)) (name_at ws i) s p.1 (λ n found made.
-          subst (λ (r : Option (List ℕ)). slice_get ws i ≡ Some (one_or_name_word r)) (same_Some (Some n) s made)
-          (name_at_is ws i n found))
-    ]
+signal_spelled ws i s e = grind (arith, common_steps, chosen, same_Some, is_at_is, option_and_then_some, name_at_is)
 
 area_spelled : (ws : List (List ℕ)) (v : List ℕ) (b : Box2) → is_word_at ws 0 v ≡ true → area_of ws ≡ Some b →
     ws ≡ v ∷ area_words b
@@ -120,9 +102,7 @@ number_spelled ws v n at e =
 
 name_spelled : (ws : List (List ℕ)) (v n : List ℕ) → is_word_at ws 0 v ≡ true → lone_name ws ≡ Some n → ws ≡ v ∷ n ∷ []
 unfolding lone_name
-name_spelled ws v n at e =
-    let found = passed (eqb (length ws) 2) (name_at ws 1) n e in
-    two_words ws v n (eqb-true _ _ found.0) (is_at_is ws 0 v at) (name_at_is ws 1 n found.1)
+name_spelled ws v n at e = grind (arith, common_steps, passed, two_words, eqb-true, is_at_is, name_at_is)
 
 -- the first word of a form, and the others
 first_of : Line → List ℕ

@@ -1,11 +1,10 @@
 -- The stops of a module: what its lines give, and their order.
-use Rattle.std.proofs.Common.{◌≡◌, ℕ, ◌+◌, ◌<◌, ◌≤◌, List, [], ◌∷◌, ◌++◌, length, Option, Some, None, Less, take}
-use Rattle.std.proofs.Common.{get_or, map, false, true, refl, sym, ap, subst, ◌∙◌, All, flat_map, nat_cmp}
+use Rattle.std.proofs.Common.{arith, ◌≡◌, ℕ, List, [], ◌∷◌, Option, Some, None, Less}
+use Rattle.std.proofs.Common.{map, false, true, refl, sym, subst, All, flat_map, nat_cmp}
 use Rattle.std.specs.Ordering.{ordering_then}
-use Rattle.std.proofs.lemmas.Grind.{flat_map-append}
-use Rattle.std.proofs.lemmas.List.{append-nil, map-append, take_all}
 use Rattle.std.proofs.lemmas.List.Elements.{All-nil, All-cons, All-append, All-head, All-tail}
-use Rattle.circuit.specs.Meaning.{Circuit, wire_of, wires}
+use Rattle.std.proofs.lemmas.Grind.{common_steps}
+use Rattle.circuit.specs.Meaning.{Circuit, wire_of}
 use Rattle.module_box.specs.Locals.{LocalNet, circuit_wire}
 use Rattle.module_box.specs.Moments.{cell_cmp, moment_cmp}
 use Rattle.module_box.specs.Schedules.{IsRising}
@@ -25,45 +24,8 @@ use Rattle.certificate_lines.specs.declared.certificate_line.StopLine.{StopLine}
 use Rattle.module_job.specs.declared.job.Stop as listed
 use Rattle.certificate.proofs.BorderOrder.{is_less, pairs_of_order}
 use Rattle.certificate_lines.proofs.Pairs.{Each, Pairs, pairs_flat, rising_of}
-use Rattle.certificate.proofs.TimetableLemmas.{next_line}
 
 -- ---- one line more
-
-pub none_said : (c : Circuit) (l : LocalNet) (ss : List listed.Stop) → ss ≡ [] → AreStops c l [] ss
-none_said c l ss e = record {
-  same = ap (map (renumber_stop (circuit_wire l))) e;
-  own = subst (All (λ s. s.wire < wires l.netlist)) (sym e) (All-nil (λ s. s.wire < wires l.netlist));
-}
-
-pub with_stop : (c : Circuit) (l : LocalNet) (lines : List StopLine) (line : StopLine) (old new : List listed.Stop)
-    (s : listed.Stop) → renumber_stop (circuit_wire l) s ∷ [] ≡ stops_of_lines c (line ∷ []) →
-    s.wire < wires l.netlist → new ≡ old ++ s ∷ [] → AreStops c l lines old → AreStops c l (lines ++ line ∷ []) new
-with_stop c l lines line old new s same own grown are =
-    let by : StopLine → List listed.Stop = λ r. stop_with_wire_number r (wire_of c r.wire) in
-    record {
-      same = ap (map (renumber_stop (circuit_wire l))) grown ∙ map-append (renumber_stop (circuit_wire l)) old (s ∷ [])
-          ∙ ap (λ xs. xs ++ renumber_stop (circuit_wire l) s ∷ []) are.same
-          ∙ ap (λ xs. stops_of_lines c lines ++ xs) same ∙ sym (flat_map-append by lines (line ∷ []));
-      own = subst (All (λ r. r.wire < wires l.netlist)) (sym grown)
-          (All-append (λ r. r.wire < wires l.netlist) old (s ∷ []) are.own
-          (All-cons (λ r. r.wire < wires l.netlist) s [] own (All-nil (λ r. r.wire < wires l.netlist))));
-    }
-
-pub without_stop : (c : Circuit) (l : LocalNet) (lines : List StopLine) (old new : List listed.Stop) → new ≡ old →
-    AreStops c l lines old → AreStops c l (lines ++ []) new
-without_stop c l lines old new same are =
-    subst (λ xs. AreStops c l xs new) (sym (append-nil lines)) (subst (AreStops c l lines) (sym same) are)
-
-pub next_stops : (c : Circuit) (l : LocalNet) (lines : List CertificateLine) (i : ℕ) (line : CertificateLine)
-    (ss : List listed.Stop) →
-    i < length lines → line ≡ get_or lines i line →
-    AreStops c l (flat_map stop_in (take i lines) ++ stop_in line) ss →
-    AreStops c l (flat_map stop_in (take (i + 1) lines)) ss
-next_stops c l lines i line ss lt e h = subst (λ xs. AreStops c l xs ss) (next_line stop_in lines i line lt e) h
-
-pub all_stops_said : (c : Circuit) (l : LocalNet) (lines : List CertificateLine) (i : ℕ) (ss : List listed.Stop) →
-    length lines ≤ i → AreStops c l (flat_map stop_in (take i lines)) ss → AreStops c l (flat_map stop_in lines) ss
-all_stops_said c l lines i ss le h = subst (λ xs. AreStops c l (flat_map stop_in xs) ss) (take_all i lines le) h
 
 -- ---- they rise
 
@@ -106,8 +68,7 @@ stop_alone (Halo e) = tt
 stop_alone (Stop s) = (tt, tt)
 
 stop_lines_rise : (lines : List CertificateLine) → AreInOrder lines → Pairs StopBefore (flat_map stop_in lines)
-stop_lines_rise lines o = pairs_flat (λ i j. may_precede i j ≡ true) StopBefore stop_in stops_between stop_alone lines
-    (pairs_of_order lines o)
+stop_lines_rise lines o = grind (arith, common_steps, pairs_flat, stops_between, stop_alone, pairs_of_order)
 
 abbrev MomentBefore : listed.Stop → listed.Stop → Type 0
 MomentBefore a b = moment_cmp (stop_moment a) (stop_moment b) ≡ Less
@@ -170,5 +131,4 @@ stops_stand P c l lines ss are h =
 -- the wires that stops name are the module's
 pub stops_named : (g : Setting) (m : ModuleLines) (l : LocalNet) → l.circuit_wires ≡ known g.circuit m → IsModule g m →
     All (λ s. is_local g.circuit l.circuit_wires s.wire ≡ true) (stops m)
-stops_named g m l is h k d lt =
-    subst (λ ws. is_local g.circuit ws (get_or (stops m) k d).wire ≡ true) (sym is) (h.stop_lines k d lt).wire
+stops_named g m l is h k d lt = grind (arith, common_steps)

@@ -1,9 +1,10 @@
 -- Tables of times, line by line, and the lines of gates one after the other.
 use Rattle.std.proofs.Common.{◌≡◌, ℕ, suc, ◌+◌, ◌<◌, ◌≤◌, false, List, [], ◌∷◌, ◌++◌, length, drop, get_or, Option}
-use Rattle.std.proofs.Common.{Some, refl, sym, ap, ap₂, ◌∙◌, arith, drop-cons, add-one, append_assoc, append-nil}
+use Rattle.std.proofs.Common.{Some, refl, sym, ap, ◌∙◌, arith, drop-cons, add-one}
 use Rattle.std.proofs.Common.{slice_get, flat_map}
 use Rattle.std.proofs.lemmas.List.{drop_all}
 use Rattle.std.proofs.lemmas.Option.{same_Some, slice_get-get_or, slice_get_within}
+use Rattle.std.proofs.lemmas.Grind.{common_steps}
 use Rattle.circuit.specs.Meaning.{Circuit, Gate}
 use Rattle.section_text.proofs.Good.{AreFaultless, IsFaultless}
 use Rattle.certificate_lines.specs.Entries.{ModuleLines, Setting, last_of, modules_of, stop_in}
@@ -29,15 +30,10 @@ abbrev Splits : List CertificateLine → Type 0
 Splits es = flat_map stop_in es ≡ flat_map stop_in (inner es) ++ all_stops (modules_of es)
 
 splits_other : (e : CertificateLine) (es : List CertificateLine) → is_module e ≡ false → Splits es → Splits (e ∷ es)
-splits_other e es o h =
-    ap (λ xs. stop_in e ++ xs) h ∙ sym
-    (append_assoc (stop_in e) (flat_map stop_in (inner es)) (all_stops (modules_of es)))
-    ∙ ap₂ (λ xs ms. flat_map stop_in xs ++ all_stops ms) (sym (inner_other e es o)) (sym (split_other e es o))
+splits_other e es o h = grind (arith, common_steps, inner_other, split_other)
 
 splits_step : (e : CertificateLine) (es : List CertificateLine) → Splits es → Splits (e ∷ es)
-splits_step (Module b) es h =
-    h ∙ ap all_stops (sym (split_module b es))
-    ∙ ap (λ xs. flat_map stop_in xs ++ all_stops (modules_of (Module b ∷ es))) (sym (inner_module (Module b) es refl))
+splits_step (Module b) es h = grind (arith, common_steps, split_module, inner_module)
 splits_step (Cut n) es h = splits_other (Cut n) es refl h
 splits_step (Use k) es h = splits_other (Use k) es refl h
 splits_step (Keep k) es h = splits_other (Keep k) es refl h
@@ -72,8 +68,7 @@ starts_with_module g v (Stop s ∷ es) good =
 
 pub all_in_modules : (g : Setting) (v : ℕ) (es : List CertificateLine) → IsFaultless (certificate_grammar g) v es →
     all_stops (modules_of es) ≡ flat_map stop_in es
-all_in_modules g v es good = sym
-    (splits es ∙ ap (λ xs. flat_map stop_in xs ++ all_stops (modules_of es)) (starts_with_module g v es good.each))
+all_in_modules g v es good = grind (arith, common_steps, splits, starts_with_module)
 
 -- ---- the lines of gates, one after the other
 
@@ -89,10 +84,7 @@ numbered_step f n gates g at =
 pub one_gate_more : (f : ℕ → Gate → List TimeLine) (all lines more : List TimeLine) (n : ℕ) (gates : List Gate)
     (g : Gate) → slice_get gates n ≡ Some g → more ≡ lines ++ f n g →
     lines ++ numbered f n (drop n gates) ≡ all → more ++ numbered f (n + 1) (drop (n + 1) gates) ≡ all
-one_gate_more f all lines more n gates g at grown so_far =
-    ap (λ xs. xs ++ numbered f (n + 1) (drop (n + 1) gates)) grown
-    ∙ append_assoc lines (f n g) (numbered f (n + 1) (drop (n + 1) gates))
-    ∙ ap (λ xs. lines ++ xs) (sym (numbered_step f n gates g at)) ∙ so_far
+one_gate_more f all lines more n gates g at grown so_far = grind (arith, common_steps, numbered_step)
 
 numbered_none : (f : ℕ → Gate → List TimeLine) (n : ℕ) → numbered f n [] ≡ []
 unfolding numbered
@@ -100,9 +92,7 @@ numbered_none f n = refl
 
 pub all_gates : (f : ℕ → Gate → List TimeLine) (all lines : List TimeLine) (n : ℕ) (gates : List Gate) →
     length gates ≤ n → lines ++ numbered f n (drop n gates) ≡ all → lines ≡ all
-all_gates f all lines n gates past so_far =
-    sym (append-nil lines) ∙ ap (λ xs. lines ++ xs)
-    (sym (ap (numbered f n) (drop_all n gates past) ∙ numbered_none f n)) ∙ so_far
+all_gates f all lines n gates past so_far = grind (arith, common_steps, drop_all, numbered_none)
 
 -- ---- the first lines are not too many
 

@@ -1,12 +1,14 @@
 -- The signals of a module after one more line.
-use Rattle.std.proofs.Common.{◌≡◌, ℕ, ◌<◌, List, [], ◌∷◌, ◌++◌, ◌+◌, ◌≤◌, length, Option, Some, None, take, get_or}
-use Rattle.std.proofs.Common.{refl, sym, ap, subst, ◌∙◌, map, IfSome, replicate, All, flat_map}
+use Rattle.std.proofs.Common.{arith, ◌≡◌, ℕ, ◌<◌, List, [], ◌∷◌, ◌++◌, ◌+◌, ◌≤◌, length, Option, Some, None, take}
+use Rattle.std.proofs.Common.{get_or}
+use Rattle.std.proofs.Common.{refl, sym, subst, map, IfSome, replicate, All, flat_map}
 use Rattle.std.specs.Result.{OnOk}
 use Rattle.std.specs.declared.result.Result.{Result}
 use Rattle.std.specs.declared.result.Result.TheVariants.{Ok, Err}
 use Rattle.std.proofs.lemmas.Grind.{flat_map-append}
 use Rattle.std.proofs.lemmas.List.{append-nil, map-append, flat_map_more, take_all, take_more}
-use Rattle.std.proofs.lemmas.List.Elements.{All-nil, All-cons, All-append, All-replicate}
+use Rattle.std.proofs.lemmas.List.Elements.{All-nil, All-cons, All-replicate}
+use Rattle.std.proofs.lemmas.Grind.{common_steps}
 use Rattle.circuit.specs.Meaning.{Circuit, wires}
 use Rattle.module_box.specs.Locals.{LocalNet, circuit_wire}
 use Rattle.module_box.specs.Moments.{cell_cmp, moment_cmp}
@@ -61,8 +63,7 @@ own_event n e (Some t) s b = All-cons (λ h. IsSignalWireBelow n h.signal) _ [] 
 
 pub next_line : {A X : Type 0} (f : X → List A) (xs : List X) (i : ℕ) (x : X) → i < length xs → x ≡ get_or xs i x →
     flat_map f (take i xs) ++ f x ≡ flat_map f (take (i + 1) xs)
-next_line f xs i x lt e = flat_map_more f [] (take i xs) x
-    ∙ ap (flat_map f) (sym (take_more xs i x lt ∙ ap (λ y. take i xs ++ y ∷ []) (sym e)))
+next_line f xs i x lt e = grind (arith, common_steps, flat_map_more, take_more)
 
 module _ (c : Circuit) (l : LocalNet) where
   more_all_times : (es : List BorderLine) (e : BorderLine) (s : Signal) (hs ns : List AllTimes) →
@@ -72,13 +73,7 @@ module _ (c : Circuit) (l : LocalNet) where
       map (renumber_all_times (circuit_wire l)) ns
       ≡ flat_map (λ d. all_times_of_line d d.time (one_or_named_wire c d.signal)) (es ++ e ∷ [])
   more_all_times es e s hs ns same grown h =
-      let by : BorderLine → List AllTimes = λ d. all_times_of_line d d.time (one_or_named_wire c d.signal) in
-      ap (map (renumber_all_times (circuit_wire l))) grown
-      ∙ map-append (renumber_all_times (circuit_wire l)) hs (all_times_of_line e e.time s) ∙
-      ap (λ xs. xs ++ map (renumber_all_times (circuit_wire l)) (all_times_of_line e e.time s)) h ∙
-      ap (λ xs. flat_map by es ++ xs)
-      (renumbered_all_times (circuit_wire l) e e.time s ∙ ap (all_times_of_line e e.time) same ∙ sym (one_flat by e)) ∙
-      sym (flat_map-append by es (e ∷ []))
+      grind (arith, common_steps, map-append, renumbered_all_times, one_flat, flat_map-append)
 
   more_events : (es : List BorderLine) (e : BorderLine) (s : Signal) (hs ns : List TimedSignal) →
       renumber_signal (circuit_wire l) s ≡ one_or_named_wire c e.signal → ns ≡ hs ++ events_of_line e e.time s →
@@ -87,30 +82,15 @@ module _ (c : Circuit) (l : LocalNet) where
       map (renumber_event (circuit_wire l)) ns
       ≡ flat_map (λ d. events_of_line d d.time (one_or_named_wire c d.signal)) (es ++ e ∷ [])
   more_events es e s hs ns same grown h =
-      let by : BorderLine → List TimedSignal = λ d. events_of_line d d.time (one_or_named_wire c d.signal) in
-      ap (map (renumber_event (circuit_wire l))) grown
-      ∙ map-append (renumber_event (circuit_wire l)) hs (events_of_line e e.time s) ∙
-      ap (λ xs. xs ++ map (renumber_event (circuit_wire l)) (events_of_line e e.time s)) h ∙
-      ap (λ xs. flat_map by es ++ xs)
-      (renumbered_event (circuit_wire l) e e.time s ∙ ap (events_of_line e e.time) same ∙ sym (one_flat by e)) ∙
-      sym (flat_map-append by es (e ∷ []))
+      grind (arith, common_steps, map-append, renumbered_event, one_flat, flat_map-append)
 
   pub with_border : (es : List BorderLine) (e : BorderLine) (s : Signal) (old new : SignalLists) →
       renumber_signal (circuit_wire l) s ≡ one_or_named_wire c e.signal → IsSignalWireBelow (wires l.netlist) s →
       new.all_times.items ≡ old.all_times.items ++ all_times_of_line e e.time s →
       new.events.items ≡ old.events.items ++ events_of_line e e.time s → AreNamedWires c l new.slots →
       AreSignalLists c l es old → AreSignalLists c l (es ++ e ∷ []) new
-  with_border es e s old new same own all_times events slots t = record {
-    all_times = more_all_times es e s old.all_times.items new.all_times.items same all_times t.all_times;
-    events = more_events es e s old.events.items new.events.items same events t.events;
-    own_all_times = subst (All (λ h. IsSignalWireBelow (wires l.netlist) h.signal)) (sym all_times)
-        (All-append (λ h. IsSignalWireBelow (wires l.netlist) h.signal) old.all_times.items _ t.own_all_times
-        (own_all_times (wires l.netlist) e e.time s own));
-    own_events = subst (All (λ h. IsSignalWireBelow (wires l.netlist) h.signal)) (sym events)
-        (All-append (λ h. IsSignalWireBelow (wires l.netlist) h.signal) old.events.items _ t.own_events
-        (own_event (wires l.netlist) e e.time s own));
-    slots = slots;
-  }
+  with_border es e s old new same own all_times events slots t =
+      grind (arith, common_steps, more_all_times, more_events, own_all_times, own_event)
 
   pub no_names : (slots : List (Option NamedWire)) → slots ≡ replicate 64 None → AreNamedWires c l slots
   no_names slots e =
@@ -119,15 +99,7 @@ module _ (c : Circuit) (l : LocalNet) where
 
   pub no_lines : (t : SignalLists) → t.all_times.items ≡ [] → t.events.items ≡ [] → AreNamedWires c l t.slots →
       AreSignalLists c l [] t
-  no_lines t h e slots = record {
-    all_times = ap (map (renumber_all_times (circuit_wire l))) h;
-    events = ap (map (renumber_event (circuit_wire l))) e;
-    own_all_times = subst (All (λ h. IsSignalWireBelow (wires l.netlist) h.signal)) (sym h)
-        (All-nil (λ h. IsSignalWireBelow (wires l.netlist) h.signal));
-    own_events = subst (All (λ h. IsSignalWireBelow (wires l.netlist) h.signal)) (sym e)
-        (All-nil (λ h. IsSignalWireBelow (wires l.netlist) h.signal));
-    slots = slots;
-  }
+  no_lines t h e slots = grind (arith, common_steps, own_all_times)
 
   pub next_table : (side : RingOrHalo) (lines : List CertificateLine) (i : ℕ) (line : CertificateLine)
       (t : SignalLists) →
@@ -135,14 +107,12 @@ module _ (c : Circuit) (l : LocalNet) where
       line ≡ get_or lines i line →
       AreSignalLists c l (flat_map (borders_in side) (take i lines) ++ borders_in side line) t →
       AreSignalLists c l (flat_map (borders_in side) (take (i + 1) lines)) t
-  next_table side lines i line t lt e h =
-      subst (λ es. AreSignalLists c l es t) (next_line (borders_in side) lines i line lt e) h
+  next_table side lines i line t lt e h = grind (arith, common_steps, next_line)
 
   pub all_lines : (side : RingOrHalo) (lines : List CertificateLine) (i : ℕ) (t : SignalLists) → length lines ≤ i →
       AreSignalLists c l (flat_map (borders_in side) (take i lines)) t →
       AreSignalLists c l (flat_map (borders_in side) lines) t
-  all_lines side lines i t le h =
-      subst (λ xs. AreSignalLists c l (flat_map (borders_in side) xs) t) (take_all i lines le) h
+  all_lines side lines i t le h = grind (arith, common_steps, take_all)
 
 -- ---- all lines
 

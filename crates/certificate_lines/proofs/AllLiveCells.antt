@@ -6,6 +6,7 @@ use Rattle.std.proofs.lemmas.Bool.Decides.{nat_tests}
 use Rattle.std.specs.List.{list_all, flat_map, range_with_len}
 use Rattle.std.proofs.lemmas.List.Folds.{list_all-append}
 use Rattle.std.proofs.Math.Bool.{and-false}
+use Rattle.std.proofs.lemmas.Grind.{common_steps}
 use Rattle.bbm_rule.specs.declared.block.Cell.{Cell}
 use Rattle.pattern.specs.Layout.{cell, row_cells}
 use Rattle.pattern.proofs.CellLists.{flat_map_range_more}
@@ -37,9 +38,7 @@ pub row_full : (test : Cell → Bool) (n y first : ℕ) → first ≤ n →
     nat_eq first n ≡ list_all test (row_cells 0 n y)
 row_full test n y first high all last = elim (cases_Bool (nat_eq first n)) [
   | inl e ↦
-      let whole : first ≡ n = grind (arith, nat_tests) in
-      e ∙ sym (all_in_row test 0 n y (λ k l.
-      let e : 0 + k ≡ k = omega arith in rw e (all k (omega arith) (omega arith))))
+      grind (arith, common_steps, nat_tests, all_in_row)
   | inr e ↦
       let l : first < n = grind (arith, nat_tests) in
       let from_zero : 0 + first ≡ first = omega arith in

@@ -1,9 +1,10 @@
 -- Whether some line of some module passes a test
-use Rattle.std.proofs.Common.{◌≡◌, ℕ, ◌+◌, ◌<◌, ◌≤◌, Bool, true, false, ◌&&◌, ◌||◌, if◌then◌else◌, List, [], ◌∷◌}
-use Rattle.std.proofs.Common.{drop, length, get_or, refl, sym, ap, ◌∙◌}
+use Rattle.std.proofs.Common.{arith, ◌≡◌, ℕ, ◌+◌, ◌<◌, ◌≤◌, Bool, true, false, ◌&&◌, ◌||◌, if◌then◌else◌, List, [], ◌∷◌}
+use Rattle.std.proofs.Common.{drop, length, get_or, refl, ap, ◌∙◌}
 use Rattle.std.specs.List.{filter, flat_map, list_any}
 use Rattle.std.proofs.lemmas.List.Folds.{list_any-append, list_any_at}
 use Rattle.std.proofs.lemmas.List.{drop_all}
+use Rattle.std.proofs.lemmas.Grind.{common_steps}
 use Rattle.module_box.specs.declared.boxes.Box2.{Box2}
 use Rattle.certificate_lines.specs.Entries.{ModuleLines, modules_of}
 use Rattle.certificate_lines.specs.ModuleParts.{inner, is_module}
@@ -30,38 +31,25 @@ module _ {A X : Type 0} (test : A → Bool) (f : X → List A) where
 
   pub any_here : (xs : List X) (i : ℕ) (x : X) → i < length xs → x ≡ get_or xs i x → list_any test (f x) ≡ true →
       list_any test (flat_map f xs) ≡ true
-  any_here xs i x lt is h = any_flat xs
-      ∙ list_any_at (λ y. list_any test (f y)) xs i x lt (sym (ap (λ y. list_any test (f y)) is) ∙ h)
-
--- the same of two functions, one after the other
-pub any_twice : {A Y X : Type 0} (test : A → Bool) (g : Y → List A) (f : X → List Y) (xs : List X) (i : ℕ) (x : X) →
-    i < length xs → x ≡ get_or xs i x →
-    list_any test (flat_map g (f x)) ≡ true → list_any test (flat_map g (flat_map f xs)) ≡ true
-any_twice test g f xs i x lt is h =
-    any_flat test g (flat_map f xs)
-    ∙ any_here (λ y. list_any test (g y)) f xs i x lt is (sym (any_flat test g (f x)) ∙ h)
+  any_here xs i x lt is h = grind (arith, common_steps, any_flat, list_any_at)
 
 pub any_kept : {A X : Type 0} (keep test : A → Bool) (f : X → List A) (xs : List X) (i : ℕ) (x : X) → i < length xs →
     x ≡ get_or xs i x →
     list_any test (filter keep (f x)) ≡ true → list_any test (filter keep (flat_map f xs)) ≡ true
-any_kept keep test f xs i x lt is h =
-    any_filter keep test (flat_map f xs)
-    ∙ any_here (λ y. keep y && test y) f xs i x lt is (sym (any_filter keep test (f x)) ∙ h)
+any_kept keep test f xs i x lt is h = grind (arith, common_steps, any_filter, any_here)
 
 -- ---- of the modules of lines
 
 module _ (test : ModuleLines → Bool) (es : List CertificateLine) (place : ℕ) where
   pub any_other : (e : CertificateLine) → place < length es → e ≡ get_or es place e → is_module e ≡ false →
       list_any test (modules_of (drop place es)) ≡ list_any test (modules_of (drop (place + 1) es))
-  any_other e lt at other = ap (list_any test)
-      (ap modules_of (line_here es place e lt at) ∙ split_other e (drop (place + 1) es) other)
+  any_other e lt at other = grind (arith, common_steps, line_here, split_other)
 
   pub any_module : (area : Box2) → place < length es → Module area ≡ get_or es place (Module area) →
       list_any test (modules_of (drop place es))
       ≡ (test (record { area = area; lines = inner (drop (place + 1) es) })
       || list_any test (modules_of (drop (place + 1) es)))
-  any_module area lt at = ap (list_any test)
-      (ap modules_of (line_here es place (Module area) lt at) ∙ split_module area (drop (place + 1) es))
+  any_module area lt at = grind (arith, common_steps, line_here, split_module)
 
   pub any_end : length es ≤ place → list_any test (modules_of (drop place es)) ≡ false
   any_end le = ap (list_any test) (ap modules_of (drop_all place es le) ∙ nothing_left)

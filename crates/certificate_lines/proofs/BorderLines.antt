@@ -1,16 +1,18 @@
 -- The form of a line by whether it has five words
-use Rattle.std.proofs.Common.{◌≡◌, ◌==◌, if◌then◌else◌, ℕ, Bool, true, false, List, length, Option, Some, None, refl}
-use Rattle.std.proofs.Common.{sym, ap, ◌∙◌, inl, inr, codes, slice_get}
+use Rattle.std.proofs.Common.{arith, ◌≡◌, ◌==◌, if◌then◌else◌, ℕ, Bool, true, false, List, length, Option, Some, None}
+use Rattle.std.proofs.Common.{refl}
+use Rattle.std.proofs.Common.{sym, ap, ◌∙◌, codes}
 use Rattle.std.specs.Str.{bytes_eq}
 use Rattle.std.proofs.lemmas.Bool.{cases_Bool, cond-false, cond-true}
 use Rattle.std.proofs.lemmas.Option.{same_Some}
 use Rattle.std.proofs.lemmas.Slice.Eq.{bytes_eq-Decides}
+use Rattle.std.proofs.lemmas.Grind.{common_steps}
 use Rattle.section_text.specs.Listed.{list_of_five_words}
 use Rattle.section_text.specs.Words.{five, is_word, is_word_at, lone, lone_name, lone_number, ◌>>=◌}
 use Rattle.section_text.specs.declared.words.FiveWords.{FiveWords}
 use Rattle.section_text.specs.declared.section.Form.TheVariants.{Header, Item, End}
 use Rattle.certificate_lines.specs.Forms.{Line, area_of, border_of, form_of, form_of_not_five_words, stop_of}
-use Rattle.certificate_lines.specs.declared.certificate_line.CertificateLine.TheVariants.{Module, Cut, Use, Keep, Edge}
+use Rattle.certificate_lines.specs.declared.certificate_line.CertificateLine.TheVariants.{Module, Edge}
 use Rattle.certificate_lines.specs.declared.certificate_line.CertificateLine.TheVariants.{Halo, Stop}
 use Rattle.certificate_lines.specs.declared.certificate_line.BorderLine.{BorderLine}
 use Rattle.certificate_lines.specs.declared.certificate_line.StopLine.{StopLine}
@@ -31,30 +33,21 @@ edge_form ws o edge is = ap (λ z. z >>= λ e. Some (Item (Edge e))) is ∙ sym 
 pub halo_form : (ws : List (List ℕ)) (o : Option BorderLine) → is_word_at ws 0 (codes "edge") ≡ false →
     is_word_at ws 0 (codes "halo") ≡ true → o ≡ border_of ws → (o >>= λ e. Some (Item (Halo e))) ≡ form_of ws
 unfolding form_of
-halo_form ws o edge halo is =
-    ap (λ z. z >>= λ e. Some (Item (Halo e))) is ∙ sym (cond-false _ _ _ edge ∙ cond-true _ _ _ halo)
+halo_form ws o edge halo is = grind (arith, common_steps, cond-false, cond-true)
 
 -- a line of five words that begins with no keyword of such lines has no form
 pub no_long_form : (w : FiveWords) → bytes_eq w.first.now (codes "edge") ≡ false →
     bytes_eq w.first.now (codes "halo") ≡ false → bytes_eq w.first.now (codes "stop") ≡ false →
     bytes_eq w.first.now (codes "module") ≡ false → None ≡ form_of (list_of_five_words w)
 unfolding form_of is_word_at lone lone_name lone_number
-no_long_form w e h s m = sym (
-    cond-false _ _ _ e ∙ cond-false _ _ _ h ∙ cond-false _ _ _ s
-    ∙ same_none (is (codes "cut")) _ (same_none (is (codes "use")) _ (same_none (is (codes "keep")) _
-    (cond-false _ (area_of (list_of_five_words w) >>= λ b. Some (Item (Module b))) _ m
-    ∙ same_none (is (codes "certificate")) _ (same_none (is (codes "end")) _ refl)))))
-  where
-    is : List ℕ → Bool
-    is k = bytes_eq w.first.now k
+no_long_form w e h s m = grind (arith, common_steps, cond-false, same_none)
 
 -- a line that begins with `stop`
 pub stop_form : (ws : List (List ℕ)) (o : Option StopLine) → is_word_at ws 0 (codes "edge") ≡ false →
     is_word_at ws 0 (codes "halo") ≡ false → is_word_at ws 0 (codes "stop") ≡ true → o ≡ stop_of ws →
     (o >>= λ s. Some (Item (Stop s))) ≡ form_of ws
 unfolding form_of
-stop_form ws o edge halo stop is = ap (λ z. z >>= λ s. Some (Item (Stop s))) is
-    ∙ sym (cond-false _ _ _ edge ∙ cond-false _ _ _ halo ∙ cond-true _ _ _ stop)
+stop_form ws o edge halo stop is = grind (arith, common_steps, cond-false, cond-true)
 
 five_is : {A : Type 0} (b : Bool) (x y : A) → (if b then Some x else None) ≡ Some y → x ≡ y
 five_is true x y e = same_Some x y e
@@ -90,11 +83,7 @@ no_short_form : (ws : List (List ℕ)) (k : List ℕ) → is_word_at ws 0 k ≡ 
     bytes_eq k (codes "use") ≡ false → bytes_eq k (codes "keep") ≡ false → bytes_eq k (codes "certificate") ≡ false →
     bytes_eq k (codes "end") ≡ false → form_of_not_five_words ws ≡ None
 unfolding form_of_not_five_words is_word_at
-no_short_form ws k is a b c d e =
-    let o = slice_get ws 0 in
-    cond-false _ _ _ (other_word o k _ a is) ∙ cond-false _ _ _ (other_word o k _ b is)
-    ∙ cond-false _ _ _ (other_word o k _ c is) ∙ cond-false _ _ _ (other_word o k _ d is)
-    ∙ cond-false _ _ _ (other_word o k _ e is)
+no_short_form ws k is a b c d e = grind (arith, common_steps, cond-false, other_word)
 
 -- the tests from that of `module` on
 from_module : (ws : List (List ℕ)) → area_of ws ≡ None →
@@ -106,39 +95,14 @@ from_module : (ws : List (List ℕ)) → area_of ws ≡ None →
     else if is_word_at ws 0 (codes "end") then lone ws End
     else None)
 unfolding is_word_at
-from_module ws none = elim (cases_Bool (is_word (slice_get ws 0) (codes "module"))) [
-  | inl is ↦
-      let o = slice_get ws 0 in
-      cond-true _ _ _ is ∙ ap (λ z. z >>= λ b. Some (Item (Module b))) none
-      ∙ sym (cond-false _ _ _ (other_word o (codes "module") _ refl is)
-      ∙ cond-false _ _ _ (other_word o (codes "module") _ refl is))
-  | inr other ↦ cond-false _ _ _ other
-]
+from_module ws none = grind (arith, common_steps, cases_Bool, cond-true, cond-false, other_word)
 
 short_is : (ws : List (List ℕ)) → border_of ws ≡ None → stop_of ws ≡ None → area_of ws ≡ None →
     form_of_not_five_words ws ≡ form_of ws
 unfolding form_of_not_five_words form_of
-short_is ws border stop area = elim (cases_Bool (is_word_at ws 0 (codes "edge"))) [
-  | inl is ↦ no_short_form ws _ is refl refl refl refl refl
-      ∙ sym (cond-true _ _ _ is ∙ ap (λ z. z >>= λ e. Some (Item (Edge e))) border)
-  | inr edge ↦ elim (cases_Bool (is_word_at ws 0 (codes "halo"))) [
-    | inl is ↦ no_short_form ws _ is refl refl refl refl refl
-        ∙ sym (cond-false _ _ _ edge ∙ cond-true _ _ _ is ∙ ap (λ z. z >>= λ e. Some (Item (Halo e))) border)
-    | inr halo ↦ elim (cases_Bool (is_word_at ws 0 (codes "stop"))) [
-      | inl is ↦ no_short_form ws _ is refl refl refl refl refl
-          ∙ sym (cond-false _ _ _ edge ∙ cond-false _ _ _ halo ∙ cond-true _ _ _ is
-          ∙ ap (λ z. z >>= λ s. Some (Item (Stop s))) stop)
-      | inr none ↦ sym (cond-false _ _ _ edge ∙ cond-false _ _ _ halo ∙ cond-false _ _ _ none
-          ∙ ap (λ z. if is_word_at ws 0 (codes "cut") then (lone_name ws >>= λ n. Some (Item (Cut n)))
-          else if is_word_at ws 0 (codes "use") then (lone_number ws >>= λ k. Some (Item (Use k)))
-          else if is_word_at ws 0 (codes "keep") then (lone_number ws >>= λ k. Some (Item (Keep k)))
-          else z) (from_module ws area))
-    ]
-  ]
-]
+short_is ws border stop area =
+    grind (arith, common_steps, cases_Bool, no_short_form, cond-true, cond-false, from_module)
 
 pub short_form_is : (ws : List (List ℕ)) → None ≡ five ws → form_of_not_five_words ws ≡ form_of ws
 unfolding five border_of stop_of area_of
-short_form_is ws e =
-    let many = no_five (length ws == 5) ws (sym e) in
-    short_is ws (cond-false _ _ _ many) (cond-false _ _ _ many) (cond-false _ _ _ many)
+short_form_is ws e = grind (arith, common_steps, no_five, short_is, cond-false)

@@ -8,6 +8,7 @@ use Rattle.std.proofs.lemmas.Bool.Decides.{nat_tests}
 use Rattle.std.proofs.lemmas.List.{take-append-drop, take_rest}
 use Rattle.std.proofs.lemmas.List.Splits.{join_with_byte-slice_split, slice_split-cons_no}
 use Rattle.std.proofs.lemmas.Slice.Eq.{bytes_eq-Decides}
+use Rattle.std.proofs.lemmas.Grind.{common_steps}
 use Rattle.section_text.specs.Leading.{leading_number}
 use Rattle.section_text.specs.Words.{is_lower, is_name, is_name_byte, is_space, is_word_at, name_at, name_of, number_at}
 use Rattle.section_text.specs.Words.{number_of, words_of, ◌>>=◌}
@@ -79,8 +80,7 @@ star_leads (v ∷ vs) some = refl
 
 pub star_time : (l : List ℕ) → bytes_eq (take 2 l) (codes "* ") ≡ true →
     Some (None, words_of (drop 2 l)) ≡ leading_star_or_time (words_of l)
-star_time l e = star_leads (words_of (drop 2 l)) (some_words (drop 2 l))
-    ∙ sym (ap (λ t. leading_star_or_time (words_of t)) (begins_with (codes "* ") l 2 e))
+star_time l e = grind (arith, common_steps, star_leads, some_words, begins_with)
 
 abbrev timed : ℕ × List (List ℕ) → Option (Option ℕ × List (List ℕ))
 timed r = Some (Some r.0, r.1)
@@ -121,10 +121,7 @@ letters (b ∷ bs) e =
 
 name_word : (w : List ℕ) → is_name w ≡ true → words_of w ≡ w ∷ []
 name_word [] e = absurd cc
-name_word (b ∷ bs) e =
-    let all = both _ (list_all is_name_byte bs) e in
-    slice_split-cons_no is_space b bs (small_letter b (both (is_lower b) _ all.0).0)
-    ∙ ap (onto_first b) (letters bs all.1)
+name_word (b ∷ bs) e = grind (arith, common_steps, both, slice_split-cons_no, small_letter, letters)
 
 no_signal : (l : List ℕ) → one_or_name_from_word l ≡ None → (ws : List (List ℕ)) → words_of l ≡ ws →
     one_or_name_of_one_word ws ≡ one_or_name_from_word l
@@ -175,25 +172,12 @@ unfolding border_of border_of_five_words star_or_time_at_word signal_at cell_of_
     one_or_name_of_one_word star_or_time_from_word one_or_name_from_word after_time after_column after_row after_signal
 steps k [] = refl
 steps k (a ∷ []) = refl
-steps k (a ∷ b ∷ []) = sym (step_in_step (star_or_time_from_word a) (λ t. Some (t, b ∷ [])) after_time
-    ∙ no_step (star_or_time_from_word a) _ (λ t. refl))
-steps k (a ∷ b ∷ c ∷ []) = sym (step_in_step (star_or_time_from_word a) (λ t. Some (t, b ∷ c ∷ [])) after_time
-    ∙ no_step (star_or_time_from_word a) _ (λ t. step_in_step (number_of b) (λ n. Some (n, c ∷ [])) (after_column t)
-    ∙ no_step (number_of b) _ (λ x. refl)))
+steps k (a ∷ b ∷ []) = sym (grind (arith, common_steps, step_in_step, after_time, no_step))
+steps k (a ∷ b ∷ c ∷ []) = grind (arith, common_steps, step_in_step, after_time, no_step, after_column)
 steps k (a ∷ b ∷ c ∷ d ∷ []) =
-    same_steps (star_or_time_from_word a) _ _ (λ t. step_in_step (number_of b) _ _
-    ∙ same_steps (number_of b) _ _ (λ x. step_in_step (number_of c) _ _))
-    ∙ sym (step_in_step (star_or_time_from_word a) (λ t. Some (t, b ∷ c ∷ d ∷ [])) after_time
-    ∙ same_steps (star_or_time_from_word a) _ _
-    (λ t. step_in_step (number_of b) (λ n. Some (n, c ∷ d ∷ [])) (after_column t)
-    ∙ same_steps (number_of b) _ _ (λ x. step_in_step (number_of c) (λ n. Some (n, d ∷ [])) (after_row t x))))
+    grind (arith, common_steps, same_steps, step_in_step, after_time, after_column, after_row)
 steps k (a ∷ b ∷ c ∷ d ∷ e ∷ ws) =
-    cond-false _ _ _ (not_five (length ws))
-    ∙ sym (step_in_step (star_or_time_from_word a) (λ t. Some (t, b ∷ c ∷ d ∷ e ∷ ws)) after_time
-    ∙ no_step (star_or_time_from_word a) _
-    (λ t. step_in_step (number_of b) (λ n. Some (n, c ∷ d ∷ e ∷ ws)) (after_column t)
-    ∙ no_step (number_of b) _ (λ x. step_in_step (number_of c) (λ n. Some (n, d ∷ e ∷ ws)) (after_row t x)
-    ∙ no_step (number_of c) _ (λ y. refl))))
+    grind (arith, common_steps, cond-false, not_five, step_in_step, after_time, no_step, after_column, after_row)
 
 pub no_time : (k : List ℕ) (ws : List (List ℕ)) → leading_star_or_time ws ≡ None → None ≡ border_of (k ∷ ws)
 no_time k ws t = sym (steps k ws ∙ ap (λ o. o >>= after_time) t)
@@ -201,16 +185,13 @@ no_time k ws t = sym (steps k ws ∙ ap (λ o. o >>= after_time) t)
 pub no_column : (k : List ℕ) (ws : List (List ℕ)) (t : Option ℕ) (after : List (List ℕ)) →
     leading_star_or_time ws ≡ Some (t, after) → leading_number after ≡ None → None ≡ border_of (k ∷ ws)
 unfolding after_time
-no_column k ws t after time column =
-    sym (steps k ws ∙ ap (λ o. o >>= after_time) time ∙ ap (λ o. o >>= after_column t) column)
+no_column k ws t after time column = grind (arith, common_steps, steps, after_time, after_column)
 
 pub no_row : (k : List ℕ) (ws : List (List ℕ)) (t : Option ℕ) (after : List (List ℕ)) (x : ℕ) (rest : List (List ℕ)) →
     leading_star_or_time ws ≡ Some (t, after) → leading_number after ≡ Some (x, rest) → leading_number rest ≡ None →
     None ≡ border_of (k ∷ ws)
 unfolding after_time after_column
-no_row k ws t after x rest time column row =
-    sym (steps k ws ∙ ap (λ o. o >>= after_time) time ∙ ap (λ o. o >>= after_column t) column
-    ∙ ap (λ o. o >>= after_row t x) row)
+no_row k ws t after x rest time column row = grind (arith, common_steps, steps, after_time, after_column, after_row)
 
 pub border_is : (k : List ℕ) (ws : List (List ℕ)) (t : Option ℕ) (after : List (List ℕ)) (x : ℕ) (rest : List (List ℕ))
     (y : ℕ) (last : List (List ℕ)) → leading_star_or_time ws ≡ Some (t, after) → leading_number after ≡ Some (x, rest) →
@@ -218,8 +199,7 @@ pub border_is : (k : List ℕ) (ws : List (List ℕ)) (t : Option ℕ) (after : 
     (one_or_name_of_one_word last >>= λ s. Some (record { time = t; cell = cell x y; signal = s })) ≡ border_of (k ∷ ws)
 unfolding after_time after_column after_row after_signal
 border_is k ws t after x rest y last time column row =
-    sym (steps k ws ∙ ap (λ o. o >>= after_time) time ∙ ap (λ o. o >>= after_column t) column
-    ∙ ap (λ o. o >>= after_row t x) row)
+    grind (arith, common_steps, steps, after_time, after_column, after_row)
 
 -- ---- the form of the line
 
@@ -244,6 +224,4 @@ halo_line l o halo is =
 pub stop_line : (l : List ℕ) (o : Option StopLine) → bytes_eq (take 5 l) (codes "stop ") ≡ true →
     o ≡ stop_of (words_of l) → (o >>= λ s. Some (Item (Stop s))) ≡ form_of (words_of l)
 unfolding is_word_at
-stop_line l o stop is =
-    stop_form (codes "stop" ∷ words_of (drop 5 l)) o refl refl refl (is ∙ ap stop_of (stop_words l stop))
-    ∙ ap form_of (sym (stop_words l stop))
+stop_line l o stop is = grind (arith, common_steps, stop_form, stop_words)

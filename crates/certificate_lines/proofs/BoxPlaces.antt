@@ -1,11 +1,11 @@
 -- The places of the cells of a box, row by row
 use Rattle.std.proofs.Common.{◌≡◌, ℕ, zero, suc, ◌+◌, ◌-◌, ◌*◌, ◌<◌, ◌≤◌, true, List, [], ◌∷◌, ◌++◌, map, length, Some}
-use Rattle.std.proofs.Common.{refl, sym, ap, ap₂, subst, ◌∙◌, arith, ℤ, pos, slice_get, unwrap_or, flat_map}
+use Rattle.std.proofs.Common.{refl, sym, ap, ap₂, ◌∙◌, arith, ℤ, pos, slice_get, unwrap_or, flat_map}
 use Rattle.std.specs.List.{range_with_len}
 use Rattle.std.proofs.lemmas.List.{length-map, length-append}
+use Rattle.std.proofs.lemmas.Grind.{common_steps}
 use Rattle.bbm_rule.specs.declared.block.Cell.{Cell}
 use Rattle.pattern.specs.Layout.{cell, row_cells, rectangle_cells}
-use Rattle.std.proofs.Math.Nat.{mul-le-mul_right}
 use Rattle.bbm_rule.specs.Plane.{is_at}
 use Rattle.module_box.specs.Boxes.{in_box}
 use Rattle.module_box.specs.declared.boxes.Box2.{Box2}
@@ -16,19 +16,12 @@ use Rattle.certificate_lines.proofs.Lists.{kept, any_at, some_is}
 use Rattle.bbm_rule.proofs.SameCells.{cell_itself}
 use Rattle.certificate_lines.proofs.PortLemmas.{in_box_cells}
 
-pub small_row : (r w : ℕ) → r < 64 → w ≤ 64 → r * w ≤ 4096
-small_row r w p q =
-    let h : r * w ≤ 64 * w = mul-le-mul_right w (omega (arith, p)) in
-    omega (arith, h, q)
-
 -- ---- the cells of a box, row by row
 
 -- an element behind the first n
 pub skipped : {A : Type 0} (xs ys : List A) (n i : ℕ) → length xs ≡ n → slice_get (xs ++ ys) (n + i) ≡ slice_get ys i
 skipped [] ys n i e = ap (λ (k : ℕ). slice_get ys k) (omega arith)
-skipped (x ∷ xs) ys n i e =
-    let turn : n + i ≡ suc (length xs + i) = omega arith in
-    ap (λ (k : ℕ). slice_get (x ∷ (xs ++ ys)) k) turn ∙ skipped xs ys (length xs) i refl
+skipped (x ∷ xs) ys n i e = grind (arith, common_steps, skipped xs ys (length xs) i refl)
 
 row_length : (x n y : ℕ) → length (row_cells x n y) ≡ n
 row_length x zero y = refl
@@ -50,9 +43,7 @@ first_row w k = omega arith
 
 rows_length : (x w y h : ℕ) → length (flat_map (row_cells x w) (range_with_len y h)) ≡ h * w
 rows_length x w y zero = omega arith
-rows_length x w y (suc h) =
-    length-append (row_cells x w y) (flat_map (row_cells x w) (range_with_len (y + 1) h))
-    ∙ ap₂ (λ a b. a + b) (row_length x w y) (rows_length x w (y + 1) h) ∙ omega arith
+rows_length x w y (suc h) = grind (arith, common_steps, rows_length x w (y + 1) h, length-append, row_length)
 
 rows_place : (x w y h r k : ℕ) → r < h → k < w →
     slice_get (flat_map (row_cells x w) (range_with_len y h)) (r * w + k) ≡ Some (cell (x + k) (y + r))
@@ -84,12 +75,7 @@ nat_place b x y left right top bottom =
 
 pub box_place : (b : Box2) (x y : ℤ) → in_box b x y ≡ true →
     slice_get (box_cells b) (place_in b x y) ≡ Some (record { x = x; y = y })
-box_place b x y h =
-    let p = in_box_nats b x y h in
-    let px = p.0 in let py = p.1 in
-    let stands : ℤ → ℤ → Type 0 = λ u v. slice_get (box_cells b) (place_in b u v) ≡ Some (record { x = u; y = v }) in
-    subst (λ (u : ℤ). stands u y) (sym px.1)
-    (subst (λ (v : ℤ). stands (pos px.0) v) (sym py.1) (nat_place b px.0 py.0 px.2 px.3 py.2 py.3))
+box_place b x y h = grind (arith, common_steps, in_box_nats, nat_place)
 
 -- the cells of a box are in it
 pub cells_inside : (b : Box2) (k : ℕ) (c : Cell) → slice_get (box_cells b) k ≡ Some c → in_box b c.x c.y ≡ true

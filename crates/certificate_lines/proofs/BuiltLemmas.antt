@@ -1,14 +1,14 @@
 -- The modules so far, after one more module and after one more line.
-use Rattle.std.proofs.Common.{◌≡◌, ◌⊎◌, ℕ, ◌+◌, ◌-◌, ◌%◌, ◌<◌, ◌≤◌, ℤ, Bool, true, false, not, ◌&&◌, ◌||◌, List, []}
+use Rattle.std.proofs.Common.{◌≡◌, ℕ, ◌+◌, ◌-◌, ◌%◌, ◌<◌, ◌≤◌, ℤ, Bool, true, false, not, ◌&&◌, ◌||◌, List, []}
 use Rattle.std.proofs.Common.{◌∷◌, ◌++◌, length, Option, Some, None, refl, sym, ap, ap₂, subst, ◌∙◌, inl, inr, arith}
-use Rattle.std.proofs.Common.{slice_get, nat_le, nat_lt}
+use Rattle.std.proofs.Common.{slice_get, nat_lt}
 use Rattle.std.specs.List.{list_any, list_all}
 use Rattle.std.proofs.lemmas.Bool.{true≢false}
 use Rattle.std.proofs.lemmas.Bool.Decides.{nat_tests}
 use Rattle.std.proofs.lemmas.List.{length_push, map-append}
-use Rattle.std.proofs.lemmas.List.Elements.{All-nil}
 use Rattle.std.proofs.lemmas.List.Folds.{list_any-append}
 use Rattle.std.proofs.lemmas.Option.{slice_get_within}
+use Rattle.std.proofs.lemmas.Grind.{common_steps}
 use Rattle.bbm_rule.specs.Board.{Board, live, HasSameSize}
 use Rattle.section_text.specs.Codes.{code_if}
 use Rattle.pattern.specs.Lines.{size_fault}
@@ -36,7 +36,7 @@ use Rattle.certificate_lines.proofs.Lists.{any_at}
 use Rattle.certificate_lines.proofs.ModulePushes.{no_code, both_none, less}
 use Rattle.certificate_lines.proofs.PortLemmas.{has_cell, in_box_cells}
 use Rattle.section_text.specs.declared.code.RefusalCode.{RefusalCode}
-use Rattle.section_text.specs.declared.code.RefusalCode.TheVariants.{PastLimit, MisplacedBox, SomethingMissing}
+use Rattle.section_text.specs.declared.code.RefusalCode.TheVariants.{MisplacedBox, SomethingMissing}
 
 -- ---- a box that is good
 
@@ -62,18 +62,7 @@ at_most a b e = grind (arith, nat_tests)
 box_good : (s : LayoutHeader) (b : Box2) → is_wrong_side b.w ≡ false → is_wrong_side b.h ≡ false →
     is_misplaced s b ≡ false →
     IsGoodBox s b
-box_good s b wide high placed =
-    let w = side b.w wide in
-    let h = side b.h high in
-    let bottom = or_false _ (nat_lt s.h (b.y + b.h)) placed in
-    let right = or_false _ (nat_lt s.w (b.x + b.w)) bottom.0 in
-    let odd = or_false (is_odd b.x) (is_odd b.y) right.0 in
-    record {
-      even = record { x = even_by b.x odd.0; y = even_by b.y odd.1; w = w.0; h = h.0 };
-      wide = (w.1, w.2);
-      high = (h.1, h.2);
-      inside = record { right = at_most s.w (b.x + b.w) right.1; bottom = at_most s.h (b.y + b.h) bottom.1 };
-    }
+box_good s b wide high placed = grind (arith, common_steps, side, or_false, even_by, at_most)
 
 -- what the tests of a `module` line say
 pub record IsGoodModule (g : Setting) (ms : List ModuleLines) (before : Option ModuleLines) (b : Box2) : Type 0 where
@@ -91,24 +80,12 @@ record PassesAlone (g : Setting) (count : ℕ) (before : Option ModuleLines) (b 
 passes_alone : (g : Setting) (count : ℕ) (before : Option ModuleLines) (b : Box2) → box_fault g count before b ≡ None →
     PassesAlone g count before b
 unfolding box_fault
-passes_alone g count before b e =
-    let one = both_none _ _ e in
-    let two = both_none _ _ one.1 in
-    let limits = or_false _ (nat_le 1024 count) (no_code _ PastLimit two.0) in
-    let sides = or_false (is_wrong_side b.w) (is_wrong_side b.h) limits.0 in
-    record {
-      complete = no_code _ SomethingMissing one.0;
-      few = less 1024 count limits.1;
-      box = box_good g.size b sides.0 sides.1 (no_code _ MisplacedBox two.1);
-    }
+passes_alone g count before b e = grind (arith, common_steps, both_none, or_false, no_code, less, box_good)
 
 pub good_module : (g : Setting) (ms : List ModuleLines) (before : Option ModuleLines) (b : Box2) →
     module_fault g ms before b ≡ None → IsGoodModule g ms before b
 unfolding module_fault
-good_module g ms before b e =
-    let parts = both_none _ _ e in
-    let alone = passes_alone g (length ms) before b parts.0 in
-    record { complete = alone.complete; few = alone.few; box = alone.box; free = no_code _ MisplacedBox parts.1 }
+good_module g ms before b e = grind (arith, common_steps, both_none, passes_alone, no_code)
 
 -- ---- the cells of a box
 
@@ -176,26 +153,7 @@ none_at i a e = cc
 -- a module without lines
 begun_module : (g : Setting) (b : Box2) → IsGoodBox g.size b → IsModule g (record { area = b; lines = [] })
 unfolding AreInOrder StarsExcludeLaterTimes
-begun_module g b good = record {
-  even = good.even;
-  wide = good.wide;
-  high = good.high;
-  inside = good.inside;
-  named = refl;
-  local = record {
-    few_cuts = omega arith;
-    few_gates = omega arith;
-    rising = λ i j k m lt e f. absurd (none_at i k e);
-    known = λ i k e. absurd (none_at i k e);
-    different = λ i j w e f. absurd (none_at i w e);
-  };
-  order = tt;
-  keep_lines = All-nil _;
-  unstarred = tt;
-  edge_lines = All-nil _;
-  halo_lines = All-nil _;
-  stop_lines = All-nil _;
-}
+begun_module g b good = grind (arith, common_steps, none_at)
 
 begun : (g : Setting) (b : Box2) → IsGoodBox g.size b → IsWritten g (record { area = b; lines = [] })
 begun g b good = record { good = begun_module g b good; few_borders = omega arith }
@@ -212,8 +170,7 @@ or_swap false false = refl
 
 cells_pushed : (boxes : List Box2) (b : Box2) (x y : ℤ) →
     in_boxes (boxes ++ b ∷ []) x y ≡ (in_boxes boxes x y || in_box b x y)
-cells_pushed boxes b x y = list_any-append (λ (d : Box2). in_box d x y) boxes (b ∷ [])
-    ∙ sym (or_swap (in_boxes boxes x y) (in_box b x y))
+cells_pushed boxes b x y = grind (arith, common_steps, list_any-append, or_swap)
 
 at_cell : ℤ → ℤ → Cell
 at_cell x y = record { x = x; y = y }
@@ -228,20 +185,7 @@ free_cell boxes b free x y i d e here inside =
     (in_box_cells b x y ∙ inside) among) ∙ free)
 
 apart_push : (boxes : List Box2) (b : Box2) → AreApart boxes → overlaps boxes b ≡ false → AreApart (boxes ++ b ∷ [])
-apart_push boxes b apart free = record {
-  once = λ x y i j d d' e f h k. elim (pushed boxes b i d e) [
-    | inl old ↦ elim (pushed boxes b j d' f) [
-      | inl old' ↦ apart.once x y i j d d' old old' h k
-      | inr new' ↦ absurd (free_cell boxes b free x y i d old h
-          (subst (λ (z : Box2). in_box z x y ≡ true) (sym new'.1) k))
-    ]
-    | inr new ↦ elim (pushed boxes b j d' f) [
-      | inl old' ↦ absurd (free_cell boxes b free x y j d' old' k
-          (subst (λ (z : Box2). in_box z x y ≡ true) (sym new.1) h))
-      | inr new' ↦ new.0 ∙ sym new'.0
-    ]
-  ];
-}
+apart_push boxes b apart free = grind (arith, common_steps, pushed, free_cell)
 
 pub last_is : (ms : List ModuleLines) (i : ℕ) (m : ModuleLines) → i + 1 ≡ length ms → slice_get ms i ≡ Some m →
     last_of ms ≡ Some m
@@ -251,12 +195,7 @@ last_is ms i m at e = sym (last_by_place ms) ∙ ap (slice_get ms) (let p : leng
 -- the modules so far
 module _ (g : Setting) (ms : List ModuleLines) where
   pub sound_none : AreSound g []
-  sound_none = record {
-    few = omega arith;
-    each = λ k m e. absurd (none_at k m e);
-    apart = record { once = λ x y i j b b' e f h k. absurd (none_at i b e) };
-    ported = λ i m lt e. absurd (none_at i m e);
-  }
+  sound_none = grind (arith, common_steps, none_at)
 
   pub built_none : (covered : Board) → covered.width ≡ g.size.w → covered.height ≡ g.size.h →
       ((x y : ℤ) → live covered x y ≡ false) → AreBuilt g [] covered []
@@ -269,18 +208,8 @@ module _ (g : Setting) (ms : List ModuleLines) where
       has_nonlocal_port g m ≡ false) → is_last_module_incomplete g (last_of ms) ≡ false
       → (i : ℕ) (m : ModuleLines) → i + 1 < length (ms ++ new_module b ∷ []) →
       slice_get (ms ++ new_module b ∷ []) i ≡ Some m → has_nonlocal_port g m ≡ false
-  ported_push b before complete i m lt e = elim (pushed ms (new_module b) i m e) [
-    | inl old ↦ ported_by i m old (here_or_before i (slice_get_within ms i m old))
-    | inr new ↦ absurd (let n = length_push ms (new_module b) in let at = new.0 in omega (arith, lt, n, at))
-  ]
-    where
-      here_or_before : (i : ℕ) → i < length ms → (i + 1 < length ms) ⊎ (i + 1 ≡ length ms)
-      here_or_before i h = grind arith
-
-      ported_by : (i : ℕ) (m : ModuleLines) → slice_get ms i ≡ Some m → (i + 1 < length ms) ⊎ (i + 1 ≡ length ms) →
-          has_nonlocal_port g m ≡ false
-      ported_by i m e (inl lt) = before i m lt e
-      ported_by i m e (inr at) = ap (is_last_module_incomplete g) (sym (last_is ms i m at e)) ∙ complete
+  ported_push b before complete i m lt e =
+      grind (arith, common_steps, pushed, new_module, slice_get_within, length_push, last_is)
 
   pub module_sound : (b : Box2) → AreSound g ms → IsGoodModule g ms (last_of ms) b →
       AreSound g (ms ++ new_module b ∷ [])
@@ -298,16 +227,8 @@ module _ (g : Setting) (ms : List ModuleLines) where
       AreBuilt g ms old counts → IsGoodModule g ms (last_of ms) b
       → ((x y : ℤ) → live new x y ≡ (live old x y || in_area b.x b.y b.w b.h x y)) → HasSameSize old new →
       AreBuilt g (ms ++ new_module b ∷ []) new (counts ++ counts_of (new_module b) ∷ [])
-  module_built b old new counts built good after size = record {
-    sound = module_sound b built.sound good;
-    width = size.0 ∙ built.width;
-    height = size.1 ∙ built.height;
-    cells = λ x y.
-        after x y ∙ ap₂ (λ p q. p || q) (built.cells x y) (area_is b x y)
-        ∙ sym (cells_pushed (areas ms) b x y) ∙ ap (λ l. in_boxes l x y) (sym (areas_push ms (new_module b)));
-    counted = ap (λ l. l ++ counts_of (new_module b) ∷ []) built.counted
-        ∙ sym (map-append counts_of ms (new_module b ∷ []));
-  }
+  module_built b old new counts built good after size =
+      grind (arith, common_steps, module_sound, area_is, cells_pushed, areas_push, new_module, map-append)
 
   -- one more line of the last module
   pub line_sound : (i : CertificateLine) → AreSound g ms →
@@ -321,10 +242,7 @@ module _ (g : Setting) (ms : List ModuleLines) where
           (grows new.0 new.2 (let at = last_at ms new.0 new.2 in sound.each at.0 new.0 at.2))
     ];
     apart = subst AreApart (sym (areas_changed i ms)) sound.apart;
-    ported = λ k m lt e. elim (changed_at (module_with_line i) ms k m e) [
-      | inl old ↦ sound.ported k m old.0 old.1
-      | inr new ↦ absurd (let n = length_changed (module_with_line i) ms in let at = new.1 in omega (arith, lt, n, at))
-    ];
+    ported = grind (arith, common_steps, changed_at, length_changed);
   }
 
   pub line_built : (i : CertificateLine) (covered : Board) (counts more : List Counts) (count : Counts → Counts) →
@@ -337,8 +255,7 @@ module _ (g : Setting) (ms : List ModuleLines) where
     width = built.width;
     height = built.height;
     cells = λ x y. built.cells x y ∙ ap (λ l. in_boxes l x y) (sym (areas_changed i ms));
-    counted = now ∙ ap (change_last count) built.counted
-        ∙ sym (map_changed counts_of (module_with_line i) count counted ms);
+    counted = grind (arith, common_steps, map_changed);
   }
 
 pub near_by : (s : LayoutHeader) (b : Box2) → size_fault s ≡ None → is_misplaced s b ≡ false → IsNear s b
@@ -348,7 +265,4 @@ near_by s b sized placed =
     let right = or_false _ (nat_lt s.w (b.x + b.w)) bottom.0 in
     let r = at_most s.w (b.x + b.w) right.1 in
     let d = at_most s.h (b.y + b.h) bottom.1 in
-    record {
-      columns = (r, let w = sides.0.most in omega (arith, w, r));
-      rows = (d, let h = sides.1.most in omega (arith, h, d));
-    }
+    grind (arith, common_steps)

@@ -2,6 +2,7 @@
 use Rattle.std.proofs.Common.{◌≡◌, ℕ, suc, ◌-◌, ◌<◌, List, [], ◌∷◌, length, get_or, Some, refl, sym, ap, ◌∙◌, arith}
 use Rattle.std.specs.Prelude.{slice_set}
 use Rattle.std.proofs.lemmas.Option.{slice_get-get_or}
+use Rattle.std.proofs.lemmas.Grind.{common_steps}
 use Rattle.certificate_lines.specs.Entries.{change_last, last_of}
 use Rattle.certificate_lines.proofs.Growing.{last_by_place}
 
@@ -29,10 +30,8 @@ set_last f (x ∷ z ∷ xs) d y some is =
 -- the same by a place and the element that was read there
 pub last_is_at : {X : Type 0} (xs : List X) (i : ℕ) (x : X) → i ≡ length xs - 1 → 0 < length xs → x ≡ get_or xs i x →
     last_of xs ≡ Some x
-last_is_at xs i x at some is =
-    last_is_get xs x some ∙ ap (λ k. Some (get_or xs k x)) (sym at) ∙ ap (λ z. Some z) (sym is)
+last_is_at xs i x at some is = grind (arith, common_steps, last_is_get)
 
 pub set_at : {X : Type 0} (f : X → X) (xs : List X) (i : ℕ) (x y : X) → i ≡ length xs - 1 → 0 < length xs →
     x ≡ get_or xs i x → y ≡ f x → slice_set xs i y ≡ change_last f xs
-set_at f xs i x y at some is now =
-    ap (λ k. slice_set xs k y) at ∙ set_last f xs x y some (now ∙ ap f (is ∙ ap (λ k. get_or xs k x) at))
+set_at f xs i x y at some is now = grind (arith, common_steps, set_last)

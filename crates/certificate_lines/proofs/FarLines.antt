@@ -1,7 +1,8 @@
 -- Edge lines of a box that a halo does not reach
-use Rattle.std.proofs.Common.{◌≡◌, Bool, true, false, if◌then◌else◌, List, [], ◌∷◌, refl, sym, ◌∙◌, inl, inr, get_or}
+use Rattle.std.proofs.Common.{arith, ◌≡◌, Bool, true, false, if◌then◌else◌, List, [], ◌∷◌, refl, ◌∙◌, inl, inr}
 use Rattle.std.proofs.Common.{filter}
 use Rattle.std.proofs.lemmas.Bool.{and_parts, cases_Bool, false≢true}
+use Rattle.std.proofs.lemmas.Grind.{common_steps}
 use Rattle.module_box.specs.Boxes.{in_box, in_halo, in_ring, is_near}
 use Rattle.module_box.specs.declared.boxes.Box2.{Box2}
 use Rattle.module_box.proofs.NearBoxes.{near_boxes}
@@ -24,10 +25,7 @@ none_passes test (x ∷ xs) h =
 
 far_line : (a b : Box2) (e : BorderLine) → is_near a b ≡ false → in_box b e.cell.x e.cell.y ≡ true →
     in_halo a e.cell.x e.cell.y ≡ false
-far_line a b e far own = elim (cases_Bool (in_halo a e.cell.x e.cell.y)) [
-  | inl reached ↦ absurd (false≢true (sym far ∙ near_boxes a b e.cell.x e.cell.y reached own))
-  | inr not ↦ not
-]
+far_line a b e far own = grind (arith, common_steps, cases_Bool, false≢true, near_boxes)
 
 pub far_lines : (a b : Box2) (es : List BorderLine) → is_near a b ≡ false → AreInBox b es →
     filter (λ e. in_halo a e.cell.x e.cell.y) es ≡ []
@@ -37,5 +35,4 @@ far_lines a b es far own = none_passes (λ e. in_halo a e.cell.x e.cell.y) es
 -- the edge lines of a module are for cells of its box
 pub own_lines : (g : Setting) (m : ModuleLines) → IsModule g m → AreInBox m.area (edges m)
 unfolding in_ring
-own_lines g m good k d lt = let e = get_or (edges m) k d in
-    (and_parts (in_box m.area e.cell.x e.cell.y) _ (good.edge_lines k d lt).ring).0
+own_lines g m good k d lt = grind (arith, common_steps, and_parts)

@@ -3,6 +3,7 @@ use Rattle.std.proofs.Common.{◌≡◌, ◌⊎◌, ℕ, zero, suc, ◌+◌, ◌
 use Rattle.std.proofs.Common.{refl, sym, ap, ◌∙◌, inl, inr, arith, append-nil, slice_get, flat_map}
 use Rattle.std.proofs.lemmas.List.Sums.{fold_push}
 use Rattle.std.proofs.lemmas.Grind.{flat_map-append}
+use Rattle.std.proofs.lemmas.Grind.{common_steps}
 use Rattle.certificate_lines.specs.Entries.{ModuleLines, module_with_line, change_last, last_of, add_line, modules_of}
 use Rattle.certificate_lines.specs.Entries.{areas}
 use Rattle.certificate_lines.specs.declared.certificate_line.CertificateLine.{CertificateLine}
@@ -75,10 +76,7 @@ changed_at f [] i y e = absurd cc
 changed_at f (x ∷ []) zero y e = inr (x, refl, refl, sym (some_is (f x) y e))
 changed_at f (x ∷ []) (suc i) y e = absurd cc
 changed_at f (x ∷ z ∷ xs) zero y e = inl (omega arith, e)
-changed_at f (x ∷ z ∷ xs) (suc i) y e = elim (changed_at f (z ∷ xs) i y e) [
-  | inl h ↦ inl (omega (arith, h.0), h.1)
-  | inr h ↦ inr (h.0, omega (arith, h.1), h.2, h.3)
-]
+changed_at f (x ∷ z ∷ xs) (suc i) y e = grind (arith, common_steps, changed_at f (z ∷ xs) i y e)
 
 -- the last of a list by its place
 pub last_by_place : {X : Type 0} (xs : List X) → slice_get xs (length xs - 1) ≡ last_of xs

@@ -3,6 +3,7 @@ use Rattle.std.proofs.Common.{◌≡◌, ℕ, zero, suc, ◌+◌, ◌<◌, ◌�
 use Rattle.std.proofs.Common.{drop, refl, sym, ap, subst, ◌∙◌, arith, get_or}
 use Rattle.std.proofs.Math.Seq.{drop-cons}
 use Rattle.std.proofs.lemmas.List.{append-nil, append_assoc, drop_all, take_all, take_more}
+use Rattle.std.proofs.lemmas.Grind.{common_steps}
 use Rattle.certificate_lines.specs.ModuleParts.{inner, is_module}
 use Rattle.certificate_lines.specs.declared.certificate_line.CertificateLine.{CertificateLine}
 
@@ -22,20 +23,12 @@ here es p e lt ge = ap inner (drop-cons es p e lt) ∙ ap (λ x. inner (x ∷ dr
 pub inner_found : (es : List CertificateLine) (p : ℕ) (e : CertificateLine) → p < length es → e ≡ get_or es p e →
     is_module e ≡ true →
     inner es ≡ take p es ++ inner (drop p es) → take p es ≡ inner es
-inner_found es p e lt ge m h =
-    sym (h ∙ ap (λ xs. take p es ++ xs) (here es p e lt ge ∙ inner_module e (drop (suc p) es) m)
-    ∙ append-nil (take p es))
+inner_found es p e lt ge m h = grind (arith, common_steps, here, inner_module, append-nil)
 
 pub inner_more : (es : List CertificateLine) (p : ℕ) (e : CertificateLine) → p < length es → e ≡ get_or es p e →
     is_module e ≡ false →
     inner es ≡ take p es ++ inner (drop p es) → inner es ≡ take (p + 1) es ++ inner (drop (p + 1) es)
-inner_more es p e lt ge m h =
-    let n : p + 1 ≡ suc p = omega arith in
-    let t : take (p + 1) es ≡ take p es ++ e ∷ [] = take_more es p e lt ∙ ap (λ x. take p es ++ x ∷ []) (sym ge) in
-    let d : inner (drop p es) ≡ e ∷ inner (drop (p + 1) es) =
-    here es p e lt ge ∙ inner_other e (drop (suc p) es) m ∙ ap (λ k. e ∷ inner (drop k es)) (sym n) in
-    h ∙ ap (λ xs. take p es ++ xs) d
-    ∙ sym (ap (λ xs. xs ++ inner (drop (p + 1) es)) t ∙ append_assoc (take p es) (e ∷ []) (inner (drop (p + 1) es)))
+inner_more es p e lt ge m h = grind (arith, common_steps, take_more, here, inner_other, append_assoc)
 
 pub nothing_inner : inner [] ≡ []
 unfolding inner
@@ -47,26 +40,19 @@ nothing xs = append-nil xs
 
 pub inner_all : (es : List CertificateLine) (p : ℕ) → length es ≤ p → inner es ≡ take p es ++ inner (drop p es) →
     es ≡ inner es
-inner_all es p le h = sym (h ∙ ap (λ xs. take p es ++ inner xs) (drop_all p es le) ∙ nothing (take p es)
-    ∙ take_all p es le)
+inner_all es p le h = grind (arith, common_steps, drop_all, nothing, take_all)
 
 prefix_after : (b : Bool) (e : CertificateLine) (es : List CertificateLine) (n : ℕ) → is_module e ≡ b →
     (n ≤ length (inner es) → inner es ≡ take n es ++ inner (drop n es)) →
     suc n ≤ length (inner (e ∷ es)) → inner (e ∷ es) ≡ take (suc n) (e ∷ es) ++ inner (drop (suc n) (e ∷ es))
-prefix_after true e es n m h le =
-    let none : suc n ≤ 0 = subst (λ xs. suc n ≤ length xs) (inner_module e es m) le in
-    absurd (omega (arith, none))
-prefix_after false e es n m h le =
-    let more : suc n ≤ suc (length (inner es)) = subst (λ xs. suc n ≤ length xs) (inner_other e es m) le in
-    inner_other e es m ∙ ap (λ xs. e ∷ xs) (h (omega (arith, more)))
+prefix_after true e es n m h le = grind (arith, common_steps, inner_module)
+prefix_after false e es n m h le = grind (arith, common_steps, inner_other)
 
 -- the first lines of a module, and the others
 pub inner_prefix : (es : List CertificateLine) (n : ℕ) → n ≤ length (inner es) →
     inner es ≡ take n es ++ inner (drop n es)
 inner_prefix es zero le = refl
-inner_prefix [] (suc n) le =
-    let none : suc n ≤ 0 = subst (λ xs. suc n ≤ length xs) nothing_inner le in
-    absurd (omega (arith, none))
+inner_prefix [] (suc n) le = grind (arith, common_steps, nothing_inner)
 inner_prefix (e ∷ es) (suc n) le = prefix_after (is_module e) e es n refl (inner_prefix es n) le
 
 shorter_after : (b : Bool) (e : CertificateLine) (es : List CertificateLine) → is_module e ≡ b →

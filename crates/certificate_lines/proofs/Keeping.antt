@@ -5,6 +5,7 @@ use Rattle.std.proofs.Common.{flat_map, option_to_list}
 use Rattle.std.specs.List.{list_any}
 use Rattle.std.proofs.lemmas.List.Folds.{list_any-append}
 use Rattle.std.proofs.lemmas.List.{length_push}
+use Rattle.std.proofs.lemmas.Grind.{common_steps}
 use Rattle.bbm_rule.specs.Board.{Board, live, HasSameSize}
 use Rattle.bbm_rule.specs.declared.block.Cell.{Cell}
 use Rattle.section_text.specs.Codes.{code_if, or_else}
@@ -17,7 +18,7 @@ use Rattle.module_box.specs.Locals.{is_among}
 use Rattle.module_box.specs.declared.boxes.Box2.{Box2}
 use Rattle.certificate_lines.specs.Entries.{Setting, ModuleLines, module_with_line, change_last, last_of, add_line}
 use Rattle.certificate_lines.specs.Entries.{modules_of, last_module, counts_of, cut_in, use_in, edge_in, halo_in}
-use Rattle.certificate_lines.specs.Entries.{stop_in, cuts, gates, edges, halos, stops, known}
+use Rattle.certificate_lines.specs.Entries.{cuts, gates, edges, halos, stops, known}
 use Rattle.certificate_lines.specs.Orders.{AreInOrder, may_follow}
 use Rattle.certificate_lines.specs.Rules.{same_cell, is_starred_line_at, are_new_and_distinct}
 use Rattle.certificate_lines.specs.Rules.{is_last_module_incomplete, is_local, has_nonlocal_port, content_code}
@@ -55,11 +56,7 @@ pub kept_none : (g : Setting) (covered : Board) → covered.width ≡ g.size.w �
     ((x y : ℤ) → live covered x y ≡ false) → (local : List ℕ) (e h : List Cell) →
     IsTracked g [] covered [] None [] local e h
 unfolding modules_of last_of
-kept_none g covered w h dead local e f = record {
-  built = built_none g [] covered w h dead;
-  none = λ _. refl;
-  last_module = λ m e. absurd (no_last m e);
-}
+kept_none g covered w h dead local e f = grind (arith, common_steps, built_none, no_last)
 
 -- ---- the last module and its counts
 
@@ -67,10 +64,7 @@ last_none : {X : Type 0} (xs : List X) → last_of xs ≡ None → xs ≡ []
 unfolding last_of
 last_none [] e = refl
 last_none (x ∷ []) e = absurd cc
-last_none (x ∷ y ∷ xs) e = absurd (full x (last_none (y ∷ xs) e))
-  where
-    full : {A : Type 0} {y : A} {ys : List A} (x : A) → y ∷ ys ≡ [] → ⊥
-    full x e = cc
+last_none (x ∷ y ∷ xs) e = grind (arith, common_steps, last_none (y ∷ xs) e)
 
 mapped_none : {X Y : Type 0} (f : X → Y) (o : Option X) → option_map f o ≡ None → o ≡ None
 mapped_none f None e = refl
@@ -98,9 +92,7 @@ module _ (g : Setting) (es : List CertificateLine) (covered : Board) (counts : L
   no_module none = mapped_none counts_of (last_module es) (sym counts_last ∙ none)
 
   pub the_last : (k : Counts) → last_of counts ≡ Some k → IsLast (modules_of es) k
-  the_last k some =
-      let r = mapped_some counts_of (last_module es) k (sym counts_last ∙ some) in
-      record { module_lines = r.0; last = r.1; counted = r.2 }
+  the_last k some = grind (arith, common_steps, mapped_some, counts_last)
 
   pub last_written : (m : ModuleLines) → last_module es ≡ Some m → IsWritten g m
   last_written m some = let at = last_at (modules_of es) m some in kept.built.sound.each at.0 m at.2
@@ -116,12 +108,7 @@ module _ (g : Setting) (es : List CertificateLine) (covered : Board) (counts : L
       let l = the_last k some in
       let written = last_written l.module_lines l.last in
       let is = written.good in
-      subst AreSmallCounts (sym l.counted)
-      (record {
-        few_cuts = few_lines l.module_lines is;
-        few_gates = is.local.few_gates;
-        few_borders = written.few_borders;
-      })
+      grind (arith, common_steps, few_lines)
 
   lacks_by : (o : Option ModuleLines) → last_module es ≡ o →
       list_any (λ n. not (is_local g.circuit local n)) names ≡ is_last_module_incomplete g o
@@ -130,8 +117,7 @@ module _ (g : Setting) (es : List CertificateLine) (covered : Board) (counts : L
       (kept.none (last_none (modules_of es) none))
   lacks_by (Some m) some =
       let p = kept.last_module m some in
-      p.ports (λ n. not (is_local g.circuit local n))
-      ∙ ap (λ l. list_any (λ q. in_box m.area q.cell.x q.cell.y && not (is_local g.circuit l q.name)) g.ports) p.wires
+      grind (arith, common_steps)
 
   pub lacks : list_any (λ n. not (is_local g.circuit local n)) names ≡ is_last_module_incomplete g (last_module es)
   lacks = lacks_by (last_module es) refl
@@ -162,8 +148,7 @@ module _ (g : Setting) (es : List CertificateLine) (covered : Board) (counts : L
       let l = the_last k some in
       let m = l.module_lines in
       let after : may_follow m.lines i ≡ true = sym (follows_by m i b l.last f) ∙ good in
-      words m l.last l.counted ∙ ap (λ a. or_else (code_if (not a) OutOfOrder) (content_code g m i)) (sym after)
-      ∙ inner_is m i l.last
+      grind (arith, common_steps, inner_is)
 
 -- ---- one more line of the last module
 
@@ -178,9 +163,7 @@ good_by : (g : Setting) (es : List CertificateLine) (i : CertificateLine) (o : O
     last_module es ≡ o →
     body_line_code g o i ≡ None → IsGoodLine g es i
 good_by g es i None is e = absurd cc
-good_by g es i (Some m) is e =
-    let parts = both_none _ (content_code g m i) e in
-    record { module_lines = m; last = is; follows = not_false _ (no_code _ OutOfOrder parts.0); words = parts.1 }
+good_by g es i (Some m) is e = grind (arith, common_steps, both_none, not_false, no_code)
 
 pub good_line : (g : Setting) (es : List CertificateLine) (i : CertificateLine) →
     body_line_code g (last_module es) i ≡ None → IsGoodLine g es i
@@ -189,8 +172,7 @@ good_line g es i e = good_by g es i (last_module es) refl e
 same_counts : (area : Box2) (c c' u u' e e' h h' s s' : ℕ) → c ≡ c' → u ≡ u' → e ≡ e' → h ≡ h' → s ≡ s'
     → ◌≡◌ {A = Counts} (record { area = area; cuts = c; gates = u; edges = e; halos = h; stops = s })
     (record { area = area; cuts = c'; gates = u'; edges = e'; halos = h'; stops = s' })
-same_counts area c c' u u' e e' h h' s s' p q r t v =
-    λ j. record { area = area; cuts = p j; gates = q j; edges = r j; halos = t j; stops = v j }
+same_counts area c c' u u' e e' h h' s s' p q r t v = grind (arith, common_steps)
 
 one_longer : {X : Type 0} (xs ys : List X) (x : X) → ys ≡ xs ++ x ∷ [] → length ys ≡ length xs + 1
 one_longer xs ys x e = ap length e ∙ length_push xs x
@@ -198,54 +180,36 @@ one_longer xs ys x e = ap length e ∙ length_push xs x
 pub counted_cut : (n : List ℕ) (m : ModuleLines) →
     counts_of (module_with_line (Cut n) m) ≡ counted (Cut n) (counts_of m)
 unfolding counted
-counted_cut n m = same_counts m.area _ _ _ _ _ _ _ _ _ _ (one_longer (cuts m) _ n (cuts_cut m n))
-    (ap length (flat_same use_in m.lines (Cut n) refl)) (ap length (flat_same edge_in m.lines (Cut n) refl))
-    (ap length (flat_same halo_in m.lines (Cut n) refl)) (ap length (flat_same stop_in m.lines (Cut n) refl))
+counted_cut n m = grind (arith, common_steps, same_counts, one_longer, cuts_cut, flat_same)
 
 pub counted_use : (k : ℕ) (m : ModuleLines) → counts_of (module_with_line (Use k) m) ≡ counted (Use k) (counts_of m)
 unfolding counted
-counted_use k m = same_counts m.area _ _ _ _ _ _ _ _ _ _ (ap length (flat_same cut_in m.lines (Use k) refl))
-    (one_longer (gates m) _ k (gates_use m k)) (ap length (flat_same edge_in m.lines (Use k) refl))
-    (ap length (flat_same halo_in m.lines (Use k) refl)) (ap length (flat_same stop_in m.lines (Use k) refl))
+counted_use k m = grind (arith, common_steps, same_counts, flat_same, one_longer, gates_use)
 
 pub counted_keep : (k : ℕ) (m : ModuleLines) → counts_of (module_with_line (Keep k) m) ≡ counted (Keep k) (counts_of m)
 unfolding counted
-counted_keep k m = same_counts m.area _ _ _ _ _ _ _ _ _ _ (ap length (flat_same cut_in m.lines (Keep k) refl))
-    (ap length (flat_same use_in m.lines (Keep k) refl)) (ap length (flat_same edge_in m.lines (Keep k) refl))
-    (ap length (flat_same halo_in m.lines (Keep k) refl)) (ap length (flat_same stop_in m.lines (Keep k) refl))
+counted_keep k m = grind (arith, common_steps, same_counts, flat_same)
 
 pub counted_edge : (d : BorderLine) (m : ModuleLines) →
     counts_of (module_with_line (Edge d) m) ≡ counted (Edge d) (counts_of m)
 unfolding counted
-counted_edge d m = same_counts m.area _ _ _ _ _ _ _ _ _ _ (ap length (flat_same cut_in m.lines (Edge d) refl))
-    (ap length (flat_same use_in m.lines (Edge d) refl)) (one_longer (edges m) _ d (edges_edge m d))
-    (ap length (flat_same halo_in m.lines (Edge d) refl)) (ap length (flat_same stop_in m.lines (Edge d) refl))
+counted_edge d m = grind (arith, common_steps, same_counts, flat_same, one_longer, edges_edge)
 
 pub counted_halo : (d : BorderLine) (m : ModuleLines) →
     counts_of (module_with_line (Halo d) m) ≡ counted (Halo d) (counts_of m)
 unfolding counted
-counted_halo d m = same_counts m.area _ _ _ _ _ _ _ _ _ _ (ap length (flat_same cut_in m.lines (Halo d) refl))
-    (ap length (flat_same use_in m.lines (Halo d) refl)) (ap length (flat_same edge_in m.lines (Halo d) refl))
-    (one_longer (halos m) _ d (halos_halo m d)) (ap length (flat_same stop_in m.lines (Halo d) refl))
+counted_halo d m = grind (arith, common_steps, same_counts, flat_same, one_longer, halos_halo)
 
 pub counted_stop : (s : StopLine) (m : ModuleLines) →
     counts_of (module_with_line (Stop s) m) ≡ counted (Stop s) (counts_of m)
 unfolding counted
-counted_stop s m = same_counts m.area _ _ _ _ _ _ _ _ _ _ (ap length (flat_same cut_in m.lines (Stop s) refl))
-    (ap length (flat_same use_in m.lines (Stop s) refl)) (ap length (flat_same edge_in m.lines (Stop s) refl))
-    (ap length (flat_same halo_in m.lines (Stop s) refl)) (one_longer (stops m) _ s (stops_stop m s))
+counted_stop s m = grind (arith, common_steps, same_counts, flat_same, one_longer, stops_stop)
 
 some_gone : {X : Type 0} (f : X → X) (xs : List X) → change_last f xs ≡ [] → xs ≡ []
 unfolding change_last
 some_gone f [] e = refl
-some_gone f (x ∷ []) e = absurd (filled e)
-  where
-    filled : {A : Type 0} {y : A} {ys : List A} → y ∷ ys ≡ [] → ⊥
-    filled e = cc
-some_gone f (x ∷ y ∷ xs) e = absurd (filled' e)
-  where
-    filled' : {A : Type 0} {y : A} {ys : List A} → y ∷ ys ≡ [] → ⊥
-    filled' e = cc
+some_gone f (x ∷ []) e = grind (arith, common_steps)
+some_gone f (x ∷ y ∷ xs) e = grind (arith, common_steps)
 
 module _ (g : Setting) (es : List CertificateLine) (covered : Board) (counts : List Counts)
     (last : Option CertificateLine)
@@ -287,10 +251,7 @@ module _ (g : Setting) (m : ModuleLines) (last : Option CertificateLine) (names 
       list_any (same_cell c) old ≡ list_any (is_starred_line_at c) (flat_map f m.lines)
       → list_any (same_cell c) new ≡ (list_any (same_cell c) old || list_any (is_starred_line_at c) (f i)) →
       list_any (same_cell c) new ≡ list_any (is_starred_line_at c) (flat_map f (m.lines ++ i ∷ []))
-  more_stars c f i old new before after =
-      after ∙ ap (λ b. b || list_any (is_starred_line_at c) (f i)) before
-      ∙ sym (list_any-append (is_starred_line_at c) (flat_map f m.lines) (f i))
-      ∙ ap (list_any (is_starred_line_at c)) (sym (flat_push f m.lines i))
+  more_stars c f i old new before after = grind (arith, common_steps, list_any-append, flat_push)
 
   pub present_line : (i : CertificateLine) →
       known g.circuit (module_with_line i m) ≡ known g.circuit m ++ wires_made_local g.circuit i →
@@ -300,13 +261,7 @@ module _ (g : Setting) (m : ModuleLines) (last : Option CertificateLine) (names 
       → ((c : Cell) → list_any (same_cell c) h'
       ≡ (list_any (same_cell c) h || list_any (is_starred_line_at c) (halo_in i)))
       → IsLastModule g (module_with_line i m) (Some i) names (local ++ wires_made_local g.circuit i) e' h'
-  present_line i wires e' h' stars halo_stars = record {
-    final = last_pushed m.lines i;
-    ports = p.ports;
-    wires = ap (λ l. l ++ wires_made_local g.circuit i) p.wires ∙ sym wires;
-    stars = λ c. more_stars c edge_in i e e' (p.stars c) (stars c);
-    halo_stars = λ c. more_stars c halo_in i h h' (p.halo_stars c) (halo_stars c);
-  }
+  present_line i wires e' h' stars halo_stars = grind (arith, common_steps, last_pushed, more_stars)
 
 -- ---- each kind of line
 
@@ -420,13 +375,7 @@ module _ (g : Setting) (es : List CertificateLine) (covered new_covered : Board)
       list_any f new_names ≡ list_any (λ p. in_box b p.cell.x p.cell.y && f p.name) g.ports) →
       IsLastModule g begun_lines None new_names [] [] []
   unfolding begun_lines last_of
-  begun_present ports = record {
-    final = refl;
-    ports = ports;
-    wires = refl;
-    stars = λ c. refl;
-    halo_stars = λ c. refl;
-  }
+  begun_present ports = grind (arith, common_steps)
 
   pub kept_module : module_fault g (modules_of es) (last_module es) b ≡ None →
       ((x y : ℤ) → live new_covered x y ≡ (live covered x y || in_area b.x b.y b.w b.h x y)) →
@@ -442,9 +391,7 @@ module _ (g : Setting) (es : List CertificateLine) (covered new_covered : Board)
             (module_built g (modules_of es) b covered new_covered counts kept.built
             (good_module g (modules_of es) (last_module es) b good) after size);
         none = λ gone. absurd (pushed_some (modules_of es) begun_lines (sym more ∙ gone));
-        last_module = λ m some. subst (λ k. IsLastModule g k None new_names [] [] [])
-            (some_is begun_lines m (sym (ap last_of more ∙ last_pushed (modules_of es) begun_lines) ∙ some))
-            (begun_present ports);
+        last_module = grind (arith, common_steps, some_is, begun_lines, last_pushed, begun_present);
       }
 
 -- ---- edge, halo and stop lines
@@ -484,11 +431,7 @@ pub with_none : (g : Setting) (covered : Board) → covered.width ≡ g.size.w �
     ((x y : ℤ) → live covered x y ≡ false) → (e h : List Cell) → (slots : List (Option LocalName)) →
     slots ≡ replicate 64 None → IsTrackedWith g [] covered [] (last_body_line []) [] [] [] e h slots
 unfolding modules_of last_of
-with_none g covered w high dead e h slots none = record {
-  kept = kept_none g covered w high dead [] e h;
-  wires = refl;
-  local_names = no_names g.circuit [] slots none;
-}
+with_none g covered w high dead e h slots none = grind (arith, common_steps, kept_none, no_names)
 
 module _ (g : Setting) (es : List CertificateLine) (covered : Board) (counts : List Counts)
     (last : Option CertificateLine)
@@ -548,9 +491,7 @@ module _ (g : Setting) (es : List CertificateLine) (covered : Board) (counts : L
       (earlier ++ local ∷ []) [] [] [] slots') (sym (module_pushed es b)) (record {
         kept = kept_module g es covered new_covered counts last names new_names local e h was.kept b good after
             size ports;
-        wires = subst (λ ms. AreLocalWiresOfModules g.circuit ms (earlier ++ local ∷ []) [])
-            (sym (modules_push es (Module b)))
-            (wires_begun g.circuit (modules_of es) (record { area = b; lines = [] }) earlier local refl was.wires);
+        wires = grind (arith, common_steps, modules_push, wires_begun);
         local_names = no_names g.circuit [] slots' none;
       })
 
@@ -560,5 +501,4 @@ pub with_names : (g : Setting) (es : List CertificateLine) (covered : Board) (co
     (slots slots' : List (Option LocalName)) →
     IsTrackedWith g es covered counts last names earlier local e h slots → AreLocalNames g.circuit local slots' →
     IsTrackedWith g es covered counts last names earlier local e h slots'
-with_names g es covered counts last names earlier local e h slots slots' was named =
-    record { kept = was.kept; wires = was.wires; local_names = named }
+with_names g es covered counts last names earlier local e h slots slots' was named = grind (arith, common_steps)

@@ -1,10 +1,11 @@
 -- Wires that are local, and wires that become local.
 use Rattle.std.proofs.Common.{◌≡◌, ℕ, zero, suc, ◌+◌, ◌<◌, ◌==◌, Bool, true, false, not, ◌&&◌, ◌||◌}
 use Rattle.std.proofs.Common.{List, [], ◌∷◌, ◌++◌, take, drop, get_or, length, nat_eq, append-nil}
-use Rattle.std.proofs.Common.{append_assoc, refl, sym, ap, ap₂, ◌∙◌, arith}
+use Rattle.std.proofs.Common.{refl, sym, ap, ap₂, ◌∙◌, arith}
 use Rattle.std.specs.List.{list_any}
 use Rattle.std.proofs.Math.Seq.{take-suc}
 use Rattle.std.proofs.lemmas.List.Folds.{list_any-append}
+use Rattle.std.proofs.lemmas.Grind.{common_steps}
 use Rattle.module_box.specs.Locals.{is_among}
 use Rattle.certificate_lines.specs.Rules.{are_new_and_distinct}
 
@@ -29,21 +30,14 @@ new_append : (local xs ys : List ℕ) →
     are_new_and_distinct local (xs ++ ys) ≡ (are_new_and_distinct local xs && are_new_and_distinct (local ++ xs) ys)
 unfolding are_new_and_distinct
 new_append local [] ys = ap (λ (l : List ℕ). are_new_and_distinct l ys) (sym (append-nil local))
-new_append local (x ∷ xs) ys =
-    ap (λ (b : Bool). not (is_among local x) && b)
-    (new_append (local ++ x ∷ []) xs ys
-    ∙ ap (λ (l : List ℕ). are_new_and_distinct (local ++ x ∷ []) xs && are_new_and_distinct l ys)
-    (append_assoc local (x ∷ []) xs))
-    ∙ and_again (not (is_among local x)) (are_new_and_distinct (local ++ x ∷ []) xs)
-    (are_new_and_distinct (local ++ x ∷ xs) ys)
+new_append local (x ∷ xs) ys = grind (arith, common_steps, new_append (local ++ x ∷ []) xs ys, and_again)
 
 -- the wires from one on
 first_new : (local xs ys : List ℕ) (w : ℕ) → are_new_and_distinct local xs ≡ true →
     are_new_and_distinct local (xs ++ w ∷ ys)
     ≡ (not (is_among (local ++ xs) w) && are_new_and_distinct ((local ++ xs) ++ w ∷ []) ys)
 unfolding are_new_and_distinct
-first_new local xs ys w h = new_append local xs (w ∷ ys)
-    ∙ ap (λ (b : Bool). b && are_new_and_distinct (local ++ xs) (w ∷ ys)) h
+first_new local xs ys w h = grind (arith, common_steps, new_append)
 
 split_at : (xs : List ℕ) (i : ℕ) (w : ℕ) → i < length xs → w ≡ get_or xs i w → xs ≡ take i xs ++ w ∷ drop (suc i) xs
 split_at [] i w h e = absurd (omega arith)
@@ -61,26 +55,12 @@ module _ (local xs : List ℕ) (i w : ℕ) (within : i < length xs) (is : w ≡ 
       ∙ first_new local (take i xs) (drop (suc i) xs) w so_far
 
   pub old_wire : (is_among local w || is_among (take i xs) w) ≡ true → false ≡ are_new_and_distinct local xs
-  old_wire h = sym (whole ∙ ap (λ (b : Bool).
-      not b && are_new_and_distinct ((local ++ take i xs) ++ w ∷ []) (drop (suc i) xs))
-      (among_append local (take i xs) w ∙ h))
+  old_wire h = grind (arith, common_steps, whole, among_append)
 
   pub new_wire : (is_among local w || is_among (take i xs) w) ≡ false →
       are_new_and_distinct local (take (i + 1) xs) ≡ true
   unfolding are_new_and_distinct
-  new_wire h =
-      ap (are_new_and_distinct local) (ap (λ (j : ℕ). take j xs) (one_more i) ∙ take-suc xs i w within
-      ∙ ap (λ (v : ℕ). take i xs ++ v ∷ []) (sym is))
-      ∙ first_new local (take i xs) [] w so_far
-      ∙ ap (λ (b : Bool). not b && true) (among_append local (take i xs) w ∙ h)
-
-pub pushed_take : (local xs : List ℕ) (i w : ℕ) → i < length xs → w ≡ get_or xs i w →
-    (local ++ take i xs) ++ w ∷ [] ≡ local ++ take (i + 1) xs
-pushed_take local xs i w within is =
-    append_assoc local (take i xs) (w ∷ [])
-    ∙ ap (λ (l : List ℕ). local ++ l)
-    (sym (ap (λ (j : ℕ). take j xs) (one_more i) ∙ take-suc xs i w within
-    ∙ ap (λ (v : ℕ). take i xs ++ v ∷ []) (sym is)))
+  new_wire h = grind (arith, common_steps, one_more, take-suc, first_new, among_append)
 
 pub none_new : (local : List ℕ) → are_new_and_distinct local [] ≡ true
 unfolding are_new_and_distinct

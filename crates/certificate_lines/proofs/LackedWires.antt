@@ -1,17 +1,17 @@
 -- The wires that modules lack of the edge lines beside them, and the local wires of each module
-use Rattle.std.proofs.Common.{◌≡◌, ℕ, zero, suc, ◌+◌, ◌<◌, ◌≤◌, Bool, true, false, ◌&&◌, ◌||◌, List, [], ◌∷◌, ◌++◌}
-use Rattle.std.proofs.Common.{length, map, drop, inl, inr, Some, get_or, option_map, refl, sym, ap, ap₂, subst, ◌∙◌}
-use Rattle.std.proofs.Common.{arith, ℤ, pos, nat_lt, slice_get, filter, flat_map}
+use Rattle.std.proofs.Common.{◌≡◌, ℕ, zero, suc, ◌+◌, ◌<◌, ◌≤◌, Bool, true, false, ◌||◌, List, [], ◌∷◌, ◌++◌}
+use Rattle.std.proofs.Common.{length, map, drop, inr, Some, get_or, option_map, refl, sym, ap, ap₂, subst, ◌∙◌}
+use Rattle.std.proofs.Common.{arith, ℤ, nat_lt, slice_get, filter, flat_map}
 use Rattle.std.specs.List.{list_any}
 use Rattle.std.proofs.lemmas.Bool.{and_from, cond-true, cond-false}
 use Rattle.std.proofs.lemmas.Option.{get_or_from_slice_get, slice_get-map}
 use Rattle.std.proofs.lemmas.List.{length-map, length_push, map-append, same_from_push}
+use Rattle.std.proofs.lemmas.Grind.{common_steps}
 use Rattle.circuit.specs.Meaning.{Circuit}
 use Rattle.module_box.specs.Boxes.{in_box, in_halo}
 use Rattle.module_box.specs.declared.boxes.Box2.{Box2}
 use Rattle.module_box.specs.Tiling.{IsInside, rectangle_of}
 use Rattle.module_box.proofs.BoxCells.{in_box_nats}
-use Rattle.bbm_rule.specs.Spans.{in_span}
 use Rattle.bbm_rule.proofs.Spans.{span_from}
 use Rattle.certificate_lines.specs.BuilderView.{AreSound, AreLocalWiresOfModules, lacks_edge_wire}
 use Rattle.certificate_lines.specs.Entries.{ModuleLines, Setting, change_last, counts_of, edge_in, edges, known}
@@ -64,10 +64,7 @@ any_swap f (x ∷ xs) ys = ap (λ b. list_any (λ y. f x y) ys || b) (any_swap f
 
 any_of_flat : {A X : Type 0} (keep test : A → Bool) (f : X → List A) (xs : List X) →
     list_any (λ x. list_any test (filter keep (f x))) xs ≡ list_any test (filter keep (flat_map f xs))
-any_of_flat keep test f xs =
-    any_same (λ x. list_any test (filter keep (f x))) (λ x. list_any (λ a. keep a && test a) (f x)) xs
-    (λ x. any_filter keep test (f x))
-    ∙ sym (any_filter keep test (flat_map f xs) ∙ any_flat (λ a. keep a && test a) f xs)
+any_of_flat keep test f xs = grind (arith, common_steps, any_same, any_filter, any_flat)
 
 -- ---- some module lacks a wire
 
@@ -122,9 +119,7 @@ split_last f (y ∷ z ∷ xs) x e =
 pub wires_begun : (c : Circuit) (ms : List ModuleLines) (m : ModuleLines) (earlier : List (List ℕ)) (local : List ℕ) →
     known c m ≡ [] → AreLocalWiresOfModules c ms earlier local →
     AreLocalWiresOfModules c (ms ++ m ∷ []) (earlier ++ local ∷ []) []
-wires_begun c ms m earlier local none h =
-    ap (λ l. l ++ [] ∷ []) h ∙ ap (λ w. [] ∷ (map (known c) ms ++ w ∷ [])) (sym none)
-    ∙ ap (λ l. [] ∷ l) (sym (map-append (known c) ms (m ∷ [])))
+wires_begun c ms m earlier local none h = grind (arith, common_steps, map-append)
 
 pub wires_more : (c : Circuit) (f : ModuleLines → ModuleLines) (ms : List ModuleLines) (m : ModuleLines)
     (earlier : List (List ℕ)) (local more : List ℕ) → last_of ms ≡ Some m → known c (f m) ≡ known c m ++ more →
@@ -133,8 +128,7 @@ wires_more c f ms m earlier local more last is h =
     let s = split_last f ms m last in
     let parts = same_from_push earlier ([] ∷ map (known c) s.start) local (known c m)
     (h ∙ ap (λ l. [] ∷ map (known c) l) s.was ∙ ap (λ l. [] ∷ l) (map-append (known c) s.start (m ∷ []))) in
-    ap₂ (λ a b. a ++ b ∷ []) parts.0 (ap (λ l. l ++ more) parts.1 ∙ sym is)
-    ∙ ap (λ l. [] ∷ l) (sym (map-append (known c) s.start (f m ∷ []))) ∙ ap (λ l. [] ∷ map (known c) l) (sym s.now)
+    grind (arith, common_steps, map-append)
 
 left : {X : Type 0} (xs ys : List X) (k : ℕ) → k < length xs → slice_get (xs ++ ys) k ≡ slice_get xs k
 left [] ys k lt = absurd (omega (arith, lt))
@@ -148,8 +142,7 @@ at_end (x ∷ xs) y = at_end xs y
 module _ (c : Circuit) (ms : List ModuleLines) (earlier : List (List ℕ)) (local : List ℕ)
     (h : AreLocalWiresOfModules c ms earlier local) (k : ℕ) where
   wires_at : slice_get (map (known c) ms) k ≡ slice_get (earlier ++ local ∷ []) (k + 1)
-  wires_at = let n : suc k ≡ k + 1 = omega arith in
-      ap (λ l. slice_get l (suc k)) (sym h) ∙ ap (slice_get (earlier ++ local ∷ [])) n
+  wires_at = grind (arith, common_steps)
 
   pub earlier_wires : k + 1 < length earlier → slice_get (map (known c) ms) k ≡ slice_get earlier (k + 1)
   earlier_wires lt = wires_at ∙ left earlier (local ∷ []) (k + 1) lt
@@ -168,8 +161,7 @@ pub area_counted : (ms : List ModuleLines) (counts : List Counts) (k : ℕ) (m :
 area_counted ms counts k m of are at is =
     let there : slice_get (map counts_of ms) k ≡ Some (counts_of m) =
     slice_get-map counts_of ms k ∙ ap (option_map counts_of) at in
-    ap (λ (n : Counts). n.area) (is ∙ ap (λ l. get_or l k of) are
-    ∙ get_or_from_slice_get (map counts_of ms) k (counts_of m) of there)
+    grind (arith, common_steps, get_or_from_slice_get)
 
 -- ---- boxes in the rectangle
 
@@ -177,14 +169,7 @@ area_counted ms counts k m of are at is =
 pub in_rectangle : (w h : ℕ) (b : Box2) (x y : ℤ) → IsInside w h b → in_box b x y ≡ true →
     in_box (rectangle_of w h) x y ≡ true
 unfolding in_box
-in_rectangle w h b x y inside here =
-    let p = in_box_nats b x y here in
-    let px = p.0 in let py = p.1 in
-    let right = inside.right in let bottom = inside.bottom in
-    ap₂ (λ u v. in_span 0 w u && in_span 0 h v) px.1 py.1
-    ∙ and_from (in_span 0 w (pos px.0)) (in_span 0 h (pos py.0))
-    (span_from 0 w px.0 (omega arith) (omega (arith, px.3, right)))
-    (span_from 0 h py.0 (omega arith) (omega (arith, py.3, bottom)))
+in_rectangle w h b x y inside here = grind (arith, common_steps, in_box_nats, and_from, span_from)
 
 -- ---- a module that is read
 
@@ -209,8 +194,7 @@ unfolding In
 line_module g es place area sound lt at =
     let m : ModuleLines = record { area = area; lines = inner (drop (place + 1) es) } in
     let here : In m (modules_of (drop place es)) =
-    subst (In m) (sym (ap modules_of (line_here es place (Module area) lt at)
-    ∙ split_module area (drop (place + 1) es))) (inl refl) in
+    grind (arith, common_steps, line_here, split_module) in
     let p = placed m (modules_of es) (in_rest es place m here) in
     (sound.each p.0 m p.1).good
 

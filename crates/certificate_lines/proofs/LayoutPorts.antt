@@ -1,9 +1,10 @@
 -- The ports of a layout by their cells, and its parts, which lie inside it
 use Rattle.std.proofs.Common.{◌≡◌, ℕ, zero, suc, ℤ, Bool, true, false, not, ◌||◌, if◌then◌else◌, List, [], ◌∷◌, ◌++◌}
-use Rattle.std.proofs.Common.{map, ◌<◌, get_or, length, Option, Some, None, refl, sym, ap, subst, ◌∙◌, arith, slice_get}
+use Rattle.std.proofs.Common.{◌<◌, get_or, length, Option, Some, None, refl, sym, ap, subst, ◌∙◌, arith, slice_get}
 use Rattle.std.specs.List.{list_all}
 use Rattle.std.proofs.lemmas.List.Folds.{list_all-append, list_all-map}
 use Rattle.std.proofs.lemmas.Bool.{and_parts}
+use Rattle.std.proofs.lemmas.Grind.{common_steps}
 use Rattle.bbm_rule.specs.Plane.{is_at}
 use Rattle.bbm_rule.specs.declared.block.Cell.{Cell}
 use Rattle.pattern.specs.Layout.{Pattern, in_layout, parts_of}
@@ -11,7 +12,6 @@ use Rattle.pattern.specs.declared.layout_line.Port.{Port}
 use Rattle.pattern.specs.declared.layout_line.LayoutHeader.{LayoutHeader}
 use Rattle.pattern.specs.Lines.{AreGoodAfter, cell_fault, is_inside, is_taken}
 use Rattle.pattern.specs.declared.layout_line.LayoutLine.{LayoutLine}
-use Rattle.pattern.specs.declared.layout_line.LayoutLine.TheVariants.{Mirror, Ball, In, Out, Waste}
 use Rattle.section_text.specs.Codes.{code_if}
 use Rattle.certificate_lines.specs.PortTables.{port_at, AreOnBoard}
 use Rattle.certificate_lines.proofs.Lists.{some_is}
@@ -92,19 +92,7 @@ pub record LieInside (p : Pattern) : Type 0 where
 
 pub lie_inside : (p : Pattern) → AreGoodAfter p.size [] (parts_of p) → LieInside p
 unfolding is_inside
-lie_inside p h =
-    let test : LayoutLine → Bool = is_inside p.size in
-    let one = and_parts _ _ (sym (list_all-append test (map Mirror p.mirrors) _)
-    ∙ parts_inside p.size [] (parts_of p) h) in
-    let two = and_parts _ _ (sym (list_all-append test (map Ball p.balls) _) ∙ one.1) in
-    let three = and_parts _ _ (sym (list_all-append test (map In p.ins) _) ∙ two.1) in
-    let four = and_parts _ _ (sym (list_all-append test (map Out p.outs) _) ∙ three.1) in
-    record {
-      balls = sym (list_all-map test Ball p.balls) ∙ two.0;
-      ins = sym (list_all-map test In p.ins) ∙ three.0;
-      outs = sym (list_all-map test Out p.outs) ∙ four.0;
-      wastes = sym (list_all-map test Waste p.wastes) ∙ four.1;
-    }
+lie_inside p h = grind (arith, common_steps, and_parts, list_all-append, parts_inside, list_all-map)
 
 ports_on_board : (s : LayoutHeader) (ports : List Port) → list_all (λ q. in_layout s q.cell.x q.cell.y) ports ≡ true →
     AreOnBoard s ports
@@ -132,9 +120,7 @@ module _ (p : Pattern) (s : LayoutHeader) (is : s ≡ p.size) (good : AreGoodAft
       (ports_on_board p.size p.ins all_inside.ins, ports_on_board p.size p.outs all_inside.outs)
 
   pub balls_on_layout : AllInLayout s p.balls
-  balls_on_layout = subst (λ (t : LayoutHeader). AllInLayout t p.balls) (sym is)
-      (cells_on_board p.size p.balls all_inside.balls)
+  balls_on_layout = grind (arith, common_steps, cells_on_board, all_inside)
 
   pub wastes_on_layout : AllInLayout s p.wastes
-  wastes_on_layout = subst (λ (t : LayoutHeader). AllInLayout t p.wastes) (sym is)
-      (cells_on_board p.size p.wastes all_inside.wastes)
+  wastes_on_layout = grind (arith, common_steps, cells_on_board, all_inside)

@@ -1,10 +1,12 @@
 -- Lines in their order
-use Rattle.std.proofs.Common.{◌≡◌, ◌⊎◌, Bool, true, false, if◌then◌else◌, List, [], ◌∷◌, ◌++◌, Ordering, Less, Equal}
+use Rattle.std.proofs.Common.{arith, ◌≡◌, ◌⊎◌, Bool, true, false, if◌then◌else◌, List, [], ◌∷◌, ◌++◌, Ordering, Less}
+use Rattle.std.proofs.Common.{Equal}
 use Rattle.std.proofs.Common.{Greater, refl, sym, ap, ap₂, subst, ◌∙◌, inl, inr, ◌≢◌, filter, flat_map, is_lt}
 use Rattle.std.specs.Ordering.{ordering_reverse}
 use Rattle.std.specs.Cmp.{IsTotalOrder}
 use Rattle.std.proofs.lemmas.Bool.{cases_Bool, cond-true, cond-false}
 use Rattle.std.proofs.lemmas.Cmp.{then_total, on_total, nat_cmp_total}
+use Rattle.std.proofs.lemmas.Grind.{common_steps}
 use Rattle.module_box.proofs.Rising.{cell_total}
 use Rattle.certificate_lines.specs.Orders.{time_rank}
 use Rattle.certificate_lines.specs.Versions.{border_line_cmp, insert_border_line, in_order}
@@ -94,10 +96,8 @@ pub filter_in : {A : Type 0} (test : A → Bool) (x : A) (xs : List A) → In x 
 unfolding In
 filter_in test x [] i h = absurd i
 filter_in test x (y ∷ ys) (inl same) h = subst (In x) (sym (filter_yes test y ys (ap test same ∙ h))) (inl same)
-filter_in test x (y ∷ ys) (inr later) h = elim (cases_Bool (test y)) [
-  | inl holds ↦ subst (In x) (sym (filter_yes test y ys holds)) (inr (filter_in test x ys later h))
-  | inr fails ↦ subst (In x) (sym (filter_no test y ys fails)) (filter_in test x ys later h)
-]
+filter_in test x (y ∷ ys) (inr later) h =
+    grind (arith, common_steps, filter_in test x ys later h, cases_Bool, filter_yes, filter_no)
 
 pub each_filter : {A : Type 0} (P : A → Type 0) (test : A → Bool) (xs : List A) → Each P xs → Each P (filter test xs)
 each_filter P test xs e = in_each P (filter test xs) (λ x i. each_in P xs e x (in_filter test x xs i).0)
@@ -106,11 +106,8 @@ pub pairs_filter : {A : Type 0} (R : A → A → Type 0) (test : A → Bool) (xs
     Pairs R (filter test xs)
 unfolding Pairs
 pairs_filter R test [] p = p
-pairs_filter R test (x ∷ xs) p = elim (cases_Bool (test x)) [
-  | inl holds ↦ subst (Pairs R) (sym (filter_yes test x xs holds))
-      (each_filter (R x) test xs p.0, pairs_filter R test xs p.1)
-  | inr fails ↦ subst (Pairs R) (sym (filter_no test x xs fails)) (pairs_filter R test xs p.1)
-]
+pairs_filter R test (x ∷ xs) p =
+    grind (arith, common_steps, pairs_filter R test xs p.1, cases_Bool, filter_yes, each_filter, filter_no)
 
 -- ---- the order
 
@@ -137,8 +134,7 @@ pairs_each R S h [] p = p
 pairs_each R S h (x ∷ xs) p = (each_map (R x) (S x) (h x) xs p.0, pairs_each R S h xs p.1)
 
 pub rising_distinct : (es : List BorderLine) → Rises es → AreDistinct es
-rising_distinct es p = pairs_each (λ d e. border_line_cmp d e ≡ Less) (λ d e. border_line_cmp d e ≢ Equal)
-    (λ d e. less_apart (border_line_cmp d e)) es p
+rising_distinct es p = grind (arith, common_steps, pairs_each, less_apart)
 
 -- ---- a line more
 
@@ -161,10 +157,7 @@ put_parts : (x d e : BorderLine) (es : List BorderLine) (b : Bool) →
 unfolding In
 put_parts x d e es true h i = i
 put_parts x d e es false h (inl same) = inr (inl same)
-put_parts x d e es false h (inr later) = elim (h later) [
-  | inl same ↦ inl same
-  | inr more ↦ inr (inr more)
-]
+put_parts x d e es false h (inr later) = grind (arith, common_steps)
 
 put_back : (x d e : BorderLine) (es : List BorderLine) (b : Bool) →
     ((d ≡ x) ⊎ In x es → In x (insert_border_line d es)) →
@@ -191,24 +184,9 @@ unfolding insert_border_line Each Pairs
 put_rises d [] p n = (tt, tt)
 put_rises d (e ∷ es) p n = elim (cases_Bool (is_lt (border_line_cmp d e))) [
   | inl holds ↦
-      let less = is_before (border_line_cmp d e) holds in
-      subst Rises (sym (cond-true _ _ _ holds)) (
-        (
-          less,
-          each_map (λ f. border_line_cmp e f ≡ Less) (λ f. border_line_cmp d f ≡ Less)
-              (λ f h. line_total.trans d e f less h) es p.0,
-        ),
-        p,
-      )
+      grind (arith, common_steps, is_before, cond-true, each_map, line_total)
   | inr fails ↦
-      let less = turned d e (after_line (border_line_cmp d e) n.0 fails) in
-      subst Rises (sym (cond-false _ _ _ fails)) (
-        in_each (λ f. border_line_cmp e f ≡ Less) (insert_border_line d es) (λ f i. elim (in_put f d es i) [
-          | inl same ↦ subst (λ x. border_line_cmp e x ≡ Less) same less
-          | inr later ↦ each_in (λ f. border_line_cmp e f ≡ Less) es p.0 f later
-        ]),
-        put_rises d es p.1 n.1,
-      )
+      grind (arith, common_steps, put_rises d es p.1 n.1, turned, after_line, cond-false, in_each, in_put, each_in)
 ]
 
 -- ---- lines in order
@@ -260,11 +238,7 @@ first_same d e ds es p q f g = elim (f d (inl refl)) [
 
 rest_among : (d : BorderLine) (ds es : List BorderLine) → Rises (d ∷ ds) → Among (d ∷ ds) (d ∷ es) → Among ds es
 unfolding Pairs In
-rest_among d ds es p f x i = elim (f x (inr i)) [
-  | inl same ↦ absurd (not_itself d
-      (subst (λ y. border_line_cmp d y ≡ Less) (sym same) (each_in (λ y. border_line_cmp d y ≡ Less) ds p.0 x i)))
-  | inr later ↦ later
-]
+rest_among d ds es p f x i = grind (arith, common_steps, not_itself, each_in)
 
 pub rising_same : (xs ys : List BorderLine) → Rises xs → Rises ys → Among xs ys → Among ys xs → xs ≡ ys
 unfolding Pairs In

@@ -2,14 +2,14 @@
 use Rattle.std.proofs.Common.{◌≡◌, ℕ, zero, suc, ◌<◌, ◌==◌, Bool, true, false, not, List, [], ◌∷◌, ◌++◌, take, length}
 use Rattle.std.proofs.Common.{Option, Some, refl, sym, ap, subst, ◌∙◌, inl, inr, arith, rules, append-nil, append_assoc}
 use Rattle.std.specs.Prelude.{slice_get}
-use Rattle.std.specs.List.{All, flat_map, list_all}
+use Rattle.std.specs.List.{All, list_all}
 use Rattle.std.specs.Option.{option_map_or}
 use Rattle.std.proofs.Math.Seq.{take-append_seam}
 use Rattle.std.proofs.lemmas.Bool.{and_parts, true≢false}
 use Rattle.std.proofs.lemmas.List.{length_push}
 use Rattle.std.proofs.lemmas.List.Elements.{All-get_or}
-use Rattle.std.proofs.lemmas.List.Sums.{AllPass-from_list_all}
 use Rattle.std.proofs.lemmas.Option.{slice_get_within, get_or_from_slice_get}
+use Rattle.std.proofs.lemmas.Grind.{common_steps}
 use Rattle.circuit.specs.Meaning.{Gate, Netlist}
 use Rattle.module_box.specs.Locals.{AreDifferent, AreLocalLines, IsKnown, is_among, local_wires, outs_of}
 use Rattle.module_box.proofs.Rising.{pushed}
@@ -29,16 +29,7 @@ not_there : (ws : List ℕ) (i w : ℕ) → is_among ws w ≡ false → slice_ge
 not_there ws i w none e = true≢false (sym (among_at ws i w e) ∙ none)
 
 pub different_push : (ws : List ℕ) (w : ℕ) → AreDifferent ws → is_among ws w ≡ false → AreDifferent (ws ++ w ∷ [])
-different_push ws w different none i j v e f = elim (pushed ws w i v e) [
-  | inl old ↦ elim (pushed ws w j v f) [
-    | inl old' ↦ different i j v old old'
-    | inr new' ↦ absurd (not_there ws i w none (old ∙ ap (λ x. Some x) (sym new'.1)))
-  ]
-  | inr new ↦ elim (pushed ws w j v f) [
-    | inl old' ↦ absurd (not_there ws j w none (old' ∙ ap (λ x. Some x) (sym new.1)))
-    | inr new' ↦ new.0 ∙ sym new'.0
-  ]
-]
+different_push ws w different none i j v e f = grind (arith, common_steps, pushed, not_there)
 
 not_true : (a : Bool) → not a ≡ true → a ≡ false
 not_true true h = sym h
@@ -59,15 +50,7 @@ none_at i a e = cc
 
 pub local_cut : (n : Netlist) (cw : List ℕ) (w : ℕ) → AreLocalLines n cw [] → length cw < 12 →
     is_among (local_wires n cw []) w ≡ false → AreLocalLines n (cw ++ w ∷ []) []
-local_cut n cw w l few fresh = record {
-  few_cuts = let e = length_push cw w in omega (arith, e);
-  few_gates = l.few_gates;
-  rising = λ i j k m lt e f. absurd (none_at i k e);
-  known = λ i k e. absurd (none_at i k e);
-  different = subst AreDifferent (sym (append-nil (cw ++ w ∷ [])))
-      (different_push cw w (subst AreDifferent (append-nil cw) l.different)
-      (ap (λ (ws : List ℕ). is_among ws w) (sym (append-nil cw)) ∙ fresh));
-}
+local_cut n cw w l few fresh = grind (arith, common_steps, length_push, none_at, different_push)
 
 -- ---- used gates
 
@@ -76,10 +59,7 @@ outs_is n k g e = ap (λ (o : Option Gate). option_map_or (λ x. x.outs) o []) e
 
 pub local_more : (n : Netlist) (cw gs : List ℕ) (k : ℕ) (g : Gate) → slice_get n.gates k ≡ Some g →
     local_wires n cw (gs ++ k ∷ []) ≡ local_wires n cw gs ++ g.outs
-local_more n cw gs k g e =
-    ap (λ (l : List ℕ). cw ++ l) (flat_push (outs_of n) gs k
-    ∙ ap (λ (l : List ℕ). flat_map (outs_of n) gs ++ l) (outs_is n k g e))
-    ∙ sym (append_assoc cw (flat_map (outs_of n) gs) g.outs)
+local_more n cw gs k g e = grind (arith, common_steps, flat_push, outs_is)
 
 take_within : (xs ys : List ℕ) (i : ℕ) → i < length xs → take i (xs ++ ys) ≡ take i xs
 take_within [] ys i h = absurd (omega arith)
@@ -95,10 +75,7 @@ module _ (n : Netlist) (cw gs : List ℕ) (k : ℕ) (g : Gate) (l : AreLocalLine
     (new : are_new_and_distinct (local_wires n cw gs) g.outs ≡ true) where
   rises : (i j a b : ℕ) → i < j → slice_get (gs ++ k ∷ []) i ≡ Some a → slice_get (gs ++ k ∷ []) j ≡ Some b → a < b
   rises i j a b lt e f = elim (pushed gs k j b f) [
-    | inl old' ↦ elim (pushed gs k i a e) [
-      | inl old ↦ l.rising i j a b lt old old'
-      | inr last ↦ absurd (let w = slice_get_within gs j b old' in omega (arith, w, last.0))
-    ]
+    | inl old' ↦ grind (arith, common_steps, pushed, slice_get_within)
     | inr last' ↦ elim (pushed gs k i a e) [
       | inl old ↦ subst (λ (x : ℕ). a < x) last'.1 (at_all (λ x. x < k) gs i a lower old)
       | inr last ↦ absurd (omega (arith, last.0, last'.0))
@@ -106,26 +83,10 @@ module _ (n : Netlist) (cw gs : List ℕ) (k : ℕ) (g : Gate) (l : AreLocalLine
   ]
 
   last_known : IsKnown n (local_wires n cw gs) k
-  last_known =
-      record { gate = g; numbered = at; ins = AllPass-from_list_all (is_among (local_wires n cw gs)) g.ins ins }
+  last_known = grind (arith, common_steps)
 
   knows : (i a : ℕ) → slice_get (gs ++ k ∷ []) i ≡ Some a → IsKnown n (local_wires n cw (take i (gs ++ k ∷ []))) a
-  knows i a e = elim (pushed gs k i a e) [
-    | inl old ↦ subst (λ (t : List ℕ). IsKnown n (local_wires n cw t) a)
-        (sym (take_within gs (k ∷ []) i (slice_get_within gs i a old))) (l.known i a old)
-    | inr last ↦
-        let all : take i (gs ++ k ∷ []) ≡ gs =
-        ap (λ (j : ℕ). take j (gs ++ k ∷ [])) last.0 ∙ take-append_seam gs (k ∷ []) in
-        subst (λ (t : List ℕ). IsKnown n (local_wires n cw t) a) (sym all)
-        (subst (λ (x : ℕ). IsKnown n (local_wires n cw gs) x) last.1 last_known)
-  ]
+  knows i a e = grind (arith, common_steps, pushed, take_within, slice_get_within, take-append_seam, last_known)
 
   pub local_use : length gs < 64 → AreLocalLines n cw (gs ++ k ∷ [])
-  local_use few = record {
-    few_cuts = l.few_cuts;
-    few_gates = let e = length_push gs k in omega (arith, e);
-    rising = rises;
-    known = knows;
-    different = subst AreDifferent (sym (local_more n cw gs k g at))
-        (different_append g.outs (local_wires n cw gs) l.different new);
-  }
+  local_use few = grind (arith, common_steps, length_push, rises, knows, local_more, different_append)

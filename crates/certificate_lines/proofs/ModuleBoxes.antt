@@ -3,6 +3,7 @@ use Rattle.std.proofs.Common.{◌≡◌, ℕ, ◌+◌, ◌<◌, ◌≤◌, List,
 use Rattle.std.proofs.Common.{subst, ◌∙◌, arith, None, slice_get}
 use Rattle.std.proofs.lemmas.List.{length-map, take_all, take_more}
 use Rattle.std.proofs.lemmas.Option.{slice_get-get_or, get_or_from_slice_get}
+use Rattle.std.proofs.lemmas.Grind.{common_steps}
 use Rattle.pattern.specs.Lines.{size_fault}
 use Rattle.pattern.specs.declared.layout_line.LayoutHeader.{LayoutHeader}
 use Rattle.pattern.proofs.TakenLemmas.{is_sized}
@@ -34,10 +35,7 @@ more_areas ms counts k of some more are lt is before now =
 
 pub all_areas : (ms : List ModuleLines) (counts : List Counts) (k : ℕ) (some : List Box2) →
     counts ≡ map counts_of ms → length counts ≤ k → some ≡ take k (areas ms) → some ≡ areas ms
-all_areas ms counts k some are le h =
-    let all : length counts ≡ length ms = ap length are ∙ length-map ms counts_of in
-    let mapped = length-map ms (λ (n : ModuleLines). n.area) in
-    h ∙ take_all k (areas ms) (omega (arith, le, all, mapped))
+all_areas ms counts k some are le h = grind (arith, common_steps, length-map, take_all)
 
 pub is_task : (g : Setting) (ms : List ModuleLines) (s : LayoutHeader) (boxes : List Box2) → s ≡ g.size →
     size_fault s ≡ None → ((k : ℕ) (m : ModuleLines) → slice_get ms k ≡ Some m → IsModule g m) → boxes ≡ areas ms →

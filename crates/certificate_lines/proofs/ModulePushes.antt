@@ -1,15 +1,16 @@
 -- A module that is good stays so after one more line that is good.
 use Rattle.std.proofs.Common.{◌≡◌, ℕ, ◌+◌, ◌%◌, ◌<◌, ◌≤◌, Bool, true, false, not, ◌&&◌, ◌||◌, List, [], ◌∷◌, ◌++◌}
-use Rattle.std.proofs.Common.{length, Option, Some, None, refl, sym, ap, ap₂, subst, ◌∙◌, arith, append-nil, slice_get}
+use Rattle.std.proofs.Common.{length, Option, Some, None, refl, sym, ap, ap₂, subst, ◌∙◌, arith, slice_get}
 use Rattle.std.proofs.Common.{nat_le, nat_lt, IfSome, IsTrue, All, flat_map, option_to_list}
 use Rattle.std.specs.List.{list_any, list_all}
 use Rattle.std.proofs.lemmas.Bool.{and_parts, eqb-true}
 use Rattle.std.proofs.lemmas.Bool.Decides.{nat_tests}
 use Rattle.std.proofs.lemmas.List.{length_push}
-use Rattle.std.proofs.lemmas.List.Elements.{All-nil, All-push}
+use Rattle.std.proofs.lemmas.List.Elements.{All-nil}
+use Rattle.std.proofs.lemmas.Grind.{common_steps}
 use Rattle.section_text.specs.Codes.{code_if, or_else}
 use Rattle.circuit.specs.Meaning.{Circuit, Gate, wire_of}
-use Rattle.module_box.specs.Boxes.{in_box, in_ring, in_halo}
+use Rattle.module_box.specs.Boxes.{in_box}
 use Rattle.module_box.specs.Locals.{AreLocalLines, is_among, local_wires}
 use Rattle.module_box.specs.declared.boxes.Box2.{Box2}
 use Rattle.certificate_lines.specs.Entries.{Setting, ModuleLines, module_with_line, cut_in, use_in, keep_in, edge_in}
@@ -34,8 +35,7 @@ use Rattle.certificate_lines.proofs.ModuleLemmas.{no_stop_before_cut, no_edge_be
 use Rattle.certificate_lines.proofs.ModuleLemmas.{no_stop_before_use, no_halo_before_edge, lower_uses, order_push}
 use Rattle.certificate_lines.proofs.LocalLemmas.{local_cut, local_use, local_more}
 use Rattle.section_text.specs.declared.code.RefusalCode.{RefusalCode}
-use Rattle.section_text.specs.declared.code.RefusalCode.TheVariants.{PastLimit, UnknownName, DefinedTwice, NotLocal}
-use Rattle.section_text.specs.declared.code.RefusalCode.TheVariants.{NoPlace}
+use Rattle.section_text.specs.declared.code.RefusalCode.TheVariants.{DefinedTwice, NotLocal}
 
 -- ---- tests that a line passed
 
@@ -77,19 +77,14 @@ new_by local (Some w) e = (w, refl, no_code (is_among local w) DefinedTwice e)
 pub new_wire : (c : Circuit) (count : ℕ) (local : List ℕ) (name : List ℕ) → cut_fault c count local name ≡ None →
     (count < 12) × IsNewWire c local name
 unfolding cut_fault
-new_wire c count local name e =
-    let parts = both_none _ _ e in
-    let w = new_by local (wire_of c name) parts.1 in
-    (less 12 count (no_code _ PastLimit parts.0), record { wire = w.0; named = w.1; new = w.2 })
+new_wire c count local name e = grind (arith, common_steps, both_none, new_by, less, no_code)
 
 pub cuts_cut : (m : ModuleLines) (n : List ℕ) → cuts (module_with_line (Cut n) m) ≡ cuts m ++ n ∷ []
 cuts_cut m n = flat_push cut_in m.lines (Cut n)
 
 pub cut_wires_cut : (c : Circuit) (m : ModuleLines) (n : List ℕ) (w : ℕ) → wire_of c n ≡ Some w →
     cut_wires c (module_with_line (Cut n) m) ≡ cut_wires c m ++ w ∷ []
-cut_wires_cut c m n w e =
-    let f : List ℕ → List ℕ = λ x. option_to_list (wire_of c x) in
-    ap (flat_map f) (cuts_cut m n) ∙ flat_push f (cuts m) n ∙ ap (λ o. cut_wires c m ++ option_to_list o) e
+cut_wires_cut c m n w e = grind (arith, common_steps, cuts_cut, flat_push)
 
 -- ---- lines with a time beside those with a `*`
 
@@ -123,8 +118,7 @@ unstarred_push [] e u h = (refl, tt)
 unstarred_push (d ∷ es) e u h = (
   all_pushed (λ e. is_star e.time || not (is_starred_line_at e.cell d)) es e u.0
       (first_free (is_star e.time) (is_starred_line_at e.cell d) (list_any (is_starred_line_at e.cell) es) h),
-  unstarred_push es e u.1 (kept_free (is_star e.time) (is_starred_line_at e.cell d)
-      (list_any (is_starred_line_at e.cell) es) h),
+  unstarred_push es e u.1 (grind (arith, common_steps, kept_free)),
 )
 
 free_time : (steps : ℕ) (starred : Bool) (t : Option ℕ) → is_line_time_allowed steps starred t ≡ true →
@@ -137,8 +131,7 @@ free_of_star : (g : Setting) (area : Box2) (starred : Bool) (e : BorderLine) →
     is_edge_place_and_time g.size area starred e ≡ true →
     (is_star e.time || not starred) ≡ true
 unfolding is_edge_place_and_time
-free_of_star g area starred e place =
-    free_time g.size.steps starred e.time (and_parts _ (is_line_time_allowed g.size.steps starred e.time) place).1
+free_of_star g area starred e place = grind (arith, common_steps, free_time, and_parts)
 
 module _ (g : Setting) (m : ModuleLines) (is : IsModule g m) (n : List ℕ)
     (follows : may_follow m.lines (Cut n) ≡ true) where
@@ -181,10 +174,7 @@ module _ (g : Setting) (m : ModuleLines) (is : IsModule g m) (n : List ℕ)
     known_none = ap (local_wires g.circuit.netlist (cut_wires g.circuit m)) no_gates
 
     pub known_cut : known g.circuit more ≡ known g.circuit m ++ w ∷ []
-    known_cut =
-        ap₂ (λ cs gs. local_wires g.circuit.netlist cs gs) (cut_wires_cut g.circuit m n w named) gates_are
-        ∙ append-nil (cut_wires g.circuit m ++ w ∷ [])
-        ∙ ap (λ l. l ++ w ∷ []) (sym (known_none ∙ append-nil (cut_wires g.circuit m)))
+    known_cut = grind (arith, common_steps, cut_wires_cut, gates_are, known_none)
 
     pub cut_pushed : length (cuts m) < 12 → is_among (known g.circuit m) w ≡ false → IsWritten g more
     cut_pushed few new =
@@ -200,10 +190,8 @@ module _ (g : Setting) (m : ModuleLines) (is : IsModule g m) (n : List ℕ)
             wide = is.wide;
             high = is.high;
             inside = is.inside;
-            named = ap length (cut_wires_cut g.circuit m n w named) ∙ length_push (cut_wires g.circuit m) w
-                ∙ ap (λ k. k + 1) is.named ∙ sym (ap length (cuts_cut m n) ∙ length_push (cuts m) n);
-            local = subst (λ gs. AreLocalLines g.circuit.netlist (cut_wires g.circuit more) gs) (sym gates_are)
-                (subst (λ cs. AreLocalLines g.circuit.netlist cs []) (sym (cut_wires_cut g.circuit m n w named)) after);
+            named = grind (arith, common_steps, cut_wires_cut, length_push, cuts_cut);
+            local = grind (arith, common_steps, more, gates_are, cut_wires_cut);
             order = order_push m.lines (Cut n) is.order follows;
             keep_lines = at_nil (IsKeep g (gates more)) (keeps more) keeps_are;
             unstarred = unstarred_nil (edges more) edges_are;
@@ -211,8 +199,7 @@ module _ (g : Setting) (m : ModuleLines) (is : IsModule g m) (n : List ℕ)
             halo_lines = at_nil (IsHalo g m.area (known g.circuit more)) (halos more) halos_are;
             stop_lines = at_nil (IsStop g m.area (known g.circuit more)) (stops more) stops_are;
           };
-          few_borders = let e = ap length edges_are in let h = ap length halos_are in let s = ap length stops_are in
-              omega (arith, e, h, s);
+          few_borders = grind (arith, common_steps, edges_are, halos_are, stops_are);
         }
 
 -- ---- a used gate
@@ -228,17 +215,12 @@ gate_by : (local : List ℕ) (o : Option Gate) → used_gate_fault local o ≡ N
     (g : Gate) × (o ≡ Some g) × (list_all (is_among local) g.ins ≡ true) × (are_new_and_distinct local g.outs ≡ true)
 unfolding used_gate_fault
 gate_by local None e = absurd cc
-gate_by local (Some g) e =
-    let parts = both_none _ _ e in
-    (g, refl, not_false _ (no_code _ NotLocal parts.0), not_false _ (no_code _ DefinedTwice parts.1))
+gate_by local (Some g) e = grind (arith, common_steps, both_none, not_false, no_code)
 
 pub good_use : (c : Circuit) (count : ℕ) (local : List ℕ) (k : ℕ) → use_fault c count local k ≡ None →
     (count < 64) × IsGoodUse c local k
 unfolding use_fault
-good_use c count local k e =
-    let parts = both_none _ _ e in
-    let g = gate_by local (slice_get c.netlist.gates k) parts.1 in
-    (less 64 count (no_code _ PastLimit parts.0), record { gate = g.0; numbered = g.1; ins = g.2; outs = g.3 })
+good_use c count local k e = grind (arith, common_steps, both_none, gate_by, less, no_code)
 
 pub gates_use : (m : ModuleLines) (k : ℕ) → gates (module_with_line (Use k) m) ≡ gates m ++ k ∷ []
 gates_use m k = flat_push use_in m.lines (Use k)
@@ -252,9 +234,7 @@ module _ (g : Setting) (m : ModuleLines) (k : ℕ) where
 
   pub known_use : (gate : Gate) → slice_get g.circuit.netlist.gates k ≡ Some gate →
       known g.circuit used ≡ known g.circuit m ++ gate.outs
-  known_use gate at =
-      ap₂ (λ cs gs. local_wires g.circuit.netlist cs gs) cut_wires_use (gates_use m k)
-      ∙ local_more g.circuit.netlist (cut_wires g.circuit m) (gates m) k gate at
+  known_use gate at = grind (arith, common_steps, cut_wires_use, gates_use, local_more)
 
   pub use_pushed : IsModule g m → may_follow m.lines (Use k) ≡ true → length (gates m) < 64 →
       IsGoodUse g.circuit (known g.circuit m) k → IsWritten g used
@@ -277,8 +257,7 @@ module _ (g : Setting) (m : ModuleLines) (k : ℕ) where
           high = is.high;
           inside = is.inside;
           named = ap length cut_wires_use ∙ is.named ∙ sym (ap length (flat_same cut_in m.lines (Use k) refl));
-          local = subst (λ cs. AreLocalLines g.circuit.netlist cs (gates used)) (sym cut_wires_use)
-              (subst (λ gs. AreLocalLines g.circuit.netlist (cut_wires g.circuit m) gs) (sym (gates_use m k)) after);
+          local = grind (arith, common_steps, used, cut_wires_use, gates_use);
           order = order_push m.lines (Use k) is.order follows;
           keep_lines = at_nil (IsKeep g (gates used)) (keeps used) keeps_are;
           unstarred = unstarred_nil (edges used) edges_are;
@@ -286,8 +265,7 @@ module _ (g : Setting) (m : ModuleLines) (k : ℕ) where
           halo_lines = at_nil (IsHalo g m.area (known g.circuit used)) (halos used) halos_are;
           stop_lines = at_nil (IsStop g m.area (known g.circuit used)) (stops used) stops_are;
         };
-        few_borders = let e = ap length edges_are in let h = ap length halos_are in let s = ap length stops_are in
-            omega (arith, e, h, s);
+        few_borders = grind (arith, common_steps, edges_are, halos_are, stops_are);
       }
 
 -- ---- edge and halo lines
@@ -302,10 +280,7 @@ time_good : (steps : ℕ) (starred : Bool) (t : Option ℕ) → is_line_time_all
     IfSome t (λ t. (t % 2 ≡ 1) × (t < steps))
 unfolding is_line_time_allowed
 time_good steps starred None e = tt
-time_good steps starred (Some t) e =
-    let parts = and_parts (is_odd t && nat_lt t steps) (not starred) e in
-    let both = and_parts (is_odd t) (nat_lt t steps) parts.0 in
-    (odd t both.0, below t steps both.1)
+time_good steps starred (Some t) e = grind (arith, common_steps, and_parts, odd, below)
 
 local_by : (c : Circuit) (local : List ℕ) (name : List ℕ) (o : Option ℕ) → wire_of c name ≡ o →
     wire_fault local o ≡ None → IsTrue (is_local c local name)
@@ -329,44 +304,17 @@ pub record IsGoodBorder (c : Circuit) (count : ℕ) (local : List ℕ) (placed :
 pub good_border : (c : Circuit) (count : ℕ) (local : List ℕ) (placed : Bool) (signal : Option (List ℕ)) →
     border_line_code c count local placed signal ≡ None → IsGoodBorder c count local placed signal
 unfolding border_line_code
-good_border c count local placed signal e =
-    let parts = both_none _ _ e in
-    let rest = both_none _ _ parts.1 in
-    record {
-      few = less border_limit count (no_code _ PastLimit parts.0);
-      place = not_false placed (no_code _ NoPlace rest.0);
-      names = rest.1;
-    }
+good_border c count local placed signal e = grind (arith, common_steps, both_none, less, no_code, not_false)
 
 edge_good : (g : Setting) (area : Box2) (local : List ℕ) (count : ℕ) (starred : Bool) (e : BorderLine) →
     IsGoodBorder g.circuit count local (is_edge_place_and_time g.size area starred e) e.signal → IsEdge g area local e
 unfolding is_edge_place_and_time
-edge_good g area local count starred e good =
-    let parts = and_parts _ (is_line_time_allowed g.size.steps starred e.time) good.place in
-    let both = and_parts (in_ring area e.cell.x e.cell.y) _ parts.0 in
-    record {
-      ring = both.0;
-      rim = not_true _ both.1;
-      border = record {
-        time = time_good g.size.steps starred e.time parts.1;
-        signal = signal_good g.circuit local e.signal good.names;
-      };
-    }
+edge_good g area local count starred e good = grind (arith, common_steps, and_parts, not_true, time_good, signal_good)
 
 halo_good : (g : Setting) (area : Box2) (local : List ℕ) (count : ℕ) (starred : Bool) (e : BorderLine) →
     IsGoodBorder g.circuit count local (is_halo_place_and_time g.size area starred e) e.signal → IsHalo g area local e
 unfolding is_halo_place_and_time
-halo_good g area local count starred e good =
-    let parts = and_parts _ (is_line_time_allowed g.size.steps starred e.time) good.place in
-    let both = and_parts (in_halo area e.cell.x e.cell.y) _ parts.0 in
-    record {
-      halo = both.0;
-      inside = both.1;
-      border = record {
-        time = time_good g.size.steps starred e.time parts.1;
-        signal = signal_good g.circuit local e.signal good.names;
-      };
-    }
+halo_good g area local count starred e good = grind (arith, common_steps, and_parts, time_good, signal_good)
 
 at_most : (t n : ℕ) → nat_le t n ≡ true → t ≤ n
 at_most t n e = grind (arith, nat_tests)
@@ -407,23 +355,18 @@ module _ (g : Setting) (m : ModuleLines) (i : CertificateLine) (no_cut : cut_in 
 
   local_same : AreLocalLines g.circuit.netlist (cut_wires g.circuit m) (gates m) →
       AreLocalLines g.circuit.netlist (cut_wires g.circuit (module_with_line i m)) (gates (module_with_line i m))
-  local_same l = subst (λ cs. AreLocalLines g.circuit.netlist cs (gates (module_with_line i m))) (sym cut_wires_same)
-      (subst (λ gs. AreLocalLines g.circuit.netlist (cut_wires g.circuit m) gs) (sym gates_same) l)
+  local_same l = grind (arith, common_steps, cut_wires_same, gates_same)
 
   -- and the kept gates, where it keeps nothing
   keeps_same : keep_in i ≡ [] → All (IsKeep g (gates m)) (keeps m) →
       All (IsKeep g (gates (module_with_line i m))) (keeps (module_with_line i m))
-  keeps_same no_keep all = subst (All (IsKeep g (gates (module_with_line i m))))
-      (sym (flat_same keep_in m.lines i no_keep))
-      (subst (λ gs. All (IsKeep g gs) (keeps m)) (sym gates_same) all)
+  keeps_same no_keep all = grind (arith, common_steps, flat_same, gates_same)
 
 -- ---- a kept gate
 
 keep_good : (g : Setting) (used : List ℕ) (k : ℕ) → keep_line_code g.circuit used k ≡ None → IsKeep g used k
 unfolding keep_line_code
-keep_good g mine k e =
-    let parts = both_none _ _ e in
-    record { inverse = not_false _ (no_code _ UnknownName parts.0); among = not_false _ (no_code _ NotLocal parts.1) }
+keep_good g mine k e = grind (arith, common_steps, both_none, not_false, no_code)
 
 keeps_keep : (m : ModuleLines) (k : ℕ) → keeps (module_with_line (Keep k) m) ≡ keeps m ++ k ∷ []
 keeps_keep m k = flat_push keep_in m.lines (Keep k)
@@ -444,23 +387,16 @@ keep_pushed g m written k follows good =
         wide = is.wide;
         high = is.high;
         inside = is.inside;
-        named = ap length (cut_wires_same g m (Keep k) refl refl) ∙ is.named
-            ∙ sym (ap length (cuts_same g m (Keep k) refl refl));
+        named = grind (arith, common_steps, cut_wires_same, cuts_same);
         local = local_same g m (Keep k) refl refl is.local;
         order = order_push m.lines (Keep k) is.order follows;
-        keep_lines = subst (λ gs. All (IsKeep g gs) (keeps more)) (sym (gates_same g m (Keep k) refl refl))
-            (subst (All (IsKeep g (gates m))) (sym (keeps_keep m k))
-            (All-push (IsKeep g (gates m)) (keeps m) k is.keep_lines here));
+        keep_lines = grind (arith, common_steps, more, gates_same, keeps_keep);
         unstarred = subst StarsExcludeLaterTimes (sym edges_are) is.unstarred;
-        edge_lines = subst (λ l. All (IsEdge g m.area (known g.circuit more)) l) (sym edges_are)
-            (subst (λ l. All (IsEdge g m.area l) (edges m)) (sym same) is.edge_lines);
-        halo_lines = subst (λ l. All (IsHalo g m.area (known g.circuit more)) l) (sym halos_are)
-            (subst (λ l. All (IsHalo g m.area l) (halos m)) (sym same) is.halo_lines);
-        stop_lines = subst (λ l. All (IsStop g m.area (known g.circuit more)) l) (sym stops_are)
-            (subst (λ l. All (IsStop g m.area l) (stops m)) (sym same) is.stop_lines);
+        edge_lines = grind (arith, common_steps, more, edges_are);
+        halo_lines = grind (arith, common_steps, more, halos_are);
+        stop_lines = grind (arith, common_steps, more, stops_are);
       };
-      few_borders = let n = ap length edges_are in let l = ap length halos_are in let s = ap length stops_are in let f =
-          written.few_borders in omega (arith, n, l, s, f);
+      few_borders = grind (arith, common_steps, edges_are, halos_are, stops_are);
     }
 
 module _ (g : Setting) (m : ModuleLines) (is : IsModule g m) (e : BorderLine) where
@@ -485,20 +421,14 @@ module _ (g : Setting) (m : ModuleLines) (is : IsModule g m) (e : BorderLine) wh
           wide = is.wide;
           high = is.high;
           inside = is.inside;
-          named = ap length (cut_wires_same g m (Edge e) refl refl) ∙ is.named
-              ∙ sym (ap length (cuts_same g m (Edge e) refl refl));
+          named = grind (arith, common_steps, cut_wires_same, cuts_same);
           local = local_same g m (Edge e) refl refl is.local;
           order = order_push m.lines (Edge e) is.order follows;
           keep_lines = keeps_same g m (Edge e) refl refl refl is.keep_lines;
-          unstarred = subst StarsExcludeLaterTimes (sym (edges_edge m e))
-              (unstarred_push (edges m) e is.unstarred
-              (free_of_star g m.area (list_any (is_starred_line_at e.cell) (edges m)) e b.place));
-          edge_lines = subst (λ l. All (IsEdge g m.area (known g.circuit more)) l) (sym (edges_edge m e))
-              (subst (λ l. All (IsEdge g m.area l) (edges m ++ e ∷ [])) (sym same)
-              (All-push (IsEdge g m.area (known g.circuit m)) (edges m) e is.edge_lines here));
+          unstarred = grind (arith, common_steps, edges_edge, unstarred_push, free_of_star);
+          edge_lines = grind (arith, common_steps, more, edges_edge);
           halo_lines = at_nil (IsHalo g m.area (known g.circuit more)) (halos more) halos_are;
-          stop_lines = subst (λ l. All (IsStop g m.area (known g.circuit more)) l) (sym stops_are)
-              (subst (λ l. All (IsStop g m.area l) (stops m)) (sym same) is.stop_lines);
+          stop_lines = grind (arith, common_steps, more, stops_are);
         };
         few_borders = let f = b.few in omega (arith, n, k, q, f);
       }
@@ -523,19 +453,14 @@ module _ (g : Setting) (m : ModuleLines) (is : IsModule g m) (e : BorderLine) wh
           wide = is.wide;
           high = is.high;
           inside = is.inside;
-          named = ap length (cut_wires_same g m (Halo e) refl refl) ∙ is.named
-              ∙ sym (ap length (cuts_same g m (Halo e) refl refl));
+          named = grind (arith, common_steps, cut_wires_same, cuts_same);
           local = local_same g m (Halo e) refl refl is.local;
           order = order_push m.lines (Halo e) is.order follows;
           keep_lines = keeps_same g m (Halo e) refl refl refl is.keep_lines;
           unstarred = subst StarsExcludeLaterTimes (sym edges_are) is.unstarred;
-          edge_lines = subst (λ l. All (IsEdge g m.area (known g.circuit more)) l) (sym edges_are)
-              (subst (λ l. All (IsEdge g m.area l) (edges m)) (sym same) is.edge_lines);
-          halo_lines = subst (λ l. All (IsHalo g m.area (known g.circuit more)) l) (sym (halos_halo m e))
-              (subst (λ l. All (IsHalo g m.area l) (halos m ++ e ∷ [])) (sym same)
-              (All-push (IsHalo g m.area (known g.circuit m)) (halos m) e is.halo_lines here));
-          stop_lines = subst (λ l. All (IsStop g m.area (known g.circuit more)) l) (sym stops_are)
-              (subst (λ l. All (IsStop g m.area l) (stops m)) (sym same) is.stop_lines);
+          edge_lines = grind (arith, common_steps, more, edges_are);
+          halo_lines = grind (arith, common_steps, more, halos_halo);
+          stop_lines = grind (arith, common_steps, more, stops_are);
         };
         few_borders = let f = b.few in omega (arith, n, k, q, f);
       }
@@ -560,19 +485,14 @@ module _ (g : Setting) (m : ModuleLines) (is : IsModule g m) (s : StopLine) wher
           wide = is.wide;
           high = is.high;
           inside = is.inside;
-          named = ap length (cut_wires_same g m (Stop s) refl refl) ∙ is.named
-              ∙ sym (ap length (cuts_same g m (Stop s) refl refl));
+          named = grind (arith, common_steps, cut_wires_same, cuts_same);
           local = local_same g m (Stop s) refl refl is.local;
           order = order_push m.lines (Stop s) is.order follows;
           keep_lines = keeps_same g m (Stop s) refl refl refl is.keep_lines;
           unstarred = subst StarsExcludeLaterTimes (sym edges_are) is.unstarred;
-          edge_lines = subst (λ l. All (IsEdge g m.area (known g.circuit more)) l) (sym edges_are)
-              (subst (λ l. All (IsEdge g m.area l) (edges m)) (sym same) is.edge_lines);
-          halo_lines = subst (λ l. All (IsHalo g m.area (known g.circuit more)) l) (sym halos_are)
-              (subst (λ l. All (IsHalo g m.area l) (halos m)) (sym same) is.halo_lines);
-          stop_lines = subst (λ l. All (IsStop g m.area (known g.circuit more)) l) (sym (stops_stop m s))
-              (subst (λ l. All (IsStop g m.area l) (stops m ++ s ∷ [])) (sym same)
-              (All-push (IsStop g m.area (known g.circuit m)) (stops m) s is.stop_lines here));
+          edge_lines = grind (arith, common_steps, more, edges_are);
+          halo_lines = grind (arith, common_steps, more, halos_are);
+          stop_lines = grind (arith, common_steps, more, stops_stop);
         };
         few_borders = let f = b.few in omega (arith, n, k, q, f);
       }

@@ -1,6 +1,8 @@
 -- The modules of lines, one after the other.
-use Rattle.std.proofs.Common.{◌≡◌, Bool, true, false, List, [], ◌∷◌, ◌++◌, drop, length, refl, sym, ap, ◌∙◌, fold}
+use Rattle.std.proofs.Common.{arith, ◌≡◌, Bool, true, false, List, [], ◌∷◌, ◌++◌, drop, length, refl, sym, ap, ◌∙◌}
+use Rattle.std.proofs.Common.{fold}
 use Rattle.std.proofs.lemmas.List.{append-nil, append_assoc}
+use Rattle.std.proofs.lemmas.Grind.{common_steps}
 use Rattle.module_box.specs.declared.boxes.Box2.{Box2}
 use Rattle.certificate_lines.specs.Entries.{ModuleLines, add_line, change_last, module_with_line, modules_of}
 use Rattle.certificate_lines.specs.ModuleParts.{inner, is_module}
@@ -81,11 +83,7 @@ Extends es = (m : ModuleLines) → onward (m ∷ []) es ≡ extended m (inner es
 
 extends_more : (m : ModuleLines) (e : CertificateLine) (es : List CertificateLine) → is_module e ≡ false → Extends es →
     onward (module_with_line e m ∷ []) es ≡ extended m (inner (e ∷ es)) ∷ modules_of (e ∷ es)
-extends_more m e es o h =
-    h (module_with_line e m) ∙
-    ap (λ xs. record m { lines = xs } ∷ modules_of es)
-    (append_assoc m.lines (e ∷ []) (inner es) ∙ ap (λ xs. m.lines ++ xs) (sym (inner_other e es o))) ∙
-    ap (λ ns. extended m (inner (e ∷ es)) ∷ ns) (sym (other_first e es o))
+extends_more m e es o h = grind (arith, common_steps, append_assoc, inner_other, extended, other_first)
 
 extends_none : Extends []
 unfolding inner modules_of

@@ -1,11 +1,12 @@
 -- The modules beside the cell of an edge line, by the cells of its block at odd times
-use Rattle.std.proofs.Common.{◌≡◌, ℕ, zero, suc, ◌+◌, ◌%◌, ◌<◌, ◌≤◌, Bool, true, false, not, ◌&&◌, ◌||◌, eqb, List, []}
+use Rattle.std.proofs.Common.{◌≡◌, ℕ, zero, suc, ◌+◌, ◌%◌, ◌<◌, ◌≤◌, Bool, true, false, not, ◌&&◌, ◌||◌, List, []}
 use Rattle.std.proofs.Common.{◌∷◌, length, map, Option, Some, None, refl, sym, ap, ap₂, ◌∙◌, inl, inr, ◌⊎◌, arith}
 use Rattle.std.proofs.Common.{eq-eqb, ℤ, pos, negsuc, ◌+ℤ◌, ◌-ℤ◌, ◌≤ℤ◌, slice_get}
 use Rattle.std.specs.List.{list_any}
 use Rattle.std.proofs.lemmas.Bool.{cases_Bool, cond-true, cond-false, ne_eqb, eqb-true, eqb-false, false≢true}
 use Rattle.std.proofs.lemmas.Int.{ints}
 use Rattle.std.proofs.lemmas.Option.{slice_get_within}
+use Rattle.std.proofs.lemmas.Grind.{common_steps}
 use Rattle.bbm_rule.specs.Plane.{parity, partner}
 use Rattle.bbm_rule.specs.Spans.{in_span}
 use Rattle.bbm_rule.specs.declared.block.Cell.{Cell}
@@ -29,14 +30,8 @@ use Rattle.certificate_lines.proofs.Lists.{some_is}
 -- ---- columns and rows
 
 parity_cases : (z : ℤ) → (parity z ≡ 0) ⊎ (parity z ≡ 1)
-parity_cases (pos n) = elim (cases_Bool (eqb (n % 2) 0)) [
-  | inl e ↦ inl (eqb-true (n % 2) 0 e)
-  | inr e ↦ let other = eqb-false (n % 2) 0 e in inr (omega (arith, other))
-]
-parity_cases (negsuc n) = elim (cases_Bool (eqb ((n + 1) % 2) 0)) [
-  | inl e ↦ inl (eqb-true ((n + 1) % 2) 0 e)
-  | inr e ↦ let other = eqb-false ((n + 1) % 2) 0 e in inr (omega (arith, other))
-]
+parity_cases (pos n) = grind (arith, common_steps, cases_Bool, eqb-true, eqb-false)
+parity_cases (negsuc n) = grind (arith, common_steps, cases_Bool, eqb-true, eqb-false)
 
 partner_up : (t : ℕ) (z : ℤ) → parity z ≡ t % 2 → partner t z ≡ z +ℤ pos 1
 unfolding partner
@@ -84,8 +79,7 @@ pub halo_either : (b : Box2) (x y : ℤ) → IsEven b →
     (not (in_box b x y) && ((in_span b.x b.w x || in_span b.x b.w (partner 1 x))
     && (in_span b.y b.h y || in_span b.y b.h (partner 1 y))))
     ≡ in_halo b x y
-halo_either b x y even = halo_read b x y (in_box b x y) _ _ refl
-    (sym (near_either b.x b.w x even.x even.w)) (sym (near_either b.y b.h y even.y even.h))
+halo_either b x y even = grind (arith, common_steps, halo_read, near_either)
 
 -- a cell is in the halo of a box if it is outside, and the box has one of the other cells of its block
 pub odd_halo : (b : Box2) (x y : ℤ) (s : Bool) → IsEven b →
@@ -93,10 +87,7 @@ pub odd_halo : (b : Box2) (x y : ℤ) (s : Bool) → IsEven b →
     || (in_box b (partner 1 x) (partner 1 y) && (not (in_box b x y) && s)))
     ≡ (in_halo b x y && s)
 unfolding in_box
-odd_halo b x y s even =
-    three_cells (in_span b.x b.w x) (in_span b.x b.w (partner 1 x)) (in_span b.y b.h y)
-    (in_span b.y b.h (partner 1 y)) s
-    ∙ ap (λ h. h && s) (halo_either b x y even)
+odd_halo b x y s even = grind (arith, common_steps, three_cells, halo_either)
 
 -- ---- one element at most passes a test
 
@@ -163,10 +154,7 @@ area_of (n ∷ ms) (suc k) m at = area_of ms k m at
 module _ (ms : List ModuleLines) (o : Owning) (good : AreOwners o (areas ms)) (x y : ℤ) where
   owner_at : in_box (rectangle o) x y ≡ true →
       (m : ModuleLines) × (slice_get ms (owner_of o x y) ≡ Some m) × (in_box m.area x y ≡ true)
-  owner_at inside =
-      let named = good.named x y inside in
-      let m = mapped_at (λ (n : ModuleLines). n.area) ms (owner_of o x y) named.0 named.1 in
-      (m.0, m.1, ap (λ (b : Box2). in_box b x y) m.2 ∙ named.2)
+  owner_at inside = grind (arith, common_steps, mapped_at)
 
   pub owner_within : in_box (rectangle o) x y ≡ true → owner_of o x y < length ms
   owner_within inside = let m = owner_at inside in slice_get_within ms (owner_of o x y) m.0 m.1
@@ -178,8 +166,7 @@ module _ (ms : List ModuleLines) (o : Owning) (good : AreOwners o (areas ms)) (x
       let m = owner_at inside in
       answer m.0 m.1
       ∙ sym (one_passes (λ (n : ModuleLines). in_box n.area x y) q ms (owner_of o x y) m.0 m.1 m.2
-      (λ i n at here. good.tile.once x y i (owner_of o x y) n.area m.0.area (area_of ms i n at)
-      (area_of ms (owner_of o x y) m.0 m.1) here m.2))
+      (λ i n at here. grind (arith, common_steps, area_of)))
 
   pub asked_none : (q : ModuleLines → Bool) → in_box (rectangle o) x y ≡ false →
       false ≡ list_any (λ (m : ModuleLines). in_box m.area x y && q m) ms
@@ -227,8 +214,7 @@ module _ (c : Circuit) (ms : List ModuleLines) where
       ∙ any_same (λ m. list_any
       (λ (e : BorderLine). in_halo m.area e.cell.x e.cell.y && is_nonlocal_signal c (known c m) e.signal) es)
       (lacks_edge_wire c es) ms
-      (λ m. sym (any_filter (λ (e : BorderLine). in_halo m.area e.cell.x e.cell.y)
-      (λ (e : BorderLine). is_nonlocal_signal c (known c m) e.signal) es))
+      (λ m. grind (arith, common_steps, any_filter))
 
 -- ---- places in the rectangle
 
@@ -237,9 +223,4 @@ low_number z k e lt = (omega (arith, ints, e, lt), omega (arith, ints, e, lt))
 
 pub low_cell : (w h : ℕ) (x y : ℤ) → w ≤ 512 → h ≤ 512 → in_box (rectangle_of w h) x y ≡ true →
     ((pos 0 ≤ℤ x) × (x ≤ℤ pos 1023)) × ((pos 0 ≤ℤ y) × (y ≤ℤ pos 1023))
-low_cell w h x y wide high inside =
-    let p = in_box_nats (rectangle_of w h) x y inside in
-    let px = p.0 in let py = p.1 in (
-      low_number x px.0 px.1 (let lt = px.3 in omega (arith, lt, wide)),
-      low_number y py.0 py.1 (let lt = py.3 in omega (arith, lt, high)),
-    )
+low_cell w h x y wide high inside = grind (arith, common_steps, in_box_nats, low_number)

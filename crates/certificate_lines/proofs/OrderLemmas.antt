@@ -1,5 +1,5 @@
 -- Lines in order: what comes after the last comes after all.
-use Rattle.std.proofs.Common.{◌≡◌, ◌⊎◌, ℕ, Bool, true, false, ◌&&◌, List, [], ◌∷◌, ◌++◌, Some, None, Less, Equal}
+use Rattle.std.proofs.Common.{arith, ◌≡◌, ◌⊎◌, ℕ, Bool, true, false, ◌&&◌, List, [], ◌∷◌, ◌++◌, Some, None, Less, Equal}
 use Rattle.std.proofs.Common.{Greater, get_or, Ordering, refl, sym, ap, ◌∙◌, inl, inr, is_lt, nat_cmp}
 use Rattle.std.specs.List.{list_all}
 use Rattle.std.specs.Cmp.{IsTotalOrder}
@@ -7,6 +7,7 @@ use Rattle.std.specs.Ordering.{ordering_then}
 use Rattle.std.proofs.lemmas.Bool.{and_parts}
 use Rattle.std.proofs.lemmas.Cmp.{then_total, on_total, nat_cmp_total}
 use Rattle.std.proofs.Math.Bool.{and-true}
+use Rattle.std.proofs.lemmas.Grind.{common_steps}
 use Rattle.module_box.proofs.Rising.{cell_total}
 use Rattle.module_box.specs.Moments.{cell_cmp}
 use Rattle.certificate_lines.specs.declared.certificate_line.CertificateLine.{CertificateLine}
@@ -124,10 +125,7 @@ stop_is (Stop t) s h = ap Stop (sym (ap (λ l. get_or l 0 s) h))
 precede_parts : (i j : CertificateLine) → may_precede i j ≡ true →
     (line_cmp i j ≡ Less) ⊎ ((is_cut i ≡ true) × (is_cut j ≡ true))
 unfolding may_precede
-precede_parts i j h = elim (or_parts (is_lt (line_cmp i j)) _ h) [
-  | inl less ↦ inl (is_less _ less)
-  | inr cuts ↦ inr (and_parts (is_cut i) (is_cut j) cuts)
-]
+precede_parts i j h = grind (arith, common_steps, or_parts, is_less, and_parts)
 
 less_then_cut : (i j k : CertificateLine) → line_cmp i j ≡ Less → is_cut j ≡ true → is_cut k ≡ true →
     line_cmp i k ≡ Less
@@ -141,9 +139,7 @@ cut_then_less : (i j k : CertificateLine) → line_cmp j k ≡ Less → is_cut i
 cut_then_less i j k less ci cj =
     let p = cut_is i ci in
     let q = cut_is j cj in
-    ap (λ (z : CertificateLine). line_cmp z k) p.same ∙ after_cut p.name q.name k
-    ∙ ap (λ (z : CertificateLine). line_cmp z k) (sym q.same)
-    ∙ less
+    grind (arith, common_steps, after_cut)
 
 precede_trans : (i j k : CertificateLine) → may_precede i j ≡ true → may_precede j k ≡ true → may_precede i k ≡ true
 precede_trans i j k h h' = elim (precede_parts i j h) [
@@ -161,9 +157,7 @@ last_passes : (p : CertificateLine → Bool) (i : CertificateLine) (lines : List
     list_all p (i ∷ lines) ≡ true →
     last_of (i ∷ lines) ≡ Some l → p l ≡ true
 unfolding last_of
-last_passes p i [] l all last =
-    let same : i ≡ l = cc in
-    ap p (sym same) ∙ (and_parts (p i) true all).0
+last_passes p i [] l all last = grind (arith, common_steps, and_parts)
 last_passes p i (j ∷ lines) l all last = last_passes p j lines l (and_parts (p i) (list_all p (j ∷ lines)) all).1 last
 
 and_same : (a b : Bool) → (b ≡ true → a ≡ true) → (a && b) ≡ b
@@ -227,16 +221,7 @@ follows_inner lines (Stop s) i inner order last = follows_last lines (Stop s) i 
 -- the last line after one more line
 pub inner_pushed : (entries : List CertificateLine) (i : CertificateLine) → IsBodyLine i →
     last_body_line (entries ++ i ∷ []) ≡ Some i
-inner_pushed entries i inner = ap body_line_or_none (last_pushed entries i) ∙ inner_is i inner
-  where
-    inner_is : (i : CertificateLine) → IsBodyLine i → body_line_or_none (Some i) ≡ Some i
-    inner_is (Module b) inner = absurd inner
-    inner_is (Cut n) inner = refl
-    inner_is (Use k) inner = refl
-    inner_is (Keep k) inner = refl
-    inner_is (Edge e) inner = refl
-    inner_is (Halo e) inner = refl
-    inner_is (Stop s) inner = refl
+inner_pushed entries i inner = grind (arith, common_steps, last_pushed)
 
 pub module_pushed : (entries : List CertificateLine) (b : Box2) → last_body_line (entries ++ Module b ∷ []) ≡ None
 module_pushed entries b = ap body_line_or_none (last_pushed entries (Module b))

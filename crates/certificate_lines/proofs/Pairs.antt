@@ -5,6 +5,7 @@ use Rattle.std.proofs.lemmas.List.Elements.{All-tail}
 use Rattle.std.proofs.lemmas.Option.{slice_get-map}
 use Rattle.std.specs.declared.cmp.Ordering.{Ordering}
 use Rattle.std.specs.declared.cmp.Ordering.TheVariants.{Less}
+use Rattle.std.proofs.lemmas.Grind.{common_steps}
 use Rattle.module_box.specs.Schedules.{IsRising}
 use Rattle.certificate_lines.proofs.Lists.{some_is}
 
@@ -50,9 +51,7 @@ pub pairs_flat : {A B : Type 0} (R : A → A → Type 0) (S : B → B → Type 0
 unfolding Pairs
 pairs_flat R S f between alone [] p = p
 pairs_flat R S f between alone (x ∷ xs) p =
-    pairs_append S (f x) (flat_map f xs) (alone x) (pairs_flat R S f between alone xs p.1)
-    (each_map (λ b. (y : _) → R x y → Each (S b) (f y)) (λ b. Each (S b) (flat_map f xs))
-    (λ b h. each_flat (R x) (S b) f h xs p.0) (f x) (between x))
+    grind (arith, common_steps, pairs_flat R S f between alone xs p.1, pairs_append, each_map, each_flat)
 
 pub pairs_at : {A : Type 0} (R : A → A → Type 0) (xs : List A) → Pairs R xs → (i j : ℕ) (a b : A) → i < j →
     slice_get xs i ≡ Some a → slice_get xs j ≡ Some b → R a b
@@ -72,9 +71,7 @@ rising_of cmp key g same xs ys e p = record {
       subst (λ zs. slice_get zs i ≡ Some (g a)) e (slice_get-map g xs i ∙ ap (option_map g) ea) in
       let fb : slice_get ys j ≡ Some (g b) =
       subst (λ zs. slice_get zs j ≡ Some (g b)) e (slice_get-map g xs j ∙ ap (option_map g) eb) in
-      subst (λ k. cmp k (key b) ≡ Less) (same a)
-      (subst (λ k. cmp (key (g a)) k ≡ Less) (same b)
-      (pairs_at (λ a b. cmp (key a) (key b) ≡ Less) ys p i j (g a) (g b) lt fa fb));
+      grind (arith, common_steps, pairs_at);
 }
 
 -- ---- facts of all elements

@@ -4,6 +4,7 @@ use Rattle.std.proofs.Common.{get_or, set, replicate, Option, Some, None, refl, 
 use Rattle.std.proofs.Common.{pos, slice_get, option_map}
 use Rattle.std.specs.Int.RustNames.{unsigned_abs}
 use Rattle.std.proofs.lemmas.Bool.{and_parts, and_from, cases_lt}
+use Rattle.std.proofs.lemmas.Grind.{common_steps}
 use Rattle.bbm_rule.proofs.Spans.{span_from, span_parts}
 use Rattle.std.proofs.lemmas.List.{length-set, length-replicate, get_or_default, get_or-set_same}
 use Rattle.std.proofs.lemmas.Option.{slice_get_within}
@@ -64,10 +65,7 @@ all_zero (suc n) (suc i) = all_zero n i
 -- a cell of a box is in one of its rows and columns
 pub sides : (b : Box2) (x y : ℤ) → in_box b x y ≡ true →
     (unsigned_abs x - b.x < b.w) × (unsigned_abs y - b.y < b.h)
-sides b x y h =
-    let low = abs_from b x y h in
-    let high = abs_within b x y h in
-    (omega (arith, low.0, high.0), omega (arith, low.1, high.1))
+sides b x y h = grind (arith, common_steps, abs_from, abs_within)
 
 -- an entry after one entry is set
 set_at : (xs : List ℕ) (i j v : ℕ) → i < length xs →
@@ -91,13 +89,7 @@ pub record AreRowsSoFar (b : Box2) (ports : List Port) (k : ℕ) (rows : List �
       0 < get_or rows (unsigned_abs p.cell.y - b.y) 0
 
 pub no_rows : (b : Box2) (ports : List Port) (n : ℕ) → n ≡ b.h → AreRowsSoFar b ports 0 (replicate n zero) 0
-no_rows b ports n is = record {
-  sized = length-replicate n 0 ∙ is;
-  counted = filled_none n;
-  most = λ row. let z = all_zero n row in omega (arith, z);
-  own = λ row other m e f. absurd (let z = all_zero n row in omega (arith, z, e));
-  each = λ i p lt at. absurd (omega arith);
-}
+no_rows b ports n is = grind (arith, common_steps, length-replicate, filled_none, all_zero)
 
 module _ (b : Box2) (ports : List Port) (k : ℕ) (p : Port) (at : slice_get ports k ≡ Some p)
     (inside : in_box b p.cell.x p.cell.y ≡ true) (rows : List ℕ) (count : ℕ)
@@ -110,9 +102,7 @@ module _ (b : Box2) (ports : List Port) (k : ℕ) (p : Port) (at : slice_get por
 
   -- the number of the port's row, as it was read
   pub read_row : (y n : ℕ) → y ≡ unsigned_abs p.cell.y → n ≡ get_or rows (y - b.y) n → n ≡ get_or rows here 0
-  read_row y n is read =
-      let row : y - b.y ≡ here = ap (λ (j : ℕ). j - b.y) is in
-      read ∙ ap (λ (j : ℕ). get_or rows j n) row ∙ get_or_default rows here n 0 row_there
+  read_row y n is read = grind (arith, common_steps, here, get_or_default, row_there)
 
   -- what holds of the rows of the earlier ports and of this one's row
   each_more : (after : List ℕ) → ((row : ℕ) → 0 < get_or rows row 0 → 0 < get_or after row 0) →
@@ -127,32 +117,18 @@ module _ (b : Box2) (ports : List Port) (k : ℕ) (p : Port) (at : slice_get por
   ]
 
   pub row_kept : 0 < get_or rows here 0 → AreRowsSoFar b ports (k + 1) rows count
-  row_kept now = record {
-    sized = so_far.sized;
-    counted = so_far.counted;
-    most = so_far.most;
-    own = so_far.own;
-    each = each_more rows (λ row h. h) now;
-  }
+  row_kept now = grind (arith, common_steps, each_more)
 
   pub count_below : get_or rows here 0 ≡ 0 → count < b.h
-  count_below none =
-      let lt = filled_less rows here 0 row_there none in
-      omega (arith, lt, so_far.sized, so_far.counted)
+  count_below none = grind (arith, common_steps, filled_less, here, row_there)
 
   most_after : (row : ℕ) → get_or (set rows here (suc count)) row 0 ≤ suc count
-  most_after row = elim (set_at rows here row (suc count) row_there) [
-    | inl now ↦ omega (arith, now.1)
-    | inr old ↦ let m = so_far.most row in omega (arith, old, m)
-  ]
+  most_after row = grind (arith, common_steps, set_at, here, row_there)
 
   own_after : (row other n : ℕ) → get_or (set rows here (suc count)) row 0 ≡ suc n →
       get_or (set rows here (suc count)) other 0 ≡ suc n → row ≡ other
   own_after row other n e f = elim (set_at rows here row (suc count) row_there) [
-    | inl now ↦ elim (set_at rows here other (suc count) row_there) [
-      | inl also ↦ now.0 ∙ sym also.0
-      | inr old ↦ let m = so_far.most other in absurd (omega (arith, now.1, old, m, e, f))
-    ]
+    | inl now ↦ grind (arith, common_steps, set_at, here, row_there)
     | inr old ↦ elim (set_at rows here other (suc count) row_there) [
       | inl also ↦ let m = so_far.most row in absurd (omega (arith, also.1, old, m, e, f))
       | inr too ↦ so_far.own row other n (sym old ∙ e) (sym too ∙ f)
@@ -160,10 +136,7 @@ module _ (b : Box2) (ports : List Port) (k : ℕ) (p : Port) (at : slice_get por
   ]
 
   stays : (row : ℕ) → 0 < get_or rows row 0 → 0 < get_or (set rows here (suc count)) row 0
-  stays row h = elim (set_at rows here row (suc count) row_there) [
-    | inl now ↦ omega (arith, now.1)
-    | inr old ↦ omega (arith, old, h)
-  ]
+  stays row h = grind (arith, common_steps, set_at, here, row_there)
 
   pub row_set : (row n : ℕ) → row ≡ here → n ≡ suc count → get_or rows here 0 ≡ 0 →
       AreRowsSoFar b ports (k + 1) (set rows row n) n
@@ -172,19 +145,12 @@ module _ (b : Box2) (ports : List Port) (k : ℕ) (p : Port) (at : slice_get por
     counted = filled_more rows here 0 count row_there none ∙ ap suc so_far.counted;
     most = most_after;
     own = own_after;
-    each = each_more (set rows here (suc count)) stays
-        (let now = get_or-set_same rows here (suc count) 0 row_there in omega (arith, now));
+    each = grind (arith, common_steps, each_more, here, stays, get_or-set_same, row_there);
   })
 
 pub rows_done : (b : Box2) (ports : List Port) (k : ℕ) (rows : List ℕ) (count : ℕ) → length ports ≤ k →
     AreRowsSoFar b ports k rows count → AreNumberedRows b ports rows count
-rows_done b ports k rows count all full = record {
-  sized = full.sized;
-  few = let m = filled_most rows in omega (arith, m, full.sized, full.counted);
-  most = full.most;
-  own = full.own;
-  each = λ i p at. let lt = slice_get_within ports i p at in full.each i p (omega (arith, lt, all)) at;
-}
+rows_done b ports k rows count all full = grind (arith, common_steps, filled_most, slice_get_within)
 
 -- ---- the places of the entries
 
@@ -198,13 +164,7 @@ place_few width (suc row) column count place near few e =
     omega (arith, lt, is)
 
 pub same_table : (r s c d w : ℕ) → c < w → d < w → r * w + c ≡ s * w + d → r ≡ s
-same_table r s c d w p q e = elim (cases_lt r s) [
-  | inl less ↦ absurd (let lt = in_table r s c w less p in omega (arith, lt, e))
-  | inr not_less ↦ elim (cases_lt s r) [
-    | inl more ↦ absurd (let lt = in_table s r d w more q in omega (arith, lt, e))
-    | inr not_more ↦ omega (arith, not_less, not_more)
-  ]
-]
+same_table r s c d w p q e = grind (arith, common_steps, cases_lt, in_table)
 
 -- two entries at one place are of one column, and their rows have one number
 place_own : (width row other c d place : ℕ) → c < width → d < width →
@@ -229,9 +189,7 @@ pub some_after : (width row column : ℕ) → (row ≡ 0 → ⊥) →
     Some ((row - 1) * width + column) ≡ entry_place_by_row_number width row column
 unfolding entry_place_by_row_number
 some_after width zero column e = absurd (e refl)
-some_after width (suc row) column e =
-    let one : suc row - 1 ≡ row = omega arith in
-    ap (λ (r : ℕ). Some (r * width + column)) one
+some_after width (suc row) column e = grind (arith, common_steps)
 
 some_place : (width row column : ℕ) → 0 < row → entry_place_by_row_number width row column ≡ None → ⊥
 unfolding entry_place_by_row_number
@@ -243,9 +201,7 @@ further : (width row column k : ℕ) (o : Option ℕ) → entry_place_by_row_num
     entry_place_by_row_number width row (column + k) ≡ option_map (λ (p : ℕ). p + k) o
 unfolding entry_place_by_row_number
 further width zero column k o e = sym (ap (option_map (λ (p : ℕ). p + k)) (sym e))
-further width (suc row) column k o e =
-    let sum : row * width + (column + k) ≡ row * width + column + k = omega arith in
-    ap Some sum ∙ ap (option_map (λ (p : ℕ). p + k)) e
+further width (suc row) column k o e = grind (arith, common_steps)
 
 -- two cells of a box at one place are one cell
 same_place : (b : Box2) (c d : Cell) → in_box b c.x c.y ≡ true → in_box b d.x d.y ≡ true →
@@ -256,9 +212,7 @@ same_place b c d h k same =
 module _ (b : Box2) (ports : List Port) (rows : List ℕ) (count : ℕ) (are : AreNumberedRows b ports rows count) where
   pub entry_few : (x y : ℤ) (place : ℕ) → in_box b x y ≡ true → entry_place b rows x y ≡ Some place →
       place < count * b.w
-  entry_few x y place inside e =
-      place_few b.w (get_or rows (unsigned_abs y - b.y) 0) (unsigned_abs x - b.x) count place (sides b x y inside).0
-      (are.most (unsigned_abs y - b.y)) e
+  entry_few x y place inside e = grind (arith, common_steps, place_few, sides)
 
   pub entry_own : (c d : Cell) (place : ℕ) → in_box b c.x c.y ≡ true → in_box b d.x d.y ≡ true →
       entry_place b rows c.x c.y ≡ Some place → entry_place b rows d.x d.y ≡ Some place → c ≡ d
@@ -277,10 +231,7 @@ module _ (b : Box2) (ports : List Port) (rows : List ℕ) (count : ℕ) (are : A
 pub row_inside : (b : Box2) (x y k : ℕ) → in_box b (pos x) (pos y) ≡ true → x + k < b.x + b.w →
     in_box b (pos (x + k)) (pos y) ≡ true
 unfolding in_box
-row_inside b x y k h l =
-    let p = and_parts _ _ h in
-    let s = span_parts b.x b.w x p.0 in
-    and_from _ _ (span_from b.x b.w (x + k) (omega (arith, s.0)) l) p.1
+row_inside b x y k h l = grind (arith, common_steps, and_parts, span_parts, and_from, span_from)
 
 -- the entries of a row of a box
 pub row_entry : (b : Box2) (rows : List ℕ) (x y k : ℕ) (o : Option ℕ) → in_box b (pos x) (pos y) ≡ true →
@@ -289,5 +240,4 @@ pub row_entry : (b : Box2) (rows : List ℕ) (x y k : ℕ) (o : Option ℕ) → 
 row_entry b rows x y k o inside e =
     let low = (abs_from b (pos x) (pos y) inside).0 in
     let column : x + k - b.x ≡ x - b.x + k = omega (arith, low) in
-    ap (λ (c : ℕ). entry_place_by_row_number b.w (get_or rows (y - b.y) 0) c) column
-    ∙ further b.w (get_or rows (y - b.y) 0) (x - b.x) k o e
+    grind (arith, common_steps, further)

@@ -1,8 +1,10 @@
 -- The cells of lines with a star.
-use Rattle.std.proofs.Common.{◌≡◌, Bool, true, false, ◌&&◌, ◌||◌, if◌then◌else◌, List, [], ◌∷◌, ◌++◌, Option, Some}
+use Rattle.std.proofs.Common.{arith, ◌≡◌, Bool, true, false, ◌&&◌, ◌||◌, if◌then◌else◌, List, [], ◌∷◌, ◌++◌, Option}
+use Rattle.std.proofs.Common.{Some}
 use Rattle.std.proofs.Common.{None, length, refl, sym, ap, ◌∙◌, is_some, ℕ}
 use Rattle.std.specs.List.{list_any}
 use Rattle.std.proofs.lemmas.List.Folds.{list_any-append}
+use Rattle.std.proofs.lemmas.Grind.{common_steps}
 use Rattle.bbm_rule.specs.declared.block.Cell.{Cell}
 use Rattle.certificate_lines.specs.Rules.{same_cell, is_star, is_starred_line_at}
 use Rattle.certificate_lines.specs.declared.certificate_line.BorderLine.{BorderLine}
@@ -34,21 +36,16 @@ again keys c d false same there = sym (or_none _)
 inserted_by : (b : Bool) (keys : List Cell) (c d : Cell) → list_any (same_cell d) keys ≡ b →
     list_any (same_cell c) (if b then keys else keys ++ d ∷ []) ≡ (list_any (same_cell c) keys || same_cell c d)
 inserted_by true keys c d h = again keys c d (same_cell c d) refl h
-inserted_by false keys c d h =
-    list_any-append (same_cell c) keys (d ∷ [])
-    ∙ ap (λ (b : Bool). list_any (same_cell c) keys || b) (or_none (same_cell c d))
+inserted_by false keys c d h = grind (arith, common_steps, list_any-append, or_none)
 
 pub star_noted : (keys new : List Cell) (e : BorderLine) → is_some e.time ≡ false →
     new ≡ (if list_any (same_cell e.cell) keys then keys else keys ++ e.cell ∷ []) → (c : Cell) →
     list_any (same_cell c) new ≡ (list_any (same_cell c) keys || is_starred_line_at c e)
-star_noted keys new e none is c =
-    ap (list_any (same_cell c)) is ∙ inserted_by _ keys c e.cell refl
-    ∙ ap (λ (b : Bool). list_any (same_cell c) keys || b) (starred e.time (same_cell c e.cell) none)
+star_noted keys new e none is c = grind (arith, common_steps, inserted_by, starred)
 
 pub no_star : (keys : List Cell) (e : BorderLine) → is_some e.time ≡ true → (c : Cell) →
     list_any (same_cell c) keys ≡ (list_any (same_cell c) keys || is_starred_line_at c e)
-no_star keys e some c = sym (ap (λ (b : Bool). list_any (same_cell c) keys || b)
-    (timed e.time (same_cell c e.cell) some) ∙ or_none _)
+no_star keys e some c = grind (arith, common_steps, timed, or_none)
 
 pub none_starred : (keys : List Cell) (c : Cell) → length keys ≡ 0 → false ≡ list_any (same_cell c) keys
 none_starred [] c none = refl

@@ -13,6 +13,7 @@ use Rattle.std.proofs.lemmas.List.{get_or-set_other}
 use Rattle.std.proofs.lemmas.List.Folds.{list_any-append}
 use Rattle.std.proofs.lemmas.Option.{slice_get-get_or, slice_get_within}
 use Rattle.std.proofs.Math.Bool.{or-false}
+use Rattle.std.proofs.lemmas.Grind.{common_steps}
 use Rattle.bbm_rule.specs.Plane.{is_at}
 use Rattle.bbm_rule.specs.declared.block.Cell.{Cell}
 use Rattle.pattern.specs.Layout.{HaveDistinctCells, cell, row_cells}
@@ -66,8 +67,7 @@ module _ (ports : List Port) (apart : HaveDistinctCells ports) (b : Box2) (f : L
       let n = passed_name f (port_at ports r.0.x r.0.y) r.2 in
       let p = port_stands ports r.0.x r.0.y n.0 n.1 in
       let inside : in_box b p.port.cell.x p.port.cell.y ≡ true =
-      ap (λ (c : Cell). in_box b c.x c.y) (cell_same p.port.cell r.0 p.stands) ∙ sym (in_box_cells b r.0.x r.0.y)
-      ∙ r.1 in
+      grind (arith, common_steps, cell_same, in_box_cells) in
       let named : f p.port.name ≡ true = ap f p.named ∙ n.2 in
       any_at by_port ports p.number p.port p.numbered (rw (inside, named) refl)
 
@@ -108,11 +108,7 @@ pub rows_named : (test : Cell → Bool) (old mid new : Bool) (x w y k : ℕ) →
     mid ≡ (old || list_any test (flat_map (row_cells x w) (range_with_len y (k - y)))) →
     new ≡ (mid || list_any test (row_cells x w k)) →
     new ≡ (old || list_any test (flat_map (row_cells x w) (range_with_len y (k + 1 - y))))
-rows_named test old mid new x w y k from was now =
-    now ∙ ap (λ b. b || list_any test (row_cells x w k)) was
-    ∙ or_again old (list_any test (flat_map (row_cells x w) (range_with_len y (k - y))))
-    (list_any test (row_cells x w k))
-    ∙ ap (λ b. old || b) (rows_found test x w y k _ _ from refl refl)
+rows_named test old mid new x w y k from was now = grind (arith, common_steps, or_again, rows_found)
 
 -- the ports of both kinds
 pub ports_pushed : (p q : List Port) → HaveDistinctCells p → HaveDistinctCells q →
@@ -122,11 +118,7 @@ pub ports_pushed : (p q : List Port) → HaveDistinctCells p → HaveDistinctCel
     → list_any f new ≡ (list_any f mid || list_any (λ c. option_map_or f (port_at q c.x c.y) false) (box_cells b))
     → list_any f new ≡ (list_any f old || list_any (λ r. in_box b r.cell.x r.cell.y && f r.name) (p ++ q))
 ports_pushed p q apart apart' b old mid new f first second =
-    let test : Port → Bool = λ r. in_box b r.cell.x r.cell.y && f r.name in
-    second
-    ∙ ap₂ (λ x y. x || y) (first ∙ ap (λ x. list_any f old || x) (ports_in_box p apart b f)) (ports_in_box q apart' b f)
-    ∙ or_again (list_any f old) (list_any test p) (list_any test q)
-    ∙ ap (λ x. list_any f old || x) (sym (list_any-append test p q))
+    grind (arith, common_steps, ports_in_box, or_again, list_any-append)
 
 -- ---- the number of the port at a cell
 
@@ -223,9 +215,7 @@ pub part_zero : (numbers : List ℕ) (p n k : ℕ) → list_all (λ m. nat_eq m 
 part_zero numbers p n k all l = sym (get_or-drop p numbers k 0) ∙ zero_at (drop p numbers) n k all l
 
 pub few_entries : (count w h : ℕ) → count ≤ h → w ≤ 512 → h ≤ 512 → count * w ≤ 262144
-few_entries count w h few p q =
-    let m : count * w ≤ 512 * w = mul-le-mul_right w (omega (arith, few, q)) in
-    omega (arith, m, p)
+few_entries count w h few p q = grind (arith, common_steps, mul-le-mul_right)
 
 pub entry_is : (numbers : List ℕ) (place n : ℕ) → n ≡ get_or numbers place n → place < length numbers →
     n ≡ get_or numbers place 0
@@ -264,16 +254,7 @@ no_entry n (Some place) = all_zero n place
 pub no_ports : (b : Box2) (ports : List Port) (rows : List ℕ) (count n : ℕ) → n ≡ count * b.w →
     IsFilling b ports rows count 0 (replicate n zero)
 unfolding number_at
-no_ports b ports rows count n is = record {
-  sized = length-replicate n 0 ∙ is;
-  numbered = λ x y h. no_entry n (entry_place b rows x y)
-      ∙ ap (λ (ps : List Port). number_at ps x y) (sym (take_none ports));
-  counted = filled_none n;
-}
-  where
-    take_none : (ps : List Port) → take 0 ps ≡ []
-    take_none [] = refl
-    take_none (p ∷ ps) = refl
+no_ports b ports rows count n is = grind (arith, common_steps, length-replicate, numbered, no_entry, filled_none)
 
 pub in_whole : (s : LayoutHeader) (b : Box2) → b ≡ whole s → (ports : List Port) → AreOnBoard s ports → AreInBox b ports
 unfolding in_box
@@ -296,8 +277,7 @@ module _ (b : Box2) (ports : List Port) (apart : HaveDistinctCells ports) (insid
   unnumbered_so_far = none_there (take k ports) p.cell.x p.cell.y not_before
 
   entry_free : get_or numbers place 0 ≡ 0
-  entry_free = sym (placed numbers (entry_place b rows p.cell.x p.cell.y) place there)
-      ∙ so_far.numbered p.cell.x p.cell.y here_inside ∙ unnumbered_so_far
+  entry_free = grind (arith, common_steps, placed, numbered, here_inside, unnumbered_so_far)
 
   pub entry_there : place < length numbers
   entry_there =
@@ -305,9 +285,7 @@ module _ (b : Box2) (ports : List Port) (apart : HaveDistinctCells ports) (insid
       omega (arith, lt, so_far.sized)
 
   pub number_small : k < count * b.w
-  number_small =
-      let lt = filled_less numbers place 0 entry_there entry_free in
-      omega (arith, lt, so_far.sized, so_far.counted)
+  number_small = grind (arith, common_steps, filled_less, entry_there, entry_free)
 
   within : k < length ports
   within = slice_get_within ports k p at
@@ -349,9 +327,7 @@ module _ (b : Box2) (ports : List Port) (apart : HaveDistinctCells ports) (insid
     sized = length-set numbers place (k + 1) ∙ so_far.sized;
     numbered = λ x y h. numbered_after (record { x = x; y = y }) h _ refl
         ∙ ap (λ (ps : List Port). number_at ps x y) (sym longer);
-    counted = ap (λ (n : ℕ). filled (set numbers place n)) suc_is
-        ∙ filled_more numbers place 0 k entry_there entry_free ∙ ap suc so_far.counted
-        ∙ sym suc_is;
+    counted = grind (arith, common_steps, filled, suc_is, filled_more, entry_there, entry_free);
   })
 
 -- ---- outside

@@ -1,8 +1,9 @@
 -- The gates that the last module uses, found from its last line on.
-use Rattle.std.proofs.Common.{◌≡◌, ℕ, ◌+◌, ◌-◌, ◌<◌, ◌≤◌, ◌==◌, Bool, true, false, ◌||◌, List, [], ◌∷◌, ◌++◌, length}
-use Rattle.std.proofs.Common.{take, get_or, Some, refl, sym, ap, subst, ◌∙◌, arith}
+use Rattle.std.proofs.Common.{◌≡◌, ℕ, ◌+◌, ◌-◌, ◌<◌, ◌≤◌, Bool, true, false, ◌||◌, List, [], ◌∷◌, ◌++◌, length}
+use Rattle.std.proofs.Common.{take, get_or, Some, refl, sym, subst, arith}
 use Rattle.std.proofs.lemmas.List.{take_all, take_more}
 use Rattle.std.proofs.lemmas.List.Folds.{list_any-append}
+use Rattle.std.proofs.lemmas.Grind.{common_steps}
 use Rattle.module_box.specs.Locals.{is_among}
 use Rattle.certificate_lines.specs.Entries.{ModuleLines, module_with_line, add_line, last_of, modules_of, last_module}
 use Rattle.certificate_lines.specs.Entries.{gates, use_in}
@@ -28,24 +29,12 @@ other_line : (es : List CertificateLine) (i : CertificateLine) → is_module i �
     (l : ModuleLines) × (last_module es ≡ Some l) × (m ≡ module_with_line i l)
 unfolding add_line
 other_line es (Module b) other m e = absurd cc
-other_line es (Cut n) other m e =
-    mapped_some (module_with_line (Cut n)) (last_module es) m
-    (sym (ap last_of (modules_push es (Cut n)) ∙ last_changed (module_with_line (Cut n)) (modules_of es)) ∙ e)
-other_line es (Use n) other m e =
-    mapped_some (module_with_line (Use n)) (last_module es) m
-    (sym (ap last_of (modules_push es (Use n)) ∙ last_changed (module_with_line (Use n)) (modules_of es)) ∙ e)
-other_line es (Keep n) other m e =
-    mapped_some (module_with_line (Keep n)) (last_module es) m
-    (sym (ap last_of (modules_push es (Keep n)) ∙ last_changed (module_with_line (Keep n)) (modules_of es)) ∙ e)
-other_line es (Edge n) other m e =
-    mapped_some (module_with_line (Edge n)) (last_module es) m
-    (sym (ap last_of (modules_push es (Edge n)) ∙ last_changed (module_with_line (Edge n)) (modules_of es)) ∙ e)
-other_line es (Halo n) other m e =
-    mapped_some (module_with_line (Halo n)) (last_module es) m
-    (sym (ap last_of (modules_push es (Halo n)) ∙ last_changed (module_with_line (Halo n)) (modules_of es)) ∙ e)
-other_line es (Stop n) other m e =
-    mapped_some (module_with_line (Stop n)) (last_module es) m
-    (sym (ap last_of (modules_push es (Stop n)) ∙ last_changed (module_with_line (Stop n)) (modules_of es)) ∙ e)
+other_line es (Cut n) other m e = grind (arith, common_steps, mapped_some, modules_push, last_changed)
+other_line es (Use n) other m e = grind (arith, common_steps, mapped_some, modules_push, last_changed)
+other_line es (Keep n) other m e = grind (arith, common_steps, mapped_some, modules_push, last_changed)
+other_line es (Edge n) other m e = grind (arith, common_steps, mapped_some, modules_push, last_changed)
+other_line es (Halo n) other m e = grind (arith, common_steps, mapped_some, modules_push, last_changed)
+other_line es (Stop n) other m e = grind (arith, common_steps, mapped_some, modules_push, last_changed)
 
 or_true : (a : Bool) → true ≡ (a || true)
 or_true true = refl
@@ -58,32 +47,22 @@ or_none false = refl
 -- the gates with one more line
 one_line : (m : ModuleLines) (i : CertificateLine) (k : ℕ) →
     is_among (gates (module_with_line i m)) k ≡ (is_among (gates m) k || is_among (use_in i) k)
-one_line m i k = ap (λ gs. is_among gs k) (flat_push use_in m.lines i)
-    ∙ list_any-append (λ v. v == k) (gates m) (use_in i)
+one_line m i k = grind (arith, common_steps, flat_push, list_any-append)
 
 told_more : (es : List CertificateLine) (i : CertificateLine) (k : ℕ) (b : Bool) → is_module i ≡ false →
     is_among (use_in i) k ≡ false →
     Tells es k b → Tells (es ++ i ∷ []) k b
-told_more es i k b other unused h m e =
-    let p = other_line es i other m e in
-    h p.0 p.1 ∙ or_none _ ∙ sym (ap (λ (l : ModuleLines). is_among (gates l) k) p.2 ∙ one_line p.0 i k
-    ∙ ap (λ (u : Bool). is_among (gates p.0) k || u) unused)
+told_more es i k b other unused h m e = grind (arith, common_steps, other_line, or_none, one_line)
 
 told_used : (es : List CertificateLine) (i : CertificateLine) (k : ℕ) → is_module i ≡ false →
     is_among (use_in i) k ≡ true →
     Tells (es ++ i ∷ []) k true
-told_used es i k other used m e =
-    let p = other_line es i other m e in
-    or_true _ ∙ sym (ap (λ (l : ModuleLines). is_among (gates l) k) p.2 ∙ one_line p.0 i k
-    ∙ ap (λ (u : Bool). is_among (gates p.0) k || u) used)
+told_used es i k other used m e = grind (arith, common_steps, other_line, or_true, one_line)
 
 told_module : (es : List CertificateLine) (i : CertificateLine) (k : ℕ) → is_module i ≡ true →
     Tells (es ++ i ∷ []) k false
 unfolding add_line
-told_module es (Module b) k is m e =
-    let begun : ModuleLines = record { area = b; lines = [] } in
-    ap (λ (l : ModuleLines). is_among (gates l) k)
-    (some_is begun m (sym (ap last_of (modules_push es (Module b)) ∙ last_pushed (modules_of es) begun) ∙ e))
+told_module es (Module b) k is m e = grind (arith, common_steps, some_is, modules_push, last_pushed)
 told_module es (Cut n) k is m e = absurd cc
 told_module es (Use n) k is m e = absurd cc
 told_module es (Keep n) k is m e = absurd cc
@@ -107,10 +86,7 @@ module _ (es : List CertificateLine) (k back : ℕ) (i : CertificateLine) (withi
 
   one_less : take (length es - back) es ≡ take place es ++ i ∷ []
   unfolding place
-  one_less =
-      let n : length es - back ≡ place + 1 = omega (arith, within) in
-      let lt : place < length es = omega (arith, within) in
-      ap (λ n. take n es) n ∙ take_more es place i lt ∙ ap (λ x. take place es ++ x ∷ []) (sym is)
+  one_less = grind (arith, common_steps, place, take_more)
 
   next_back : length es - (back + 1) ≡ place
   unfolding place

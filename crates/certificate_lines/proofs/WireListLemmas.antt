@@ -1,6 +1,7 @@
 -- The marks of a list of wires
 use Rattle.std.proofs.Common.{◌≡◌, ℕ, ◌/◌, ◌%◌, ◌≤◌, false, List, [], length, get_or, ap, ◌∙◌, arith, replicate}
 use Rattle.std.proofs.lemmas.List.{get_or_past, get_or-replicate, length-replicate}
+use Rattle.std.proofs.lemmas.Grind.{common_steps}
 use Rattle.bbm_rule.specs.Bits.{bit}
 use Rattle.bbm_rule.specs.Rows.{cell_at}
 use Rattle.bbm_rule.proofs.BitLemmas.{by_lt_or_le, bit-zero}
@@ -17,5 +18,4 @@ past_marks marks w past = unmarked marks w (get_or_past marks (w / 64) 0 past)
 
 -- no wire is marked at first
 pub none_marked : (n w : ℕ) → cell_at (replicate n 0) w ≡ is_among [] w
-none_marked n w = unmarked (replicate n 0) w (by_lt_or_le (w / 64) n (λ l. get_or-replicate n (w / 64) 0 0 l)
-    (λ g. get_or_past (replicate n 0) (w / 64) 0 (omega (arith, length-replicate {A = ℕ} n 0))))
+none_marked n w = grind (arith, common_steps, unmarked, by_lt_or_le, get_or-replicate, get_or_past, length-replicate)

@@ -1,5 +1,6 @@
-use Rattle.std.proofs.Common.{◌≡◌, ◌∙◌, ◌+◌, ◌++◌, List, map, drop, sym, ap, subst, append_assoc, All, flat_map}
+use Rattle.std.proofs.Common.{arith, ◌≡◌, ◌∙◌, ◌+◌, ◌++◌, List, map, drop, sym, ap, subst, append_assoc, All, flat_map}
 use Rattle.std.proofs.lemmas.List.{length-map}
+use Rattle.std.proofs.lemmas.Grind.{common_steps}
 use Rattle.module_box.specs.Tiling.{rectangle}
 use Rattle.certificate_lines.specs.Entries.{edge_in, edges, modules_of}
 use Rattle.certificate_lines.specs.ModuleParts.{inner}
@@ -30,10 +31,7 @@ push_edge_places-requires-clause-inner c =
     (subst (All P) (sym split) c.requires.inner))
 
 pub push_edge_places-requires-clause-few : goal.push_edge_places-requires-clause-few
-push_edge_places-requires-clause-few c =
-    let es = c.args.entries.now in let place = c.lines.place in
-    few_from es c.lines_of_module-lines.result.now place
-    (c.lines_of_module-lines.ensures ∙ ap inner (rest_of_lines es (place + 1))) c.lines-test.true c.requires.few
+push_edge_places-requires-clause-few c = grind (arith, common_steps, few_from, rest_of_lines)
 
 pub lines-preserved : goal.lines-preserved
 lines-preserved c =

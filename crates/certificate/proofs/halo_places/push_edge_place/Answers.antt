@@ -1,16 +1,9 @@
 use Rattle.std.proofs.Common.{◌∙◌, map, Some, sym, ap, subst}
-use Rattle.std.proofs.lemmas.List.{length-map}
 use Rattle.certificate_lines.specs.Entries.{edge_in}
 use Rattle.certificate_lines.specs.declared.certificate_line.CertificateLine.{CertificateLine}
 use Rattle.certificate.specs.HaloPlaces.{HaveEdges}
 use Rattle.certificate.proofs.HaloLists.{edge_placed}
 use Rattle.certificate.proofs.halo_places.push_edge_place.Goals as goal
-
-pub returns-in-Edge-clause-count : goal.returns-in-Edge-clause-count
-returns-in-Edge-clause-count c =
-    sym (length-map c.push_place_for_halo_boxes.new.lists.items (λ l. l.items))
-    ∙ c.in_ok-push_place_for_halo_boxes.ensures.count
-    ∙ length-map c.args.lists.now.items (λ l. l.items)
 
 pub returns-in-Edge-clause-edges : goal.returns-in-Edge-clause-edges
 returns-in-Edge-clause-edges c es at =

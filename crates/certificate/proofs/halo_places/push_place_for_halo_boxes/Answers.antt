@@ -1,4 +1,5 @@
-use Rattle.std.proofs.Common.{◌∙◌, ◌&&◌, ◌||◌, Bool, false, not, map, ap₂}
+use Rattle.std.proofs.Common.{arith, ◌∙◌, ◌&&◌, ◌||◌, Bool, false, not, map, ap₂}
+use Rattle.std.proofs.lemmas.Grind.{common_steps}
 use Rattle.module_box.specs.Boxes.{in_box}
 use Rattle.module_box.specs.Tiling.{rectangle}
 use Rattle.certificate_lines.proofs.OddBlocks.{low_cell}
@@ -6,23 +7,13 @@ use Rattle.certificate.proofs.HaloLists.{above, beside_places, corner, inner_blo
 use Rattle.certificate.proofs.halo_places.push_place_for_halo_boxes.Goals as goal
 
 pub odd_block_others-requires : goal.odd_block_others-requires
-odd_block_others-requires c =
-    let o = c.args.owners.now in
-    let low = low_cell o.width o.height c.args.cell.x c.args.cell.y c.requires.table.small.0 c.requires.table.small.1
-    c.requires.inner.0 in
-    record { column = low.0; row = low.1 }
+odd_block_others-requires c = grind (arith, common_steps, low_cell)
 
 pub push_place_for_owner-requires-clause-inside : goal.push_place_for_owner-requires-clause-inside
-push_place_for_owner-requires-clause-inside c =
-    let box = rectangle c.args.owners.now in
-    ap₂ (in_box box) c.odd_block_others.ensures.side.0 c.odd_block_others.ensures.side.1
-    ∙ (inner_block box c.args.cell c.requires.inner).0
+push_place_for_owner-requires-clause-inside c = grind (arith, common_steps, side, inner_block)
 
 pub push_place_for_owner-requires-2-clause-inside : goal.push_place_for_owner-requires-2-clause-inside
-push_place_for_owner-requires-2-clause-inside c =
-    let box = rectangle c.args.owners.now in
-    ap₂ (in_box box) c.odd_block_others.ensures.above.0 c.odd_block_others.ensures.above.1
-    ∙ (inner_block box c.args.cell c.requires.inner).1
+push_place_for_owner-requires-2-clause-inside c = grind (arith, common_steps, above, inner_block)
 
 pub push_place_for_owner-requires-3-clause-inside : goal.push_place_for_owner-requires-3-clause-inside
 push_place_for_owner-requires-3-clause-inside c =

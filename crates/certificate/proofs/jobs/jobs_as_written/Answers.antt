@@ -1,8 +1,9 @@
 use Rattle.std.proofs.Common.{◌∷◌, [], ◌+◌, arith, map, sym, ap, subst, ◌∙◌}
 use Rattle.std.specs.Arc.{arc_value}
 use Rattle.std.proofs.lemmas.List.{length-map, map-append}
+use Rattle.std.proofs.lemmas.Grind.{common_steps}
 use Rattle.circuit.specs.Bridge.{circuit_of}
-use Rattle.certificate.specs.Jobs.{AreJobsOf, IsJobOf}
+use Rattle.certificate.specs.Jobs.{IsJobOf}
 use Rattle.certificate.specs.SliceLines.{slice_lines}
 use Rattle.certificate.proofs.BesideLines.{PartJobs, no_part_jobs, one_part_more, part_at, parts_done}
 use Rattle.certificate.proofs.SliceLemmas.{map_same}
@@ -14,17 +15,10 @@ make_job-requires-clause-module c =
     (part_at c.args.parts.now c.parts.part-index c.part-item.result c.parts-test.true c.part-item.is)
 
 pub make_job-requires-clause-ports : goal.make_job-requires-clause-ports
-make_job-requires-clause-ports c =
-    c.requires.ports c.parts.part-index (slice_lines c.part-item.result)
-    (part_at c.args.parts.now c.parts.part-index c.part-item.result c.parts-test.true c.part-item.is)
+make_job-requires-clause-ports c = grind (arith, common_steps, part_at)
 
 pub parts-init : goal.parts-init
-parts-init c =
-    let p = c.args.tables.now in
-    let ms = map slice_lines c.args.parts.now in
-    subst (λ vs. PartJobs (circuit_of p.circuit) p.layout (λ m. m) ms 0 (map arc_value vs))
-    (sym c.new-jobs.ensures.items)
-    (no_part_jobs (circuit_of p.circuit) p.layout (λ m. m) ms)
+parts-init c = grind (arith, common_steps, no_part_jobs)
 
 pub parts-preserved : goal.parts-preserved
 parts-preserved c =
@@ -41,10 +35,4 @@ parts-preserved c =
     c.parts.invariant)
 
 pub returns : goal.returns
-returns c =
-    let p = c.args.tables.now in
-    let ms = map slice_lines c.args.parts.now in
-    let l = length-map c.args.parts.now slice_lines in
-    subst (λ ns. AreJobsOf (circuit_of p.circuit) p.layout ns (map arc_value c.parts.jobs.items)) (map_same ms)
-    (parts_done (circuit_of p.circuit) p.layout (λ m. m) ms c.parts.part-index _ (omega (arith, l, c.parts-test.false))
-    c.parts.invariant)
+returns c = grind (arith, common_steps, length-map, map_same, parts_done)

@@ -1,6 +1,7 @@
 use Rattle.std.proofs.Common.{◌∙◌, ◌+◌, ◌∷◌, [], arith, map, sym, ap, subst}
 use Rattle.std.specs.Arc.{arc_value}
 use Rattle.std.proofs.lemmas.List.{length-map, map-append}
+use Rattle.std.proofs.lemmas.Grind.{common_steps}
 use Rattle.circuit.specs.Bridge.{circuit_of}
 use Rattle.certificate_lines.specs.Settings.{setting_of}
 use Rattle.certificate.specs.Jobs.{IsJobOf}
@@ -11,10 +12,7 @@ use Rattle.certificate.proofs.BesideLines.{parts_done, within_lists}
 use Rattle.certificate.proofs.jobs.jobs_with_implied_halos.Goals as goal
 
 pub take_list-list-requires : goal.take_list-list-requires
-take_list-list-requires c =
-    within_lists (setting_of c.args.tables.now.circuit c.args.tables.now.layout) c.args.entries.now c.args.parts.now
-    c.requires.parts (λ l. l.items) c.parts.number c.parts.number c.parts.places.items c.parts.invariant.1
-    c.parts-test.true
+take_list-list-requires c = grind (arith, common_steps, within_lists)
 
 pub make_job-requires-clause-module : goal.make_job-requires-clause-module
 make_job-requires-clause-module c =
@@ -53,15 +51,7 @@ parts-preserved c =
     )
 
 pub parts-init : goal.parts-init
-parts-init c =
-    let p = c.args.tables.now in
-    let g = setting_of p.circuit p.layout in
-    let ms = map slice_lines c.args.parts.now in (
-      subst (λ vs. PartJobs (circuit_of p.circuit) p.layout (with_halos g ms) ms 0 (map arc_value vs))
-          (sym c.new-jobs.ensures.items)
-          (no_part_jobs (circuit_of p.circuit) p.layout (with_halos g ms) ms),
-      all_lists g c.args.entries.now (map (λ l. l.items) c.in_ok-places.places.items) c.in_ok-places.ensures,
-    )
+parts-init c = grind (arith, common_steps, no_part_jobs, all_lists)
 
 pub returns : goal.returns
 returns c =

@@ -1,6 +1,7 @@
 use Rattle.std.proofs.Common.{◌≡◌, ◌<◌, ◌≤◌, ℕ, List, length, map, true, get_or, arith, sym, ap, subst, ◌∙◌, refl}
 use Rattle.std.proofs.Common.{slice_index, All}
 use Rattle.std.specs.Arc.{arc_value}
+use Rattle.std.proofs.lemmas.Grind.{common_steps}
 use Rattle.circuit.specs.Bridge.{circuit_of, netlist_of}
 use Rattle.circuit.specs.Meaning.{Netlist, wires}
 use Rattle.certificate_lines.specs.Entries.{gates, keeps, ModuleLines, edges, halos, stops}
@@ -33,9 +34,7 @@ locals_and_kept_places-requires-clause-lines c =
     c.requires.module
 
 pub locals_and_kept_places-requires-clause-kept : goal.locals_and_kept_places-requires-clause-kept
-locals_and_kept_places-requires-clause-kept c =
-    let m : ModuleLines = record { area = c.args.area; lines = c.args.lines.now } in
-    keeps_used (setting_of c.args.tables.now.circuit c.args.tables.now.layout) m (gates m) refl c.requires.module
+locals_and_kept_places-requires-clause-kept c = grind (arith, common_steps, keeps_used)
 
 pub cell_lists-requires-clause-columns : goal.cell_lists-requires-clause-columns
 cell_lists-requires-clause-columns c =

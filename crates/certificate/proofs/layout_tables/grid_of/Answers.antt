@@ -1,4 +1,5 @@
-use Rattle.std.proofs.Common.{◌∙◌, refl, arith}
+use Rattle.std.proofs.Common.{arith}
+use Rattle.std.proofs.lemmas.Grind.{common_steps}
 use Rattle.pattern.proofs.InsideLemmas.{size_sides}
 use Rattle.pattern.proofs.PlaneRuns.{inside_is_layout}
 use Rattle.certificate.proofs.layout_tables.grid_of.Goals as goal
@@ -12,15 +13,4 @@ new-requires-clause-height c = let side = (size_sides c.args.size c.requires.lim
     (side.least, omega (arith, side.most), side.even)
 
 pub make_live-requires : goal.make_live-requires
-make_live-requires c = λ k d lt.
-    inside_is_layout c.in_ok-grid.grid c.args.size c.in_ok-grid.ensures.size.0 c.in_ok-grid.ensures.size.1 _ _
-    ∙ c.requires.inside k d lt
-
-pub returns-clause-cells : goal.returns-clause-cells
-returns-clause-cells c = λ x y. c.make_live.ensures.taken x y ∙ rw (c.in_ok-grid.ensures.dead x y) refl
-
-pub returns-clause-size : goal.returns-clause-size
-returns-clause-size c = (
-  c.make_live.ensures.size.0 ∙ c.in_ok-grid.ensures.size.0,
-  c.make_live.ensures.size.1 ∙ c.in_ok-grid.ensures.size.1,
-)
+make_live-requires c = grind (arith, common_steps, inside_is_layout)

@@ -1,5 +1,5 @@
 -- One line more is printed where it is no halo line.
-use Rattle.certificate.proofs.PrintedLines.{all_printed, none_printed, one_more_printed}
+use Rattle.certificate.proofs.PrintedLines.{none_printed, one_more_printed}
 use Rattle.certificate.proofs.printing.print_without_halos.Goals as goal
 
 pub loop-entry-init : goal.loop-entry-init
@@ -11,7 +11,3 @@ loop-entry-preserved c =
     c.loop-entry.out.items c.print_unless_halo.new.out.items c.loop-entry-test.true c.entry-item.is
     c.loop-entry.invariant
     (c.in_ok-print_unless_halo.ensures)
-
-pub returns : goal.returns
-returns c = all_printed c.args.entries.now c.loop-entry.entry-index c.args.out.now.items c.loop-entry.out.items
-    c.loop-entry-test.false c.loop-entry.invariant

@@ -1,5 +1,4 @@
-use Rattle.std.proofs.Common.{◌++◌, ◌≤◌, length, take, arith, append_assoc, sym, ap, subst, ◌∙◌, flat_map}
-use Rattle.std.proofs.lemmas.List.{take_all}
+use Rattle.std.proofs.Common.{◌++◌, take, append_assoc, sym, ap, subst, ◌∙◌, flat_map}
 use Rattle.circuit.specs.Bridge.{circuit_of}
 use Rattle.certificate_lines.specs.Entries.{stop_in}
 use Rattle.certificate.specs.SeenTimes.{IsStopTimeTable}
@@ -16,10 +15,3 @@ lines-preserved c = record {
       (c.note_time_if_stop.ensures.table (ss ++ before) (c.lines.invariant.table ss h));
   long = c.note_time_if_stop.ensures.long ∙ c.lines.invariant.long;
 }
-
-pub returns-clause-table : goal.returns-clause-table
-returns-clause-table c ss h =
-    let past : length c.args.lines.now ≤ c.lines.line-index = omega (arith, c.lines-test.false) in
-    subst (λ all. IsStopTimeTable c.args.choice (circuit_of c.args.circuit.now)
-    (ss ++ flat_map stop_in all) c.lines.table)
-    (take_all c.lines.line-index c.args.lines.now past) (c.lines.invariant.table ss h)

@@ -1,8 +1,7 @@
-use Rattle.std.proofs.Common.{◌≡◌, ◌-◌, ◌∙◌, length, rules, slice_get}
+use Rattle.std.proofs.Common.{arith}
+use Rattle.std.proofs.lemmas.Grind.{common_steps}
 use Rattle.certificate_lines.proofs.Growing.{last_by_place}
 use Rattle.certificate_lines.proofs.counts.last_counts.Goals as goal
 
 pub returns : goal.returns
-returns c =
-    let at : c.copied.result ≡ slice_get c.args.modules.now (length c.args.modules.now - 1) = search rules in
-    at ∙ last_by_place c.args.modules.now
+returns c = grind (arith, common_steps, last_by_place)

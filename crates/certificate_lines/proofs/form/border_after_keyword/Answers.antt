@@ -1,23 +1,18 @@
-use Rattle.std.proofs.Common.{◌≡◌, Some, pos, to_z, w32, ap, sym, ◌∙◌, rules}
+use Rattle.std.proofs.Common.{arith, ◌≡◌, Some, pos, to_z, w32, ap, sym, ◌∙◌, rules}
+use Rattle.std.proofs.lemmas.Grind.{common_steps}
 use Rattle.section_text.specs.Words.{words_of, ◌>>=◌}
 use Rattle.pattern.specs.Layout.{cell}
 use Rattle.certificate_lines.proofs.BorderText.{border_is, no_column, no_row, no_time, signal_is}
 use Rattle.certificate_lines.proofs.form.border_after_keyword.Goals as goal
 
 pub returns-in_err-time : goal.returns-in_err-time
-returns-in_err-time c k =
-    rw c.from_residual.ensures (no_time k (words_of c.args.line.now) (sym c.in_err-time.ensures))
+returns-in_err-time c k = grind (arith, common_steps, no_time)
 
 pub returns-in_err-x : goal.returns-in_err-x
-returns-in_err-x c k = rw c.from_residual-in_err-x.ensures
-    (no_column k (words_of c.args.line.now) c.in_ok-time.time (words_of c.in_ok-time.line.now)
-    (sym c.in_ok-time.ensures) (sym c.in_err-x.ensures.number))
+returns-in_err-x c k = grind (arith, common_steps, no_column)
 
 pub returns-in_err-y : goal.returns-in_err-y
-returns-in_err-y c k = rw c.from_residual-in_err-y.ensures
-    (no_row k (words_of c.args.line.now) c.in_ok-time.time (words_of c.in_ok-time.line.now)
-    c.in_ok-x.x (words_of c.in_ok-x.line.now)
-    (sym c.in_ok-time.ensures) (sym c.in_ok-x.ensures.number) (sym c.in_err-y.ensures.number))
+returns-in_err-y c k = grind (arith, common_steps, no_row)
 
 pub returns-in_err-signal : goal.returns-in_err-signal
 returns-in_err-signal c k = rw c.from_residual-in_err-signal.ensures

@@ -1,5 +1,6 @@
-use Rattle.std.proofs.Common.{◌≡◌, ◌∙◌, Bool, true, false, Some, None, ap, sym, take, codes}
+use Rattle.std.proofs.Common.{arith, ◌≡◌, ◌∙◌, Bool, true, false, Some, None, ap, sym, take, codes}
 use Rattle.std.specs.Str.{bytes_eq}
+use Rattle.std.proofs.lemmas.Grind.{common_steps}
 use Rattle.section_text.specs.Words.{words_of}
 use Rattle.certificate_lines.proofs.BorderText.{edge_line, halo_line}
 use Rattle.certificate_lines.proofs.form.line_form.Goals as goal
@@ -30,10 +31,6 @@ returns-then-is_edge c =
 pub returns-else-is_edge : goal.returns-else-is_edge
 returns-else-is_edge c =
     let l = c.line-bytes.result.now in
-    let halo : bytes_eq (take 5 l) (codes "halo ") ≡ true = elim c.else-not-is_edge.branch [
-      | else-not-is_edge-via-then-not-is_edge+else-not-is_halo_line b ↦
-          sym b.is_halo_line.ensures ∙ b.if-not-is_halo_line.false
-      | else-not-is_edge-via-else-not-is_edge b ↦ absurd (both _ b.if-not-is_edge.false c.if-is_edge.false)
-    ] in
+    let halo : bytes_eq (take 5 l) (codes "halo ") ≡ true = grind (arith, common_steps, both) in
     halo_line l (Some c.in_ok-border.border) halo c.in_ok-border.ensures
     ∙ ap (λ t. form_of (words_of t)) c.line-bytes.ensures

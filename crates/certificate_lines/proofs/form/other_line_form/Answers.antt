@@ -1,7 +1,6 @@
-use Rattle.std.proofs.Common.{◌∙◌, ◌∷◌, [], refl, ap, sym, option_map, codes}
+use Rattle.std.proofs.Common.{arith, ◌∷◌, [], refl, codes}
+use Rattle.std.proofs.lemmas.Grind.{common_steps}
 use Rattle.section_text.specs.Feeds.{line_bytes}
-use Rattle.section_text.specs.Listed.{list_of_five_words}
-use Rattle.section_text.specs.Words.{words_of}
 use Rattle.certificate_lines.proofs.BorderLines.{five_words_are, long_form_is, short_form_is}
 use Rattle.certificate_lines.proofs.BorderText.{other_first}
 use Rattle.certificate_lines.proofs.form.other_line_form.Goals as goal
@@ -12,8 +11,7 @@ five_word_line_form-requires-clause-no_edge c =
     other_first (codes "edge") (codes "edge ") (line_bytes c.args.feed.now c.args.line.now) 5 (λ rest. refl)
     c.requires.no_edge
     w.first.now w.second.now (w.third.now ∷ w.fourth.now ∷ w.fifth.now ∷ [])
-    (five_words_are (words_of (line_bytes c.args.feed.now c.args.line.now)) w
-    (ap (option_map list_of_five_words) (sym c.in-Some.is) ∙ c.five_words.ensures))
+    (grind (arith, common_steps, five_words_are))
 
 pub five_word_line_form-requires-clause-no_halo : goal.five_word_line_form-requires-clause-no_halo
 five_word_line_form-requires-clause-no_halo c =
@@ -21,8 +19,7 @@ five_word_line_form-requires-clause-no_halo c =
     other_first (codes "halo") (codes "halo ") (line_bytes c.args.feed.now c.args.line.now) 5 (λ rest. refl)
     c.requires.no_halo
     w.first.now w.second.now (w.third.now ∷ w.fourth.now ∷ w.fifth.now ∷ [])
-    (five_words_are (words_of (line_bytes c.args.feed.now c.args.line.now)) w
-    (ap (option_map list_of_five_words) (sym c.in-Some.is) ∙ c.five_words.ensures))
+    (grind (arith, common_steps, five_words_are))
 
 pub five_word_line_form-requires-clause-no_stop : goal.five_word_line_form-requires-clause-no_stop
 five_word_line_form-requires-clause-no_stop c =
@@ -30,15 +27,10 @@ five_word_line_form-requires-clause-no_stop c =
     other_first (codes "stop") (codes "stop ") (line_bytes c.args.feed.now c.args.line.now) 5 (λ rest. refl)
     c.requires.no_stop
     w.first.now w.second.now (w.third.now ∷ w.fourth.now ∷ w.fifth.now ∷ [])
-    (five_words_are (words_of (line_bytes c.args.feed.now c.args.line.now)) w
-    (ap (option_map list_of_five_words) (sym c.in-Some.is) ∙ c.five_words.ensures))
+    (grind (arith, common_steps, five_words_are))
 
 pub returns-in-None : goal.returns-in-None
-returns-in-None c = c.not_five_words_line_form.ensures
-    ∙ short_form_is (words_of (line_bytes c.args.feed.now c.args.line.now))
-    (ap (option_map list_of_five_words) (sym c.in-None.is) ∙ c.five_words.ensures)
+returns-in-None c = grind (arith, common_steps, short_form_is)
 
 pub returns-in-Some : goal.returns-in-Some
-returns-in-Some c = c.five_word_line_form.ensures
-    ∙ long_form_is (words_of (line_bytes c.args.feed.now c.args.line.now)) c.in-Some.words
-    (ap (option_map list_of_five_words) (sym c.in-Some.is) ∙ c.five_words.ensures)
+returns-in-Some c = grind (arith, common_steps, long_form_is)

@@ -1,5 +1,5 @@
-use Rattle.std.proofs.Common.{◌∙◌, Some, None, ap, sym, take, codes}
-use Rattle.std.specs.Str.{bytes_eq}
+use Rattle.std.proofs.Common.{arith, ◌∙◌, Some, None, sym}
+use Rattle.std.proofs.lemmas.Grind.{common_steps}
 use Rattle.section_text.specs.Feeds.{line_bytes}
 use Rattle.certificate_lines.proofs.BorderText.{stop_line}
 use Rattle.certificate_lines.proofs.form.stop_or_other_line_form.Goals as goal
@@ -7,13 +7,11 @@ use Rattle.certificate_lines.proofs.form.stop_or_other_line_form.Goals as goal
 pub returns-in_err-stop : goal.returns-in_err-stop
 returns-in_err-stop c =
     c.from_residual.ensures ∙ stop_line (line_bytes c.args.feed.now c.args.line.now) None
-    (ap (λ l. bytes_eq (take 5 l) (codes "stop ")) (sym c.line.ensures)
-    ∙ sym c.is_stop_line.ensures ∙ c.if-not-is_stop_line.false)
+    (grind (arith, common_steps))
     (sym c.in_err-stop.was ∙ c.stop_in.ensures)
 
 pub returns : goal.returns
 returns c =
     stop_line (line_bytes c.args.feed.now c.args.line.now) (Some c.in_ok-stop.stop)
-    (ap (λ l. bytes_eq (take 5 l) (codes "stop ")) (sym c.line.ensures)
-    ∙ sym c.is_stop_line.ensures ∙ c.if-not-is_stop_line.false)
+    (grind (arith, common_steps))
     (sym c.in_ok-stop.was ∙ c.stop_in.ensures)

@@ -1,12 +1,12 @@
-use Rattle.std.proofs.Common.{Some, None, ap, sym, ◌∙◌}
+use Rattle.std.proofs.Common.{arith, Some, None, sym, ◌∙◌}
 use Rattle.std.proofs.lemmas.List.{take_rest}
+use Rattle.std.proofs.lemmas.Grind.{common_steps}
 use Rattle.section_text.specs.Words.{words_of}
 use Rattle.certificate_lines.proofs.BorderText.{number_time, star_time}
 use Rattle.certificate_lines.proofs.form.take_star_or_time.Goals as goal
 
 pub returns-then-begins_with_star : goal.returns-then-begins_with_star
-returns-then-begins_with_star c = ap (λ l. Some (None, words_of l)) (take_rest c.args.line.now 2)
-    ∙ star_time c.args.line.now (sym c.begins_with_star.ensures ∙ c.if-begins_with_star.true)
+returns-then-begins_with_star c = grind (arith, common_steps, take_rest, star_time)
 
 pub returns-in_err-time : goal.returns-in_err-time
 returns-in_err-time c = rw c.from_residual.ensures (number_time c.args.line.now None

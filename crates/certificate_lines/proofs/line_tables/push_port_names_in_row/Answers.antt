@@ -1,24 +1,17 @@
-use Rattle.std.proofs.Common.{◌+◌, ap, arith, false, pos, List, ℕ, Option}
+use Rattle.std.proofs.Common.{ap, arith, false, List, ℕ, Option}
 use Rattle.std.specs.List.{list_any}
 use Rattle.std.specs.Option.{option_map_or}
+use Rattle.std.proofs.lemmas.Grind.{common_steps}
 use Rattle.bbm_rule.specs.declared.block.Cell.{Cell}
 use Rattle.certificate_lines.specs.PortTables.{port_at}
 use Rattle.certificate_lines.proofs.TableLemmas.{row_named, row_nameless}
 use Rattle.certificate_lines.proofs.line_tables.push_port_names_in_row.Goals as goal
 
 pub returns-then-is_row_without_port : goal.returns-then-is_row_without_port
-returns-then-is_row_without_port c f =
-    row_nameless (λ (d : Cell). option_map_or f (port_at c.args.ports.now d.x d.y) false)
-    (list_any f c.args.names.now.items) c.args.x c.args.width c.args.y
-    (λ k l. ap (λ (o : Option (List ℕ)). option_map_or f o false)
-    (c.is_row_without_port.ensures c.if-is_row_without_port.true (pos (c.args.x + k))))
+returns-then-is_row_without_port c f = grind (arith, common_steps, row_nameless)
 
 pub returns-then-is_row_part_without_port : goal.returns-then-is_row_part_without_port
-returns-then-is_row_part_without_port c f =
-    row_nameless (λ (d : Cell). option_map_or f (port_at c.args.ports.now d.x d.y) false)
-    (list_any f c.args.names.now.items) c.args.x c.args.width c.args.y
-    (λ k l. ap (λ (o : Option (List ℕ)). option_map_or f o false)
-    (c.is_row_part_without_port.ensures c.if-is_row_part_without_port.true k l))
+returns-then-is_row_part_without_port c f = grind (arith, common_steps, row_nameless)
 
 pub loop-column-preserved : goal.loop-column-preserved
 loop-column-preserved c f =

@@ -1,4 +1,5 @@
-use Rattle.std.proofs.Common.{◌∙◌, sym}
+use Rattle.std.proofs.Common.{arith, ◌∙◌, sym}
+use Rattle.std.proofs.lemmas.Grind.{common_steps}
 use Rattle.certificate_lines.proofs.UsedLemmas.{told_by_all, told_before, told_true, told_false, told_all}
 use Rattle.certificate_lines.proofs.lines.is_gate_used_in_last.Goals as goal
 
@@ -6,16 +7,10 @@ pub loop-back-init : goal.loop-back-init
 loop-back-init c = told_by_all c.args.entries.now c.args.number
 
 pub returns-then-is_module : goal.returns-then-is_module
-returns-then-is_module c =
-    told_false c.args.entries.now c.args.number c.loop-back.back c.index-entries-count.result c.loop-back-test.true
-    c.index-entries-count.is c.loop-back.invariant
-    (sym c.is_module.ensures ∙ c.if-is_module.true)
+returns-then-is_module c = grind (arith, common_steps, told_false)
 
 pub returns-then-uses : goal.returns-then-uses
-returns-then-uses c =
-    told_true c.args.entries.now c.args.number c.loop-back.back c.index-entries-count.result c.loop-back-test.true
-    c.index-entries-count.is c.loop-back.invariant
-    (sym c.is_module.ensures ∙ c.if-is_module.false) (sym c.uses.ensures ∙ c.if-uses.true)
+returns-then-uses c = grind (arith, common_steps, told_true)
 
 pub loop-back-preserved : goal.loop-back-preserved
 loop-back-preserved c =

@@ -1,4 +1,5 @@
-use Rattle.std.proofs.Common.{◌<◌, ◌^◌, ◌++◌, List, ℕ, sym, ap, ◌∙◌}
+use Rattle.std.proofs.Common.{arith, ◌<◌, ◌^◌}
+use Rattle.std.proofs.lemmas.Grind.{common_steps}
 use Rattle.certificate_lines.specs.Entries.{use_in}
 use Rattle.certificate_lines.proofs.FlatParts.{flat_at, flat_more}
 use Rattle.certificate_lines.proofs.lines.used_gates.Goals as goal
@@ -9,7 +10,4 @@ push_use-requires c = flat_at
     c.line-item.is
 
 pub loop-line-preserved : goal.loop-line-preserved
-loop-line-preserved c =
-    c.in_ok-push_use.ensures ∙ ap (λ (l : List ℕ). l ++ use_in c.line-item.result) c.loop-line.invariant
-    ∙ sym (flat_more use_in c.args.lines.now c.loop-line.line-index c.line-item.result c.loop-line-test.true
-    c.line-item.is)
+loop-line-preserved c = grind (arith, common_steps, flat_more)

@@ -1,14 +1,15 @@
-use Rattle.std.proofs.Common.{◌≡◌, ◌∙◌, ℕ, ◌+◌, ◌<◌, ◌≤◌, None, List, length, refl, subst, sym, ap, arith, Some, get_or}
+use Rattle.std.proofs.Common.{◌≡◌, ◌∙◌, ℕ, ◌+◌, ◌<◌, ◌≤◌, None, List, length, refl, subst, sym, arith, Some, get_or}
 use Rattle.std.specs.Prelude.{slice_get}
 use Rattle.std.proofs.lemmas.Option.{slice_get-get_or}
 use Rattle.std.proofs.Math.Seq.{take-length}
+use Rattle.std.proofs.lemmas.Grind.{common_steps}
 use Rattle.pattern.specs.Layout.{HaveDistinctCells}
 use Rattle.pattern.specs.Lines.{size_fault}
 use Rattle.pattern.specs.declared.layout_line.LayoutHeader.{LayoutHeader}
 use Rattle.pattern.specs.declared.layout_line.Port.{Port}
 use Rattle.pattern.proofs.InsideLemmas.{size_sides}
 use Rattle.module_box.specs.declared.boxes.Box2.{Box2}
-use Rattle.certificate_lines.specs.PortTables.{AreNumberedRows, AreOnBoard, entry_place, number_at}
+use Rattle.certificate_lines.specs.PortTables.{AreNumberedRows, AreOnBoard, entry_place}
 use Rattle.certificate_lines.specs.Rules.{whole}
 use Rattle.certificate_lines.proofs.RowLemmas.{entry_few, entry_some}
 use Rattle.certificate_lines.proofs.TableLemmas.{IsFilling, in_whole, few_entries, no_ports, number_small}
@@ -61,28 +62,10 @@ few s limits b is ports apart on_board rows count are k p at place there numbers
     omega (arith, most, below)
 
 pub overflow_cast-number : goal.overflow_cast-number
-overflow_cast-number c =
-    let p : Port = get_or c.args.ports.now c.ports.number c.index-ports-number.result in
-    let at = slice_get-get_or c.args.ports.now c.ports.number c.index-ports-number.result c.ports-test.true in
-    let there : entry_place c.whole_of-area.result c.in_ok-rows.rows.items p.cell.x p.cell.y ≡ Some c.in-Some.place =
-    sym (ap (λ (rows : List ℕ). entry_place c.whole_of-area.result rows p.cell.x p.cell.y) c.deref.ensures.value)
-    ∙ sym c.entry_place.ensures ∙ c.in-Some.is in
-    let lt = few c.args.size c.requires.limits c.whole_of-area.result c.whole_of-area.ensures c.args.ports.now
-    c.requires.apart c.requires.inside c.in_ok-rows.rows.items c.in_ok-rows.count c.in_ok-rows.ensures
-    c.ports.number p at c.in-Some.place there c.ports.numbers.items c.ports.invariant in
-    omega (arith, lt)
+overflow_cast-number c = grind (arith, common_steps, slice_get-get_or, few)
 
 pub overflow_add-number : goal.overflow_add-number
-overflow_add-number c =
-    let p : Port = get_or c.args.ports.now c.ports.number c.index-ports-number.result in
-    let at = slice_get-get_or c.args.ports.now c.ports.number c.index-ports-number.result c.ports-test.true in
-    let there : entry_place c.whole_of-area.result c.in_ok-rows.rows.items p.cell.x p.cell.y ≡ Some c.in-Some.place =
-    sym (ap (λ (rows : List ℕ). entry_place c.whole_of-area.result rows p.cell.x p.cell.y) c.deref.ensures.value)
-    ∙ sym c.entry_place.ensures ∙ c.in-Some.is in
-    let lt = few c.args.size c.requires.limits c.whole_of-area.result c.whole_of-area.ensures c.args.ports.now
-    c.requires.apart c.requires.inside c.in_ok-rows.rows.items c.in_ok-rows.count c.in_ok-rows.ensures
-    c.ports.number p at c.in-Some.place there c.ports.numbers.items c.ports.invariant in
-    omega (arith, lt)
+overflow_add-number c = grind (arith, common_steps, slice_get-get_or, few)
 
 pub index_mut-requires : goal.index_mut-requires
 index_mut-requires c =
@@ -91,8 +74,7 @@ index_mut-requires c =
     let inside = in_whole c.args.size c.whole_of-area.result c.whole_of-area.ensures c.args.ports.now
     c.requires.inside c.ports.number p at in
     let there : entry_place c.whole_of-area.result c.in_ok-rows.rows.items p.cell.x p.cell.y ≡ Some c.in-Some.place =
-    sym (ap (λ (rows : List ℕ). entry_place c.whole_of-area.result rows p.cell.x p.cell.y) c.deref.ensures.value)
-    ∙ sym c.entry_place.ensures ∙ c.in-Some.is in
+    grind (arith, common_steps) in
     let lt = entry_few c.whole_of-area.result c.args.ports.now c.in_ok-rows.rows.items c.in_ok-rows.count
     c.in_ok-rows.ensures p.cell.x p.cell.y c.in-Some.place inside there in
     omega (arith, lt, c.ports.invariant.sized)
@@ -104,13 +86,9 @@ ports-preserved c =
     let inside = in_whole c.args.size c.whole_of-area.result c.whole_of-area.ensures c.args.ports.now
     c.requires.inside in
     let there : entry_place c.whole_of-area.result c.in_ok-rows.rows.items p.cell.x p.cell.y ≡ c.entry_place.result =
-    sym (ap (λ (rows : List ℕ). entry_place c.whole_of-area.result rows p.cell.x p.cell.y) c.deref.ensures.value)
-    ∙ sym c.entry_place.ensures in
+    grind (arith, common_steps) in
     elim c.match-entry_place.branch [
-      | in-Some w ↦ rw w.numbers-is
-          (one_more c.whole_of-area.result c.args.ports.now c.requires.apart inside c.in_ok-rows.rows.items
-          c.in_ok-rows.count c.in_ok-rows.ensures c.ports.number p at w.in-Some.place (there ∙ w.in-Some.is)
-          c.ports.numbers.items c.ports.invariant (c.ports.number + 1) refl)
+      | in-Some w ↦ grind (arith, common_steps, one_more)
       | in_default w ↦ absurd (entry_some c.whole_of-area.result c.args.ports.now c.in_ok-rows.rows.items
           c.in_ok-rows.count c.in_ok-rows.ensures c.ports.number p at (there ∙ w.in_default.is))
     ]
@@ -120,8 +98,7 @@ invariant_of-result c =
     let small = small_sides c.args.size c.requires.limits c.whole_of-area.result c.whole_of-area.ensures in
     let full : IsFilling c.whole_of-area.result c.args.ports.now c.in_ok-rows.rows.items c.in_ok-rows.count
     (length c.args.ports.now) c.ports.numbers.items =
-    subst (λ n. IsFilling c.whole_of-area.result c.args.ports.now c.in_ok-rows.rows.items c.in_ok-rows.count n
-    c.ports.numbers.items) (omega arith) c.ports.invariant in
+    grind (arith, common_steps) in
     record {
       small = small;
       sized = c.in_ok-rows.ensures.sized;
@@ -129,8 +106,7 @@ invariant_of-result c =
           let lt = entry_few c.whole_of-area.result c.args.ports.now c.in_ok-rows.rows.items c.in_ok-rows.count
           c.in_ok-rows.ensures x y place h e in
           omega (arith, lt, full.sized);
-      numbered = λ x y h. full.numbered x y h
-          ∙ ap (λ (ps : List Port). number_at ps x y) (take-length c.args.ports.now);
+      numbered = λ x y h. grind (arith, common_steps, take-length);
       elsewhere = none_outside c.whole_of-area.result c.args.ports.now
           (in_whole c.args.size c.whole_of-area.result c.whole_of-area.ensures c.args.ports.now c.requires.inside);
     }

@@ -1,7 +1,7 @@
-use Rattle.std.proofs.Common.{◌≡◌, ◌∙◌, ℕ, ap, arith}
-use Rattle.std.specs.List.{list_all, flat_map, range_with_len}
+use Rattle.std.proofs.Common.{arith}
+use Rattle.std.proofs.lemmas.Grind.{common_steps}
 use Rattle.bbm_rule.specs.Board.{live}
-use Rattle.pattern.specs.Layout.{row_cells, rectangle_cells}
+use Rattle.pattern.specs.Layout.{rectangle_cells}
 use Rattle.certificate_lines.proofs.AllLiveCells.{rows_longer}
 use Rattle.certificate_lines.proofs.tiles.are_all_cells_live.Goals as goal
 
@@ -13,7 +13,4 @@ loop-y-preserved c = rows_longer
 
 pub returns : goal.returns
 unfolding rectangle_cells
-returns c =
-    let all : c.loop-y.y ≡ c.args.h = omega arith in
-    c.loop-y.invariant ∙ ap (λ (n : ℕ).
-    list_all (λ d. live c.args.grid.now d.x d.y) (flat_map (row_cells 0 c.args.w) (range_with_len 0 n))) all
+returns c = grind (arith, common_steps)

@@ -1,8 +1,7 @@
-use Rattle.bbm_rule.specs.Board.{live}
+use Rattle.std.proofs.lemmas.Grind.{common_steps}
+use Rattle.std.proofs.Common.{arith}
 use Rattle.certificate_lines.proofs.AllLiveCells.{row_full}
 use Rattle.certificate_lines.proofs.tiles.is_row_all_live.Goals as goal
 
 pub returns : goal.returns
-returns c =
-    row_full (λ d. live c.args.grid.now d.x d.y) c.args.w c.args.y c.next_dead.result c.next_dead.ensures.range.1
-    c.next_dead.ensures.live c.next_dead.ensures.dead
+returns c = grind (arith, common_steps, row_full)

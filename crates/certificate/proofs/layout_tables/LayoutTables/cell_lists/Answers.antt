@@ -1,36 +1,21 @@
 use Rattle.std.proofs.Common.{◌≡◌, ◌∙◌, ◌-◌, ℕ, ap, arith, map}
 use Rattle.std.specs.List.{flat_map, range_with_len}
+use Rattle.std.proofs.lemmas.Grind.{common_steps}
 use Rattle.bbm_rule.specs.declared.block.Cell.{Cell}
 use Rattle.circuit.specs.Bridge.{circuit_of}
 use Rattle.pattern.specs.Layout.{row_cells, rectangle_cells}
 use Rattle.module_box.specs.Locals.{circuit_wire}
 use Rattle.module_box.specs.declared.boxes.Box2.{Box2}
-use Rattle.module_box.specs.declared.schedules.Signal.TheVariants.{Zero}
-use Rattle.certificate.specs.Jobs.{end_demand, start_signal}
+use Rattle.certificate.specs.Jobs.{end_demand}
 use Rattle.certificate_lines.specs.Rules.{box_cells}
-use Rattle.module_job.specs.Signals.{renumber_demand, renumber_signal}
+use Rattle.module_job.specs.Signals.{renumber_demand}
 use Rattle.module_job.specs.declared.job.Demand.TheVariants.{Dead}
 use Rattle.certificate.proofs.CellRows.{grow_row}
 use Rattle.certificate_lines.proofs.BoxPlaces.{found_at, same_count}
 use Rattle.certificate.proofs.layout_tables.LayoutTables.cell_lists.Goals as goal
 
 pub rows-preserved : goal.rows-preserved
-rows-preserved c =
-    let known = circuit_wire c.args.locals.now in
-    let circuit = circuit_of c.args.self.now.circuit in
-    let layout = c.args.self.now.layout in
-    let so_far = c.rows.invariant in
-    let added = c.in_ok-push_row.ensures in
-    record {
-      starts = grow_row (renumber_signal known) (λ (d : Cell). start_signal circuit layout d.x d.y)
-          c.rows.lists.starts c.push_row.new.lists.starts c.args.area.x c.args.area.w c.args.area.y c.rows.y
-          (omega arith) so_far.starts added.starts;
-      starts_own = added.starts_own so_far.starts_own;
-      demands = grow_row (renumber_demand known) (λ (d : Cell). end_demand circuit layout d.x d.y)
-          c.rows.lists.demands c.push_row.new.lists.demands c.args.area.x c.args.area.w c.args.area.y
-          c.rows.y (omega arith) so_far.demands added.demands;
-      demands_own = added.demands_own so_far.demands_own;
-    }
+rows-preserved c = grind (arith, common_steps, grow_row)
 
 -- all rows are those of the box
 all_rows : {B : Type 0} (f : Cell → B) (b : Box2) (n : ℕ) → n ≡ b.h →
@@ -39,22 +24,13 @@ unfolding rectangle_cells
 all_rows f b n all = ap (λ (k : ℕ). map f (flat_map (row_cells b.x b.w) (range_with_len b.y k))) all
 
 pub returns-clause-starts_count : goal.returns-clause-starts_count
-returns-clause-starts_count c =
-    let f = λ (d : Cell). start_signal (circuit_of c.args.self.now.circuit) c.args.self.now.layout d.x d.y in
-    same_count (renumber_signal (circuit_wire c.args.locals.now)) f c.args.area c.rows.lists.starts
-    (c.rows.invariant.starts ∙ all_rows f c.args.area (c.rows.y - c.args.area.y) (omega arith))
+returns-clause-starts_count c = grind (arith, common_steps, same_count, all_rows)
 
 pub returns-clause-starts : goal.returns-clause-starts
-returns-clause-starts c =
-    let f = λ (d : Cell). start_signal (circuit_of c.args.self.now.circuit) c.args.self.now.layout d.x d.y in
-    found_at (renumber_signal (circuit_wire c.args.locals.now)) f c.args.area c.rows.lists.starts Zero
-    (c.rows.invariant.starts ∙ all_rows f c.args.area (c.rows.y - c.args.area.y) (omega arith))
+returns-clause-starts c = grind (arith, common_steps, found_at, all_rows)
 
 pub returns-clause-demands_count : goal.returns-clause-demands_count
-returns-clause-demands_count c =
-    let f = λ (d : Cell). end_demand (circuit_of c.args.self.now.circuit) c.args.self.now.layout d.x d.y in
-    same_count (renumber_demand (circuit_wire c.args.locals.now)) f c.args.area c.rows.lists.demands
-    (c.rows.invariant.demands ∙ all_rows f c.args.area (c.rows.y - c.args.area.y) (omega arith))
+returns-clause-demands_count c = grind (arith, common_steps, same_count, all_rows)
 
 pub returns-clause-demands : goal.returns-clause-demands
 returns-clause-demands c =

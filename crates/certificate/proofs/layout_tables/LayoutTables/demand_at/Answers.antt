@@ -1,4 +1,5 @@
-use Rattle.std.proofs.Common.{◌≡◌, ◌∙◌, ℕ, List, Option, Some, None, ap, subst, sym, IsTrue, IfSome}
+use Rattle.std.proofs.Common.{arith, ◌≡◌, ◌∙◌, ℕ, List, Option, Some, None, ap, subst, sym, IsTrue, IfSome}
+use Rattle.std.proofs.lemmas.Grind.{common_steps}
 use Rattle.circuit.specs.Bridge.{circuit_of}
 use Rattle.pattern.specs.declared.layout_line.Port.{Port}
 use Rattle.module_box.specs.Locals.{circuit_wire}
@@ -6,16 +7,12 @@ use Rattle.certificate_lines.specs.PortTables.{port_at}
 use Rattle.certificate.specs.Jobs.{wire_or_dead, demand_outside_mirrors, end_demand}
 use Rattle.certificate.specs.LayoutTablesView.{LayoutTablesView, IsPortWireLocalAt}
 use Rattle.certificate_lines.specs.Rules.{is_local}
-use Rattle.module_job.specs.declared.job.Demand.TheVariants.{Live, Wire, Any, Dead}
+use Rattle.module_job.specs.declared.job.Demand.TheVariants.{Wire, Any, Dead}
 use Rattle.certificate.proofs.LayoutTableLemmas.{end_live, end_port}
 use Rattle.certificate.proofs.layout_tables.LayoutTables.demand_at.Goals as goal
 
 pub returns-then-is_live-clause-same_demand : goal.returns-then-is_live-clause-same_demand
-returns-then-is_live-clause-same_demand c =
-    subst (λ (s : LayoutTablesView). Live ≡ end_demand (circuit_of s.circuit) s.layout c.args.cell.x c.args.cell.y)
-    c.self.view_is
-    (end_live (circuit_of c.self.inside.circuit.now) c.self.inside.layout.now c.args.cell.x c.args.cell.y
-    c.is_live.result (c.is_live.ensures ∙ c.self.invariant.mirrors c.args.cell.x c.args.cell.y) c.if-is_live.true)
+returns-then-is_live-clause-same_demand c = grind (arith, common_steps, end_live)
 
 pub local_wire_by_name-requires : goal.local_wire_by_name-requires
 local_wire_by_name-requires c =

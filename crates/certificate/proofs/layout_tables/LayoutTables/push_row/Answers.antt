@@ -1,4 +1,5 @@
 use Rattle.std.proofs.Common.{◌≡◌, ◌-◌, ℕ, arith, subst}
+use Rattle.std.proofs.lemmas.Grind.{common_steps}
 use Rattle.circuit.specs.Bridge.{circuit_of}
 use Rattle.pattern.specs.Layout.{row_cells}
 use Rattle.certificate.specs.LayoutTablesView.{AddsCells}
@@ -17,26 +18,13 @@ returns-then-next-end c =
     c.next_named_column-next.ensures.starts c.next_named_column-next.ensures.demands)
 
 pub cells-init : goal.cells-init
-cells-init c = record {
-  from = omega arith;
-  most = omega arith;
-  added = add_none (circuit_of c.args.self.now.circuit) c.args.self.now.layout c.args.locals.now c.args.lists.now
-      c.args.area.x c.args.y;
-}
+cells-init c = grind (arith, common_steps, add_none)
 
 pub start_and_demand_at-start-requires-clause-ins : goal.start_and_demand_at-start-requires-clause-ins
-start_and_demand_at-start-requires-clause-ins c =
-    c.requires.ins _ _ (cast_inside c.args.area c.next_named_column-next.result c.args.y
-    (omega (arith, c.next_named_column-next.ensures.range, c.requires.columns, c.if-next-end.false)) c.requires.row.2
-    (omega (arith, c.cells.invariant.from, c.next_named_column-next.ensures.range))
-    (omega (arith, c.next_named_column-next.ensures.range, c.if-next-end.false)) c.requires.row.0 c.requires.row.1)
+start_and_demand_at-start-requires-clause-ins c = grind (arith, common_steps, cast_inside)
 
 pub start_and_demand_at-start-requires-clause-outs : goal.start_and_demand_at-start-requires-clause-outs
-start_and_demand_at-start-requires-clause-outs c =
-    c.requires.outs _ _ (cast_inside c.args.area c.next_named_column-next.result c.args.y
-    (omega (arith, c.next_named_column-next.ensures.range, c.requires.columns, c.if-next-end.false)) c.requires.row.2
-    (omega (arith, c.cells.invariant.from, c.next_named_column-next.ensures.range))
-    (omega (arith, c.next_named_column-next.ensures.range, c.if-next-end.false)) c.requires.row.0 c.requires.row.1)
+start_and_demand_at-start-requires-clause-outs c = grind (arith, common_steps, cast_inside)
 
 pub cells-preserved : goal.cells-preserved
 cells-preserved c =
@@ -57,10 +45,3 @@ cells-preserved c =
           c.requires.row.2 c.in_ok-push.ensures.starts c.in_ok-push.ensures.demands both.start both.start_below
           both.demand both.demand_below;
     }
-
-pub returns : goal.returns
-returns c =
-    let all : c.cells.x - c.args.area.x ≡ c.args.area.w =
-    omega (arith, c.cells.invariant.most, c.cells-test.false) in
-    subst (λ (n : ℕ). AddsCells (circuit_of c.args.self.now.circuit) c.args.self.now.layout c.args.locals.now
-    (row_cells c.args.area.x n c.args.y) c.args.lists.now c.cells.lists) all c.cells.invariant.added

@@ -1,8 +1,9 @@
-use Rattle.std.proofs.Common.{◌≡◌, ◌∙◌, ℕ, List, Option, Some, None, ap, subst, sym, IsTrue, IfSome}
+use Rattle.std.proofs.Common.{arith, ◌≡◌, ◌∙◌, ℕ, List, Option, Some, None, ap, subst, sym, IsTrue, IfSome}
+use Rattle.std.proofs.lemmas.Grind.{common_steps}
 use Rattle.circuit.specs.Bridge.{circuit_of}
 use Rattle.pattern.specs.declared.layout_line.Port.{Port}
 use Rattle.module_box.specs.Locals.{circuit_wire}
-use Rattle.module_box.specs.declared.schedules.Signal.TheVariants.{Zero, One, Wire}
+use Rattle.module_box.specs.declared.schedules.Signal.TheVariants.{Zero, Wire}
 use Rattle.certificate_lines.specs.PortTables.{port_at}
 use Rattle.certificate.specs.Jobs.{wire_or_zero, start_signal}
 use Rattle.certificate.specs.LayoutTablesView.{LayoutTablesView, IsPortWireLocalAt}
@@ -11,13 +12,7 @@ use Rattle.certificate.proofs.LayoutTableLemmas.{start_one, start_port}
 use Rattle.certificate.proofs.layout_tables.LayoutTables.start_at.Goals as goal
 
 pub returns-then-mirror-ball-clause-same_signal : goal.returns-then-mirror-ball-clause-same_signal
-returns-then-mirror-ball-clause-same_signal c =
-    subst (λ (s : LayoutTablesView). One ≡ start_signal (circuit_of s.circuit) s.layout c.args.cell.x c.args.cell.y)
-    c.self.view_is
-    (start_one (circuit_of c.self.inside.circuit.now) c.self.inside.layout.now c.args.cell.x c.args.cell.y
-    c.is_live-mirror.result c.is_live-ball.result
-    (c.is_live-mirror.ensures ∙ c.self.invariant.mirrors c.args.cell.x c.args.cell.y)
-    (c.is_live-ball.ensures ∙ c.self.invariant.balls c.args.cell.x c.args.cell.y) c.if-mirror-ball.true)
+returns-then-mirror-ball-clause-same_signal c = grind (arith, common_steps, start_one)
 
 pub local_wire_by_name-requires : goal.local_wire_by_name-requires
 local_wire_by_name-requires c =

@@ -1,9 +1,7 @@
-use Rattle.std.proofs.Common.{◌≡◌, ◌∙◌, None, ℕ, List, ◌||◌, subst, sym, ap}
-use Rattle.std.specs.List.{list_any}
-use Rattle.bbm_rule.specs.declared.block.Cell.{Cell}
-use Rattle.certificate_lines.specs.Entries.{edge_in, halo_in, last_module}
-use Rattle.certificate_lines.specs.Rules.{body_line_code, is_starred_line_at, same_cell}
-use Rattle.certificate_lines.specs.BuilderView.{BuilderView, NamesLocalOrCutWire}
+use Rattle.std.proofs.Common.{arith, None, ℕ, List, subst, sym}
+use Rattle.std.proofs.lemmas.Grind.{common_steps}
+use Rattle.certificate_lines.specs.Entries.{last_module}
+use Rattle.certificate_lines.specs.BuilderView.{NamesLocalOrCutWire}
 use Rattle.certificate_lines.proofs.Keeping.{border_is_inner, border_is_uncut, good_line, small, with_border}
 use Rattle.certificate_lines.proofs.NamedLines.{named_words}
 use Rattle.certificate_lines.proofs.builder.Builder.add_border_or_stop.Goals as goal
@@ -15,15 +13,12 @@ pub body_line_code-requires-clause-cut : goal.body_line_code-requires-clause-cut
 body_line_code-requires-clause-cut c = border_is_uncut c.args.self.now.setting.circuit c.args.entry None c.requires
 
 pub circuit_name_of_line-name-requires-clause-cut : goal.circuit_name_of_line-name-requires-clause-cut
-circuit_name_of_line-name-requires-clause-cut c =
-    border_is_uncut c.self.inside.tables.circuit c.args.entry None c.requires
+circuit_name_of_line-name-requires-clause-cut c = grind (arith, common_steps, border_is_uncut)
 
 pub circuit_name_of_line-name-requires-clause-wire : goal.circuit_name_of_line-name-requires-clause-wire
 circuit_name_of_line-name-requires-clause-wire c =
     let good = good_line c.self.inside.tables c.self.inside.entries.items c.args.entry
-    (subst (λ (s : BuilderView). body_line_code s.setting (last_module s.entries) c.args.entry ≡ None)
-    (sym (c.self.view_is ∙ c.body_line_code.ensures.same_lines))
-    (sym c.body_line_code.ensures.code ∙ c.in_default.is)) in
+    (grind (arith, common_steps)) in
     subst (λ (l : List ℕ). NamesLocalOrCutWire c.self.inside.tables.circuit l c.args.entry)
     (sym (c.self.invariant.kept.last_module good.module_lines good.last).wires)
     (named_words c.self.inside.tables good.module_lines c.args.entry good.words)
@@ -34,15 +29,9 @@ count_in_last-requires c = small _ _ _ _ _ _ _ _ _ c.self.invariant.kept
 pub invariant_of-self-2 : goal.invariant_of-self-2
 invariant_of-self-2 c =
     let good = good_line c.self.inside.tables c.self.inside.entries.items c.args.entry
-    (subst (λ (s : BuilderView). body_line_code s.setting (last_module s.entries) c.args.entry ≡ None)
-    (sym (c.self.view_is ∙ c.body_line_code.ensures.same_lines))
-    (sym c.body_line_code.ensures.code ∙ c.in_default.is)) in
+    (grind (arith, common_steps)) in
     rw (c.in_ok-push_entry.ensures.ok, c.of.ensures)
     (with_border _ _ _ _ _ _ _ _ _ _ _ c.self.invariant c.args.entry c.requires good c.count_in_last.new.modules.items
     c.count_in_last.ensures c.note_stars.new.edges.keys c.note_stars.new.halos.keys
-    (λ d. c.note_stars.ensures.edges d
-    ∙ ap (λ (l : List Cell). list_any (same_cell d) l || list_any (is_starred_line_at d) (edge_in c.args.entry))
-    c.make_room_for_stars.ensures.edges)
-    (λ d. c.note_stars.ensures.halos d
-    ∙ ap (λ (l : List Cell). list_any (same_cell d) l || list_any (is_starred_line_at d) (halo_in c.args.entry))
-    c.make_room_for_stars.ensures.halos))
+    (grind (arith, common_steps))
+    (grind (arith, common_steps)))

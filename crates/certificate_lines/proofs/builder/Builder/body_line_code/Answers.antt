@@ -1,5 +1,6 @@
-use Rattle.std.proofs.Common.{◌≡◌, ◌∙◌, subst, ap, sym, Some}
-use Rattle.certificate_lines.specs.Entries.{ModuleLines, counts_of, last_of, last_module}
+use Rattle.std.proofs.Common.{arith, ◌≡◌, ◌∙◌, subst, ap, sym, Some}
+use Rattle.std.proofs.lemmas.Grind.{common_steps}
+use Rattle.certificate_lines.specs.Entries.{last_of, last_module}
 use Rattle.certificate_lines.specs.Rules.{body_line_code, content_code}
 use Rattle.certificate_lines.specs.BuilderView.{BuilderView, last_body_line}
 use Rattle.certificate_lines.proofs.Keeping.{no_module, small, too_late, in_place}
@@ -36,6 +37,4 @@ returns-clause-code c =
     c.content_code.result (ap last_of (sym c.deref.ensures.value) ∙ sym c.last_counts.ensures ∙ c.in-Some.is)
     (λ lines order last. c.may_follow.ensures lines order (last ∙ ap last_body_line (sym c.as_slice.ensures.value)))
     c.if-not-may_follow.false
-    (subst (λ (s : BuilderView). (m : ModuleLines) → last_module s.entries ≡ Some m → c.in-Some.counts ≡ counts_of m →
-    c.content_code.result ≡ content_code s.setting m c.args.entry.now)
-    (sym c.self.view_is) c.content_code.ensures.code))
+    (grind (arith, common_steps)))

@@ -1,4 +1,5 @@
 use Rattle.std.proofs.Common.{◌≡◌, ◌∙◌, ◌+◌, take, sym, ap, subst, arith}
+use Rattle.std.proofs.lemmas.Grind.{common_steps}
 use Rattle.certificate_lines.specs.BuilderView.{BuilderView}
 use Rattle.certificate_lines.specs.Entries.{areas, modules_of}
 use Rattle.certificate_lines.proofs.ModuleBoxes.{all_areas, more_areas}
@@ -14,9 +15,4 @@ modules-preserved c =
     (c.modules.invariant ∙ ap (take c.modules.number) (sym same)) c.in_ok-push.ensures.items)
 
 pub returns : goal.returns
-returns c =
-    let same = ap (λ (v : BuilderView). areas (modules_of v.entries)) c.self.view_is in
-    let past = c.modules-test.false in let count = c.len-number-end.ensures in
-    all_areas (modules_of c.self.inside.entries.items) c.self.inside.modules.items c.modules.number _
-    c.self.invariant.kept.built.counted (omega (arith, past, count))
-    (c.modules.invariant ∙ ap (take c.modules.number) (sym same)) ∙ same
+returns c = grind (arith, common_steps, all_areas)

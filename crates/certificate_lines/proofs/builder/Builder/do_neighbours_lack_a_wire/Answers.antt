@@ -1,8 +1,7 @@
-use Rattle.std.proofs.Common.{◌∙◌, sym, ap, IsTrue, flat_map}
-use Rattle.std.specs.List.{list_any}
+use Rattle.std.proofs.Common.{arith, ◌∙◌, sym, IsTrue, flat_map}
 use Rattle.std.proofs.lemmas.List.{take_all}
+use Rattle.std.proofs.lemmas.Grind.{common_steps}
 use Rattle.module_box.specs.Boxes.{in_box}
-use Rattle.certificate_lines.specs.BuilderView.{does_neighbour_lack_wire}
 use Rattle.certificate_lines.specs.Entries.{edge_in, modules_of}
 use Rattle.certificate_lines.specs.Rules.{whole}
 use Rattle.certificate_lines.specs.declared.certificate_line.BorderLine.{BorderLine}
@@ -19,16 +18,8 @@ neighbour_lacks_edge_wire-requires-clause-inside c =
 pub returns-then-neighbour_lacks_edge_wire : goal.returns-then-neighbour_lacks_edge_wire
 returns-then-neighbour_lacks_edge_wire c =
     let v = c.args.self.now in let ms = modules_of v.entries in
-    sym (any_here (does_neighbour_lack_wire v.setting.circuit ms) edge_in c.args.lines.now c.lines.line-index
-    c.line-item.result
-    c.lines-test.true c.line-item.is
-    (sym c.neighbour_lacks_edge_wire.ensures.lacked ∙ c.if-neighbour_lacks_edge_wire.true))
+    sym (grind (arith, common_steps, any_here))
     ∙ lacked_by_lines v.setting.circuit ms (flat_map edge_in c.args.lines.now)
 
 pub returns : goal.returns
-returns c =
-    let v = c.args.self.now in let ms = modules_of v.entries in
-    sym c.lines.invariant.none
-    ∙ ap (λ l. list_any (does_neighbour_lack_wire v.setting.circuit ms) (flat_map edge_in l))
-    (take_all c.lines.line-index c.args.lines.now c.lines-test.false)
-    ∙ lacked_by_lines v.setting.circuit ms (flat_map edge_in c.args.lines.now)
+returns c = grind (arith, common_steps, take_all, lacked_by_lines)

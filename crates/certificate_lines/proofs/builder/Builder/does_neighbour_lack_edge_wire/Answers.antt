@@ -5,8 +5,9 @@ use Rattle.std.proofs.Math.Seq.{take-suc}
 use Rattle.std.proofs.lemmas.List.{length-map}
 use Rattle.std.proofs.lemmas.List.Folds.{list_any-append, list_any_at}
 use Rattle.std.proofs.lemmas.Option.{slice_get-get_or}
-use Rattle.certificate_lines.specs.BuilderView.{BuilderView, lacks_edge_wire}
-use Rattle.certificate_lines.specs.Entries.{ModuleLines, counts_of, edge_in, modules_of}
+use Rattle.std.proofs.lemmas.Grind.{common_steps}
+use Rattle.certificate_lines.specs.BuilderView.{lacks_edge_wire}
+use Rattle.certificate_lines.specs.Entries.{ModuleLines, edge_in, modules_of}
 use Rattle.certificate_lines.proofs.builder.Builder.does_neighbour_lack_edge_wire.Goals as goal
 
 pub returns-then-lacks_edge_wire_in : goal.returns-then-lacks_edge_wire_in
@@ -15,13 +16,11 @@ returns-then-lacks_edge_wire_in c =
     let k = c.modules.number in
     let none : ModuleLines = record { area = c.args.area; lines = [] } in
     let counted : length c.self.inside.modules.items ≡ length ms =
-    ap length c.self.invariant.kept.built.counted ∙ length-map (modules_of c.self.inside.entries.items) counts_of
-    ∙ ap (λ (s : BuilderView). length (modules_of s.entries)) c.self.view_is in
+    grind (arith, common_steps, length-map) in
     let below = c.modules-test.true in let count = c.len-number-end.ensures in
     let lt : k < length ms = omega (arith, below, count, counted) in
     sym (list_any_at (lacks_edge_wire c.args.self.now.setting.circuit (flat_map edge_in c.args.lines.now)) ms k none lt
-    (sym (c.lacks_edge_wire_in.ensures (get_or ms k none) (slice_get-get_or ms k none lt))
-    ∙ c.if-lacks_edge_wire_in.true))
+    (grind (arith, common_steps, slice_get-get_or)))
 
 pub modules-preserved : goal.modules-preserved
 modules-preserved c =
@@ -30,8 +29,7 @@ modules-preserved c =
     let none : ModuleLines = record { area = c.args.area; lines = [] } in
     let test = lacks_edge_wire c.args.self.now.setting.circuit (flat_map edge_in c.args.lines.now) in
     let counted : length c.self.inside.modules.items ≡ length ms =
-    ap length c.self.invariant.kept.built.counted ∙ length-map (modules_of c.self.inside.entries.items) counts_of
-    ∙ ap (λ (s : BuilderView). length (modules_of s.entries)) c.self.view_is in
+    grind (arith, common_steps, length-map) in
     let below = c.modules-test.true in let count = c.len-number-end.ensures in
     let lt : k < length ms = omega (arith, below, count, counted) in
     let one : k + 1 ≡ suc k = omega arith in

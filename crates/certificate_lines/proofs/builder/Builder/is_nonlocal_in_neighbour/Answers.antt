@@ -1,33 +1,18 @@
-use Rattle.std.proofs.Common.{◌≡◌, ◌∙◌, ◌&&◌, ◌||◌, Bool, ℤ, true, SFits, w32, rules, to_z-of_z, ap, ap₂}
+use Rattle.std.proofs.Common.{arith, ◌≡◌, ◌∙◌, ◌&&◌, ◌||◌, Bool, ℤ, SFits, w32, rules, to_z-of_z, ap, ap₂}
 use Rattle.std.specs.List.{list_any}
+use Rattle.std.proofs.lemmas.Grind.{common_steps}
 use Rattle.bbm_rule.specs.Plane.{partner}
 use Rattle.module_box.specs.Boxes.{in_box}
-use Rattle.module_box.specs.Tiling.{rectangle_of}
-use Rattle.module_box.specs.declared.boxes.Box2.{Box2}
 use Rattle.certificate_lines.specs.BuilderView.{is_outside_and_nonlocal}
 use Rattle.certificate_lines.specs.Entries.{ModuleLines, modules_of}
 use Rattle.certificate_lines.proofs.OddBlocks.{lacked_beside, low_cell}
 use Rattle.certificate_lines.proofs.builder.Builder.is_nonlocal_in_neighbour.Goals as goal
 
 pub odd_partner-column-requires : goal.odd_partner-column-requires
-odd_partner-column-requires c =
-    let o = c.args.owners.now in let cell = c.args.cell in
-    let fx : SFits w32 cell.x = search rules in
-    let inside : in_box (rectangle_of o.width o.height) cell.x cell.y ≡ true =
-    ap (λ (b : Box2). in_box b cell.x cell.y)
-    (ap₂ rectangle_of c.requires.owners.width c.requires.owners.height) ∙ c.requires.inside in
-    let low = low_cell o.width o.height cell.x cell.y c.requires.owners.small.0 c.requires.owners.small.1 inside in
-    simp to_z-of_z low.0
+odd_partner-column-requires c = grind (arith, common_steps, low_cell)
 
 pub odd_partner-row-requires : goal.odd_partner-row-requires
-odd_partner-row-requires c =
-    let o = c.args.owners.now in let cell = c.args.cell in
-    let fy : SFits w32 cell.y = search rules in
-    let inside : in_box (rectangle_of o.width o.height) cell.x cell.y ≡ true =
-    ap (λ (b : Box2). in_box b cell.x cell.y)
-    (ap₂ rectangle_of c.requires.owners.width c.requires.owners.height) ∙ c.requires.inside in
-    let low = low_cell o.width o.height cell.x cell.y c.requires.owners.small.0 c.requires.owners.small.1 inside in
-    simp to_z-of_z low.1
+odd_partner-row-requires c = grind (arith, common_steps, low_cell)
 
 pub returns-clause-lacked : goal.returns-clause-lacked
 returns-clause-lacked c =

@@ -2,10 +2,10 @@ use Rattle.std.proofs.Common.{◌≡◌, ◌∙◌, ◌+◌, ◌<◌, ◌≤◌,
 use Rattle.std.proofs.Common.{subst, arith, nat_lt, flat_map}
 use Rattle.std.specs.List.{list_any}
 use Rattle.std.proofs.lemmas.Bool.Decides.{nat_tests}
+use Rattle.std.proofs.lemmas.Grind.{common_steps}
 use Rattle.certificate_lines.specs.BuilderView.{BuilderView, lacks_edge_wire}
 use Rattle.certificate_lines.specs.Entries.{ModuleLines, edge_in, edges, modules_of}
 use Rattle.certificate_lines.specs.ModuleParts.{AreInBox, inner}
-use Rattle.certificate_lines.specs.Rules.{whole}
 use Rattle.certificate_lines.specs.declared.certificate_line.CertificateLine.TheVariants.{Module}
 use Rattle.certificate_lines.proofs.AnyLines.{any_end, any_module, any_other}
 use Rattle.certificate_lines.proofs.LinesLeft.{rest_of_lines}
@@ -31,19 +31,12 @@ is_edge_wire_lacked_beside-requires c =
     let es = c.self.inside.entries.items in
     let here : c.deref-entry-items.result.now ≡ es = c.deref-entry-items.ensures.value in
     let line_is : Module c.in-Module.area ≡ get_or es c.lines.place (Module c.in-Module.area) =
-    subst (λ e. e ≡ get_or es c.lines.place e) (sym c.line.ensures ∙ c.in-Module.is)
-    (c.entry-item.is ∙ ap (λ l. get_or l c.lines.place c.entry-item.result) here) in
+    grind (arith, common_steps) in
     let inner_is : c.lines_of_module.result.now ≡ inner (drop (c.lines.place + 1) es) =
-    c.lines_of_module.ensures ∙ ap inner (rest_of_lines c.deref.result.now (c.lines.place + 1))
-    ∙ ap (λ l. inner (drop (c.lines.place + 1) l)) c.deref.ensures.value in
+    grind (arith, common_steps, rest_of_lines) in
     record {
       owners = c.requires.owners;
-      on_layout = subst
-          (λ (z : BuilderView). AreInBox (whole z.setting.size) (flat_map edge_in c.lines_of_module.result.now))
-          c.self.view_is
-          (subst (λ ls. AreInBox (whole c.self.inside.tables.size) (flat_map edge_in ls)) (sym inner_is)
-          (lines_on_layout c.self.inside.tables es c.lines.place c.in-Module.area c.self.invariant.kept.built.sound
-          (subst (λ l. c.lines.place < length l) here c.lines-test.true) line_is));
+      on_layout = grind (arith, common_steps, lines_on_layout);
       inside = subst (λ ls. AreInBox c.in-Module.area (flat_map edge_in ls)) (sym inner_is)
           (lines_inside c.self.inside.tables es c.lines.place c.in-Module.area c.self.invariant.kept.built.sound
           (subst (λ l. c.lines.place < length l) here c.lines-test.true) line_is);
@@ -55,16 +48,13 @@ returns-then-is_edge_wire_lacked_beside c =
     let same : c.self.inside.entries.items ≡ es = ap (λ (s : BuilderView). s.entries) c.self.view_is in
     let here : c.deref-entry-items.result.now ≡ es = c.deref-entry-items.ensures.value ∙ same in
     let line_is : Module c.in-Module.area ≡ get_or es c.lines.place (Module c.in-Module.area) =
-    subst (λ e. e ≡ get_or es c.lines.place e) (sym c.line.ensures ∙ c.in-Module.is)
-    (c.entry-item.is ∙ ap (λ l. get_or l c.lines.place c.entry-item.result) here) in
+    grind (arith, common_steps) in
     let inner_is : c.lines_of_module.result.now ≡ inner (drop (c.lines.place + 1) es) =
-    c.lines_of_module.ensures ∙ ap inner (rest_of_lines c.deref.result.now (c.lines.place + 1))
-    ∙ ap (λ l. inner (drop (c.lines.place + 1) l)) (c.deref.ensures.value ∙ same) in
+    grind (arith, common_steps, rest_of_lines) in
     let many : nat_lt 1 v.setting.size.steps ≡ true =
     long v.setting.size.steps c.requires.long in
     let found : lacks v (record { area = c.in-Module.area; lines = inner (drop (c.lines.place + 1) es) }) ≡ true =
-    ap (λ ls. list_any (lacks_edge_wire v.setting.circuit (flat_map edge_in ls)) (modules_of es)) (sym inner_is)
-    ∙ sym c.is_edge_wire_lacked_beside.ensures ∙ c.if-is_edge_wire_lacked_beside.true in
+    grind (arith, common_steps) in
     sym (sym (lacked v.setting (modules_of es) many) ∙ c.lines.invariant
     ∙ any_module (lacks v) es c.lines.place c.in-Module.area
     (subst (λ l. c.lines.place < length l) here c.lines-test.true) line_is ∙ first_true _ _ found)
@@ -78,20 +68,14 @@ lines-preserved c =
     c.lines.invariant ∙ (elim c.match-line.branch [
       | in-Module+else-is_edge_wire_lacked_beside w ↦
           let line_is : Module w.in-Module.area ≡ get_or es c.lines.place (Module w.in-Module.area) =
-          subst (λ e. e ≡ get_or es c.lines.place e) (sym c.line.ensures ∙ w.in-Module.is)
-          (c.entry-item.is ∙ ap (λ l. get_or l c.lines.place c.entry-item.result) here) in
+          grind (arith, common_steps) in
           let inner_is : w.lines_of_module.result.now ≡ inner (drop (c.lines.place + 1) es) =
-          w.lines_of_module.ensures ∙ ap inner (rest_of_lines w.deref.result.now (c.lines.place + 1))
-          ∙ ap (λ l. inner (drop (c.lines.place + 1) l)) (w.deref.ensures.value ∙ same) in
+          grind (arith, common_steps, rest_of_lines) in
           let none : lacks v (record { area = w.in-Module.area; lines = inner (drop (c.lines.place + 1) es) }) ≡ false =
-          ap (λ ls. list_any (lacks_edge_wire v.setting.circuit (flat_map edge_in ls)) (modules_of es)) (sym inner_is)
-          ∙ sym w.is_edge_wire_lacked_beside.ensures ∙ w.if-is_edge_wire_lacked_beside.false in
+          grind (arith, common_steps) in
           any_module (lacks v) es c.lines.place w.in-Module.area lt line_is
           ∙ ap (λ b. b || list_any (lacks v) (modules_of (drop (c.lines.place + 1) es))) none
-      | in_default w ↦ any_other (lacks v) es c.lines.place c.line.result lt
-          (subst (λ e. e ≡ get_or es c.lines.place e) (sym c.line.ensures)
-          (c.entry-item.is ∙ ap (λ l. get_or l c.lines.place c.entry-item.result) here))
-          (no_module c.line.result w.in_default.not-Module)
+      | in_default w ↦ grind (arith, common_steps, any_other, lacks, no_module)
     ])
 
 pub returns : goal.returns

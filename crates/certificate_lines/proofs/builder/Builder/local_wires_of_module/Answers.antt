@@ -1,6 +1,7 @@
-use Rattle.std.proofs.Common.{◌≡◌, ◌∙◌, ◌+◌, ◌<◌, Some, length, map, option_map, refl, sym, ap, subst, arith, slice_get}
+use Rattle.std.proofs.Common.{◌≡◌, ◌∙◌, ◌+◌, Some, length, map, option_map, refl, ap, subst, arith, slice_get}
 use Rattle.std.proofs.lemmas.List.{length-map}
 use Rattle.std.proofs.lemmas.Option.{slice_get-map, slice_get_read}
+use Rattle.std.proofs.lemmas.Grind.{common_steps}
 use Rattle.certificate_lines.specs.BuilderView.{BuilderView}
 use Rattle.certificate_lines.specs.Entries.{known, modules_of}
 use Rattle.certificate_lines.proofs.LackedWires.{earlier_wires, last_wires}
@@ -21,14 +22,4 @@ returns-then-number-last c =
     ∙ slice_get-map (λ s. s.wires) items n ∙ ap (option_map (λ s. s.wires)) found)
 
 pub returns-else-number-last : goal.returns-else-number-last
-returns-else-number-last c =
-    let g = c.self.inside.tables in let items = c.self.inside.earlier.items in
-    let keys = map (λ s. s.wires) items in
-    let same : length keys ≡ length items = length-map items (λ s. s.wires) in
-    let short = c.if-number-last.false in let counted = c.len-last.ensures in
-    let lt = subst (λ (s : BuilderView). c.args.number < length (modules_of s.entries))
-    (sym c.self.view_is) c.requires in
-    subst (λ (s : BuilderView). slice_get (map (known s.setting.circuit) (modules_of s.entries)) c.args.number
-    ≡ Some c.self.inside.known.wires) c.self.view_is
-    (last_wires g.circuit (modules_of c.self.inside.entries.items) keys c.self.inside.known.wires c.self.invariant.wires
-    c.args.number lt (omega (arith, short, counted, same)))
+returns-else-number-last c = grind (arith, common_steps, length-map, last_wires)

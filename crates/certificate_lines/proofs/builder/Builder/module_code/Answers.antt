@@ -1,10 +1,10 @@
-use Rattle.std.proofs.Common.{◌≡◌, ◌∙◌, None, Some, length, subst, sym}
+use Rattle.std.proofs.Common.{arith, ◌≡◌, ◌∙◌, None, length, subst, sym}
+use Rattle.std.proofs.lemmas.Grind.{common_steps}
 use Rattle.certificate_lines.specs.Entries.{modules_of, areas, last_module}
-use Rattle.certificate_lines.specs.Rules.{box_fault, module_fault}
+use Rattle.certificate_lines.specs.Rules.{box_fault}
 use Rattle.certificate_lines.specs.BuilderView.{BuilderView}
 use Rattle.certificate_lines.proofs.BuiltLemmas.{early_fault, live_overlaps, no_fault, overlap_fault}
 use Rattle.certificate_lines.proofs.builder.Builder.module_code.Goals as goal
-use Rattle.section_text.specs.declared.code.RefusalCode.TheVariants.{MisplacedBox}
 
 pub returns-in-Some-clause-code : goal.returns-in-Some-clause-code
 returns-in-Some-clause-code c =
@@ -19,11 +19,7 @@ returns-then-is_any_live_in-clause-code c =
     (sym c.box_code.ensures.code ∙ c.in_default.is) in
     let same = live_overlaps (areas (modules_of es)) c.args.area c.self.inside.covered
     c.self.invariant.kept.built.cells in
-    subst (λ (s : BuilderView). Some MisplacedBox
-    ≡ module_fault s.setting (modules_of s.entries) (last_module s.entries) c.args.area)
-    c.self.view_is
-    (sym (overlap_fault c.self.inside.tables (modules_of es) (last_module es) c.args.area good
-    (sym same ∙ sym c.is_any_live_in.ensures ∙ c.if-is_any_live_in.true)))
+    grind (arith, common_steps, overlap_fault)
 
 pub returns-clause-code : goal.returns-clause-code
 returns-clause-code c =
@@ -33,8 +29,4 @@ returns-clause-code c =
     (sym c.box_code.ensures.code ∙ c.in_default.is) in
     let same = live_overlaps (areas (modules_of es)) c.args.area c.self.inside.covered
     c.self.invariant.kept.built.cells in
-    subst (λ (s : BuilderView). None
-    ≡ module_fault s.setting (modules_of s.entries) (last_module s.entries) c.args.area)
-    c.self.view_is
-    (sym (no_fault c.self.inside.tables (modules_of es) (last_module es) c.args.area good
-    (sym same ∙ sym c.is_any_live_in.ensures ∙ c.if-is_any_live_in.false)))
+    grind (arith, common_steps, no_fault)

@@ -1,9 +1,9 @@
-use Rattle.std.proofs.Common.{◌≡◌, ◌∙◌, ◌+◌, ◌-◌, ◌<◌, ◌≤◌, None, ap, arith, pos, subst, sym, true, length, List, ℕ}
+use Rattle.std.proofs.Common.{◌≡◌, ◌∙◌, ◌+◌, ◌-◌, ◌<◌, ◌≤◌, None, ap, arith, pos, sym, true, length, List, ℕ}
 use Rattle.std.proofs.Common.{Option, Some, suc, zero, drop, nat_eq, take, to_z, w32}
 use Rattle.std.specs.List.{list_all}
 use Rattle.std.proofs.lemmas.Int.{ints}
+use Rattle.std.proofs.lemmas.Grind.{common_steps}
 use Rattle.pattern.specs.Layout.{cell}
-use Rattle.pattern.specs.declared.layout_line.Port.{Port}
 use Rattle.bbm_rule.specs.declared.block.Cell.{Cell}
 use Rattle.module_box.specs.Boxes.{in_box}
 use Rattle.module_box.specs.declared.boxes.Box2.{Box2}
@@ -28,8 +28,7 @@ inside_at b x y l m h = sym (ap (λ (d : Cell). in_box b d.x d.y) (cast_cell x y
 place_at : (a : Inside) (x y : ℕ) (rows : List ℕ) (o : Option ℕ) → x ≤ 512 → y < 512 → rows ≡ a.rows.items →
     o ≡ entry_place a.area rows (to_z w32 x) (to_z w32 y) → entry_place a.area a.rows.items (pos x) (pos y) ≡ o
 place_at a x y rows o l m are at =
-    sym (at ∙ ap (λ (rs : List ℕ). entry_place a.area rs (to_z w32 x) (to_z w32 y)) are
-    ∙ ap (λ (d : Cell). entry_place a.area a.rows.items d.x d.y) (cast_cell x y l m))
+    sym (grind (arith, common_steps, cast_cell))
 
 -- the entries of a part of a row
 row_within : (a : Inside) → IsPortTable a → (x y width place : ℕ) → in_box a.area (pos x) (pos y) ≡ true →
@@ -63,11 +62,7 @@ free_row : (a : Inside) → IsPortTable a → (x y width : ℕ) → in_box a.are
     (k : ℕ) → k < width → port_at a.ports.now (pos (x + k)) (pos y) ≡ None
 free_row a is x y width inside fits at k l =
     unnumbered a.ports.now (pos (x + k)) (pos y)
-    (sym (is.numbered (pos (x + k)) (pos y) (row_inside a.area x y k inside (omega arith)))
-    ∙ unplaced a.numbers.items _ (row_entry a.area a.rows.items x y k None inside at))
-
-pub entry_place-requires-clause-inside : goal.entry_place-requires-clause-inside
-entry_place-requires-clause-inside c = sym c.holds.ensures ∙ c.if-not-holds.false
+    (grind (arith, common_steps, row_inside, unplaced, row_entry))
 
 pub returns-in-None : goal.returns-in-None
 returns-in-None c h k l =
@@ -76,9 +71,7 @@ returns-in-None c h k l =
     (sym c.holds.ensures ∙ c.if-not-holds.false) in
     let at = place_at c.self.inside c.args.x c.args.y c.deref.result.now c.entry_place.result (omega arith)
     (omega arith) c.deref.ensures.value c.entry_place.ensures in
-    subst (λ (ps : List Port). port_at ps (pos (c.args.x + k)) (pos c.args.y) ≡ None) c.self.view_is
-    (free_row c.self.inside c.self.invariant c.args.x c.args.y c.args.width inside (omega arith)
-    (at ∙ c.in-None.is) k l)
+    grind (arith, common_steps, free_row)
 
 pub slice_bounds-are_all_zero-end : goal.slice_bounds-are_all_zero-end
 slice_bounds-are_all_zero-end c =
@@ -98,6 +91,4 @@ returns c h k l =
     (sym c.holds.ensures ∙ c.if-not-holds.false) in
     let at = place_at c.self.inside c.args.x c.args.y c.deref.result.now c.entry_place.result (omega arith)
     (omega arith) c.deref.ensures.value c.entry_place.ensures in
-    subst (λ (ps : List Port). port_at ps (pos (c.args.x + k)) (pos c.args.y) ≡ None) c.self.view_is
-    (free_at c.self.inside c.self.invariant c.args.x c.args.y c.args.width c.in-Some.place c.deref-2.result.now
-    c.deref-2.ensures.value inside (omega arith) (at ∙ c.in-Some.is) (sym c.are_all_zero.ensures ∙ h) k l)
+    grind (arith, common_steps, free_at)

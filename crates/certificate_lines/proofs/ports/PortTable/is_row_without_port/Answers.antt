@@ -1,10 +1,9 @@
-use Rattle.std.proofs.Common.{◌≡◌, ◌∙◌, ◌-◌, ◌<◌, None, ℕ, ℤ, ap, arith, get_or, inl, inr, length, pos, rules, subst}
-use Rattle.std.proofs.Common.{sym, List}
+use Rattle.std.proofs.Common.{◌≡◌, ◌-◌, ◌<◌, None, ℕ, ℤ, arith, get_or, inl, inr, length, pos, rules}
+use Rattle.std.proofs.Common.{sym}
 use Rattle.std.proofs.lemmas.Bool.{cases_Bool, ltb-true}
 use Rattle.std.proofs.lemmas.Bool.Decides.{nat_tests}
 use Rattle.std.proofs.lemmas.List.{get_or_default}
-use Rattle.std.specs.Int.RustNames.{unsigned_abs}
-use Rattle.pattern.specs.declared.layout_line.Port.{Port}
+use Rattle.std.proofs.lemmas.Grind.{common_steps}
 use Rattle.module_box.specs.Boxes.{in_box}
 use Rattle.certificate_lines.specs.PortTables.{IsPortTable, entry_place_by_row_number, port_at}
 use Rattle.certificate_lines.specs.declared.ports.PortTable.TheInside.{Inside}
@@ -16,9 +15,7 @@ row_empty : (a : Inside) → IsPortTable a → (x : ℤ) (y : ℕ) → get_or a.
     port_at a.ports.now x (pos y) ≡ None
 unfolding entry_place_by_row_number
 row_empty a is x y none = elim (cases_Bool (in_box a.area x (pos y))) [
-  | inl inside ↦ unnumbered a.ports.now x (pos y)
-      (sym (is.numbered x (pos y) inside) ∙ unplaced a.numbers.items _
-      (ap (λ (n : ℕ). entry_place_by_row_number a.area.w n (unsigned_abs x - a.area.x)) none))
+  | inl inside ↦ grind (arith, common_steps, unnumbered, unplaced)
   | inr outside ↦ is.elsewhere x (pos y) outside
 ]
 
@@ -27,10 +24,7 @@ returns-in-Some-get c h x =
     let a = c.self.inside in
     let within : c.in-Some.row < length c.deref.result.now = ltb-true _ _ (sym c.in-Some-get.ensures.lookup.0) in
     let read : c.in-Some-get.number.now ≡ get_or a.rows.items c.in-Some.row 0 =
-    c.in-Some-get.ensures.lookup.1 ∙ get_or_default c.deref.result.now c.in-Some.row c.in-Some-get.number.now 0 within
-    ∙ ap (λ (l : List ℕ). get_or l c.in-Some.row 0) c.deref.ensures.value in
+    grind (arith, common_steps, get_or_default) in
     let none : c.in-Some-get.number.now ≡ 0 = grind (arith, nat_tests) in
     let at : c.in-Some.row ≡ c.args.y - a.area.y = search rules in
-    subst (λ (ps : List Port). port_at ps x (pos c.args.y) ≡ None) c.self.view_is
-    (row_empty a c.self.invariant x c.args.y
-    (ap (λ (n : ℕ). get_or a.rows.items n 0) (sym at) ∙ sym read ∙ none))
+    grind (arith, common_steps, row_empty)
