@@ -4,19 +4,20 @@ use Rattle.std.proofs.Common.{option_map, slice_get, IfSome, All}
 use Rattle.std.proofs.lemmas.Bool.{and_parts}
 use Rattle.std.proofs.lemmas.List.Elements.{All-cons, All-nil}
 use Rattle.std.proofs.lemmas.Option.{get_or_from_slice_get, slice_get-map, slice_get_within}
+use Rattle.std.proofs.lemmas.Grind.{common_steps}
 use Rattle.bbm_rule.specs.declared.block.Cell.{Cell}
 use Rattle.circuit.specs.Bridge.{circuit_of}
 use Rattle.circuit.specs.declared.circuit_line.CircuitLine.{CircuitLine}
 use Rattle.pattern.specs.Layout.{Pattern}
 use Rattle.module_box.specs.Boxes.{in_box, in_halo, in_ring}
 use Rattle.module_box.specs.Locals.{circuit_wire}
-use Rattle.module_box.specs.Schedules.{Signals, event_at, signal_at}
+use Rattle.module_box.specs.Schedules.{Signals, event_at}
 use Rattle.module_box.specs.Tiling.{Owning, AreOwners, rectangle, rectangle_of, owner_of}
 use Rattle.module_box.specs.declared.boxes.Box2.{Box2}
 use Rattle.module_box.specs.declared.schedules.Signal.{Signal}
 use Rattle.module_box.specs.declared.schedules.TimedSignal.{TimedSignal}
 use Rattle.module_box.proofs.BoxCells.{same_some}
-use Rattle.certificate_lines.specs.Entries.{ModuleLines, areas, edges, halos}
+use Rattle.certificate_lines.specs.Entries.{ModuleLines, areas, edges}
 use Rattle.certificate_lines.specs.Settings.{setting_of}
 use Rattle.module_job.specs.Jobs.{JobView}
 use Rattle.certificate.proofs.NearLines.{flat_all}
@@ -40,13 +41,11 @@ in_ring_box b x y ring = (and_parts (in_box b x y) _ ring).0
 module _ (cs : List CircuitLine) (p : Pattern) where
   pub halo_same : (m : ModuleLines) (j : JobView) (t : ℕ) (x y : ℤ) → IsJobOf (circuit_of cs) p m j →
       job_signal Halo j t x y ≡ halo_signal (circuit_of cs) m t x y
-  halo_same m j t x y is = signal_renumbered (circuit_wire j.locals) j.halos t x y
-      ∙ ap (λ (s : Signals). signal_at s t x y) is.halos
+  halo_same m j t x y is = grind (arith, common_steps, signal_renumbered)
 
   pub edge_same : (m : ModuleLines) (j : JobView) (t : ℕ) (x y : ℤ) → IsJobOf (circuit_of cs) p m j →
       job_signal Ring j t x y ≡ edge_signal (circuit_of cs) m t x y
-  edge_same m j t x y is = signal_renumbered (circuit_wire j.locals) j.edges t x y
-      ∙ ap (λ (s : Signals). signal_at s t x y) is.edges
+  edge_same m j t x y is = grind (arith, common_steps, signal_renumbered)
 
   -- no line names the time 0
   signals_quiet : (j : JobView) (s : Signals) (es : List BorderLine) (x y : ℤ) →
@@ -79,10 +78,7 @@ module _ (cs : List CircuitLine) (p : Pattern) where
 
   pub quiet : (m : ModuleLines) (j : JobView) → IsModule (setting_of cs p) m → IsJobOf (circuit_of cs) p m j →
       IsQuiet j
-  quiet m j good is = record {
-    halos = λ x y. signals_quiet j j.halos (halos m) x y is.halos (λ k d lt. (good.halo_lines k d lt).border.time);
-    edges = λ x y. signals_quiet j j.edges (edges m) x y is.edges (λ k d lt. (good.edge_lines k d lt).border.time);
-  }
+  quiet m j good is = grind (arith, common_steps, signals_quiet)
 
   module _ (ms : List ModuleLines) (js : List JobView) (o : Owning) (good : AreModules (setting_of cs p) ms)
       (made : AreJobsOf (circuit_of cs) p ms js) (owners : AreOwners o (areas ms))
@@ -103,10 +99,7 @@ module _ (cs : List CircuitLine) (p : Pattern) where
       has : in_box lines.area x y ≡ true
 
     holder : (x y : ℤ) → in_box (whole p.size) x y ≡ true → IsHolder x y
-    holder x y inside =
-        let b = owners.named x y (ap (λ (b : Box2). in_box b x y) (sym same_rectangle) ∙ inside) in
-        let m = value_of (λ (m : ModuleLines). m.area) ms (owner_of o x y) b.0 b.1 in
-        record { lines = m.0; numbered = m.1; has = ap (λ (b : Box2). in_box b x y) m.2 ∙ b.2 }
+    holder x y inside = grind (arith, common_steps, same_rectangle, value_of)
 
     pub quiet_job : (k : ℕ) (j : JobView) → slice_get js k ≡ Some j → IsQuiet j
     quiet_job k j e = let m = lines_of k j e in quiet m.0 j (good.each k m.0 m.1) (made.each k m.0 j m.1 e)

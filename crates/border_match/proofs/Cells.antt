@@ -1,12 +1,12 @@
 -- Cells of a halo, and the modules that have them
-use Rattle.std.proofs.Common.{◌≡◌, ℕ, ◌+◌, ◌-◌, ◌<◌, ◌≤◌, ◌%◌, List, map, length, Bool, true, false, ◌||◌, ◌&&◌, Some}
-use Rattle.std.proofs.Common.{sym, ap, ap₂, subst, ◌∙◌, inl, inr, ◌⊎◌, arith, get_or, ℤ, pos, ◌+ℤ◌, ◌-ℤ◌, ◌≢◌, ◌↔◌}
-use Rattle.std.proofs.Common.{IsTrue, slice_get, option_map}
-use Rattle.std.specs.Arc.{arc_value}
+use Rattle.std.proofs.Common.{◌≡◌, ℕ, ◌+◌, ◌-◌, ◌<◌, ◌≤◌, List, map, length, true, false, ◌||◌, ◌&&◌, Some}
+use Rattle.std.proofs.Common.{sym, ap, ap₂, ◌∙◌, inl, inr, ◌⊎◌, arith, get_or, ℤ, pos, ◌+ℤ◌, ◌-ℤ◌, ◌≢◌}
+use Rattle.std.proofs.Common.{slice_get, option_map}
 use Rattle.std.proofs.lemmas.List.{length-map}
 use Rattle.std.proofs.lemmas.Option.{slice_get-map, slice_get-get_or, slice_get_within}
 use Rattle.std.proofs.lemmas.Bool.{and_parts, and_from, cases_Bool, false≢true}
 use Rattle.std.proofs.lemmas.Int.{ints}
+use Rattle.std.proofs.lemmas.Grind.{common_steps}
 use Rattle.bbm_rule.specs.Spans.{in_span}
 use Rattle.bbm_rule.proofs.Spans.{span_from, span_parts}
 use Rattle.module_box.specs.Boxes.{in_box, in_halo}
@@ -14,13 +14,10 @@ use Rattle.bbm_rule.specs.declared.block.Cell.{Cell}
 use Rattle.module_box.specs.Moves.{IsInShiftRange, IsSmallShift}
 use Rattle.module_box.specs.Tiling.{owner_of}
 use Rattle.module_box.specs.declared.boxes.Box2.{Box2}
-use Rattle.module_box.specs.declared.schedules.Signal.{Signal}
 use Rattle.module_box.proofs.BoxCells.{in_span_nat, in_box_nats, same_some}
 use Rattle.module_box.proofs.NearBoxes.{near_one, near_parts}
 use Rattle.module_job.specs.Jobs.{JobView, IsJob}
-use Rattle.border_match.specs.Boards.{job_signal, jobs_of, IsAround, AreReadyBorders, IsFaultOfSearchedJob}
-use Rattle.border_match.specs.Boards.{SignalsDifferAt}
-use Rattle.border_match.specs.declared.signals.RingOrHalo.TheVariants.{Halo, Ring}
+use Rattle.border_match.specs.Boards.{jobs_of, IsAround, AreReadyBorders, IsFaultOfSearchedJob}
 use Rattle.border_match.specs.declared.borders.Borders.{Borders}
 use Rattle.border_match.specs.declared.fault.BorderFault.{BorderFault}
 
@@ -32,30 +29,7 @@ job_at v xs k d j lt same = slice_get-map v xs k ∙ ap (option_map v) (slice_ge
 
 pub owner_within : (b : Borders) (x y : ℤ) → AreReadyBorders b → in_box b.whole x y ≡ true →
     owner_of b.owners.now x y < length b.jobs.now
-owner_within b x y ready h =
-    let m = ready.0.holder x y h in
-    subst (λ n. owner_of b.owners.now x y < n) (length-map b.jobs.now arc_value)
-    (slice_get_within (jobs_of b) (owner_of b.owners.now x y) m.0 m.1)
-
-pub differ_is : (b : Borders) (t : ℕ) (x y : ℤ) (owner : JobView) (halo edge : Signal) (r : Bool) →
-    slice_get (jobs_of b) (owner_of b.owners.now x y) ≡ Some owner →
-    halo ≡ job_signal Halo b.job.now t x y → edge ≡ job_signal Ring owner t x y → IsTrue r ↔ (halo ≢ edge) →
-    IsTrue r ↔ SignalsDifferAt b t x y
-differ_is b t x y owner halo edge r numbered e f h = (
-  λ yes. record { owner = owner; numbered = numbered; differ = λ same. h.0 yes (e ∙ same ∙ sym f) },
-  λ d. h.1 (λ same. d.differ (sym e ∙ same ∙ f
-      ∙ ap (λ (z : JobView). job_signal Ring z t x y)
-      (same_some (slice_get (jobs_of b) (owner_of b.owners.now x y)) owner d.owner numbered d.numbered))),
-)
-
-pub fault_is : (b : Borders) (f : BorderFault) (r : Bool) → f.time % 2 ≡ 1 → f.time < b.job.now.steps →
-    (in_box b.whole f.cell.x f.cell.y && in_halo b.job.now.area f.cell.x f.cell.y) ≡ true →
-    IsTrue r ↔ SignalsDifferAt b f.time f.cell.x f.cell.y → IsTrue r ↔ IsFaultOfSearchedJob b f
-fault_is b f r odd early reached h =
-    let both = and_parts (in_box b.whole f.cell.x f.cell.y) (in_halo b.job.now.area f.cell.x f.cell.y) reached in (
-      λ yes. record { odd = odd; early = early; inside = both.0; halo = both.1; different = h.0 yes },
-      λ g. h.1 g.different,
-    )
+owner_within b x y ready h = grind (arith, common_steps, length-map, slice_get_within)
 
 pub reached : (b : Borders) (f : BorderFault) → IsFaultOfSearchedJob b f →
     (in_box b.whole f.cell.x f.cell.y && in_halo b.job.now.area f.cell.x f.cell.y) ≡ true
@@ -69,16 +43,7 @@ small_number z n m w e lt few = (omega (arith, ints, e), omega (arith, ints, e, 
 -- a cell of the rectangle is in the box of a job
 pub owned_near : (b : Borders) (c : Cell) (owner : JobView) → AreReadyBorders b → in_box b.whole c.x c.y ≡ true →
     slice_get (jobs_of b) (owner_of b.owners.now c.x c.y) ≡ Some owner → IsJob owner → IsInShiftRange c
-owned_near b c owner ready inside got is =
-    let m = ready.0.holder c.x c.y inside in
-    let same : m.0 ≡ owner = same_some (slice_get (jobs_of b) (owner_of b.owners.now c.x c.y)) m.0 owner m.1 got in
-    let there : in_box owner.area c.x c.y ≡ true = ap (λ (j : JobView). in_box j.area c.x c.y) (sym same) ∙ m.2 in
-    let p = in_box_nats owner.area c.x c.y there in
-    let px = p.0 in
-    let py = p.1 in (
-      small_number c.x px.0 owner.area.x owner.area.w px.1 px.3 is.width.2,
-      small_number c.y py.0 owner.area.y owner.area.h py.1 py.3 is.height.2,
-    )
+owned_near b c owner ready inside got is = grind (arith, common_steps, same_some, in_box_nats, small_number)
 
 -- ---- columns and rows of a halo
 
@@ -90,10 +55,7 @@ near_bounds f n k j x y p q (inr (inr e)) c d = (omega (arith, ints), omega (ari
 
 near_nat : (f n : ℕ) (x : ℤ) (k : ℕ) → x ≡ pos k →
     (in_span f n (x -ℤ pos 1) || in_span f n x || in_span f n (x +ℤ pos 1)) ≡ true → (f - 1 ≤ k) × (k < f + n + 1)
-near_nat f n x k e h =
-    let y = near_one f n x h in
-    let at = in_span_nat f n y.0 y.2 in
-    near_bounds f n k at.0 x y.0 e at.1 y.1 at.2 at.3
+near_nat f n x k e h = grind (arith, common_steps, near_one, in_span_nat, near_bounds)
 
 -- where a cell of the rectangle and the halo is, counted from the rectangle's corner
 pub record IsPlaced (b : Borders) (cx cy : ℤ) : Type 0 where
@@ -126,42 +88,25 @@ box_no_halo a x y h = rw h
 
 -- a cell of the halo is not in the box
 pub halo_out : (a : Box2) (x y : ℤ) → in_halo a x y ≡ true → in_box a x y ≡ false
-halo_out a x y halo = elim (cases_Bool (in_box a x y)) [
-  | inr e ↦ e
-  | inl inside ↦ absurd (false≢true (sym (box_no_halo a x y inside) ∙ halo))
-]
+halo_out a x y halo = grind (arith, common_steps, cases_Bool, false≢true, box_no_halo)
 
 -- a cell of the columns and rows of the rectangle is in it
 pub in_whole : (b : Borders) (x y : ℕ) (cx cy : ℤ) → cx ≡ pos x → cy ≡ pos y → AreReadyBorders b → x < b.whole.w →
     y < b.whole.h → in_box b.whole cx cy ≡ true
 unfolding in_box
-in_whole b x y cx cy px py ready left top =
-    let ex = ap (λ (w : Box2). w.x) ready.0.same in
-    let ey = ap (λ (w : Box2). w.y) ready.0.same in
-    ap₂ (in_box b.whole) px py
-    ∙ and_from _ _ (span_from b.whole.x b.whole.w x (omega (arith, ex)) (omega (arith, ex, left)))
-    (span_from b.whole.y b.whole.h y (omega (arith, ey)) (omega (arith, ey, top)))
+in_whole b x y cx cy px py ready left top = grind (arith, common_steps, and_from, span_from)
 
 -- and no other cell is
 pub whole_parts : (b : Borders) (x y : ℕ) → AreReadyBorders b → in_box b.whole (pos x) (pos y) ≡ true →
     (x < b.whole.w) × (y < b.whole.h)
 unfolding in_box
-whole_parts b x y ready inside =
-    let w = b.whole in
-    let ex = ap (λ (w : Box2). w.x) ready.0.same in
-    let ey = ap (λ (w : Box2). w.y) ready.0.same in
-    let both = and_parts (in_span w.x w.w (pos x)) (in_span w.y w.h (pos y)) inside in
-    let px = span_parts w.x w.w x both.0 in
-    let py = span_parts w.y w.h y both.1 in
-    (omega (arith, ex, px.1), omega (arith, ey, py.1))
+whole_parts b x y ready inside = grind (arith, common_steps, and_parts, span_parts)
 
 -- what is known of a cell of an area
 area_parts : (a : Box2) (x y : ℕ) → in_box a (pos x) (pos y) ≡ true →
     ((a.x ≤ x) × (x < a.x + a.w)) × ((a.y ≤ y) × (y < a.y + a.h))
 unfolding in_box
-area_parts a x y inside =
-    let both = and_parts (in_span a.x a.w (pos x)) (in_span a.y a.h (pos y)) inside in
-    (span_parts a.x a.w x both.0, span_parts a.y a.h y both.1)
+area_parts a x y inside = grind (arith, common_steps, and_parts, span_parts)
 
 pub area_at : (a : Box2) (x y : ℕ) (cx cy : ℤ) → cx ≡ pos x → cy ≡ pos y → in_box a cx cy ≡ true →
     ((a.x ≤ x) × (x < a.x + a.w)) × ((a.y ≤ y) × (y < a.y + a.h))
@@ -170,8 +115,7 @@ area_at a x y cx cy ex ey inside = area_parts a x y (sym (ap₂ (in_box a) ex ey
 pub area_from : (a : Box2) (x y : ℕ) → a.x ≤ x → x < a.x + a.w → a.y ≤ y → y < a.y + a.h →
     in_box a (pos x) (pos y) ≡ true
 unfolding in_box
-area_from a x y left right top bottom =
-    and_from _ _ (span_from a.x a.w x left right) (span_from a.y a.h y top bottom)
+area_from a x y left right top bottom = grind (arith, common_steps, and_from, span_from)
 
 -- where a fault is
 pub placed : (b : Borders) (f : BorderFault) → IsFaultOfSearchedJob b f → IsPlaced b f.cell.x f.cell.y

@@ -1,11 +1,11 @@
 -- The signal of the cell and time of an event
-use Rattle.std.proofs.Common.{◌≡◌, ℕ, List, [], ap, ap₂, subst, ◌∙◌, arith, ℤ, pos, ◌+ℤ◌, unwrap_or}
+use Rattle.std.proofs.Common.{◌≡◌, ℕ, List, [], ap, subst, ◌∙◌, arith, ℤ, pos, ◌+ℤ◌}
 use Rattle.std.proofs.lemmas.Int.{ints}
+use Rattle.std.proofs.lemmas.Grind.{common_steps}
 use Rattle.module_box.specs.Moments.{moment_cmp}
 use Rattle.module_box.specs.Moves.{moved_signals}
 use Rattle.module_box.specs.Schedules.{IsRising, Signals, all_times_at, moment_of, signal_at}
 use Rattle.module_box.specs.declared.schedules.TimedSignal.{TimedSignal}
-use Rattle.module_box.specs.declared.schedules.Signal.TheVariants.{Zero}
 use Rattle.module_box.proofs.MovedBoxes.{events_rising, signals_back}
 use Rattle.module_box.proofs.Rising.{event_some, is_first, moment_total}
 use Rattle.module_job.specs.Shapes.{shift_to_origin}
@@ -21,9 +21,7 @@ events_unmoved dx dy ex ey s p q rising =
 signal_at_event : (s : Signals) (e : TimedSignal) → s.all_times ≡ [] → IsRising moment_cmp moment_of s.events →
     IsListed s.events e → signal_at s e.at.time e.at.cell.x e.at.cell.y ≡ e.signal
 unfolding signal_at all_times_at
-signal_at_event s e none rising at =
-    ap₂ (λ h z. unwrap_or (all_times_at h e.at.cell.x e.at.cell.y) (unwrap_or z Zero)) none
-    (event_some s.events at.0 e at.1 (is_first moment_cmp moment_of s.events at.0 e moment_total rising at.1))
+signal_at_event s e none rising at = grind (arith, common_steps, event_some, is_first, moment_total)
 
 -- if no line with a star is among the signals, the event alone says it
 pub own_signal : (x y : ℕ) (s moved : Signals) (es : List TimedSignal) (e : TimedSignal) → s.all_times ≡ [] →

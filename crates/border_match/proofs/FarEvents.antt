@@ -1,11 +1,12 @@
 -- Moments and events that a search for the cells around a box passes over
-use Rattle.std.proofs.Common.{◌≡◌, ℕ, ◌+◌, ◌<◌, ◌≤◌, ◌%◌, List, length, refl, sym, ap, subst, ◌∙◌, inl, inr, ◌⊎◌, arith}
+use Rattle.std.proofs.Common.{◌≡◌, ℕ, ◌+◌, ◌<◌, ◌≤◌, ◌%◌, List, length, refl, ap, ◌∙◌, inl, inr, ◌⊎◌, arith}
 use Rattle.std.proofs.Common.{Ordering, Less, Equal, Greater, Some, get_or, Bool, true, false, ℤ, pos, ◌+ℤ◌, ◌≤ℤ◌, ◌<ℤ◌}
 use Rattle.std.proofs.Common.{◌≢◌, slice_get, nat_cmp, int_cmp}
 use Rattle.std.proofs.lemmas.Bool.{false≢true}
 use Rattle.std.proofs.lemmas.Option.{slice_get_within, slice_get-get_or}
 use Rattle.std.specs.Ordering.{ordering_then}
 use Rattle.std.proofs.lemmas.Int.{ints}
+use Rattle.std.proofs.lemmas.Grind.{common_steps}
 use Rattle.bbm_rule.specs.declared.block.Cell.{Cell}
 use Rattle.module_box.specs.Moments.{cell_cmp, moment_cmp}
 use Rattle.module_box.specs.Schedules.{IsRising, moment_of}
@@ -44,16 +45,7 @@ IsBefore a b = (a.time < b.time) ⊎ ((a.time ≡ b.time)
 
 before : (a b : Moment) → moment_cmp a b ≡ Less → IsBefore a b
 unfolding moment_cmp cell_cmp
-before a b h = elim (then_less (nat_cmp a.time b.time) _ h) [
-  | inl e ↦ inl (nat_less _ _ e)
-  | inr p ↦ inr (
-    nat_equal _ _ p.0,
-    elim (then_less (int_cmp a.cell.y b.cell.y) (int_cmp a.cell.x b.cell.x) p.1) [
-      | inl e ↦ inl (int_less _ _ e)
-      | inr q ↦ inr (int_equal _ _ q.0, int_less _ _ q.1)
-    ],
-  )
-]
+before a b h = grind (arith, common_steps, then_less, nat_less, nat_equal, int_less, int_equal)
 
 -- ---- the next moment at a cell of a window
 
@@ -63,10 +55,7 @@ up_to_or_after a b = grind (arith, ints)
 -- a far cell in the window's rows that is not before the first column is behind the last one
 behind : (w : Window) (c : Cell) → ¬ IsSeen w c → w.first.x ≤ℤ c.x → w.first.y ≤ℤ c.y → c.y ≤ℤ w.last.y →
     w.last.x <ℤ c.x
-behind w c far left top bottom = elim (up_to_or_after c.x w.last.x) [
-  | inl right ↦ absurd (far (record { left = left; right = right; top = top; bottom = bottom }))
-  | inr gt ↦ gt
-]
+behind w c far left top bottom = grind (arith, common_steps, up_to_or_after)
 
 -- what is to be shown of a moment between two others
 abbrev NoneSeen : Window → Moment → Moment → Type 0
@@ -89,9 +78,7 @@ before_columns w at next left et ex ey = far_between w at next (λ m odd k h g. 
 pub behind_columns : (w : Window) (at next : Moment) → ¬ IsSeen w at.cell → w.first.x ≤ℤ at.cell.x →
     w.first.y ≤ℤ at.cell.y → at.cell.y ≤ℤ w.last.y → next.time ≡ at.time → next.cell.x ≡ w.first.x →
     next.cell.y ≡ at.cell.y +ℤ pos 1 → AreMomentsFarBetween w at next
-behind_columns w at next far left top bottom et ex ey =
-    let right = behind w at.cell far left top bottom in
-    far_between w at next (λ m odd k h g. grind (arith, ints))
+behind_columns w at next far left top bottom et ex ey = grind (arith, common_steps, behind, far_between, ints)
 
 -- below the last row it is the first cell at the next odd time
 pub below_rows : (w : Window) (at next : Moment) → w.last.y <ℤ at.cell.y → next.time ≤ at.time + (1 + at.time % 2) →
@@ -102,9 +89,7 @@ below_rows w at next down et ex ey = far_between w at next (λ m odd k h g. grin
 pub behind_rows : (w : Window) (at next : Moment) → ¬ IsSeen w at.cell → w.first.x ≤ℤ at.cell.x →
     w.first.y ≤ℤ at.cell.y → at.cell.y ≡ w.last.y → next.time ≤ at.time + (1 + at.time % 2) →
     next.cell.x ≡ w.first.x → next.cell.y ≡ w.first.y → AreMomentsFarBetween w at next
-behind_rows w at next far left top last et ex ey =
-    let right = behind w at.cell far left top (omega (arith, ints, last)) in
-    far_between w at next (λ m odd k h g. grind (arith, ints))
+behind_rows w at next far left top last et ex ey = grind (arith, common_steps, behind, ints, far_between)
 
 -- ---- places of events
 
@@ -132,36 +117,21 @@ pub passed_to : (events : List TimedSignal) (start m : ℕ) (at : Moment) (d : T
     IsRising moment_cmp moment_of events →
     m < length events → moment_cmp (get_or events m d).at at ≡ Less → ArePassed events start (m + 1) at
 passed_to events start m at d rising within less i e from lt got =
-    let there = slice_get-get_or events m d within in
-    elim (lower_or_same i m lt) [
-      | inl l ↦ moment_total.trans e.at (get_or events m d).at at (rising.rises i m e _ l got there) less
-      | inr same ↦ ap (λ (z : TimedSignal). moment_cmp z.at at)
-          (same_some (slice_get events m) e _ (ap (slice_get events) (sym same) ∙ got) there) ∙ less
-    ]
+    grind (arith, common_steps, slice_get-get_or, lower_or_same, moment_total, same_some)
 
 -- from an event on that is not before the moment none is
 pub rest_from : (events : List TimedSignal) (m : ℕ) (at : Moment) (d : TimedSignal) →
     IsRising moment_cmp moment_of events →
     m < length events → moment_cmp (get_or events m d).at at ≢ Less → AreFrom events m at
 rest_from events m at d rising within not_less i e from got less =
-    let there = slice_get-get_or events m d within in
-    not_less (elim (same_or_higher i m from) [
-      | inl l ↦ moment_total.trans (get_or events m d).at e.at at (rising.rises m i _ e l there got) less
-      | inr same ↦ ap (λ (z : TimedSignal). moment_cmp z.at at)
-          (same_some (slice_get events m) _ e there (ap (slice_get events) same ∙ got)) ∙ less
-    ])
+    grind (arith, common_steps, slice_get-get_or, not_less, same_or_higher, moment_total, same_some)
 
 -- there is none behind the end
 pub rest_none : (events : List TimedSignal) (m : ℕ) (at : Moment) → length events ≤ m → AreFrom events m at
-rest_none events m at end i e from got =
-    let within = slice_get_within events i e got in absurd (omega (arith, within, end, from))
+rest_none events m at end i e from got = grind (arith, common_steps, slice_get_within)
 
 pub not_less : (o p : Ordering) → o ≡ p → o ≢ Less → p ≢ Less
 not_less o p same not e = not (same ∙ e)
-
--- no event is passed at the start
-pub passed_none : (events : List TimedSignal) (start : ℕ) (at : Moment) → ArePassed events start start at
-passed_none events start at i e from lt got = absurd (omega (arith, from, lt))
 
 -- ---- events at far cells
 
@@ -169,14 +139,7 @@ passed_none events start at i e from lt got = absurd (omega (arith, from, lt))
 pub seen : (area corner : Box2) (w : Window) (c : Cell) → IsWindow area corner w →
     IsInOrAroundFromCorner area corner c →
     IsSeen w c
-seen area corner w c is g =
-    let e = is.left in let f = is.right in let p = is.top in let q = is.bottom in
-    let left = g.left in let right = g.right in let top = g.top in let bottom = g.bottom in record {
-      left = omega (arith, ints);
-      right = omega (arith, ints);
-      top = omega (arith, ints);
-      bottom = omega (arith, ints);
-    }
+seen area corner w c is g = grind (arith, common_steps, ints)
 
 -- The events behind one at a far cell are at far cells as long as they are before the next moment that may be at a
 -- cell of the window.
@@ -196,21 +159,14 @@ far_none w events place i e from lt got odd = absurd (omega (arith, from, lt))
 
 pub far_more : (w : Window) (events : List TimedSignal) (start place : ℕ) → AreEventsFar w events start place →
     IsEventFarAt w events place → AreEventsFar w events start (place + 1)
-far_more w events start place far here i e from lt got odd = elim (lower_or_same i place lt) [
-  | inl l ↦ far i e from l got odd
-  | inr same ↦ here e (ap (slice_get events) (sym same) ∙ got)
-]
+far_more w events start place far here i e from lt got odd = grind (arith, common_steps, lower_or_same)
 
 pub far_joined : (w : Window) (events : List TimedSignal) (start middle last next : ℕ) → last ≤ middle →
     AreEventsFar w events start middle → AreEventsFar w events last next → AreEventsFar w events start next
-far_joined w events start middle last next le far behind i e from lt got odd = elim (below_or_from i middle) [
-  | inl l ↦ far i e from l got odd
-  | inr g ↦ behind i e (omega (arith, le, g)) lt got odd
-]
+far_joined w events start middle last next le far behind i e from lt got odd =
+    grind (arith, common_steps, below_or_from, behind)
 
 pub far_at : (w : Window) (events : List TimedSignal) (place : ℕ) (d : TimedSignal) (r : Bool) → place < length events →
     (IsSeen w (get_or events place d).at.cell → r ≡ true) → r ≡ false → IsEventFarAt w events place
 far_at w events place d r within sees none e got g =
-    let is = same_some (slice_get events place) e (get_or events place d) got
-    (slice_get-get_or events place d within) in
-    false≢true (sym none ∙ sees (subst (λ (z : TimedSignal). IsSeen w z.at.cell) is g))
+    grind (arith, common_steps, same_some, slice_get-get_or, false≢true)

@@ -1,8 +1,9 @@
 -- The order of border faults
-use Rattle.std.proofs.Common.{ℕ, ap, ℤ, nat_cmp, int_cmp}
+use Rattle.std.proofs.Common.{arith, ℕ, ℤ}
 use Rattle.std.specs.Cmp.{IsTotalOrder}
 use Rattle.std.proofs.lemmas.Cmp.{then_total, on_total, nat_cmp_total}
 use Rattle.std.proofs.lemmas.Map.Lookups.{CmpEqualImpliesEq, exact_pairs, exact_unsigned, exact_signed}
+use Rattle.std.proofs.lemmas.Grind.{common_steps}
 use Rattle.module_box.specs.Moments.{cell_cmp}
 use Rattle.module_box.proofs.Rising.{cell_total}
 use Rattle.border_match.specs.BorderFaults.{border_cmp}
@@ -18,7 +19,4 @@ key f = (f.time, (f.cell.y, f.cell.x))
 
 pub border_exact : CmpEqualImpliesEq border_cmp
 unfolding border_cmp cell_cmp
-border_exact a b e =
-    let unkey : ℕ × (ℤ × ℤ) → BorderFault = λ k. record { time = k.0; cell = record { x = k.1.1; y = k.1.0 } } in
-    ap unkey (exact_pairs nat_cmp _ exact_unsigned (exact_pairs int_cmp int_cmp exact_signed exact_signed) (key a)
-    (key b) e)
+border_exact a b e = grind (arith, common_steps, exact_pairs, exact_unsigned, exact_signed, key)

@@ -1,10 +1,10 @@
 -- Candidates for a least border fault
-use Rattle.std.proofs.Common.{◌≡◌, true, false, Option, Some, None, Ordering, Less, Equal, Greater, refl, sym, ap}
-use Rattle.std.proofs.Common.{subst, ◌∙◌, inl, inr, ◌⊎◌, ◌≢◌, is_gt}
-use Rattle.std.specs.Ordering.{ordering_reverse}
+use Rattle.std.proofs.Common.{arith, ◌≡◌, false, Option, Some, None, Ordering, Less, Equal, Greater, refl}
+use Rattle.std.proofs.Common.{◌⊎◌, ◌≢◌, is_gt}
 use Rattle.std.proofs.lemmas.Cmp.{tied_itself, upto}
+use Rattle.std.proofs.lemmas.Grind.{common_steps}
 use Rattle.border_match.specs.BorderFaults.{border_cmp}
-use Rattle.border_match.specs.Candidates.{CandidateSatisfies, HasCandidateAtMost, IsBetter, IsLeast}
+use Rattle.border_match.specs.Candidates.{HasCandidateAtMost, IsBetter, IsLeast}
 use Rattle.border_match.specs.declared.fault.BorderFault.{BorderFault}
 use Rattle.border_match.proofs.FaultOrder.{border_total}
 
@@ -16,28 +16,17 @@ not_gt Equal n = refl
 not_gt Greater n = absurd (n refl)
 
 from_not_gt : (o : Ordering) → is_gt o ≡ false → o ≢ Greater
-from_not_gt o e g = absurd (clash (ap is_gt (sym g) ∙ e))
-  where
-    clash : true ≡ false → ⊥
-    clash e = cc
+from_not_gt o e g = grind (arith, common_steps)
 
 at_most_trans : (a b c : BorderFault) → border_cmp a b ≢ Greater → border_cmp b c ≢ Greater → border_cmp a c ≢ Greater
 at_most_trans a b c p q = from_not_gt _ (upto border_total a b c (not_gt _ p) (not_gt _ q))
 
 pub at_most_itself : (a : BorderFault) → border_cmp a a ≢ Greater
-at_most_itself a g = clash (sym (tied_itself border_total a) ∙ g)
-  where
-    clash : Equal ≡ Greater → ⊥
-    clash e = cc
+at_most_itself a g = grind (arith, common_steps, tied_itself, border_total)
 
 pub lesser_kept : (o m : BorderFault) (best : Option BorderFault) → best ≡ Some o → Greater ≡ border_cmp o m →
     (h : BorderFault) → HasCandidateAtMost best h → border_cmp m h ≢ Greater
-lesser_kept o m best is greater h c =
-    let less : border_cmp m o ≡ Less = border_total.antisymm m o ∙ ap ordering_reverse (sym greater) in
-    at_most_trans m o h (λ g. less_greater (sym less ∙ g)) (subst (λ b. HasCandidateAtMost b h) is c)
-  where
-    less_greater : Less ≡ Greater → ⊥
-    less_greater e = cc
+lesser_kept o m best is greater h c = grind (arith, common_steps, border_total, at_most_trans)
 
 pub covers_after : (o : Option BorderFault) (m h : BorderFault) → HasCandidateAtMost o m → border_cmp m h ≢ Greater →
     HasCandidateAtMost o h
@@ -52,62 +41,26 @@ module _ (F : BorderFault → Type 0) where
       IsBetter F P o o
   better_same P o none = record { sound = λ s. s; kept = λ h c. c; covers = λ h f p. absurd (none h f p) }
 
-  -- the candidate is at most m
-  pub better_covered : (m : BorderFault) (o : Option BorderFault) → HasCandidateAtMost o m → IsBetter F (λ h. h ≡ m) o o
-  better_covered m o covered = record {
-    sound = λ s. s;
-    kept = λ h c. c;
-    covers = λ h f same. subst (HasCandidateAtMost o) (sym same) covered;
-  }
-
   -- the new candidate is at most m, which is one of F and at most each of F with P
   pub better_with : (P : BorderFault → Type 0) (o o' : Option BorderFault) (m : BorderFault) → F m →
       ((h : BorderFault) → F h → P h → border_cmp m h ≢ Greater) →
       ((h : BorderFault) → HasCandidateAtMost o h → HasCandidateAtMost o' h) → (o' ≡ o) ⊎ (o' ≡ Some m) →
       HasCandidateAtMost o' m → IsBetter F P o o'
-  better_with P o o' m f least kept one covered = record {
-    sound = λ s. elim one [
-      | inl e ↦ subst (CandidateSatisfies F) (sym e) s
-      | inr e ↦ subst (CandidateSatisfies F) (sym e) f
-    ];
-    kept = kept;
-    covers = λ h g p. covers_after o' m h covered (least h g p);
-  }
+  better_with P o o' m f least kept one covered = grind (arith, common_steps, covers_after)
 
   pub better_then : (P Q R : BorderFault → Type 0) (a b c : Option BorderFault) → IsBetter F P a b → IsBetter F Q b c →
       ((h : BorderFault) → F h → R h → P h ⊎ Q h) → IsBetter F R a c
-  better_then P Q R a b c p q split = record {
-    sound = λ s. q.sound (p.sound s);
-    kept = λ h k. q.kept h (p.kept h k);
-    covers = λ h f r. elim (split h f r) [
-      | inl k ↦ q.kept h (p.covers h f k)
-      | inr k ↦ q.covers h f k
-    ];
-  }
+  better_then P Q R a b c p q split = grind (arith, common_steps)
 
   pub better_for : (P Q : BorderFault → Type 0) (a b : Option BorderFault) → IsBetter F P a b →
       ((h : BorderFault) → F h → Q h → P h) → IsBetter F Q a b
-  better_for P Q a b better weaker =
-      record { sound = better.sound; kept = better.kept; covers = λ h f q. better.covers h f (weaker h f q) }
+  better_for P Q a b better weaker = grind (arith, common_steps)
 
   pub better_rest : (P Q : BorderFault → Type 0) (a b : Option BorderFault) → IsBetter F P a b →
       ((h : BorderFault) → Q h → P h ⊎ HasCandidateAtMost b h) → IsBetter F Q a b
-  better_rest P Q a b better split = record {
-    sound = better.sound;
-    kept = better.kept;
-    covers = λ h f q. elim (split h q) [ inl p ↦ better.covers h f p | inr c ↦ c ];
-  }
+  better_rest P Q a b better split = grind (arith, common_steps)
 
   pub least_by_three : (P Q R : BorderFault → Type 0) (a b c : Option BorderFault) → IsBetter F P None a →
       IsBetter F Q a b → IsBetter F R b c →
       ((h : BorderFault) → F h → P h ⊎ (Q h ⊎ R h)) → IsLeast F c
-  least_by_three P Q R a b c p q r all = record {
-    sound = r.sound (q.sound (p.sound tt));
-    least = λ h f. elim (all h f) [
-      | inl k ↦ r.kept h (q.kept h (p.covers h f k))
-      | inr k ↦ elim k [
-        | inl l ↦ r.kept h (q.covers h f l)
-        | inr l ↦ r.covers h f l
-      ]
-    ];
-  }
+  least_by_three P Q R a b c p q r all = grind (arith, common_steps)

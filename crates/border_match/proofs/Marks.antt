@@ -1,14 +1,13 @@
 -- Marks of the halo events that edges name
-use Rattle.std.proofs.Common.{◌≡◌, ℕ, ◌+◌, ◌≤◌, List, [], ◌∷◌, ◌++◌, length, take, replicate, Bool, true, false, Some}
+use Rattle.std.proofs.Common.{◌≡◌, ℕ, ◌+◌, ◌≤◌, List, [], ◌++◌, length, take, replicate, Bool, true, false, Some}
 use Rattle.std.proofs.Common.{arith, refl, sym, ap, ◌∙◌, inl, inr, ◌⊎◌, zero, suc, map, ap₂, ℤ, pos, slice_get}
-use Rattle.std.proofs.Common.{slice_set}
 use Rattle.std.proofs.lemmas.Int.{ints}
+use Rattle.std.proofs.lemmas.Grind.{common_steps}
 use Rattle.bbm_rule.specs.declared.block.Cell.{Cell}
 use Rattle.module_box.specs.Moves.{moved_cell, moved_event, moved_signals}
 use Rattle.module_box.specs.Schedules.{Signals}
 use Rattle.module_box.proofs.MovedBoxes.{cell_back}
 use Rattle.module_job.specs.Shapes.{shift_to_origin}
-use Rattle.std.proofs.Math.ListN.{length-set}
 use Rattle.std.proofs.Math.Seq.{take-append_seam}
 use Rattle.std.proofs.lemmas.Bool.{false≢true}
 use Rattle.std.proofs.lemmas.Option.{slice_get_within}
@@ -27,30 +26,6 @@ use Rattle.border_match.proofs.Steps.{fault_covered, same_fault}
 use Rattle.border_match.proofs.NearModules.{lower_or_same}
 
 -- ---- one mark more
-
-same_or_other : (p q : ℕ) → (p ≡ q) ⊎ (p ≡ q → ⊥)
-same_or_other p q = grind arith
-
-set_elsewhere : (xs : List Bool) (q p : ℕ) → (p ≡ q → ⊥) → slice_get (slice_set xs q true) p ≡ slice_get xs p
-set_elsewhere [] q p other = refl
-set_elsewhere (x ∷ xs) zero zero other = absurd (other refl)
-set_elsewhere (x ∷ xs) zero (suc p) other = refl
-set_elsewhere (x ∷ xs) (suc q) zero other = refl
-set_elsewhere (x ∷ xs) (suc q) (suc p) other = set_elsewhere xs q p (λ same. other (ap suc same))
-
-pub mark_added : (events : List TimedSignal) (at : Moment) (old new : List Bool) (place : ℕ) →
-    IsPlaceOf events at place → new ≡ slice_set old place true → AddsMark events at old new
-mark_added events at old new place is set = record {
-  sized = ap length set ∙ length-set old place true;
-  marks = λ p e marked got. elim (same_or_other p place) [
-    | inl same ↦ inr (ap (λ (z : TimedSignal). z.at)
-        (same_some (slice_get events p) e is.event got (ap (slice_get events) same ∙ is.got)) ∙ is.same)
-    | inr other ↦ inl (sym (set_elsewhere old place p other) ∙ ap (λ l. slice_get l p) (sym set) ∙ marked)
-  ];
-}
-
-pub none_added : (events : List TimedSignal) (at : Moment) (old : List Bool) → AddsMark events at old old
-none_added events at old = record { sized = refl; marks = λ p e marked got. inl marked }
 
 -- the place of an event that is counted from the corner of the box
 pub local_place : (x y : ℕ) (dx dy : ℤ) (cell : Cell) (s moved : Signals) (es : List TimedSignal) (at : Moment)
@@ -76,27 +51,7 @@ pub still_marked : (b : Borders) (other : JobView) (event : TimedSignal) (old ne
     slice_get (jobs_of b) (owner_of b.owners.now event.at.cell.x event.at.cell.y) ≡ Some other →
     IsListed other.edges.events event → AddsMark b.job.now.halos.events event.at old new → AreMarked b old →
     AreMarked b new
-still_marked b other event old new owned listed adds marked = record {
-  sized = adds.sized ∙ marked.sized;
-  edges = λ p e f mark got at. elim (adds.marks p e mark got) [
-    | inl before ↦ marked.edges p e f before got at
-    | inr same ↦
-        let here : event.at ≡ record { time = f.time; cell = f.cell } =
-        sym same ∙ ap (λ (g : BorderFault). record { time = g.time; cell = g.cell }) (sym at) in
-        record {
-          owner = other;
-          numbered = ap (λ (m : Moment). slice_get (jobs_of b) (owner_of b.owners.now m.cell.x m.cell.y)) (sym here)
-              ∙ owned;
-          named = record {
-            place = listed.0;
-            event = event;
-            got = listed.1;
-            time = ap (λ (m : Moment). m.time) here;
-            cell = ap (λ (m : Moment). m.cell) here;
-          };
-        }
-  ];
-}
+still_marked b other event old new owned listed adds marked = grind (arith, common_steps)
 
 -- ---- no mark at first
 
@@ -107,15 +62,11 @@ all_false (suc n) (suc p) e = all_false n p e
 
 pub unmarked_first : (b : Borders) (seen : List Bool) (n : ℕ) → n ≡ length b.job.now.halos.events →
     seen ≡ replicate n false → length seen ≡ n → AreMarked b seen
-unmarked_first b seen n count are sized = record {
-  sized = sized ∙ count;
-  edges = λ p e f mark got at. absurd (all_false n p (ap (λ l. slice_get l p) (sym are) ∙ mark));
-}
+unmarked_first b seen n count are sized = grind (arith, common_steps, all_false)
 
 -- marks that are written back into their vector
 pub written_back : (new rest items : List Bool) (n : ℕ) → n ≡ length new → items ≡ take n (new ++ rest) → new ≡ items
-written_back new rest items n count is =
-    sym (is ∙ ap (λ k. take k (new ++ rest)) count ∙ take-append_seam new rest)
+written_back new rest items n count is = grind (arith, common_steps, take-append_seam)
 
 -- ---- one event more
 

@@ -1,8 +1,9 @@
 -- The boxes of the modules of a certificate
 use Rattle.std.proofs.Common.{◌≡◌, ℕ, zero, suc, ◌+◌, ◌<◌, ◌≤◌, List, [], ◌∷◌, ◌++◌, take, map, length, Option, Some}
-use Rattle.std.proofs.Common.{None, refl, sym, ap, subst, ◌∙◌, arith, inl, inr, slice_get, option_map}
+use Rattle.std.proofs.Common.{None, refl, sym, ap, subst, ◌∙◌, arith, slice_get, option_map}
 use Rattle.std.proofs.lemmas.Option.{slice_get-map, slice_get_within, get_or_from_slice_get}
 use Rattle.std.proofs.lemmas.List.{take_more}
+use Rattle.std.proofs.lemmas.Grind.{common_steps}
 use Rattle.module_box.specs.Boxes.{IsEven, Tile}
 use Rattle.module_box.specs.Tiling.{IsTask, IsTileFault, rectangle_of}
 use Rattle.module_box.specs.declared.boxes.Box2.{Box2}
@@ -26,10 +27,7 @@ there (x ∷ xs) (suc k) lt = there xs k (omega arith)
 
 some_value : {A B : Type 0} (v : A → B) (o : Option A) (b : B) → option_map v o ≡ Some b →
     (a : A) × (o ≡ Some a) × (v a ≡ b)
-some_value v None b e = absurd (none_some e)
-  where
-    none_some : {B : Type 0} {b : B} → None ≡ Some b → ⊥
-    none_some e = cc
+some_value v None b e = grind (arith, common_steps)
 some_value v (Some a) b e = (a, refl, same_some (Some (v a)) (v a) b refl e)
 
 -- what gives an element of a list of values
@@ -60,9 +58,7 @@ area_at ms k m e = slice_get-map (λ (m : ModuleLines). m.area) ms k ∙ ap (opt
 
 pub counted_area : (ms : List ModuleLines) (k : ℕ) (c : Counts) → slice_get (map counts_of ms) k ≡ Some c →
     slice_get (areas ms) k ≡ Some c.area
-counted_area ms k c e =
-    let m = value_of counts_of ms k c e in
-    area_at ms k m.0 m.1 ∙ ap (λ (c : Counts). Some c.area) m.2
+counted_area ms k c e = grind (arith, common_steps, value_of, area_at)
 
 pub areas_more : (ms : List ModuleLines) (k : ℕ) (c : Counts) (some more : List Box2) →
     slice_get (map counts_of ms) k ≡ Some c → some ≡ take k (areas ms) → more ≡ some ++ c.area ∷ [] →
@@ -97,8 +93,4 @@ is_task g ms s boxes same limits good are =
 pub pushed_more : {A : Type 0} (P : ℕ → A → Type 0) (xs ys : List A) (k : ℕ) (x : A) → length xs ≡ k →
     ys ≡ xs ++ x ∷ [] → ((i : ℕ) (a : A) → slice_get xs i ≡ Some a → P i a) → P k x →
     (i : ℕ) (a : A) → slice_get ys i ≡ Some a → P i a
-pushed_more P xs ys k x len grown before here i a e =
-    elim (pushed xs x i a (ap (λ zs. slice_get zs i) (sym grown) ∙ e)) [
-      | inl old ↦ before i a old
-      | inr new ↦ subst (λ j. P j a) (sym (new.0 ∙ len)) (subst (P k) new.1 here)
-    ]
+pushed_more P xs ys k x len grown before here i a e = grind (arith, common_steps, pushed)

@@ -1,10 +1,10 @@
 -- The numbers of the modules that have cells of a module's halo, noted box by box.
 use Rattle.std.proofs.Common.{◌≡◌, ℕ, ◌+◌, ◌-◌, ◌<◌, ◌≤◌, List, [], ◌∷◌, ◌++◌, length, Bool, true, false, ◌||◌, Some}
-use Rattle.std.proofs.Common.{refl, sym, ap, ap₂, subst, ◌∙◌, inl, inr, ◌⊎◌, arith, ℤ, pos, ◌==◌, slice_get}
+use Rattle.std.proofs.Common.{refl, sym, ap₂, subst, ◌∙◌, inl, inr, ◌⊎◌, arith, ℤ, pos, ◌==◌, slice_get}
 use Rattle.std.proofs.lemmas.Bool.{and_parts, cases_Bool, cond-true, cond-false, false≢true}
 use Rattle.std.proofs.lemmas.Bool.Decides.{nat_tests}
-use Rattle.std.proofs.lemmas.List.Elements.{All-push}
 use Rattle.std.proofs.lemmas.List.Folds.{list_any-append}
+use Rattle.std.proofs.lemmas.Grind.{common_steps}
 use Rattle.module_box.specs.Boxes.{in_box, in_halo}
 use Rattle.module_box.specs.Locals.{is_among}
 use Rattle.module_box.specs.Tiling.{owner_of}
@@ -27,14 +27,7 @@ abbrev is_it : ℕ → ℕ → Bool
 is_it w v = v == w
 
 pub among_more : (ks : List ℕ) (k w : ℕ) → is_among (ks ++ k ∷ []) w ≡ true → (is_among ks w ≡ true) ⊎ (w ≡ k)
-among_more ks k w h = elim (either (is_among ks w) (is_among (k ∷ []) w)
-    (sym (list_any-append (is_it w) ks (k ∷ [])) ∙ h)) [
-      | inl before ↦ inl before
-      | inr last ↦ elim (either (is_it w k) false last) [
-        | inl same ↦ inr (grind (arith, nat_tests, same))
-        | inr none ↦ absurd (false≢true none)
-      ]
-    ]
+among_more ks k w h = grind (arith, common_steps, either, list_any-append, is_it, nat_tests, false≢true)
 
 or_left : (a b : Bool) → a ≡ true → (a || b) ≡ true
 or_left true b e = refl
@@ -48,31 +41,22 @@ keeps_more : (ks : List ℕ) (k : ℕ) → KeepsAllNumbers ks (ks ++ k ∷ [])
 keeps_more ks k w h = list_any-append (is_it w) ks (k ∷ []) ∙ or_left (is_among ks w) (is_among (k ∷ []) w) h
 
 last_among : (ks : List ℕ) (k : ℕ) → is_among (ks ++ k ∷ []) k ≡ true
-last_among ks k = list_any-append (is_it k) ks (k ∷ [])
-    ∙ or_right (is_among ks k) (is_among (k ∷ []) k) (or_left (is_it k k) false (grind (arith, nat_tests)))
+last_among ks k = grind (arith, common_steps, list_any-append, is_it, or_right, or_left, nat_tests)
 
 -- what holds of the old numbers and of those with one more holds of the two by the test
 with_either : (P : List ℕ → Type 0) (ks : List ℕ) (k : ℕ) → (is_among ks k ≡ true → P ks) → P (ks ++ k ∷ []) →
     P (with_number_once ks k)
-with_either P ks k old more = elim (cases_Bool (is_among ks k)) [
-  | inl there ↦ subst P (sym (cond-true _ _ _ there)) (old there)
-  | inr none ↦ subst P (sym (cond-false _ _ _ none)) more
-]
+with_either P ks k old more = grind (arith, common_steps, cases_Bool, cond-true, cond-false)
 
 pub with_keeps : (ks new : List ℕ) (k : ℕ) → new ≡ with_number_once ks k → KeepsAllNumbers ks new
-with_keeps ks new k is =
-    subst (KeepsAllNumbers ks) (sym is) (with_either (KeepsAllNumbers ks) ks k (λ _ w h. h) (keeps_more ks k))
+with_keeps ks new k is = grind (arith, common_steps, with_either, keeps_more)
 
 pub with_among : (ks new : List ℕ) (k : ℕ) → new ≡ with_number_once ks k → is_among new k ≡ true
-with_among ks new k is =
-    let P : List ℕ → Type 0 = λ l. is_among l k ≡ true in
-    subst P (sym is) (with_either P ks k (λ there. there) (last_among ks k))
+with_among ks new k is = grind (arith, common_steps, with_either, last_among)
 
 pub with_below : (b : Borders) (ks new : List ℕ) (k : ℕ) → new ≡ with_number_once ks k → AreModuleNumbers b ks →
     k < length b.jobs.now → AreModuleNumbers b new
-with_below b ks new k is below lt =
-    subst (AreModuleNumbers b) (sym is) (with_either (AreModuleNumbers b) ks k (λ _. below)
-    (All-push (λ (k : ℕ). k < length b.jobs.now) ks k below lt))
+with_below b ks new k is below lt = grind (arith, common_steps, with_either)
 
 -- ---- columns and rows
 
@@ -88,23 +72,17 @@ below_or_from i m = grind arith
 
 -- the cells of the module's box have no owner to be noted
 pub own_noted : (b : Borders) (ks : List ℕ) (a : Box2) → a ≡ b.job.now.area → AreAreaOwnersListed b ks a
-own_noted b ks a same x y inside there out =
-    absurd (false≢true (sym out ∙ ap (λ (z : Box2). in_box z x y) (sym same) ∙ inside))
+own_noted b ks a same x y inside there out = grind (arith, common_steps, false≢true)
 
 -- the cells of a module's box have that module as their owner
 pub owner_noted : (b : Borders) (ks : List ℕ) (k : ℕ) (j : JobView) (a : Box2) → AreReadyBorders b → a ≡ j.area →
     slice_get (jobs_of b) k ≡ Some j → is_among ks k ≡ true → AreAreaOwnersListed b ks a
-owner_noted b ks k j a ready same got among x y inside there out =
-    let P : ℕ → Type 0 = λ n. is_among ks n ≡ true in
-    subst P (sym (ready.0.only x y k j there got (ap (λ (z : Box2). in_box z x y) (sym same) ∙ inside))) among
+owner_noted b ks k j a ready same got among x y inside there out = grind (arith, common_steps)
 
 -- the owner of a cell has the cell in its box
 pub owner_holds : (b : Borders) (x y : ℤ) (j : JobView) (a : Box2) → AreReadyBorders b → in_box b.whole x y ≡ true →
     a ≡ j.area → slice_get (jobs_of b) (owner_of b.owners.now x y) ≡ Some j → in_box a x y ≡ true
-owner_holds b x y j a ready inside same got =
-    let m = ready.0.holder x y inside in
-    ap (λ (z : Box2). in_box z x y) same
-    ∙ ap (λ (z : JobView). in_box z.area x y) (same_some (slice_get (jobs_of b) _) j m.0 got m.1) ∙ m.2
+owner_holds b x y j a ready inside same got = grind (arith, common_steps, same_some)
 
 pub no_column : (b : Borders) (ks : List ℕ) (y z x : ℕ) → x ≡ b.job.now.area.x - 1 → AreOwnersListedToColumn b ks y z x
 no_column b ks y z x from c r left lt top under = absurd (omega (arith, lt, left, from))
@@ -114,24 +92,14 @@ pub columns_more : (b : Borders) (old new : List ℕ) (y z z' x : ℕ) (a : Box2
     in_box a cx cy ≡ true → z' ≤ z → z' ≤ a.y + a.h → AreOwnersListedToColumn b old y z x → KeepsAllNumbers old new →
     AreAreaOwnersListed b new a → AreOwnersListedToColumn b new y z' (a.x + a.w)
 columns_more b old new y z z' x a cx cy ex ey has le within before keeps here c r left lt top under =
-    let at = area_at a x y cx cy ex ey has in
-    elim (below_or_from c x) [
-      | inl l ↦ noted_still b old new (pos c) (pos r) keeps (before c r left l top (omega (arith, under, le)))
-      | inr from ↦ here (pos c) (pos r) (area_from a c r (omega (arith, at.0.0, from)) lt
-          (omega (arith, at.1.0, top)) (omega (arith, under, within)))
-    ]
+    grind (arith, common_steps, area_at, below_or_from, noted_still, area_from)
 
 -- the columns behind x are outside of the rectangle or of the halo
 pub all_columns : (b : Borders) (ks : List ℕ) (y z x : ℕ) → AreReadyBorders b →
     ((c : ℕ) → x ≤ c → c < b.job.now.area.x + b.job.now.area.w + 1 → b.whole.w ≤ c) →
     AreOwnersListedToColumn b ks y z x →
     AreOwnersListedInRows b ks y z
-all_columns b ks y z x ready end before c r left lt top under = elim (below_or_from c x) [
-  | inl l ↦ before c r left l top under
-  | inr from ↦ λ there out.
-      let outside = end c from lt in
-      let inside = (whole_parts b c r ready there).0 in absurd (omega (arith, outside, inside))
-]
+all_columns b ks y z x ready end before c r left lt top under = grind (arith, common_steps, below_or_from, whole_parts)
 
 pub no_row : (b : Borders) (ks : List ℕ) (y z : ℕ) → z ≡ y → AreOwnersListedInRows b ks y z
 no_row b ks y z same c r left lt top under = absurd (omega (arith, top, under, same))
@@ -139,10 +107,8 @@ no_row b ks y z same c r left lt top under = absurd (omega (arith, top, under, s
 pub rows_more : (b : Borders) (old new : List ℕ) (x y z : ℕ) → AreOwnersListedInRows b old x y →
     KeepsAllNumbers old new →
     AreOwnersListedInRows b new y z → AreOwnersListedInRows b new x z
-rows_more b old new x y z above keeps here c r left lt top under = elim (below_or_from r y) [
-  | inl l ↦ noted_still b old new (pos c) (pos r) keeps (above c r left lt top l)
-  | inr from ↦ here c r left lt from under
-]
+rows_more b old new x y z above keeps here c r left lt top under =
+    grind (arith, common_steps, below_or_from, noted_still)
 
 -- the rows behind y are outside of the rectangle or of the halo
 pub all_rows : (b : Borders) (ks : List ℕ) (y : ℕ) → AreReadyBorders b →

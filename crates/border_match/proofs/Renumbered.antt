@@ -1,11 +1,12 @@
 -- Signals by other numbers of their wires, and times without an event
 use Rattle.std.proofs.Common.{◌≡◌, ℕ, suc, ◌<◌, ◌%◌, ◌++◌, List, [], ◌∷◌, map, Bool, false, ◌&&◌, ◌==◌, Option, Some}
-use Rattle.std.proofs.Common.{None, refl, sym, ap, ap₂, ◌∙◌, arith, inl, inr, ℤ, unwrap_or, option_map, IfSome, All}
+use Rattle.std.proofs.Common.{None, refl, sym, ap, ◌∙◌, arith, ℤ, unwrap_or, option_map, IfSome, All}
 use Rattle.std.proofs.Common.{flat_map}
 use Rattle.std.proofs.lemmas.Bool.{cases_Bool, cond-true, cond-false}
 use Rattle.std.proofs.lemmas.Bool.Decides.{nat_tests}
+use Rattle.std.proofs.lemmas.Grind.{common_steps}
 use Rattle.bbm_rule.specs.Plane.{is_at}
-use Rattle.module_box.specs.Schedules.{Signals, is_moment_at, all_times_at, event_at, signal_at}
+use Rattle.module_box.specs.Schedules.{Signals, all_times_at, event_at, signal_at}
 use Rattle.module_box.specs.declared.schedules.TimedSignal.{TimedSignal}
 use Rattle.module_box.specs.declared.schedules.AllTimes.{AllTimes}
 use Rattle.module_box.specs.declared.schedules.Signal.{Signal}
@@ -19,21 +20,15 @@ module _ (f : ℕ → ℕ) where
       all_times_at (map (renumber_all_times f) hs) x y ≡ option_map (renumber_signal f) (all_times_at hs x y)
   unfolding all_times_at
   all_times_renumbered [] x y = refl
-  all_times_renumbered (h ∷ hs) x y = elim (cases_Bool (is_at h.cell x y)) [
-    | inl e ↦ cond-true _ _ _ e ∙ ap (option_map (renumber_signal f)) (sym (cond-true _ _ _ e))
-    | inr e ↦ cond-false _ _ _ e ∙ all_times_renumbered hs x y
-        ∙ ap (option_map (renumber_signal f)) (sym (cond-false _ _ _ e))
-  ]
+  all_times_renumbered (h ∷ hs) x y =
+      grind (arith, common_steps, all_times_renumbered hs x y, cases_Bool, cond-true, cond-false)
 
   event_renumbered : (es : List TimedSignal) (t : ℕ) (x y : ℤ) →
       event_at (map (renumber_event f) es) t x y ≡ option_map (renumber_signal f) (event_at es t x y)
   unfolding event_at
   event_renumbered [] t x y = refl
-  event_renumbered (e ∷ es) t x y = elim (cases_Bool (is_moment_at e.at t x y)) [
-    | inl h ↦ cond-true _ _ _ h ∙ ap (option_map (renumber_signal f)) (sym (cond-true _ _ _ h))
-    | inr h ↦ cond-false _ _ _ h ∙ event_renumbered es t x y
-        ∙ ap (option_map (renumber_signal f)) (sym (cond-false _ _ _ h))
-  ]
+  event_renumbered (e ∷ es) t x y =
+      grind (arith, common_steps, event_renumbered es t x y, cases_Bool, cond-true, cond-false)
 
   either : (a b : Option Signal) →
       unwrap_or (option_map (renumber_signal f) a) (unwrap_or (option_map (renumber_signal f) b) Zero)
@@ -45,10 +40,7 @@ module _ (f : ℕ → ℕ) where
   pub signal_renumbered : (s : Signals) (t : ℕ) (x y : ℤ) →
       renumber_signal f (signal_at s t x y) ≡ signal_at (renumber_signals f s) t x y
   unfolding signal_at
-  signal_renumbered s t x y =
-      sym (either (all_times_at s.all_times x y) (event_at s.events t x y)) ∙
-      ap₂ (λ a b. unwrap_or a (unwrap_or b Zero)) (sym (all_times_renumbered s.all_times x y))
-      (sym (event_renumbered s.events t x y))
+  signal_renumbered s t x y = grind (arith, common_steps, either, all_times_renumbered, event_renumbered)
 
   none_back : (o : Option Signal) → option_map (renumber_signal f) o ≡ None → o ≡ None
   none_back None e = refl

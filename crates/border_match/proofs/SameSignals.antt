@@ -1,8 +1,8 @@
 -- Halo and edge signals are the same if a module has no border fault
-use Rattle.std.proofs.Common.{◌≡◌, ℕ, List, refl, sym, ap, ◌∙◌, inl, inr, ◌≢◌, ℤ}
+use Rattle.std.proofs.Common.{arith, ◌≡◌, ℕ, List, refl, ap, ◌≢◌, ℤ}
 use Rattle.std.proofs.lemmas.Bool.{cases_Bool, false≢true}
+use Rattle.std.proofs.lemmas.Grind.{common_steps}
 use Rattle.circuit.specs.Meaning.{Valuation}
-use Rattle.module_box.specs.Equality.{same_signal}
 use Rattle.module_box.specs.declared.schedules.Signal.{Signal}
 use Rattle.module_box.proofs.EqualTests.{signal_decides}
 use Rattle.certificate_lines.specs.Entries.{Setting, ModuleLines}
@@ -14,10 +14,7 @@ use Rattle.border_match.proofs.Modules.{area_at}
 
 -- signals that do not differ are the same
 pub not_different : (a b : Signal) → (a ≢ b → ⊥) → a ≡ b
-not_different a b h = elim (cases_Bool (same_signal a b)) [
-  | inl same ↦ (signal_decides a b).0 same
-  | inr other ↦ absurd (h (λ same. false≢true (sym other ∙ (signal_decides a b).1 same)))
-]
+not_different a b h = grind (arith, common_steps, cases_Bool, signal_decides, false≢true)
 
 -- a fault at that time is enough
 pub same_at : (g : Setting) (ms : List ModuleLines) (i k : ℕ) (m owner : ModuleLines) (t : ℕ) (x y : ℤ)

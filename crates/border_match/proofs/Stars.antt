@@ -1,11 +1,12 @@
 -- Cells of which a line with a star speaks
-use Rattle.std.proofs.Common.{◌≡◌, ℕ, suc, ◌+◌, ◌<◌, ◌≤◌, List, [], ◌∷◌, ◌++◌, map, length, take, get_or, Some, None}
-use Rattle.std.proofs.Common.{refl, sym, ap, ap₂, subst, ◌∙◌, inl, inr, ◌⊎◌, arith, ℤ, pos, ◌+ℤ◌, option_map, slice_get}
+use Rattle.std.proofs.Common.{◌≡◌, ℕ, suc, ◌+◌, ◌<◌, ◌≤◌, List, [], ◌∷◌, map, length, take, get_or, Some, None}
+use Rattle.std.proofs.Common.{refl, sym, ap, ap₂, subst, ◌∙◌, inl, inr, ◌⊎◌, arith, ℤ, pos, slice_get}
 use Rattle.std.proofs.Common.{unwrap_or}
 use Rattle.std.proofs.lemmas.Bool.{cond-false, cases_Bool}
 use Rattle.std.proofs.lemmas.List.{length-map, take_all, take_more}
 use Rattle.std.proofs.lemmas.Option.{slice_get_within, slice_get-get_or, slice_get-map}
 use Rattle.std.proofs.lemmas.Int.{ints}
+use Rattle.std.proofs.lemmas.Grind.{common_steps}
 use Rattle.bbm_rule.specs.Plane.{is_at}
 use Rattle.bbm_rule.specs.declared.block.Cell.{Cell}
 use Rattle.bbm_rule.proofs.SameCells.{cell_same}
@@ -36,13 +37,7 @@ star_at : (dx dy : ℤ) (b : Borders) (stars : List AllTimes) (k : ℕ) (d : All
     k < length stars →
     (h : IsStarred b (map (moved_all_times dx dy) stars) f) → h.place ≡ k →
     moved_cell dx dy (get_or stars k d).cell ≡ f.cell
-star_at dx dy b stars k d f lt h same =
-    let moved = map (moved_all_times dx dy) stars in
-    let there : slice_get moved k ≡ Some (moved_all_times dx dy (get_or stars k d)) =
-    slice_get-map (moved_all_times dx dy) stars k
-    ∙ ap (option_map (moved_all_times dx dy)) (slice_get-get_or stars k d lt) in
-    ap (λ (z : AllTimes). z.cell) (same_some (slice_get moved k) _ h.star there
-    (ap (slice_get moved) (sym same) ∙ h.got)) ∙ h.cell
+star_at dx dy b stars k d f lt h same = grind (arith, common_steps, slice_get-map, slice_get-get_or, same_some)
 
 -- the line at this place is for a cell that is not around the module's box, so that no fault is there
 pub star_far : (a corner : Box2) (b : Borders) (stars : List AllTimes) (k : ℕ) (d : AllTimes) (f : BorderFault) →
@@ -84,20 +79,12 @@ star_all dx dy b stars k f le h =
 pub stars_of : (x y : ℕ) (own moved : Signals) (stars : List AllTimes) → stars ≡ moved.all_times →
     moved ≡ moved_signals (shift_to_origin x) (shift_to_origin y) own →
     map (moved_all_times (pos x) (pos y)) stars ≡ own.all_times
-stars_of x y own moved stars same are =
-    ap (map (moved_all_times (pos x) (pos y))) (same ∙ ap (λ (z : Signals). z.all_times) are)
-    ∙ ap (λ (z : Signals). z.all_times)
-    (signals_back (shift_to_origin x) (shift_to_origin y) (pos x) (pos y) own (back x) (back y))
-  where
-    back : (n : ℕ) → shift_to_origin n +ℤ pos n ≡ pos 0
-    back n = omega (arith, ints)
+stars_of x y own moved stars same are = grind (arith, common_steps, signals_back, ints)
 
 pub starred_back : (b : Borders) (area corner : Box2) (stars own : List AllTimes) (f : BorderFault) → corner ≡ area →
     map (moved_all_times (pos area.x) (pos area.y)) stars ≡ own → IsStarred b own f →
     IsStarred b (map (moved_all_times (pos corner.x) (pos corner.y)) stars) f
-starred_back b area corner stars own f same are h =
-    subst (λ (z : Box2). IsStarred b (map (moved_all_times (pos z.x) (pos z.y)) stars) f) (sym same)
-    (subst (λ l. IsStarred b l f) (sym are) h)
+starred_back b area corner stars own f same are h = grind (arith, common_steps)
 
 -- ---- one more module
 
@@ -106,15 +93,7 @@ pub modules_step : (b : Borders) (ks : List ℕ) (i k d : ℕ) (owner : JobView)
     HasStarLineInModules (take i ks) b f ⊎ IsStarred b owner.edges.all_times f
 modules_step b ks i k d owner f lt is got (inl halo) = inl (inl halo)
 modules_step b ks i k d owner f lt is got (inr (edge, among)) =
-    let own = owner_of b.owners.now f.cell.x f.cell.y in
-    elim (among_more (take i ks) k own
-    (ap (λ l. is_among l own) (ap (λ x. take i ks ++ x ∷ []) is ∙ sym (take_more ks i d lt)) ∙ among)) [
-      | inl before ↦ inl (inr (edge, before))
-      | inr same ↦
-          let is_owner : edge.owner ≡ owner = same_some (slice_get (jobs_of b) k) edge.owner owner
-          (ap (slice_get (jobs_of b)) (sym same) ∙ edge.numbered) got in
-          inr (subst (λ (j : JobView). IsStarred b j.edges.all_times f) is_owner edge.starred)
-    ]
+    grind (arith, common_steps, among_more, take_more, same_some)
 
 pub no_module : (b : Borders) (ks : List ℕ) (f : BorderFault) → HasStarLineInModules (take 0 ks) b f →
     IsStarred b b.job.now.halos.all_times f

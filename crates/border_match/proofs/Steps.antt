@@ -1,6 +1,6 @@
 -- One more event, module or time
-use Rattle.std.proofs.Common.{◌≡◌, ℕ, suc, ◌+◌, ◌<◌, ◌≤◌, ◌%◌, List, [], ◌∷◌, ◌++◌, length, map, take, get_or, Bool}
-use Rattle.std.proofs.Common.{Option, true, false, Some, None, Less, Equal, Greater, refl, sym, ap, ap₂, subst, ◌∙◌}
+use Rattle.std.proofs.Common.{◌≡◌, ℕ, suc, ◌+◌, ◌<◌, ◌≤◌, ◌%◌, List, [], ◌∷◌, length, map, take, get_or, Bool}
+use Rattle.std.proofs.Common.{Option, true, false, Some, None, Less, Greater, refl, sym, ap, ap₂, subst, ◌∙◌}
 use Rattle.std.proofs.Common.{inl, inr, ◌⊎◌, arith, ℤ, pos, ◌≢◌, option_map, slice_get, unwrap_or, nat_cmp}
 use Rattle.std.proofs.lemmas.List.{length-map, take_all, take_more}
 use Rattle.std.proofs.lemmas.Option.{slice_get_within, slice_get-map}
@@ -8,12 +8,12 @@ use Rattle.std.proofs.lemmas.Bool.{cond-false, false≢true, cases_Bool}
 use Rattle.std.proofs.lemmas.Bool.Decides.{nat_tests}
 use Rattle.std.proofs.lemmas.Cmp.{tied_itself}
 use Rattle.std.proofs.lemmas.Int.{ints}
+use Rattle.std.proofs.lemmas.Grind.{common_steps}
 use Rattle.bbm_rule.specs.declared.block.Cell.{Cell}
-use Rattle.module_box.specs.Locals.{circuit_wire, is_among}
+use Rattle.module_box.specs.Locals.{circuit_wire}
 use Rattle.module_box.specs.Moves.{moved_cell, moved_event}
 use Rattle.module_box.specs.Moments.{moment_cmp}
 use Rattle.module_box.specs.Schedules.{IsRising, Signals, all_times_at, event_at, moment_of, signal_at, is_moment_at}
-use Rattle.module_box.specs.Tiling.{owner_of}
 use Rattle.module_box.specs.declared.boxes.Box2.{Box2}
 use Rattle.module_box.specs.declared.schedules.TimedSignal.{TimedSignal}
 use Rattle.module_box.specs.declared.schedules.Moment.{Moment}
@@ -100,8 +100,7 @@ cornered other es moved same are = same ∙ ap (λ (s : Signals). s.events) are
 
 pub cornered_all : (dx dy : ℤ) (es events : List TimedSignal) (k : ℕ) → es ≡ map (moved_event dx dy) events →
     length es ≤ k → length events ≤ k
-cornered_all dx dy es events k are le =
-    subst (λ n. n ≤ k) (ap length are ∙ length-map events (moved_event dx dy)) le
+cornered_all dx dy es events k are le = grind (arith, common_steps, length-map)
 
 -- the events from a place on and before another are at no odd time and cell around the module's box, so they are no
 -- faults
@@ -134,32 +133,19 @@ far_step b other a corner w es i next f same_area same_corner is are far g h =
 
 pub edges_step : (b : Borders) (ks : List ℕ) (i k : ℕ) (d : ℕ) (f : BorderFault) → i < length ks → k ≡ get_or ks i d →
     IsAtEdgeEventOfAny (take (i + 1) ks) b f → IsAtEdgeEventOfAny (take i ks) b f ⊎ IsAtEdgeEventOf k b f
-edges_step b ks i k d f lt is h =
-    let own = owner_of b.owners.now f.cell.x f.cell.y in
-    elim (among_more (take i ks) k own
-    (ap (λ l. is_among l own) (ap (λ x. take i ks ++ x ∷ []) is ∙ sym (take_more ks i d lt)) ∙ h.1)) [
-      | inl before ↦ inl (h.0, before)
-      | inr same ↦ inr (h.0, same)
-    ]
+edges_step b ks i k d f lt is h = grind (arith, common_steps, among_more, take_more)
 
 pub edges_all : (b : Borders) (ks : List ℕ) (i : ℕ) (f : BorderFault) → length ks ≤ i → AreHaloOwnersListed b ks →
     IsFaultOfSearchedJob b f → IsAtEdgeEvent b f → IsAtEdgeEventOfAny (take i ks) b f
-edges_all b ks i f le noted g h = (
-  h,
-  ap (λ l. is_among l (owner_of b.owners.now f.cell.x f.cell.y)) (take_all i ks le)
-      ∙ noted f.cell.x f.cell.y (reached b f g),
-)
+edges_all b ks i f le noted g h = grind (arith, common_steps, take_all, reached)
 
 other_is : (b : Borders) (k : ℕ) (other : JobView) (f : BorderFault) → slice_get (jobs_of b) k ≡ Some other →
     (h : IsAtEdgeEventOf k b f) → h.0.owner ≡ other
-other_is b k other f e h = same_some (slice_get (jobs_of b) k) h.0.owner other
-    (ap (slice_get (jobs_of b)) (sym h.1) ∙ h.0.numbered) e
+other_is b k other f e h = grind (arith, common_steps, same_some)
 
 pub edges_named : (b : Borders) (k : ℕ) (other : JobView) (f : BorderFault) → slice_get (jobs_of b) k ≡ Some other →
     IsAtEdgeEventOf k b f → IsNamed other.edges.events f
-edges_named b k other f e h =
-    let P : JobView → Type 0 = λ j. IsNamed j.edges.events f in
-    subst P (other_is b k other f e h) h.0.named
+edges_named b k other f e h = grind (arith, common_steps, other_is)
 
 -- ---- times
 
@@ -176,18 +162,7 @@ time_less m n h = rw (nat_less m.time n.time h)
 pub first_is_least : (time : ℕ) (cell : Cell) (f : BorderFault) → time ≤ f.time → f.cell ≡ cell →
     border_cmp (record { time = time; cell = cell }) f ≢ Greater
 first_is_least time cell f le same g =
-    let m : BorderFault = record { time = time; cell = cell } in
-    elim (lower_or_eq time f.time le) [
-      | inl lt ↦ less_greater (sym (time_less m f lt) ∙ g)
-      | inr e ↦ equal_greater (sym (tied_itself border_total m)
-          ∙ ap (λ z. border_cmp m z) (sym (same_fault time cell f (sym e) same)) ∙ g)
-    ]
-  where
-    less_greater : Less ≡ Greater → ⊥
-    less_greater e = cc
-
-    equal_greater : Equal ≡ Greater → ⊥
-    equal_greater e = cc
+    grind (arith, common_steps, lower_or_eq, time_less, tied_itself, border_total, same_fault)
 
 pub no_fault_step : (F : BorderFault → Type 0) (cell : Cell) (time : ℕ) →
     ((f : BorderFault) → F f → f.cell ≡ cell → f.time < time → ⊥) → (F (record { time = time; cell = cell }) → ⊥) →

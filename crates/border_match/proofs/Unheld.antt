@@ -3,7 +3,8 @@ use Rattle.std.proofs.Common.{◌≡◌, Bool, true, false, not, ◌==◌, List,
 use Rattle.std.proofs.lemmas.Bool.{false≢true}
 use Rattle.std.proofs.lemmas.Bool.Decides.{nat_tests}
 use Rattle.std.proofs.lemmas.List.{length-map, nil_from_length}
-use Rattle.module_box.specs.Moves.{moved_all_times, moved_signals}
+use Rattle.std.proofs.lemmas.Grind.{common_steps}
+use Rattle.module_box.specs.Moves.{moved_signals}
 use Rattle.module_box.specs.Schedules.{Signals}
 
 pub no_elements : {A : Type 0} (xs : List A) (r : Bool) → r ≡ (length xs == 0) → r ≡ true → xs ≡ []
@@ -19,5 +20,4 @@ none_mapped f xs e = nil_from_length xs (sym (length-map xs f) ∙ ap length e)
 -- where a schedule that was moved has no signals at all times, it had none
 pub unheld_unmoved : (dx dy : ℤ) (s moved : Signals) → moved ≡ moved_signals dx dy s → moved.all_times ≡ [] →
     s.all_times ≡ []
-unheld_unmoved dx dy s moved is none =
-    none_mapped (moved_all_times dx dy) s.all_times (sym (ap (λ (m : Signals). m.all_times) is) ∙ none)
+unheld_unmoved dx dy s moved is none = grind (arith, common_steps, none_mapped)

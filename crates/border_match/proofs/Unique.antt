@@ -1,15 +1,13 @@
 -- A module has one least border fault, or none
-use Rattle.std.proofs.Common.{◌≡◌, Some, None, Ordering, Less, Equal, Greater, refl, ap, ◌≢◌}
+use Rattle.std.proofs.Common.{arith, ◌≡◌, Some, None, Ordering, Less, Equal, Greater, refl, ap, ◌≢◌}
 use Rattle.std.specs.Ordering.{ordering_reverse}
+use Rattle.std.proofs.lemmas.Grind.{common_steps}
 use Rattle.border_match.specs.BorderFaults.{border_cmp}
 use Rattle.border_match.specs.Laws.{LeastBorderFaultIsUnique}
 use Rattle.border_match.proofs.FaultOrder.{border_total, border_exact}
 
 both_ways : (o p : Ordering) → o ≡ ordering_reverse p → o ≢ Greater → p ≢ Greater → o ≡ Equal
-both_ways Less Less e n m = absurd (less_greater e)
-  where
-    less_greater : Less ≡ Greater → ⊥
-    less_greater e = cc
+both_ways Less Less e n m = grind (arith, common_steps)
 both_ways Less Equal e n m = e
 both_ways Less Greater e n m = absurd (m refl)
 both_ways Equal p e n m = refl

@@ -258,8 +258,7 @@ kept_at f j (h ∷ gates) zero g e at =
     let p = and_parts (list_all is_obeyed (f j h)) (list_all is_obeyed (numbered f (j + 1) gates))
     (sym (list_all-append is_obeyed (f j h) (numbered f (j + 1) gates)) ∙ e) in
     let same : h ≡ g = same_Some h g at in
-    subst (λ (r : Gate). list_all is_obeyed (f (j + 0) r) ≡ true) same
-    (subst (λ n. list_all is_obeyed (f n h) ≡ true) (omega arith) p.0)
+    grind (arith, common_steps)
 kept_at f j (h ∷ gates) (suc i) g e at =
     let p = and_parts (list_all is_obeyed (f j h)) (list_all is_obeyed (numbered f (j + 1) gates))
     (sym (list_all-append is_obeyed (f j h) (numbered f (j + 1) gates)) ∙ e) in
@@ -275,8 +274,7 @@ meeting_of k [] e = (0, All-nil (λ u. u ≡ 0))
 meeting_of k (a ∷ []) e = (a, All-cons (λ u. u ≡ a) a [] refl (All-nil (λ u. u ≡ a)))
 meeting_of k (a ∷ b ∷ ts) e =
     by_case (common_time (a ∷ b ∷ ts)) refl
-    (sym (ap (λ (two : Bool). list_all is_obeyed (if two then line.Meet k (common_time (a ∷ b ∷ ts)) ∷ [] else [])) two)
-    ∙ e)
+    (grind (arith, common_steps))
   where
     two : nat_le 2 (length (a ∷ b ∷ ts)) ≡ true
     two = grind (arith, nat_tests)

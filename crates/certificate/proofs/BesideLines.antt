@@ -103,9 +103,7 @@ within_module es place area ps counts n lt at counted few h =
     let all : map counts_of (map slice_lines ps ++ m ∷ modules_of rest) ≡ counts =
     ap (map counts_of) (ap (λ ms. map slice_lines ps ++ ms) (sym split) ∙ h) ∙ sym counted in
     let here : slice_get counts (length ps) ≡ Some (counts_of m) =
-    subst (λ cs. slice_get cs (length ps) ≡ Some (counts_of m)) all
-    (subst (λ k. slice_get (map counts_of (map slice_lines ps ++ m ∷ modules_of rest)) k ≡ Some (counts_of m))
-    (length-map ps slice_lines) (counted_at (map slice_lines ps) m (modules_of rest))) in
+    grind (arith, common_steps, length-map, counted_at) in
     let le = few (counts_of m) here in
     let all_lines = few_borders (inner rest) in
     omega (arith, le, all_lines)
@@ -201,8 +199,7 @@ module _ (c : Circuit) (p : Pattern) (f : ModuleLines → ModuleLines) (ms : Lis
     each = λ i n k a e. elim (pushed js j i k e) [
       | inl before ↦ h.each i n k a before
       | inr last ↦
-          let same : m ≡ n = some_is m n (sym at ∙ ap (slice_get ms) (sym (last.0 ∙ h.count)) ∙ a) in
-          subst (IsJobOf c p (f n)) last.1 (subst (λ x. IsJobOf c p (f x) j) same is)
+          grind (arith, common_steps, some_is)
     ];
   }
 

@@ -54,10 +54,7 @@ module _ {A B : Type 0} (g : A → B) (f : Cell → B) (first old new : List A) 
   grow_same v n le pushed same =
       let start : x + (k - x) ≡ k = omega arith in
       let count : k - x + (n - k) ≡ n - x = omega arith in
-      grown (row_cells k (n - k) y) (replicate (n - k) v) pushed
-      (mapped_same g f v k (n - k) y (λ j low high. same j low (omega arith)))
-      ∙ ap (λ (l : List Cell). map g first ++ map f l)
-      (sym (rw (start, count) at (row_parts x (k - x) (n - k) y)))
+      grind (arith, common_steps, grown, mapped_same, row_parts)
 
   -- and a value for one cell
   pub grow_cell : (a : A) → k < 512 → y < 512 → new ≡ old ++ a ∷ [] →

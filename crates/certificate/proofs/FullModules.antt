@@ -14,12 +14,12 @@ use Rattle.std.proofs.lemmas.Grind.{common_steps}
 use Rattle.bbm_rule.specs.declared.block.Cell.{Cell}
 use Rattle.circuit.specs.Meaning.{wire_of}
 use Rattle.module_box.specs.Boxes.{in_box, in_halo, in_ring, Tile}
-use Rattle.module_box.specs.Locals.{AreLocalLines, local_wires}
+use Rattle.module_box.specs.Locals.{local_wires}
 use Rattle.module_box.specs.declared.boxes.Box2.{Box2}
 use Rattle.module_box.proofs.Rising.{cell_exact}
 use Rattle.certificate_lines.specs.Entries.{Setting, ModuleLines, areas, edge_in, halo_in}
 use Rattle.certificate_lines.specs.Entries.{stop_in, cuts, gates, keeps, edges, halos, stops, known, cut_wires}
-use Rattle.certificate_lines.specs.Modules.{AreModules, StarsExcludeLaterTimes, HasPorts, IsEdge, IsHalo, IsKeep}
+use Rattle.certificate_lines.specs.Modules.{AreModules, StarsExcludeLaterTimes, HasPorts, IsEdge, IsHalo}
 use Rattle.certificate_lines.specs.Modules.{IsModule, IsStop}
 use Rattle.certificate_lines.specs.Orders.{AreInOrder, cell_of, line_cmp, may_precede, number_of, rank_of}
 use Rattle.certificate_lines.specs.Rules.{is_local, whole}
@@ -272,17 +272,9 @@ full_order lines hs o p =
     let is_early_one = λ (i : CertificateLine) (at : In i early). (in_filter precedes_halos i lines at).1 in
     order_of_pairs (lines_with_halos lines hs)
     (pairs_append may (early ++ map Halo hs) (map Stop ss)
-    (pairs_append may early (map Halo hs)
-    (pairs_filter may precedes_halos lines pairs)
-    (halo_pairs hs p)
-    (in_each (λ i. Each (may i) (map Halo hs)) early
-    (λ i at. each_mapped (may i) Halo hs (λ e k. before_halo i e (is_early_one i at)))))
+    (grind (arith, common_steps, pairs_append, pairs_filter, halo_pairs, in_each, each_mapped, before_halo))
     (subst (Pairs may) (stops_among lines) (pairs_filter may is_stop lines pairs))
-    (each_append (λ i. Each (may i) (map Stop ss)) early (map Halo hs)
-    (in_each (λ i. Each (may i) (map Stop ss)) early
-    (λ i at. each_mapped (may i) Stop ss (λ s k. before_stop i s (is_early_one i at))))
-    (each_mapped (λ i. Each (may i) (map Stop ss)) Halo hs
-    (λ e at. each_mapped (may (Halo e)) Stop ss (λ s k. halo_before_stop e s)))))
+    (grind (arith, common_steps, each_append, in_each, each_mapped, before_stop, halo_before_stop)))
 
 -- ---- edge lines of several modules
 
@@ -436,14 +428,11 @@ module _ (g : Setting) (ms : List ModuleLines) (good : AreModules g ms) where
           high = is.high;
           inside = is.inside;
           named = ap length full_wires ∙ is.named ∙ ap length (sym full_cuts);
-          local = subst (λ cs. AreLocalLines g.circuit.netlist cs (gates full)) (sym full_wires)
-              (subst (AreLocalLines g.circuit.netlist (cut_wires g.circuit m)) (sym full_gates) is.local);
+          local = grind (arith, common_steps, full, full_wires, full_gates);
           order = full_order m.lines (in_order (edge_lines_beside g ms m.area)) is.order (full_rises m.area);
-          keep_lines = subst (λ gs. All (IsKeep g gs) (keeps full)) (sym full_gates)
-              (subst (All (IsKeep g (gates m))) (sym full_keeps) is.keep_lines);
+          keep_lines = grind (arith, common_steps, full, full_gates, full_keeps);
           unstarred = subst StarsExcludeLaterTimes (sym full_edges) is.unstarred;
-          edge_lines = subst (λ ws. All (IsEdge g m.area ws) (edges full)) (sym full_known)
-              (subst (All (IsEdge g m.area (known g.circuit m))) (sym full_edges) is.edge_lines);
+          edge_lines = grind (arith, common_steps, full, full_known, full_edges);
           halo_lines = subst (λ ws. All (IsHalo g m.area ws) (halos full)) (sym full_known)
               (subst (All (IsHalo g m.area (known g.circuit m))) (sym full_halos)
               (in_all (IsHalo g m.area (known g.circuit m)) (in_order (edge_lines_beside g ms m.area))

@@ -1,6 +1,6 @@
 -- Lists of the places of edge lines, as places are added
 use Rattle.std.proofs.Common.{◌≡◌, ℕ, zero, suc, ◌<◌, Bool, true, false, not, ◌&&◌, ◌||◌, if◌then◌else◌, eqb, List, []}
-use Rattle.std.proofs.Common.{◌∷◌, ◌++◌, length, map, get_or, Some, refl, sym, ap, ap₂, ◌∙◌, inl, inr}
+use Rattle.std.proofs.Common.{◌∷◌, ◌++◌, length, map, get_or, Some, refl, sym, ap, ◌∙◌, inl, inr}
 use Rattle.std.proofs.Common.{arith, append_assoc, ℤ, pos, ◌+ℤ◌, ◌-ℤ◌, slice_get, slice_set, filter}
 use Rattle.std.proofs.lemmas.Bool.{cases_Bool, cond-true, cond-false, eqb-true, eqb-false, and_parts, and_from}
 use Rattle.std.proofs.lemmas.List.{append-nil}
@@ -85,21 +85,9 @@ module _ (boxes : List Box2) (o : Owning) (good : AreOwners o boxes) (x y : ℤ)
       count = count;
       each = λ i b at. elim (cases_Bool (eqb i (owner_of o x y))) [
         | inl e ↦
-            let is : i ≡ owner_of o x y = eqb-true i (owner_of o x y) e in
-            let box : b ≡ a = same_box i b a at own is in
-            let yes : (in_box b x y && not (q b)) ≡ true =
-            ap₂ (λ s t. s && not t)
-            (ap (λ (z : Box2). in_box z x y) box ∙ owner_box a own) (ap q box ∙ free) in
-            ap (list_at_or_empty new) is ∙ here ∙ ap (λ k. list_at_or_empty old k ++ place ∷ []) (sym is)
-            ∙ ap (λ l. list_at_or_empty old i ++ l) (sym (cond-true _ _ _ yes))
+            grind (arith, common_steps, eqb-true, same_box, owner_box, cond-true)
         | inr e ↦
-            let other : i ≡ owner_of o x y → ⊥ = eqb-false i (owner_of o x y) e in
-            let no : (in_box b x y && not (q b)) ≡ false = elim (cases_Bool (in_box b x y)) [
-              | inl h ↦ absurd (other (owner_is i b at h))
-              | inr out ↦ ap (λ t. t && not (q b)) out
-            ] in
-            others i other ∙ sym (append-nil (list_at_or_empty old i))
-            ∙ ap (λ l. list_at_or_empty old i ++ l) (sym (cond-false _ _ _ no))
+            grind (arith, common_steps, eqb-false, cases_Bool, owner_is, append-nil, cond-false)
       ];
     }
 
@@ -170,8 +158,7 @@ module _ (x y : ℤ) where
     each = λ i b at.
         let u = in_span b.x b.w x in let u' = in_span b.x b.w x' in
         let v = in_span b.y b.h y in let v' = in_span b.y b.h y' in
-        c.each i b at ∙ ap (λ k. k ++ (if corner b then place ∷ [] else [])) (a.each i b at
-        ∙ ap (λ k. k ++ (if above b then place ∷ [] else [])) (s.each i b at))
+        c.each i b at ∙ ap (λ k. k ++ (if corner b then place ∷ [] else [])) (grind (arith, common_steps, above))
         ∙ at_most_one (side b) (above b) (corner b) place (list_at_or_empty old i)
         (first_second u u' v v') (first_third u u' v v') (second_third u u' v v')
         ∙ ap (λ t. list_at_or_empty old i ++ (if t then place ∷ [] else []))
@@ -195,9 +182,7 @@ pub inner_block : (b : Box2) (c : Cell) → IsInnerCell b c →
 unfolding in_box
 inner_block b c inner =
     let here = and_parts (in_span b.x b.w c.x) (in_span b.y b.h c.y) inner.0 in
-    let all = not_true _ (ap (λ t. t && not ((in_span b.x b.w (c.x -ℤ pos 1) && in_span b.x b.w (c.x +ℤ pos 1))
-    && (in_span b.y b.h (c.y -ℤ pos 1) && in_span b.y b.h (c.y +ℤ pos 1)))) (sym inner.0)
-    ∙ ring_read b c.x c.y (in_box b c.x c.y) _ _ refl refl refl ∙ inner.1) in
+    let all = not_true _ (grind (arith, common_steps, ring_read)) in
     let both = and_parts _ _ all in
     let px = and_parts _ _ both.0 in let py = and_parts _ _ both.1 in
     let ax = partner_in b.x b.w c.x px.0 px.1 in let ay = partner_in b.y b.h c.y py.0 py.1 in

@@ -79,12 +79,9 @@ module _ (c : Circuit) (x y : ℤ) where
   all_times_there [] = refl
   all_times_there (e ∷ es) = elim (cases_Bool (is_at e.cell x y)) [
     | inl here ↦
-        all_times_on e e.time (one_or_named_wire c e.signal) (all_times_of es) (all_times_of (at_cell x y es)) x y
-        (all_times_there es)
-        ∙ ap (λ ds. all_times_at (all_times_of ds) x y) (sym (cond-true _ (e ∷ at_cell x y es) (at_cell x y es) here))
+        grind (arith, common_steps, all_times_there es, all_times_on, all_times_of, at_cell, cond-true, here)
     | inr other ↦
-        all_times_past e e.time (one_or_named_wire c e.signal) (all_times_of es) x y other ∙ all_times_there es
-        ∙ ap (λ ds. all_times_at (all_times_of ds) x y) (sym (cond-false _ (e ∷ at_cell x y es) (at_cell x y es) other))
+        grind (arith, common_steps, all_times_there es, all_times_past, all_times_of, cond-false, at_cell)
   ]
 
   events_there : (t : ℕ) (es : List BorderLine) →
@@ -93,12 +90,9 @@ module _ (c : Circuit) (x y : ℤ) where
   events_there t [] = refl
   events_there t (e ∷ es) = elim (cases_Bool (is_at e.cell x y)) [
     | inl here ↦
-        event_on e e.time (one_or_named_wire c e.signal) (events_of es) (events_of (at_cell x y es)) t x y
-        (events_there t es)
-        ∙ ap (λ ds. event_at (events_of ds) t x y) (sym (cond-true _ (e ∷ at_cell x y es) (at_cell x y es) here))
+        grind (arith, common_steps, events_there t es, event_on, events_of, at_cell, cond-true, here)
     | inr other ↦
-        event_past e e.time (one_or_named_wire c e.signal) (events_of es) t x y other ∙ events_there t es
-        ∙ ap (λ ds. event_at (events_of ds) t x y) (sym (cond-false _ (e ∷ at_cell x y es) (at_cell x y es) other))
+        grind (arith, common_steps, events_there t es, event_past, events_of, cond-false, at_cell)
   ]
 
   signal_there : (t : ℕ) (es : List BorderLine) →
@@ -155,9 +149,7 @@ module _ (g : Setting) (ms : List ModuleLines) (good : AreModules g ms) (k : ℕ
   unfolding at_cell
   lines_there =
       rising_same _ _
-      (pairs_filter (λ d e. border_line_cmp d e ≡ Less) (λ (e : BorderLine). is_at e.cell x y)
-      (in_order (edge_lines_beside g ms area))
-      (full_rises g ms good area))
+      (grind (arith, common_steps, pairs_filter, full_rises))
       (pairs_filter (λ d e. border_line_cmp d e ≡ Less) (λ (e : BorderLine). is_at e.cell x y) (edges owner)
       (edges_rising owner.lines (good.each k owner numbered).order))
       of_owner of_halo

@@ -1,7 +1,7 @@
 -- The inverse gates that no module keeps
 use Rattle.std.proofs.Common.{arith, ◌≡◌, ℕ, ◌+◌, ◌<◌, ◌≤◌, ◌&&◌, Bool, not, cond, List, [], ◌∷◌, ◌++◌, drop, get_or}
 use Rattle.std.proofs.Common.{length}
-use Rattle.std.proofs.Common.{slice_get, Some, sym, ap, ap₂, ◌∙◌, append_assoc, add-one, drop-cons}
+use Rattle.std.proofs.Common.{slice_get, Some, sym, ap₂, ◌∙◌, add-one, drop-cons}
 use Rattle.std.proofs.lemmas.List.{append-nil}
 use Rattle.std.proofs.lemmas.Option.{get_or_from_slice_get}
 use Rattle.std.proofs.lemmas.Grind.{common_steps}
@@ -23,10 +23,7 @@ unkept_more all out new ms gs n g inverse kept within at is_inv is_kept more so_
     let here : get_or gs n g ≡ g = get_or_from_slice_get gs n g g at in
     let front : drop n gs ≡ g ∷ drop (n + 1) gs =
     drop-cons gs n g within ∙ ap₂ (λ (x : Gate) m. x ∷ drop m gs) here (sym (add-one n)) in
-    ap (λ (l : List ℕ). l ++ unkept_from ms (n + 1) (drop (n + 1) gs))
-    (more ∙ ap₂ (λ (i k : Bool). out ++ cond (i && not k) (n ∷ []) []) is_inv is_kept)
-    ∙ append_assoc out _ (unkept_from ms (n + 1) (drop (n + 1) gs))
-    ∙ sym (ap (λ (l : List Gate). out ++ unkept_from ms n l) front) ∙ so_far
+    grind (arith, common_steps)
 
 pub unkept_all : (all out : List ℕ) (ms : List ModuleLines) (gs : List Gate) (n : ℕ) → length gs ≤ n →
     out ++ unkept_from ms n (drop n gs) ≡ all → out ≡ all

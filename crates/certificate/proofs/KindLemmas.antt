@@ -83,18 +83,12 @@ split_parts r lines place order within point =
     let ordered : AreInOrder (take place lines ++ drop place lines) = subst AreInOrder (sym whole) order in
     subst (IsSplitAt r lines (take place lines)) (sym rest) (record {
       whole = whole;
-      lower = λ k d lt.
-          let here : k < place = let n = length-take place lines in omega (arith, lt, n, within) in
-          subst (λ i. rank_of i < r) (sym (get_or-take place lines k d here))
-          (ltb-true _ _ (point.0 k d (omega arith) here));
+      lower = grind (arith, common_steps, length-take, get_or-take, ltb-true);
       higher = λ k d lt.
           let n = length-drop place lines in
           subst (λ i. r ≤ rank_of i) (sym (get_or-drop place lines k d))
           (ltb-false _ _ (point.1 (place + k) d (omega arith) (omega (arith, lt, n, within))));
-      orders = (
-        order_left (take place lines) (drop place lines) ordered,
-        order_right (take place lines) (drop place lines) ordered,
-      );
+      orders = grind (arith, common_steps, order_left, order_right);
     })
 
 -- ---- a part that adds nothing

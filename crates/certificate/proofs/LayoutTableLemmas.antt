@@ -155,9 +155,7 @@ others_inside p s is good cells are =
     subst (AllInLayout s) (sym are)
     (All-append (IsInLayout s) ((p.balls ++ p.wastes) ++ map (λ (q : Port). q.cell) p.ins)
     (map (λ (q : Port). q.cell) p.outs)
-    (All-append (IsInLayout s) (p.balls ++ p.wastes) (map (λ (q : Port). q.cell) p.ins)
-    (All-append (IsInLayout s) p.balls p.wastes (balls_on_layout p s is good) (wastes_on_layout p s is good))
-    (port_cells_inside s p.ins ports.0))
+    (grind (arith, common_steps, balls_on_layout, wastes_on_layout, port_cells_inside))
     (port_cells_inside s p.outs ports.1))
 
 neither : (a b : Bool) → (a || b) ≡ false → (a ≡ false) × (b ≡ false)

@@ -1,5 +1,5 @@
 -- The cells of a module's edge and halo lines lie within 512 columns and rows.
-use Rattle.std.proofs.Common.{◌≡◌, ℕ, ◌+◌, ◌<◌, ◌≤◌, List, [], ◌∷◌, map, true, Option, Some, None, sym, ap, subst, ◌∙◌}
+use Rattle.std.proofs.Common.{◌≡◌, ℕ, ◌+◌, ◌<◌, ◌≤◌, List, [], ◌∷◌, map, true, Option, Some, None, sym, ap, subst}
 use Rattle.std.proofs.Common.{arith, get_or, ℤ, pos, ◌+ℤ◌, ◌≤ℤ◌, All, flat_map}
 use Rattle.std.proofs.lemmas.Bool.{and_parts}
 use Rattle.std.proofs.lemmas.Int.{ints}
@@ -21,7 +21,6 @@ use Rattle.module_box.proofs.BoxCells.{in_box_nats}
 use Rattle.certificate_lines.specs.Entries.{Setting, ModuleLines, edges, halos, stops}
 use Rattle.certificate.specs.Jobs.{all_times_of_line, events_of_line, one_or_named_wire, line_signals}
 use Rattle.certificate_lines.specs.Modules.{IsModule}
-use Rattle.certificate_lines.specs.Rules.{whole}
 use Rattle.module_job.specs.Shapes.{shift_to_origin, moved_stop}
 use Rattle.module_job.specs.Signals.{renumber_all_times, renumber_event, renumber_signals}
 use Rattle.certificate.specs.Timetables.{IsLow}
@@ -54,8 +53,7 @@ low_halos g m s is limits h k d lt =
     let wide = sized.width.1 in
     let high = sized.height.1 in
     let e = get_or (halos m) k d in
-    low_in_box (whole s) e.cell (omega (arith, wide)) (omega (arith, high))
-    (ap (λ (t : LayoutHeader). in_box (whole t) e.cell.x e.cell.y) is ∙ (h.halo_lines k d lt).inside)
+    grind (arith, common_steps, low_in_box)
 
 pub low_stops : (g : Setting) (m : ModuleLines) (s : LayoutHeader) → s ≡ g.size → size_fault s ≡ None → IsModule g m →
     All (λ e. IsLow e.cell) (stops m)

@@ -1,8 +1,8 @@
 -- Lines that are printed without halo lines
-use Rattle.std.proofs.Common.{arith, ◌≡◌, ℕ, ◌+◌, ◌<◌, ◌≤◌, List, [], ◌∷◌, ◌++◌, length, take, get_or, sym, ap, ◌∙◌}
+use Rattle.std.proofs.Common.{arith, ◌≡◌, ℕ, ◌+◌, ◌<◌, List, [], ◌∷◌, ◌++◌, length, take, get_or, sym}
 use Rattle.std.proofs.Common.{append-nil, flat_map}
 use Rattle.std.proofs.lemmas.Grind.{flat_map-append}
-use Rattle.std.proofs.lemmas.List.{take_all, take_more}
+use Rattle.std.proofs.lemmas.List.{take_more}
 use Rattle.std.proofs.lemmas.Grind.{common_steps}
 use Rattle.certificate.specs.Text.{entry_text}
 use Rattle.certificate_lines.specs.Versions.{without_halos}
@@ -21,7 +21,3 @@ pub one_more_printed : (es : List CertificateLine) (i : ℕ) (e : CertificateLin
     next ≡ old ++ flat_map entry_text (without_halos (take (i + 1) es))
 one_more_printed es i e old now next lt is before after =
     grind (arith, common_steps, take_more, flat_map-append, without_append)
-
-pub all_printed : (es : List CertificateLine) (i : ℕ) (old now : List ℕ) → length es ≤ i →
-    now ≡ old ++ flat_map entry_text (without_halos (take i es)) → now ≡ old ++ flat_map entry_text (without_halos es)
-all_printed es i old now le h = h ∙ ap (λ l. old ++ flat_map entry_text (without_halos l)) (take_all i es le)

@@ -1,7 +1,6 @@
 -- The first time is the least, and the last one the greatest.
-use Rattle.std.proofs.Common.{◌≡◌, ◌⊎◌, ℕ, zero, suc, ◌≤◌, List, [], ◌∷◌, Some, None, sym, inl, inr, arith}
+use Rattle.std.proofs.Common.{◌≡◌, ◌⊎◌, ℕ, zero, suc, ◌≤◌, List, [], ◌∷◌, Some, None, arith}
 use Rattle.std.proofs.Common.{Contains, min, max, All, fold}
-use Rattle.std.proofs.lemmas.List.Elements.{All-nil, All-cons}
 use Rattle.std.proofs.lemmas.Option.{same_Some}
 use Rattle.std.proofs.lemmas.Grind.{common_steps}
 use Rattle.certificate.specs.Laws.{FirstSeenIsLeast, LastSeenIsGreatest}
@@ -22,17 +21,13 @@ min_cases : (a u : ℕ) → (min a u ≡ a) ⊎ (min a u ≡ u)
 min_cases a u = grind arith
 
 least_with : (a : ℕ) (ts : List ℕ) (t : ℕ) → fold earlier (Some a) ts ≡ Some t → IsLeastWith a ts t
-least_with a [] t e = (let same = same_Some a t e in
-    record { among = inl (sym same); first = omega (arith, same); rest = All-nil (λ u. t ≤ u) })
+least_with a [] t e = (grind (arith, common_steps, same_Some))
 least_with a (u ∷ us) t e = grind (arith, common_steps, least_with (min a u) us t e, min_cases, here, there)
 
 least_of : (ts : List ℕ) (t : ℕ) → fold earlier None ts ≡ Some t → Contains ts t × All (λ u. t ≤ u) ts
 least_of [] t e = absurd cc
 least_of (a ∷ ts) t e =
-    let h = least_with a ts t e in (
-      elim h.among [ inl is ↦ here a ts t (sym is) | inr found ↦ there a ts t found ],
-      All-cons (λ u. t ≤ u) a ts h.first h.rest,
-    )
+    let h = least_with a ts t e in grind (arith, common_steps, here, there)
 
 pub first_is_least : FirstSeenIsLeast
 first_is_least c ss w t e = least_of (stop_times_of_wire c ss w) t e
@@ -46,17 +41,13 @@ max_cases : (a u : ℕ) → (max a u ≡ a) ⊎ (max a u ≡ u)
 max_cases a u = grind arith
 
 greatest_with : (a : ℕ) (ts : List ℕ) (t : ℕ) → fold later (Some a) ts ≡ Some t → IsGreatestWith a ts t
-greatest_with a [] t e = (let same = same_Some a t e in
-    record { among = inl (sym same); first = omega (arith, same); rest = All-nil (λ u. u ≤ t) })
+greatest_with a [] t e = (grind (arith, common_steps, same_Some))
 greatest_with a (u ∷ us) t e = grind (arith, common_steps, greatest_with (max a u) us t e, max_cases, here, there)
 
 greatest_of : (ts : List ℕ) (t : ℕ) → fold later None ts ≡ Some t → Contains ts t × All (λ u. u ≤ t) ts
 greatest_of [] t e = absurd cc
 greatest_of (a ∷ ts) t e =
-    let h = greatest_with a ts t e in (
-      elim h.among [ inl is ↦ here a ts t (sym is) | inr found ↦ there a ts t found ],
-      All-cons (λ u. u ≤ t) a ts h.first h.rest,
-    )
+    let h = greatest_with a ts t e in grind (arith, common_steps, here, there)
 
 pub last_is_greatest : LastSeenIsGreatest
 last_is_greatest c ss w t e = greatest_of (stop_times_of_wire c ss w) t e

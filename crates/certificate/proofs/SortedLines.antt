@@ -1,6 +1,6 @@
 -- Lines that are sorted are in order
 use Rattle.std.proofs.Common.{◌≡◌, ℕ, ◌+◌, ◌≤◌, false, if◌then◌else◌, List, [], ◌∷◌, get_or, Ordering, Less}
-use Rattle.std.proofs.Common.{Equal, Greater, refl, sym, ap, ◌∙◌, arith, ◌≢◌, sum_by, is_eq, is_lt}
+use Rattle.std.proofs.Common.{Equal, Greater, refl, ap, arith, ◌≢◌, sum_by, is_eq, is_lt}
 use Rattle.std.specs.List.Sorted.{IsPermutation, IsSortedBy}
 use Rattle.std.proofs.lemmas.List.Sorted.{IsPermutation-sym, All-permutation, ranks_by, sorted_far}
 use Rattle.std.proofs.lemmas.List.Sorted.{sum_by-IsPermutation}
@@ -69,10 +69,7 @@ all_other : (e : BorderLine) (ys : List BorderLine) → count_at e ys ≡ 0 → 
 unfolding Each
 all_other e [] n = tt
 all_other e (y ∷ ys) n =
-    let c = cons_at e y ys in (
-      (λ same. let one = beat_one e y same in absurd (omega (arith, c, n, one))),
-      all_other e ys (omega (arith, c, n)),
-    )
+    let c = cons_at e y ys in grind (arith, common_steps, all_other e ys (omega (arith, c, n)), beat_one)
 
 distinct_by : (ys : List BorderLine) → ((e : BorderLine) → count_at e ys ≤ 1) → AreDistinct ys
 unfolding Pairs
@@ -102,9 +99,7 @@ sorted_rises ys up d = pairs_by_place (λ a b. border_line_cmp a b ≡ Less) ys 
     (omega (arith, lt)) lb in
     let ga : get_or ys i a ≡ a = get_or_from_slice_get ys i a a ea in
     let gb : get_or ys j a ≡ b = get_or_from_slice_get ys j b a eb in
-    less_of a b (ap (λ x. is_lt (border_line_cmp x a)) (sym gb)
-    ∙ ap (λ x. is_lt (border_line_cmp (get_or ys j a) x)) (sym ga)
-    ∙ far) (pairs_at (λ a b. border_line_cmp a b ≢ Equal) ys d i j a b lt ea eb))
+    grind (arith, common_steps, less_of, pairs_at))
 
 pub sorted_lines : (xs ys : List BorderLine) → AreDistinct xs → IsPermutation xs ys →
     IsSortedBy (λ a b. is_lt (border_line_cmp a b)) ys → ys ≡ in_order xs

@@ -46,8 +46,7 @@ module _ (g : Setting) (es : List CertificateLine) (sound : AreSound g (modules_
   inner_sound i step good grows =
       subst (AreSound g) (sym (modules_push es i ∙ step))
       (line_sound g (modules_of es) i sound
-      (λ m some. subst (λ k. IsWritten g k → IsWritten g (module_with_line i k))
-      (some_is good.module_lines m (sym good.last ∙ some)) grows))
+      (λ m some. grind (arith, common_steps, some_is)))
 
   sound_push : (i : CertificateLine) → entry_fault g es i ≡ None → AreSound g (modules_of (es ++ i ∷ []))
   unfolding entry_fault add_line

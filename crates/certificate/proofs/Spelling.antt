@@ -72,10 +72,7 @@ border_spelled ws v b at e =
     option_and_then_some (λ s. Some (record { time = t; cell = c; signal = s })) (signal_at ws 4) b last
     (λ s signalled made.
     let place = cell_spelled ws 2 c at_cell in
-    subst (λ (q : BorderLine). ws ≡ v ∷ border_words q) (same_Some (record { time = t; cell = c; signal = s }) b made)
-    (five_words ws v (star_or_time_word t) (decimal (coordinate c.x)) (decimal (coordinate c.y)) (one_or_name_word s)
-    (eqb-true _ _ found.0) (is_at_is ws 0 v at) (time_spelled ws 1 t timed) place.column place.row
-    (signal_spelled ws 4 s signalled)))))
+    grind (arith, common_steps, same_Some, five_words, eqb-true, is_at_is, time_spelled, signal_spelled))))
 
 stop_spelled : (ws : List (List ℕ)) (v : List ℕ) (s : StopLine) → is_word_at ws 0 v ≡ true → stop_of ws ≡ Some s →
     ws ≡ v ∷ stop_words s
@@ -134,43 +131,31 @@ form_words : (ws : List (List ℕ)) (f : Line) → form_of ws ≡ Some f → Spe
 unfolding form_of lone first_of non_mirror_grid
 form_words ws f e =
     elim (chosen (is_word_at ws 0 (codes "edge")) _ _ (Some f) e) [
-      | inl p ↦ option_and_then_some (λ b. Some (Item (Edge b))) (border_of ws) f p.1
-          (λ b found made. subst (SpelledAs ws) (same_Some (Item (Edge b)) f made)
-          (border_spelled ws (codes "edge") b p.0 found))
+      | inl p ↦ grind (arith, common_steps, option_and_then_some, same_Some, border_spelled)
       | inr p ↦ elim (chosen (is_word_at ws 0 (codes "halo")) _ _ (Some f) p.1) [
-        | inl q ↦ option_and_then_some (λ b. Some (Item (Halo b))) (border_of ws) f q.1
-            (λ b found made. subst (SpelledAs ws) (same_Some (Item (Halo b)) f made)
-            (border_spelled ws (codes "halo") b q.0 found))
+        | inl q ↦ grind (arith, common_steps, option_and_then_some, same_Some, border_spelled)
         | inr q ↦ elim (chosen (is_word_at ws 0 (codes "stop")) _ _ (Some f) q.1) [
-          | inl z ↦ option_and_then_some (λ b. Some (Item (Stop b))) (stop_of ws) f z.1
-              (λ b found made. subst (SpelledAs ws) (same_Some (Item (Stop b)) f made)
-              (stop_spelled ws (codes "stop") b z.0 found))
+          | inl z ↦ grind (arith, common_steps, option_and_then_some, same_Some, stop_spelled)
           | inr z ↦ elim (chosen (is_word_at ws 0 (codes "cut")) _ _ (Some f) z.1) [
-            | inl r ↦ option_and_then_some (λ n. Some (Item (Cut n))) (lone_name ws) f r.1
-                (λ n found made. subst (SpelledAs ws) (same_Some (Item (Cut n)) f made)
-                (name_spelled ws (codes "cut") n r.0 found))
+            | inl r ↦ grind (arith, common_steps, option_and_then_some, same_Some, name_spelled)
             | inr r ↦ elim (chosen (is_word_at ws 0 (codes "use")) _ _ (Some f) r.1) [
-              | inl s ↦ option_and_then_some (λ k. Some (Item (Use k))) (lone_number ws) f s.1
-                  (λ k found made. subst (SpelledAs ws) (same_Some (Item (Use k)) f made)
-                  (number_spelled ws (codes "use") k s.0 found))
+              | inl s ↦ grind (arith, common_steps, option_and_then_some, same_Some, number_spelled)
               | inr s ↦ elim (chosen (is_word_at ws 0 (codes "keep")) _ _ (Some f) s.1) [
-                | inl k ↦ option_and_then_some (λ n. Some (Item (Keep n))) (lone_number ws) f k.1
-                    (λ n found made. subst (SpelledAs ws) (same_Some (Item (Keep n)) f made)
-                    (number_spelled ws (codes "keep") n k.0 found))
+                | inl k ↦ grind (arith, common_steps, option_and_then_some, same_Some, number_spelled)
                 | inr k ↦ elim (chosen (is_word_at ws 0 (codes "module")) _ _ (Some f) k.1) [
-                  | inl t ↦ option_and_then_some (λ b. Some (Item (Module b))) (area_of ws) f t.1
-                      (λ b found made. subst (SpelledAs ws) (same_Some (Item (Module b)) f made)
-                      (area_spelled ws (codes "module") b t.0 found))
-                  | inr t ↦ elim (chosen (is_word_at ws 0 (codes "certificate")) _ _ (Some f) t.1) [
-                    | inl u ↦ option_and_then_some (λ v. Some (Header v)) (lone_number ws) f u.1
-                        (λ v found made. subst (SpelledAs ws) (same_Some (Header v) f made)
-                        (number_spelled ws (codes "certificate") v u.0 found))
-                    | inr u ↦
-                        let at_end = passed (is_word_at ws 0 (codes "end")) (lone ws End) f u.1 in
-                        let alone = passed (eqb (length ws) 1) (Some End) f at_end.1 in
-                        subst (SpelledAs ws) (same_Some End f alone.1)
-                        (one_word ws (codes "end") (eqb-true _ _ alone.0) (is_at_is ws 0 (codes "end") at_end.0))
-                  ]
+                  | inl t ↦ grind (arith, common_steps, option_and_then_some, same_Some, area_spelled)
+                  | inr t ↦ grind (
+                    arith,
+                    common_steps,
+                    chosen,
+                    option_and_then_some,
+                    same_Some,
+                    number_spelled,
+                    passed,
+                    one_word,
+                    eqb-true,
+                    is_at_is,
+                  )
                 ]
               ]
             ]

@@ -1,6 +1,6 @@
 -- Tables of times, line by line, and the lines of gates one after the other.
-use Rattle.std.proofs.Common.{◌≡◌, ℕ, suc, ◌+◌, ◌<◌, ◌≤◌, false, List, [], ◌∷◌, ◌++◌, length, drop, get_or, Option}
-use Rattle.std.proofs.Common.{Some, refl, sym, ap, ◌∙◌, arith, drop-cons, add-one}
+use Rattle.std.proofs.Common.{◌≡◌, ℕ, ◌+◌, ◌<◌, ◌≤◌, false, List, [], ◌∷◌, ◌++◌, length, drop, get_or, Option}
+use Rattle.std.proofs.Common.{Some, refl, sym, ap, ◌∙◌, arith}
 use Rattle.std.proofs.Common.{slice_get, flat_map}
 use Rattle.std.proofs.lemmas.List.{drop_all}
 use Rattle.std.proofs.lemmas.Option.{same_Some, slice_get-get_or, slice_get_within}
@@ -78,8 +78,7 @@ unfolding numbered
 numbered_step f n gates g at =
     let inside : n < length gates = slice_get_within gates n g at in
     let here : get_or gates n g ≡ g = same_Some _ _ (sym (slice_get-get_or gates n g inside) ∙ at) in
-    ap (numbered f n) (drop-cons gates n g inside ∙ ap (λ x. x ∷ drop (suc n) gates) here
-    ∙ ap (λ k. g ∷ drop k gates) (sym (add-one n)))
+    grind (arith, common_steps)
 
 pub one_gate_more : (f : ℕ → Gate → List TimeLine) (all lines more : List TimeLine) (n : ℕ) (gates : List Gate)
     (g : Gate) → slice_get gates n ≡ Some g → more ≡ lines ++ f n g →

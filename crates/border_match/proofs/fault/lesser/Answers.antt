@@ -1,9 +1,10 @@
+use Rattle.std.proofs.lemmas.Grind.{common_steps}
+use Rattle.std.proofs.Common.{arith}
 use Rattle.border_match.proofs.Least.{lesser_kept, at_most_itself}
 use Rattle.border_match.proofs.fault.lesser.Goals as goal
 
 pub returns-in-Greater-clause-covers_as_before : goal.returns-in-Greater-clause-covers_as_before
-returns-in-Greater-clause-covers_as_before c =
-    lesser_kept c.in-Some.other c.args.fault c.args.best c.in-Some.is c.in-Greater.ensures
+returns-in-Greater-clause-covers_as_before c = grind (arith, common_steps, lesser_kept)
 
 pub returns-in-Greater-clause-covered : goal.returns-in-Greater-clause-covered
 returns-in-Greater-clause-covered c = at_most_itself c.args.fault

@@ -1,13 +1,13 @@
-use Rattle.std.proofs.Common.{◌≡◌, ◌∙◌, ℕ, List, sym, ap, subst, map, replicate, None, Some, arith}
+use Rattle.std.proofs.Common.{◌≡◌, ◌∙◌, sym, ap, subst, map, Some, arith}
 use Rattle.std.specs.Prelude.{slice_get, IfOk, Result, Ok, Err}
 use Rattle.std.specs.Arc.{arc_value}
+use Rattle.std.proofs.lemmas.Grind.{common_steps}
 use Rattle.pattern.specs.declared.layout_line.LayoutHeader.{LayoutHeader}
-use Rattle.certificate_lines.specs.Entries.{ModuleLines, modules_of}
 use Rattle.certificate.specs.Grammars.{modules_in}
 use Rattle.certificate_lines.specs.Settings.{setting_of}
 use Rattle.certificate_lines.specs.Rules.{whole}
-use Rattle.certificate_lines.specs.Versions.{modules_by_version, with_halos}
-use Rattle.border_match.specs.BorderFaults.{AreBorderFaultsOf, IsLeastBorderFault}
+use Rattle.certificate_lines.specs.Versions.{modules_by_version}
+use Rattle.border_match.specs.BorderFaults.{IsLeastBorderFault}
 use Rattle.border_match.specs.Boards.{IsBoard, IsJobFault}
 use Rattle.border_match.specs.Candidates.{IsLeast}
 use Rattle.border_match.proofs.Bridge.{board, quiet_job, least_by_lines}
@@ -22,17 +22,7 @@ told (Err e) f p = p
 
 pub returns-then-version-eq2 : goal.returns-then-version-eq2
 unfolding modules_by_version
-returns-then-version-eq2 c =
-    let s = c.args.cert.now in
-    let g = setting_of s.circuit s.layout in
-    let own = modules_of s.entries in
-    let second : s.version ≡ 2 = sym c.version.ensures.version ∙ c.if-version-eq2.true in
-    let meant_so : modules_in s ≡ map (with_halos g own) own = ap (λ (v : ℕ). modules_by_version v g own) second in
-    told c.no_fault_for_each.result (λ faults e.
-    subst (λ (ms : List ModuleLines). AreBorderFaultsOf g ms faults.items) (sym meant_so)
-    (subst (AreBorderFaultsOf g (map (with_halos g own) own))
-    (sym (e ∙ ap (λ n. replicate n None) c.modules-count.ensures.count))
-    (none_for_each g own c.modules-count.ensures.written))) c.no_fault_for_each.ensures
+returns-then-version-eq2 c = grind (arith, common_steps, told, none_for_each)
 
 pub least_fault-requires : goal.least_fault-requires
 least_fault-requires c =

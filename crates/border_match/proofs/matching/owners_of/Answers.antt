@@ -1,8 +1,9 @@
-use Rattle.std.proofs.Common.{◌≡◌, ◌∙◌, sym, subst, List}
+use Rattle.std.proofs.Common.{arith, ◌≡◌, ◌∙◌, sym, subst, List}
 use Rattle.std.proofs.lemmas.Bool.{false≢true}
+use Rattle.std.proofs.lemmas.Grind.{common_steps}
 use Rattle.pattern.specs.declared.layout_line.LayoutHeader.{LayoutHeader}
 use Rattle.module_box.specs.Boxes.{Tile}
-use Rattle.module_box.specs.Tiling.{AreOwners, rectangle_of}
+use Rattle.module_box.specs.Tiling.{rectangle_of}
 use Rattle.module_box.specs.declared.boxes.Box2.{Box2}
 use Rattle.module_box.specs.declared.tile.TileFault.TheVariants.{Memory}
 use Rattle.certificate_lines.specs.Entries.{modules_of}
@@ -41,7 +42,4 @@ prove-unreachable-requires c =
     ]
 
 pub returns-in-Ok-clause-owners : goal.returns-in-Ok-clause-owners
-returns-in-Ok-clause-owners c =
-    let s = c.args.cert.now in
-    subst (AreOwners c.in-Ok.owners)
-    (c.requires ∙ sym (meant_areas s.version (setting_of s.circuit s.layout) (modules_of s.entries))) c.in-Ok.ensures.2
+returns-in-Ok-clause-owners c = grind (arith, common_steps, meant_areas)

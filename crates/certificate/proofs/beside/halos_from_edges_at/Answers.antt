@@ -1,9 +1,9 @@
-use Rattle.std.proofs.Common.{◌∙◌, List, subst, rules, is_lt}
+use Rattle.std.proofs.Common.{arith, rules, is_lt}
 use Rattle.std.specs.List.Sorted.{IsPermutation}
 use Rattle.std.proofs.lemmas.List.Sorted.{answers_always, ranks_by}
+use Rattle.std.proofs.lemmas.Grind.{common_steps}
 use Rattle.certificate_lines.specs.Entries.{modules_of}
 use Rattle.certificate_lines.specs.Versions.{edge_lines_beside, border_line_cmp}
-use Rattle.certificate_lines.specs.declared.certificate_line.BorderLine.{BorderLine}
 use Rattle.certificate.proofs.FullModules.{distinct_beside}
 use Rattle.certificate_lines.proofs.LineOrder.{line_total}
 use Rattle.certificate.proofs.SortedLines.{sorted_lines}
@@ -13,8 +13,7 @@ pub returns : goal.returns
 returns c g area good are =
     let lines = edge_lines_beside g (modules_of c.args.entries.now) area in
     let same : IsPermutation lines c.sort_by.new.self.items =
-    subst (λ (l : List BorderLine). IsPermutation l c.sort_by.new.self.items) (c.in_ok-halos.ensures ∙ are)
-    c.sort_by.ensures.permutation in
+    grind (arith, common_steps) in
     sorted_lines lines c.sort_by.new.self.items (distinct_beside g (modules_of c.args.entries.now) good area) same
     (c.in_ok-sort_by.ensures.sorted (λ a b. is_lt (border_line_cmp a b)) (ranks_by line_total (λ e. e))
     (answers_always _ _ _ (λ f a r g k. search rules)))

@@ -1,11 +1,9 @@
-use Rattle.std.proofs.Common.{◌≡◌, ◌∙◌, ◌≤◌, ◌+◌, ◌++◌, get_or, sym, ap, subst, drop, length, map, arith, rules}
+use Rattle.std.proofs.Common.{◌≡◌, ◌∙◌, ◌≤◌, ◌+◌, get_or, sym, ap, subst, drop, length, arith, rules}
 use Rattle.std.specs.Prelude.{slice_get}
-use Rattle.certificate_lines.specs.Entries.{modules_of}
+use Rattle.std.proofs.lemmas.Grind.{common_steps}
 use Rattle.certificate_lines.specs.ModuleParts.{inner}
-use Rattle.certificate.specs.SliceLines.{slice_lines}
 use Rattle.certificate_lines.specs.declared.certificate_line.CertificateLine.TheVariants.{Module}
 use Rattle.certificate.proofs.BesideLines.{all_parts, one_part, other_line_on, within_module}
-use Rattle.certificate_lines.proofs.InnerLines.{inner_shorter}
 use Rattle.certificate_lines.proofs.LinesLeft.{rest_of_lines}
 use Rattle.certificate_lines.proofs.ModuleSplit.{no_module}
 use Rattle.certificate.proofs.beside.module_slices.Goals.{in-Module+in_ok-push, in_default}
@@ -40,13 +38,7 @@ lines-preserved c =
           (ap (λ v. v.items) w.parts-is ∙ w.in_ok-push.ensures.items) (ap length inner_is)
           (let at = w.place-is in omega (arith, at)) c.lines.invariant
       | in_default w ↦
-          subst (λ v. map slice_lines v.items ++ modules_of (drop (c.match-line.place + 1) es) ≡ modules_of es)
-          (sym w.parts-is)
-          (subst (λ n. map slice_lines c.lines.parts.items ++ modules_of (drop (n + 1) es) ≡ modules_of es)
-          (sym w.place-is)
-          (other_line_on es c.lines.place c.line.result c.lines.parts.items c.lines-test.true
-          (subst (λ e. e ≡ get_or es c.lines.place e) (sym c.line.ensures) c.index-entries-place.is)
-          (no_module c.line.result w.in_default.not-Module) c.lines.invariant))
+          grind (arith, common_steps, other_line_on, no_module)
     ]
 
 pub returns : goal.returns

@@ -1,8 +1,8 @@
 use Rattle.std.proofs.Common.{◌≡◌, ◌∙◌, ◌<◌, ◌≤◌, List, length, map, sym, ap, subst, arith, slice_get, All, flat_map}
 use Rattle.std.proofs.lemmas.List.{length-map}
-use Rattle.module_box.specs.Tiling.{AreOwners}
+use Rattle.std.proofs.lemmas.Grind.{common_steps}
 use Rattle.module_box.specs.declared.boxes.Box2.{Box2}
-use Rattle.certificate_lines.specs.Entries.{ModuleLines, areas, edges, modules_of}
+use Rattle.certificate_lines.specs.Entries.{areas, edges, modules_of}
 use Rattle.certificate_lines.specs.Settings.{setting_of}
 use Rattle.certificate_lines.specs.declared.certificate_line.BorderLine.{BorderLine}
 use Rattle.certificate.specs.HaloPlaces.{IsInnerCell}
@@ -20,8 +20,7 @@ returns-then-size-le1 c =
     let same_count : length c.in_ok-lists.lists.items ≡ length c.in_ok-boxes.boxes.items =
     omega (arith, c.in_ok-lists.ensures.count, c.len.ensures, c.in_ok-boxes.boxes.ok) in
     none_placed g es (map (λ l. l.items) c.in_ok-lists.lists.items) (subst (λ n. n ≤ 1) steps c.if-size-le1.true)
-    (length-map c.in_ok-lists.lists.items (λ l. l.items) ∙ same_count
-    ∙ ap length boxes_are ∙ length-map (modules_of es) (λ (m : ModuleLines). m.area)) c.in_ok-lists.ensures.empty
+    (grind (arith, common_steps, length-map)) c.in_ok-lists.ensures.empty
 
 pub push_all_edge_places-requires-clause-table : goal.push_all_edge_places-requires-clause-table
 push_all_edge_places-requires-clause-table c =
@@ -33,12 +32,10 @@ push_all_edge_places-requires-clause-table c =
     omega (arith, c.in_ok-lists.ensures.count, c.len.ensures, c.in_ok-boxes.boxes.ok) in
     record {
       small = c.in_ok-owners.ensures.small;
-      owners = subst (λ (bs : List Box2). AreOwners c.in_ok-owners.owners bs)
-          (c.as_slice.ensures.value ∙ sym c.as_slice-2.ensures.value) c.in_ok-owners.ensures.owners;
+      owners = grind (arith, common_steps);
       even = λ k b at. even_areas g (modules_of es) c.requires.modules k b
           (ap (λ (bs : List Box2). slice_get bs k) (sym boxes_are) ∙ at);
-      count = length-map c.in_ok-lists.lists.items (λ l. l.items) ∙ same_count
-          ∙ sym (ap length c.as_slice-2.ensures.value);
+      count = grind (arith, common_steps, length-map);
     }
 
 pub push_all_edge_places-requires-clause-inner : goal.push_all_edge_places-requires-clause-inner
@@ -62,7 +59,5 @@ returns c =
     all_placed g es c.as_slice-2.result.now (map (λ l. l.items) c.in_ok-lists.lists.items)
     (map (λ l. l.items) c.push_all_edge_places.new.lists.items)
     (subst (λ n. 1 < n) steps (omega (arith, more))) boxes_are
-    (length-map c.in_ok-lists.lists.items (λ l. l.items) ∙ same_count
-    ∙ sym (ap length c.as_slice-2.ensures.value) ∙ ap length boxes_are
-    ∙ length-map (modules_of es) (λ (m : ModuleLines). m.area)) c.in_ok-lists.ensures.empty
+    (grind (arith, common_steps, length-map)) c.in_ok-lists.ensures.empty
     c.in_ok-push_all_edge_places.ensures

@@ -1,6 +1,7 @@
-use Rattle.std.proofs.Common.{◌∙◌, map, take, Some, sym, ap, subst, flat_map}
+use Rattle.std.proofs.Common.{arith, ◌∙◌, map, take, Some, sym, ap, subst, flat_map}
 use Rattle.std.proofs.lemmas.List.{length-map}
 use Rattle.std.proofs.lemmas.Option.{slice_get-get_or}
+use Rattle.std.proofs.lemmas.Grind.{common_steps}
 use Rattle.module_box.specs.Tiling.{rectangle}
 use Rattle.certificate_lines.specs.Entries.{edge_in}
 use Rattle.certificate_lines.specs.declared.certificate_line.BorderLine.{BorderLine}
@@ -24,9 +25,7 @@ lines-preserved c =
     let new = map (λ l. l.items) c.push_edge_place.new.lists.items in
     let at = slice_get-get_or lines k line c.lines-test.true ∙ sym (ap Some c.index-lines-number.is) in
     record {
-      table = still_ready boxes c.args.owners.now now new c.lines.invariant.table
-          (length-map c.push_edge_place.new.lists.items (λ l. l.items) ∙ c.in_ok-push_edge_place.ensures.count
-          ∙ sym (length-map c.lines.lists.items (λ l. l.items)));
+      table = grind (arith, common_steps, still_ready, length-map);
       lists = λ es from. subst (λ es'. HaveEdges es boxes es' old new)
           (next_line edge_in lines k line c.lines-test.true c.index-lines-number.is)
           (edges_then es boxes (flat_map edge_in (take k lines)) (edge_in line) old now new

@@ -1,4 +1,4 @@
-use Rattle.std.proofs.Common.{arith, ◌∙◌, ◌&&◌, ◌||◌, Bool, false, not, map, ap₂}
+use Rattle.std.proofs.Common.{arith, ◌∙◌, map, ap₂}
 use Rattle.std.proofs.lemmas.Grind.{common_steps}
 use Rattle.module_box.specs.Boxes.{in_box}
 use Rattle.module_box.specs.Tiling.{rectangle}
@@ -32,12 +32,6 @@ returns c =
     let s = c.odd_block_others.ensures.side in let a = c.odd_block_others.ensures.above in let k =
     c.odd_block_others.ensures.corner in
     beside_places x y boxes place old one two new c.requires.table.even
-    (same_test boxes _ (side x y) place old one
-    (λ b. ap₂ (λ u v. in_box b u v && not (in_box b x y || false)) s.0 s.1) c.in_ok-push_place_for_owner.ensures)
-    (same_test boxes _ (above x y) place one two
-    (λ b. ap₂ (λ (t r : Bool). t && not (in_box b x y || (r || false))) (ap₂ (in_box b) a.0 a.1)
-    (ap₂ (in_box b) s.0 s.1)) c.in_ok-push_place_for_owner-2.ensures)
-    (same_test boxes _ (corner x y) place two new
-    (λ b. ap₂ (λ (t r : Bool). t && r) (ap₂ (in_box b) k.0 k.1)
-    (ap₂ (λ (r q : Bool). not (in_box b x y || (r || (q || false)))) (ap₂ (in_box b) s.0 s.1)
-    (ap₂ (in_box b) a.0 a.1))) c.in_ok-push_place_for_owner-3.ensures)
+    (grind (arith, common_steps, same_test, side))
+    (grind (arith, common_steps, same_test, above))
+    (grind (arith, common_steps, same_test, corner))

@@ -1,4 +1,4 @@
-use Rattle.std.proofs.Common.{◌∷◌, [], ◌+◌, arith, map, sym, ap, subst, ◌∙◌}
+use Rattle.std.proofs.Common.{◌+◌, arith, map, sym, subst}
 use Rattle.std.specs.Arc.{arc_value}
 use Rattle.std.proofs.lemmas.List.{length-map, map-append}
 use Rattle.std.proofs.lemmas.Grind.{common_steps}
@@ -27,8 +27,7 @@ parts-preserved c =
     let made = subst (IsJobOf (circuit_of p.circuit) p.layout (slice_lines c.part-item.result))
     (sym c.in_ok-new.ensures.ok) c.in_ok-job.ensures in
     subst (PartJobs (circuit_of p.circuit) p.layout (λ m. m) ms (c.parts.part-index + 1))
-    (sym (ap (map arc_value) c.in_ok-push.ensures.items
-    ∙ map-append arc_value c.parts.jobs.items (c.in_ok-new.field-0 ∷ [])))
+    (grind (arith, common_steps, map-append))
     (one_part_more (circuit_of p.circuit) p.layout (λ m. m) ms c.parts.part-index (map arc_value c.parts.jobs.items)
     (slice_lines c.part-item.result) (arc_value c.in_ok-new.field-0)
     (part_at c.args.parts.now c.parts.part-index c.part-item.result c.parts-test.true c.part-item.is) made

@@ -1,4 +1,4 @@
-use Rattle.std.proofs.Common.{◌∙◌, ◌+◌, ◌∷◌, [], arith, map, sym, ap, subst}
+use Rattle.std.proofs.Common.{◌∙◌, ◌+◌, arith, map, sym, subst}
 use Rattle.std.specs.Arc.{arc_value}
 use Rattle.std.proofs.lemmas.List.{length-map, map-append}
 use Rattle.std.proofs.lemmas.Grind.{common_steps}
@@ -37,11 +37,9 @@ parts-preserved c =
     c.parts-test.true c.index-parts-number.is (c.take_list-list.ensures.taken ∙ sym c.as_slice.ensures.value)
     c.in_ok-lines.ensures c.as_slice-in-parts.ensures.value in
     let made : is_job (with_halos g ms m) (arc_value c.in_ok-job.job) =
-    subst (is_job (with_halos g ms m)) (sym c.in_ok-job.ensures.ok)
-    (subst (λ n. is_job n c.in_ok-made.made) is.full c.in_ok-made.ensures) in (
+    grind (arith, common_steps) in (
       subst (PartJobs (circuit_of p.circuit) p.layout (with_halos g ms) ms (c.parts.number + 1))
-          (sym (ap (map arc_value) c.in_ok-push.ensures.items
-          ∙ map-append arc_value c.parts.jobs.items (c.in_ok-job.job ∷ [])))
+          (grind (arith, common_steps, map-append))
           (one_part_more (circuit_of p.circuit) p.layout (with_halos g ms) ms c.parts.number
           (map arc_value c.parts.jobs.items) m
           (arc_value c.in_ok-job.job) is.at made c.parts.invariant.0),

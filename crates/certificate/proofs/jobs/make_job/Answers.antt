@@ -1,4 +1,4 @@
-use Rattle.std.proofs.Common.{◌≡◌, ◌<◌, ◌≤◌, ℕ, List, length, map, true, get_or, arith, sym, ap, subst, ◌∙◌, refl}
+use Rattle.std.proofs.Common.{◌≡◌, ◌<◌, ◌≤◌, ℕ, List, map, true, get_or, arith, sym, ap, subst, ◌∙◌, refl}
 use Rattle.std.proofs.Common.{slice_index, All}
 use Rattle.std.specs.Arc.{arc_value}
 use Rattle.std.proofs.lemmas.Grind.{common_steps}
@@ -52,15 +52,13 @@ pub cell_lists-requires-clause-ins : goal.cell_lists-requires-clause-ins
 cell_lists-requires-clause-ins c =
     let m : ModuleLines = record { area = c.args.area; lines = c.args.lines.now } in
     (locals_have_ports c.args.tables.now.circuit c.args.tables.now.layout m c.requires.ports _
-    (wires_known _ c.args.tables.now.circuit m _ _ _ c.circuit-circuit.ensures refl refl
-    c.in_ok-locals.ensures.wires)).0
+    (grind (arith, common_steps, wires_known))).0
 
 pub cell_lists-requires-clause-outs : goal.cell_lists-requires-clause-outs
 cell_lists-requires-clause-outs c =
     let m : ModuleLines = record { area = c.args.area; lines = c.args.lines.now } in
     (locals_have_ports c.args.tables.now.circuit c.args.tables.now.layout m c.requires.ports _
-    (wires_known _ c.args.tables.now.circuit m _ _ _ c.circuit-circuit.ensures refl refl
-    c.in_ok-locals.ensures.wires)).1
+    (grind (arith, common_steps, wires_known))).1
 
 pub schedules-requires-clause-edges : goal.schedules-requires-clause-edges
 schedules-requires-clause-edges c =
@@ -158,15 +156,7 @@ invariant_of-result c =
       width = (c.requires.module.wide.0, c.requires.module.wide.1, limits.0);
       height = (c.requires.module.high.0, c.requires.module.high.1, limits.1);
       steps = limits.2;
-      own = record {
-        starts = c.in_ok-starts.ensures.starts_own;
-        demands = c.in_ok-starts.ensures.demands_own;
-        edge_all_times = c.in_ok-edges.ensures.edges_all_times;
-        edge_events = c.in_ok-edges.ensures.edge_events;
-        halo_all_times = c.in_ok-edges.ensures.halos_all_times;
-        halo_events = c.in_ok-edges.ensures.halo_events;
-        stops = c.in_ok-stops.ensures.said.own;
-      };
+      own = grind (arith, common_steps);
       stops = λ k d lt. record {
         time = (stops_stand (λ q. q.time ≤ c.size-size.result.steps) _ l
             (stops m) placed_stops c.in_ok-stops.ensures.said
@@ -181,8 +171,7 @@ invariant_of-result c =
     } in
     record {
       job = subst IsJob (sym (λ i. placed area.x area.y (wires_are i) (gates_are i) (shape_is i))) job;
-      sized = ap length wires_are ∙ c.into_parts-wiring.ensures.sized
-          ∙ ap (λ (t : ShapeView). wires t.netlist) (sym shape_is);
+      sized = grind (arith, common_steps);
       near_edges = subst (λ (t : ShapeView). All (λ e. IsInShiftRange e.at.cell) t.edges.events)
           (sym shape_is) c.in_ok-edges.ensures.near_edges;
       near_halos = subst (λ (t : ShapeView). All (λ e. IsInShiftRange e.at.cell) t.halos.events)
@@ -219,20 +208,11 @@ returns c =
       demand = demand_found (circuit_of cs) p area j refl c.in_ok-starts.ensures.demands;
       edges = c.in_ok-edges.ensures.edges ∙ ap (λ ls. line_signals (circuit_of ls) (edges m)) circuit_is;
       halos = c.in_ok-edges.ensures.halos ∙ ap (λ ls. line_signals (circuit_of ls) (halos m)) circuit_is;
-      own = record {
-        starts = c.in_ok-starts.ensures.starts_own;
-        demands = c.in_ok-starts.ensures.demands_own;
-        edge_all_times = c.in_ok-edges.ensures.edges_all_times;
-        edge_events = c.in_ok-edges.ensures.edge_events;
-        halo_all_times = c.in_ok-edges.ensures.halos_all_times;
-        halo_events = c.in_ok-edges.ensures.halo_events;
-        stops = c.in_ok-stops.ensures.said.own;
-      };
+      own = grind (arith, common_steps);
       stops = c.in_ok-stops.ensures.said.same ∙ ap (λ ls. stops_of_lines (circuit_of ls) (stops m)) circuit_is;
       kept = subst (λ (us : List ℕ). map (slice_index us) c.in_ok-locals.kept.items ≡ keeps m)
           (sym c.in_ok-locals.ensures.gates) c.in_ok-locals.ensures.kept;
       kept_are_used = subst (λ (u : ℕ). All (λ k. k < u) c.in_ok-locals.kept.items)
           (sym c.in_ok-locals.ensures.count) c.in_ok-locals.ensures.within;
     } in
-    subst (IsJobOf (circuit_of cs) p m)
-    (sym (λ i. placed area.x area.y (wires_are i) (gates_are i) (shape_is i))) is_job
+    grind (arith, common_steps)

@@ -1,5 +1,6 @@
 use Rattle.std.proofs.Common.{◌≡◌, ℕ, ℤ, arith, to_z, of_z, w32, sym, ap, ap₂, subst, ◌∙◌, All, flat_map}
 use Rattle.std.proofs.lemmas.Int.{ints}
+use Rattle.std.proofs.lemmas.Grind.{common_steps}
 use Rattle.circuit.specs.Bridge.{circuit_of}
 use Rattle.circuit.specs.Meaning.{wires}
 use Rattle.certificate.specs.Jobs.{line_signals}
@@ -24,16 +25,14 @@ moved-requires-clause-all_times c =
     near_all_times c.in_ok-signals.signals.all_times
     (low_all_times (circuit_wire c.args.locals.now) (circuit_of c.args.circuit.now)
     (flat_map (borders_in c.args.side) c.args.lines.now) c.in_ok-signals.signals
-    (c.in_ok-signals.ensures.same_signals
-    ∙ ap (line_signals (circuit_of c.args.circuit.now)) c.side_lines.ensures.borders) c.requires.low)
+    (grind (arith, common_steps)) c.requires.low)
 
 pub moved-requires-clause-events : goal.moved-requires-clause-events
 moved-requires-clause-events c =
     near_events c.in_ok-signals.signals.events
     (low_events (circuit_wire c.args.locals.now) (circuit_of c.args.circuit.now)
     (flat_map (borders_in c.args.side) c.args.lines.now) c.in_ok-signals.signals
-    (c.in_ok-signals.ensures.same_signals
-    ∙ ap (line_signals (circuit_of c.args.circuit.now)) c.side_lines.ensures.borders) c.requires.low)
+    (grind (arith, common_steps)) c.requires.low)
 
 -- what is moved back by these numbers
 moved_back : (x y : ℕ) (dx dy : ℤ) (s own : Signals) → dx ≡ shift_to_origin x → IsSmallShift dx →
@@ -53,9 +52,7 @@ pub returns-clause-same_signals : goal.returns-clause-same_signals
 returns-clause-same_signals c =
     let s = c.in_ok-signals.signals in
     ap (renumber_signals (circuit_wire c.args.locals.now))
-    (there c.args.area s c.moved.result (moved_back c.args.area.x c.args.area.y _ _ s c.moved.result
-    c.shift_to_origin.ensures.distance_is_exact c.shift_to_origin.ensures.small
-    c.shift_to_origin-2.ensures.distance_is_exact c.shift_to_origin-2.ensures.small c.moved.ensures))
+    (there c.args.area s c.moved.result (grind (arith, common_steps, moved_back)))
     ∙ c.in_ok-signals.ensures.same_signals
     ∙ ap (line_signals (circuit_of c.args.circuit.now)) c.side_lines.ensures.borders
 
@@ -63,18 +60,14 @@ pub returns-clause-all_times : goal.returns-clause-all_times
 returns-clause-all_times c =
     let s = c.in_ok-signals.signals in
     subst (λ (t : Signals). All (λ h. IsSignalWireBelow (wires c.args.locals.now.netlist) h.signal) t.all_times)
-    (sym (there c.args.area s c.moved.result (moved_back c.args.area.x c.args.area.y _ _ s c.moved.result
-    c.shift_to_origin.ensures.distance_is_exact c.shift_to_origin.ensures.small
-    c.shift_to_origin-2.ensures.distance_is_exact c.shift_to_origin-2.ensures.small c.moved.ensures)))
+    (sym (there c.args.area s c.moved.result (grind (arith, common_steps, moved_back))))
     c.in_ok-signals.ensures.all_times
 
 pub returns-clause-events : goal.returns-clause-events
 returns-clause-events c =
     let s = c.in_ok-signals.signals in
     subst (λ (t : Signals). All (λ e. IsSignalWireBelow (wires c.args.locals.now.netlist) e.signal) t.events)
-    (sym (there c.args.area s c.moved.result (moved_back c.args.area.x c.args.area.y _ _ s c.moved.result
-    c.shift_to_origin.ensures.distance_is_exact c.shift_to_origin.ensures.small
-    c.shift_to_origin-2.ensures.distance_is_exact c.shift_to_origin-2.ensures.small c.moved.ensures)))
+    (sym (there c.args.area s c.moved.result (grind (arith, common_steps, moved_back))))
     c.in_ok-signals.ensures.events
 
 pub returns-clause-near : goal.returns-clause-near
@@ -84,8 +77,7 @@ returns-clause-near c =
     let y = c.args.area.y in
     let low = low_events (circuit_wire c.args.locals.now) (circuit_of c.args.circuit.now)
     (flat_map (borders_in c.args.side) c.args.lines.now) s
-    (c.in_ok-signals.ensures.same_signals
-    ∙ ap (line_signals (circuit_of c.args.circuit.now)) c.side_lines.ensures.borders) c.requires.low in
+    (grind (arith, common_steps)) c.requires.low in
     subst (λ (t : Signals). All (λ (e : TimedSignal). IsInShiftRange e.at.cell) t.events)
     (sym (moved_back x y _ _ s c.moved.result c.shift_to_origin.ensures.distance_is_exact
     c.shift_to_origin.ensures.small c.shift_to_origin-2.ensures.distance_is_exact

@@ -1,6 +1,7 @@
 use Rattle.std.proofs.Common.{◌≡◌, ℕ, ℤ, List, map, arith, to_z, of_z, w32, sym, ap, subst, ◌∙◌, pos, All, flat_map}
 use Rattle.std.proofs.lemmas.Int.{ints}
 use Rattle.std.proofs.lemmas.Result.{IfOk-weaker}
+use Rattle.std.proofs.lemmas.Grind.{common_steps}
 use Rattle.circuit.specs.Bridge.{circuit_of}
 use Rattle.circuit.specs.Meaning.{Circuit}
 use Rattle.module_box.specs.Locals.{LocalNet}
@@ -56,9 +57,7 @@ returns-clause-said c =
     IfOk-weaker c.moved_stops.result _ _ (λ own is.
     subst (AreStops (circuit_of c.args.circuit.now) c.args.locals.now (flat_map stop_in c.args.lines.now))
     (sym (there area ss own.items
-    (moved_back area.x area.y _ _ ss _ own.items c.shift_to_origin.ensures.distance_is_exact
-    c.shift_to_origin.ensures.small c.shift_to_origin-2.ensures.distance_is_exact
-    c.shift_to_origin-2.ensures.small c.as_slice.ensures.value is)))
+    (grind (arith, common_steps, moved_back))))
     (of_all c.in_ok-stops.ensures c.stop_lines.ensures)) c.moved_stops.ensures
 
 pub returns-clause-near : goal.returns-clause-near
@@ -70,7 +69,5 @@ returns-clause-near c =
     c.requires.low in
     IfOk-weaker c.moved_stops.result _ _ (λ own is.
     subst (All (λ (s : Stop). IsInShiftRange s.at.cell))
-    (sym (moved_back area.x area.y _ _ ss _ own.items c.shift_to_origin.ensures.distance_is_exact
-    c.shift_to_origin.ensures.small c.shift_to_origin-2.ensures.distance_is_exact
-    c.shift_to_origin-2.ensures.small c.as_slice.ensures.value is))
+    (grind (arith, common_steps, moved_back))
     (near_moved_stops area.x area.y ss c.requires.corner.0 c.requires.corner.1 low)) c.moved_stops.ensures

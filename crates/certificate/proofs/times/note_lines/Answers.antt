@@ -1,4 +1,5 @@
-use Rattle.std.proofs.Common.{◌++◌, take, append_assoc, sym, ap, subst, ◌∙◌, flat_map}
+use Rattle.std.proofs.Common.{arith, ◌++◌, take, subst, ◌∙◌, flat_map}
+use Rattle.std.proofs.lemmas.Grind.{common_steps}
 use Rattle.circuit.specs.Bridge.{circuit_of}
 use Rattle.certificate_lines.specs.Entries.{stop_in}
 use Rattle.certificate.specs.SeenTimes.{IsStopTimeTable}
@@ -10,8 +11,7 @@ lines-preserved c = record {
   table = λ ss h.
       let before = flat_map stop_in (take c.lines.line-index c.args.lines.now) in
       subst (λ all. IsStopTimeTable c.args.choice (circuit_of c.args.circuit.now) all c.note_time_if_stop.new.table)
-      (append_assoc ss before (stop_in c.line-item.result) ∙ ap (λ l. ss ++ l)
-      (sym (flat_more stop_in c.args.lines.now c.lines.line-index c.line-item.result c.lines-test.true c.line-item.is)))
+      (grind (arith, common_steps, flat_more))
       (c.note_time_if_stop.ensures.table (ss ++ before) (c.lines.invariant.table ss h));
   long = c.note_time_if_stop.ensures.long ∙ c.lines.invariant.long;
 }

@@ -1,6 +1,7 @@
 -- The cells of the box have one owner, whose number is there.
-use Rattle.std.proofs.Common.{◌≡◌, ◌∙◌, ◌+◌, ◌≤◌, ◌<◌, ℕ, Some, length, subst, sym, slice_get}
+use Rattle.std.proofs.Common.{arith, ◌≡◌, ◌+◌, ◌≤◌, ◌<◌, ℕ, Some, length, subst, sym, slice_get}
 use Rattle.std.specs.Arc.{arc_value}
+use Rattle.std.proofs.lemmas.Grind.{common_steps}
 use Rattle.module_box.specs.declared.boxes.Box2.{Box2}
 use Rattle.module_job.specs.Jobs.{IsJob, JobView}
 use Rattle.border_match.specs.Boards.{jobs_of}
@@ -15,13 +16,7 @@ within_limits j a same good =
     subst P (sym same) (good.width.2, good.height.2)
 
 pub returns-then-holds : goal.returns-then-holds
-returns-then-holds c = record {
-  noted = own_noted c.args.self.now c.args.near.now.items c.area-area.result c.area-area.ensures.area;
-  holds = sym c.holds.ensures ∙ c.if-holds.true;
-  within = within_limits c.args.self.now.job.now c.area-area.result c.area-area.ensures.area c.area-area.ensures.good;
-  kept = λ k h. h;
-  below = c.requires.below;
-}
+returns-then-holds c = grind (arith, common_steps, own_noted, within_limits)
 
 pub returns : goal.returns
 returns c =

@@ -1,34 +1,19 @@
 -- Each turn notes the cells of one module's box.
 use Rattle.std.proofs.Common.{rules, ap, arith}
+use Rattle.std.proofs.lemmas.Grind.{common_steps}
 use Rattle.module_box.specs.declared.boxes.Box2.{Box2}
 use Rattle.border_match.proofs.Cells.{area_at, in_whole}
 use Rattle.border_match.proofs.NearModules.{all_columns, columns_more, no_column}
 use Rattle.border_match.proofs.borders.Borders.add_owners_in_row.Goals as goal
 
 pub columns-init : goal.columns-init
-columns-init c =
-    let left = ap (λ (a : Box2). a.x) c.area-area.ensures.area in
-    let top = ap (λ (a : Box2). a.y) c.area-area.ensures.area in
-    let high = ap (λ (a : Box2). a.h) c.area-area.ensures.area in
-    let row = c.requires.row in
-    record {
-      noted = no_column c.args.self.now c.args.near.now.items c.args.y _ _
-          (omega (arith, left, c.saturating_sub-x.ensures));
-      after = omega (arith, top, high, row);
-      kept = λ k h. h;
-      below = c.requires.below;
-    }
+columns-init c = grind (arith, common_steps, no_column)
 
 pub add_owner-requires-clause-inside : goal.add_owner-requires-clause-inside
-add_owner-requires-clause-inside c =
-    in_whole c.args.self.now c.columns.x c.args.y _ _ (search rules) (search rules) c.requires.ready
-    (omega (arith, c.min-end.ensures, c.columns-test.true)) c.requires.inside
+add_owner-requires-clause-inside c = grind (arith, common_steps, in_whole)
 
 pub columns-smaller : goal.columns-smaller
-columns-smaller c =
-    let owner = c.in_ok-owner.owner in
-    let at = area_at owner c.columns.x c.args.y _ _ (search rules) (search rules) c.in_ok-owner.ensures.holds in
-    omega (arith, at.0.1, c.columns-test.true)
+columns-smaller c = grind (arith, common_steps, area_at)
 
 pub columns-preserved : goal.columns-preserved
 columns-preserved c =

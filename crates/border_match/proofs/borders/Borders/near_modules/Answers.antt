@@ -1,29 +1,15 @@
 -- Each turn notes the rows down to the end of a module's box.
-use Rattle.std.proofs.Common.{ℕ, ◌<◌, length, ap, subst, sym, arith}
-use Rattle.std.proofs.lemmas.List.Elements.{All-nil}
+use Rattle.std.proofs.Common.{ap, arith}
+use Rattle.std.proofs.lemmas.Grind.{common_steps}
 use Rattle.module_box.specs.declared.boxes.Box2.{Box2}
-use Rattle.border_match.specs.Boards.{AreModuleNumbers}
 use Rattle.border_match.proofs.NearModules.{all_rows, no_row, rows_more}
 use Rattle.border_match.proofs.borders.Borders.near_modules.Goals as goal
 
 pub rows-init : goal.rows-init
-rows-init c =
-    let b = c.args.self.now in
-    let top = ap (λ (a : Box2). a.y) c.area-area.ensures.area in
-    record {
-      noted = no_row b _ _ _ (omega (arith, top, c.saturating_sub-y.ensures));
-      below = subst (AreModuleNumbers b) (sym c.new-near.ensures.items) (All-nil (λ (k : ℕ). k < length b.jobs.now));
-    }
+rows-init c = grind (arith, common_steps, no_row)
 
 pub rows-preserved : goal.rows-preserved
-rows-preserved c =
-    let now = c.in_ok-y.ensures in
-    record {
-      noted = rows_more c.args.self.now c.rows.near.items c.add_owners_in_row.new.near.items _ c.rows.y _
-          c.rows.invariant.noted
-          now.kept now.noted;
-      below = now.below;
-    }
+rows-preserved c = grind (arith, common_steps, rows_more)
 
 pub returns : goal.returns
 returns c =

@@ -37,9 +37,6 @@ events-init c = record {
   marked = c.requires.marked;
 }
 
-pub with_edge_event-least-requires-clause-listed : goal.with_edge_event-least-requires-clause-listed
-with_edge_event-least-requires-clause-listed c = (c.events.place, c.edge_event-event.ensures)
-
 pub events-preserved : goal.events-preserved
 events-preserved c = record {
   better = better_then _ _ _ _ _ _ _ c.events.invariant.better c.with_edge_event-least.ensures.better
@@ -68,16 +65,6 @@ owned : (b : Borders) (k : ℕ) (other : JobView) (i : ℕ) (e : TimedSignal) �
     slice_get (jobs_of b) (owner_of b.owners.now e.at.cell.x e.at.cell.y) ≡ Some other
 owned b k other i e ready numbered got =
     ap (slice_get (jobs_of b)) (ready.0.edges k other e numbered (i, got)).1 ∙ numbered
-
-pub with_edge_event-least-requires-clause-inside : goal.with_edge_event-least-requires-clause-inside
-with_edge_event-least-requires-clause-inside c =
-    (c.requires.ready.0.edges c.args.number c.args.other.now c.edge_event-event.result c.requires.numbered
-    (c.events.place, c.edge_event-event.ensures)).0
-
-pub with_edge_event-least-requires-clause-owner : goal.with_edge_event-least-requires-clause-owner
-with_edge_event-least-requires-clause-owner c =
-    owned c.args.self.now c.args.number c.args.other.now c.events.place c.edge_event-event.result c.requires.ready
-    c.requires.numbered c.edge_event-event.ensures
 
 pub returns-then-not-is_less : goal.returns-then-not-is_less
 returns-then-not-is_less c =

@@ -1,4 +1,5 @@
 use Rattle.std.proofs.Common.{arith}
+use Rattle.std.proofs.lemmas.Grind.{common_steps}
 use Rattle.border_match.proofs.Least.{better_same, better_with}
 use Rattle.border_match.proofs.Steps.{first_is_least, no_fault_step, not_before, not_true}
 use Rattle.border_match.proofs.borders.Borders.with_first_fault_of.Goals as goal
@@ -10,8 +11,7 @@ returns-then-is_fault c =
     c.lesser.ensures.covers_as_before c.lesser.ensures.one c.lesser.ensures.covered
 
 pub times-preserved : goal.times-preserved
-times-preserved c = no_fault_step _ c.args.cell c.times.time c.times.invariant
-    (λ f. not_true _ c.if-is_fault.false (c.is_fault.ensures.1 f))
+times-preserved c = grind (arith, common_steps, no_fault_step, not_true)
 
 pub returns : goal.returns
 returns c = better_same _ _ _ (λ h f same. c.times.invariant h f same (let e = f.early in omega (arith, e)))

@@ -1,18 +1,12 @@
-use Rattle.std.proofs.Common.{Some, ap, ◌∙◌, arith}
+use Rattle.std.proofs.Common.{arith}
 use Rattle.std.proofs.lemmas.Option.{slice_get-get_or}
+use Rattle.std.proofs.lemmas.Grind.{common_steps}
 use Rattle.border_match.proofs.Least.{better_then, better_for}
 use Rattle.border_match.proofs.Marks.{event_step, unmarked_all, unmarked_step}
 use Rattle.border_match.proofs.borders.Borders.with_halo_events.Goals as goal
 
 pub events-preserved-then-seen-place : goal.events-preserved-then-seen-place
-events-preserved-then-seen-place c = better_for _ _ _ _ _ c.events.invariant
-    (λ h f r. unmarked_step c.args.seen.now c.args.self.now.job.now.halos.events c.events.place h r
-    (slice_get-get_or c.args.seen.now c.events.place _
-    (omega (arith, c.events-test.true, c.halo_events-place-end.ensures, c.requires.sized))
-    ∙ ap Some c.if-seen-place.true))
-
-pub with_halo_event-least-requires-clause-listed : goal.with_halo_event-least-requires-clause-listed
-with_halo_event-least-requires-clause-listed c = (c.events.place, c.halo_event.ensures)
+events-preserved-then-seen-place c = grind (arith, common_steps, better_for, unmarked_step, slice_get-get_or)
 
 pub events-preserved : goal.events-preserved
 events-preserved c = better_then _ _ _ _ _ _ _ c.events.invariant c.with_halo_event-least.ensures

@@ -1,13 +1,13 @@
-use Rattle.std.proofs.Common.{get_or, refl}
+use Rattle.std.proofs.Common.{arith, get_or, refl}
 use Rattle.std.specs.Arc.{arc_value}
+use Rattle.std.proofs.lemmas.Grind.{common_steps}
 use Rattle.border_match.proofs.Cells.{job_at}
 use Rattle.border_match.proofs.Least.{better_then, better_for}
 use Rattle.border_match.proofs.Stars.{modules_step, no_module, star_covered}
 use Rattle.border_match.proofs.borders.Borders.with_star_faults.Goals as goal
 
 pub modules-init : goal.modules-init
-modules-init c = better_for _ _ _ _ _ c.with_stars_of-least.ensures
-    (λ h f r. no_module c.args.self.now c.args.near.now h r)
+modules-init c = grind (arith, common_steps, better_for, no_module)
 
 pub modules-preserved : goal.modules-preserved
 modules-preserved c =

@@ -1,11 +1,11 @@
-use Rattle.std.proofs.Common.{◌≡◌, ◌∙◌, List, Some, length, map, slice_get, sym, ap, arith}
+use Rattle.std.proofs.Common.{◌≡◌, ◌∙◌, List, Some, length, slice_get, sym, ap, arith}
+use Rattle.std.proofs.lemmas.Grind.{common_steps}
 use Rattle.circuit.specs.Bridge.{netlist_of}
 use Rattle.circuit.specs.Gates.{is_inverse}
 use Rattle.circuit.specs.Meaning.{Gate}
 use Rattle.circuit.specs.Wiring.{gate_of}
 use Rattle.circuit.specs.declared.circuit_line.CircuitLine.{CircuitLine}
-use Rattle.certificate_lines.specs.Entries.{ModuleLines, modules_of}
-use Rattle.certificate.specs.SliceLines.{slice_lines}
+use Rattle.certificate_lines.specs.Entries.{modules_of}
 use Rattle.certificate_lines.specs.Settings.{setting_of}
 use Rattle.certificate.specs.Keeps.{is_kept, unkept}
 use Rattle.certificate.proofs.KeepLemmas.{unkept_more, unkept_all}
@@ -20,12 +20,9 @@ gates-preserved c =
     let count : c.gates-count.result ≡ length gs =
     c.gates-count.ensures.count ∙ ap (λ (l : List CircuitLine). length (netlist_of l).gates) same in
     let at : slice_get gs c.gates.number ≡ Some (gate_of c.gate-gate.result) =
-    ap (λ n. slice_get gs n) (sym c.of.ensures)
-    ∙ sym (ap (λ (l : List CircuitLine). slice_get (netlist_of l).gates c.of.result) same) ∙ c.gate-gate.ensures in
+    grind (arith, common_steps) in
     let kept : c.is_kept-keeps.result ≡ is_kept (modules_of s.entries) c.gates.number =
-    c.is_kept-keeps.ensures ∙ c.in_ok-kept.ensures c.gates.number
-    ∙ ap (λ (ms : List ModuleLines). is_kept ms c.gates.number)
-    (ap (map slice_lines) c.deref.ensures.value ∙ c.in_ok-parts.ensures.modules) in
+    grind (arith, common_steps) in
     unkept_more (unkept (setting_of s.circuit s.layout) (modules_of s.entries)) c.gates.gates.items
     c.push_if_unkept_inverse.new.gates.items (modules_of s.entries) gs c.gates.number
     (gate_of c.gate-gate.result) c.is_inverse.result c.is_kept-keeps.result

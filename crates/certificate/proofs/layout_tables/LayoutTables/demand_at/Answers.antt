@@ -32,8 +32,7 @@ returns-in-Some-clause-same_demand c =
     (ap wire_or_dead (sym c.local_wire_by_name.ensures.same_wire)
     ∙ end_port (circuit_of c.self.inside.circuit.now) c.self.inside.layout.now c.args.cell.x c.args.cell.y
     c.is_live.result (c.is_live.ensures ∙ c.self.invariant.mirrors c.args.cell.x c.args.cell.y) c.if-is_live.false
-    (Some c.in-Some.name) (c.in-Some.ensures
-    ∙ ap (λ (ps : List Port). port_at ps c.args.cell.x c.args.cell.y) c.self.invariant.outs))
+    (Some c.in-Some.name) (grind (arith, common_steps)))
 
 pub returns-then-is_live-2-clause-same_demand : goal.returns-then-is_live-2-clause-same_demand
 returns-then-is_live-2-clause-same_demand c =

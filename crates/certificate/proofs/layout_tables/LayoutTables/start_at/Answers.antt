@@ -34,8 +34,7 @@ returns-in-Some-clause-same_signal c =
     c.is_live-mirror.result c.is_live-ball.result
     (c.is_live-mirror.ensures ∙ c.self.invariant.mirrors c.args.cell.x c.args.cell.y)
     (c.is_live-ball.ensures ∙ c.self.invariant.balls c.args.cell.x c.args.cell.y) c.if-mirror-ball.false
-    (Some c.in-Some.name) (c.in-Some.ensures
-    ∙ ap (λ (ps : List Port). port_at ps c.args.cell.x c.args.cell.y) c.self.invariant.ins))
+    (Some c.in-Some.name) (grind (arith, common_steps)))
 
 pub returns-in-None-clause-same_signal : goal.returns-in-None-clause-same_signal
 returns-in-None-clause-same_signal c =
